@@ -11,7 +11,8 @@ import pathlib
 import sys
 
 sys.path.insert(0, str(pathlib.Path(__file__).resolve().parent.parent / "clients/python"))
-from drm_client import Client, ClientError, words  # noqa: E402  (the client stands in clients/python)
+from zirkoshe import Client, ClientError  # noqa: E402  (it is in clients/python)
+from zirkoshe.protocol import words  # noqa: E402
 
 # CRTC 2, plane 4 and connector 8 of the test topology
 OUTPUT = "2 4 8"

@@ -1,11 +1,13 @@
-/* A compositor leases an output to another program, which is refused outside it and sees its revocation. Over libdrm alone:
+/* A compositor leases an output to another program, which is refused outside it and sees its
+ * revocation. Over libdrm alone:
  *
  *     cc -Wall -o libdrm_lease examples/libdrm_lease.c $(pkg-config --cflags --libs libdrm)
  *     tools/with-server --libdrm ./libdrm_lease
  *
- * It calls libdrm and the system alone, so that it is a program for the device of a kernel too, if that has two outputs and nobody
- * is master there: its path may be given, and is /dev/dri/card0 else. Each step tells what came of it, and the errno that a kernel
- * gives where that is another one; the status is then 1.
+ * It calls libdrm and the system alone, so that it is a program for the device of a kernel too, if
+ * that has two outputs and nobody is master there: its path may be given, and is /dev/dri/card0
+ * else. Each step tells what came of it, and the errno that a kernel gives where that is another
+ * one; the status is then 1.
  */
 #include <errno.h>
 #include <fcntl.h>
@@ -31,12 +33,18 @@ static bool went_wrong;
 static const char *name_of(int error)
 {
     switch (error) {
-    case 0: return "done";
-    case ENOENT: return "ENOENT";
-    case EACCES: return "EACCES";
-    case EBUSY: return "EBUSY";
-    case EINVAL: return "EINVAL";
-    default: return strerror(error);
+    case 0:
+        return "done";
+    case ENOENT:
+        return "ENOENT";
+    case EACCES:
+        return "EACCES";
+    case EBUSY:
+        return "EBUSY";
+    case EINVAL:
+        return "EINVAL";
+    default:
+        return strerror(error);
     }
 }
 
@@ -67,9 +75,18 @@ static int error_of_pointer(void *found, void (*release)(void *))
     return error;
 }
 
-static void release_crtc(void *crtc) { drmModeFreeCrtc(crtc); }
-static void release_connector(void *connector) { drmModeFreeConnector(connector); }
-static void release_plane(void *plane) { drmModeFreePlane(plane); }
+static void release_crtc(void *crtc)
+{
+    drmModeFreeCrtc(crtc);
+}
+static void release_connector(void *connector)
+{
+    drmModeFreeConnector(connector);
+}
+static void release_plane(void *plane)
+{
+    drmModeFreePlane(plane);
+}
 
 static void leave(const char *what)
 {
@@ -103,7 +120,8 @@ static struct output find_output(int card, int place)
     drmModeConnector *connector;
     struct output output;
 
-    if (resources == NULL || resources->count_connectors <= place || resources->count_crtcs <= place)
+    if (resources == NULL || resources->count_connectors <= place
+        || resources->count_crtcs <= place)
         leave("two outputs are wanted");
     connector = drmModeGetConnector(card, resources->connectors[place]);
     if (connector == NULL || connector->count_modes == 0)
@@ -121,7 +139,8 @@ static void send_descriptor(int peer, int fd)
 {
     char byte = 'l', space[CMSG_SPACE(sizeof fd)] = {0};
     struct iovec part = {&byte, 1};
-    struct msghdr message = {.msg_iov = &part, .msg_iovlen = 1, .msg_control = space, .msg_controllen = sizeof space};
+    struct msghdr message = {
+        .msg_iov = &part, .msg_iovlen = 1, .msg_control = space, .msg_controllen = sizeof space};
     struct cmsghdr *rights = CMSG_FIRSTHDR(&message);
 
     rights->cmsg_level = SOL_SOCKET;
@@ -137,7 +156,8 @@ static int take_descriptor(int peer)
     int fd;
     char byte, space[CMSG_SPACE(sizeof fd)];
     struct iovec part = {&byte, 1};
-    struct msghdr message = {.msg_iov = &part, .msg_iovlen = 1, .msg_control = space, .msg_controllen = sizeof space};
+    struct msghdr message = {
+        .msg_iov = &part, .msg_iovlen = 1, .msg_control = space, .msg_controllen = sizeof space};
 
     if (recvmsg(peer, &message, 0) != 1 || CMSG_FIRSTHDR(&message) == NULL)
         leave("recvmsg");
@@ -161,8 +181,10 @@ static uint32_t make_framebuffer(int fd, const drmModeModeInfo *mode)
     uint32_t handle, pitch, framebuffer;
     uint64_t size;
 
-    if (drmModeCreateDumbBuffer(fd, mode->hdisplay, mode->vdisplay, 32, 0, &handle, &pitch, &size) != 0
-        || drmModeAddFB(fd, mode->hdisplay, mode->vdisplay, 24, 32, pitch, handle, &framebuffer) != 0)
+    if (drmModeCreateDumbBuffer(fd, mode->hdisplay, mode->vdisplay, 32, 0, &handle, &pitch, &size)
+            != 0
+        || drmModeAddFB(fd, mode->hdisplay, mode->vdisplay, 24, 32, pitch, handle, &framebuffer)
+               != 0)
         leave("framebuffer");
     return framebuffer;
 }
@@ -193,10 +215,12 @@ static int use_lease(int peer, struct output own, struct output other)
 
     tell("lessee", "shows a framebuffer on what it has", show(fd, &own, framebuffer), 0);
     tell("lessee", "shows it on another CRTC", show(fd, &other, framebuffer), ENOENT);
-    tell("lessee", "asks what another CRTC shows", error_of_pointer(drmModeGetCrtc(fd, other.crtc), release_crtc), ENOENT);
-    tell("lessee", "asks for another connector", error_of_pointer(drmModeGetConnector(fd, other.connector), release_connector),
-         ENOENT);
-    tell("lessee", "asks for another plane", error_of_pointer(drmModeGetPlane(fd, other.plane), release_plane), ENOENT);
+    tell("lessee", "asks what another CRTC shows",
+         error_of_pointer(drmModeGetCrtc(fd, other.crtc), release_crtc), ENOENT);
+    tell("lessee", "asks for another connector",
+         error_of_pointer(drmModeGetConnector(fd, other.connector), release_connector), ENOENT);
+    tell("lessee", "asks for another plane",
+         error_of_pointer(drmModeGetPlane(fd, other.plane), release_plane), ENOENT);
     printf("lessee: has %u objects\n", (unsigned)leased(fd));
     meet(peer);
     meet(peer);
@@ -227,7 +251,8 @@ static void lease_out(int card, int peer, const struct output *output)
     if (fd < 0)
         leave("lease");
     tell("owner", "leases an output", 0, 0);
-    tell("owner", "leases it again", error_of(drmModeCreateLease(card, objects, 3, O_CLOEXEC, &again)), EBUSY);
+    tell("owner", "leases it again",
+         error_of(drmModeCreateLease(card, objects, 3, O_CLOEXEC, &again)), EBUSY);
     send_descriptor(peer, fd);
     close(fd);
     meet(peer);

@@ -11,22 +11,22 @@ import sys
 
 sys.dont_write_bytecode = True
 sys.path.insert(0, str(pathlib.Path(__file__).resolve().parent.parent / "clients/python"))
-from drm_audit import graph_of, read_audit, svg  # noqa: E402  (the clients stand in clients/python)
-from drm_client import DEFAULT_TIMEOUT, Client, ClientError  # noqa: E402
+from zirkoshe import DEFAULT_TIMEOUT, Client, ClientError  # noqa: E402  (it is in clients/python)
+from zirkoshe.audit import graph_of, read_audit, svg  # noqa: E402
 
 
 def show(card: str, root: str) -> str:
     """The picture of the server in the midst of the session."""
     with Client(card) as owner:
         buffer = owner.create_dumb(64, 64, 32)
-        framebuffer = owner.addfb(64, 64, buffer.pitch, 32, buffer.handle).value
+        framebuffer = owner.addfb(64, 64, buffer.pitch, 32, buffer.handle)
         owner.setcrtc(1, framebuffer, 7)
         owner.gem_flink(buffer.handle)
-        token = owner.prime_export(buffer.handle).value
+        token = owner.prime_export(buffer.handle)
         lease = owner.create_lease(2, 4, 8)
         with Client(card, lease.token) as lessee:
             own = lessee.create_dumb(64, 64, 32)
-            overlay = lessee.addfb(64, 64, own.pitch, 32, own.handle).value
+            overlay = lessee.addfb(64, 64, own.pitch, 32, own.handle)
             lessee.setcrtc(2, overlay, 8)
             lessee.prime_import(token)
             lessee.setplane(4, 2, framebuffer)

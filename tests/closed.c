@@ -1,4 +1,5 @@
-/* A root client that waits until the client of a number is closed: closed PATH NUMBER MILLISECONDS. */
+/* A root client that waits until the client of a number is closed: closed PATH NUMBER MILLISECONDS.
+ */
 #include "drm_client.h"
 
 #include <stdio.h>

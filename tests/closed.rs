@@ -1,33 +1,26 @@
 //! A root client that waits until the client of a number is closed: closed PATH NUMBER MILLISECONDS.
-#[path = "../clients/rust/drm_client.rs"]
+#[path = "../clients/rust/src/lib.rs"]
 mod drm_client;
+
+mod common;
 
 use drm_client::{Client, Error, DEFAULT_TIMEOUT};
 use std::io::ErrorKind;
 use std::process::ExitCode;
 use std::time::Duration;
 
-fn run(words: &[String]) -> Result<(), Error> {
-    let mut root = Client::open(&words[0], DEFAULT_TIMEOUT)?;
-    root.set_timeout(Duration::from_millis(words[2].parse().unwrap()));
-    match root.wait_until_closed(words[1].parse().unwrap()) {
-        Ok(()) => println!("closed"),
-        Err(Error::Io(error)) if error.kind() == ErrorKind::TimedOut => println!("open"),
-        Err(error) => return Err(error),
-    }
-    // the connection goes on
-    root.set_timeout(DEFAULT_TIMEOUT);
-    root.version()?;
-    root.close()
-}
-
 fn main() -> ExitCode {
-    let words: Vec<String> = std::env::args().skip(1).collect();
-    match run(&words) {
-        Ok(()) => ExitCode::SUCCESS,
-        Err(error) => {
-            println!("{error}");
-            ExitCode::FAILURE
+    common::run(|words| {
+        let mut root = Client::open(&words[0])?;
+        root.set_timeout(Duration::from_millis(words[2].parse().unwrap()));
+        match root.wait_until_closed(words[1].parse().unwrap()) {
+            Ok(()) => println!("closed"),
+            Err(Error::Io(error)) if error.kind() == ErrorKind::TimedOut => println!("open"),
+            Err(error) => return Err(error),
         }
-    }
+        // the connection goes on
+        root.set_timeout(DEFAULT_TIMEOUT);
+        root.version()?;
+        root.close()
+    })
 }

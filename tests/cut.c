@@ -1,9 +1,10 @@
 /* Cuts what the program that it is loaded into, by LD_PRELOAD, reads and writes, for tests/streams.
  *
- * CUT_READ says how of its standard input, CUT_WRITE of its standard output, CUT_RECV of what it receives of sockets and
- * CUT_SEND of what it sends to them, as PIECE FAULT AT TIMES. A call moves PIECE bytes at most. Behind AT bytes FAULT comes, so
- * many TIMES, and then the calls go on: fail (EIO), end (the call moves 0 bytes) or eintr (it is interrupted), with AT -1 before
- * each piece; or none. For Linux, whose calls it makes itself.
+ * CUT_READ says how of its standard input, CUT_WRITE of its standard output, CUT_RECV of what it
+ * receives of sockets and CUT_SEND of what it sends to them, as PIECE FAULT AT TIMES. A call moves
+ * PIECE bytes at most. Behind AT bytes FAULT comes, so many TIMES, and then the calls go on: fail
+ * (EIO), end (the call moves 0 bytes) or eintr (it is interrupted), with AT -1 before each piece;
+ * or none. For Linux, whose calls it makes itself.
  */
 #define _GNU_SOURCE
 #include <errno.h>
@@ -24,7 +25,10 @@ struct side {
     long in_a_row;
 };
 
-#define WHOLE {SIZE_MAX, "none", 0, 0, 0, 0}
+#define WHOLE                                                                                      \
+    {                                                                                              \
+        SIZE_MAX, "none", 0, 0, 0, 0                                                               \
+    }
 
 static struct side reads = WHOLE, writes = WHOLE, receives = WHOLE, sends = WHOLE;
 
@@ -32,7 +36,8 @@ static void set(struct side *side, const char *name)
 {
     const char *how = getenv(name);
 
-    if (how != NULL && sscanf(how, "%zu %7s %ld %ld", &side->piece, side->fault, &side->at, &side->times) != 4)
+    if (how != NULL
+        && sscanf(how, "%zu %7s %ld %ld", &side->piece, side->fault, &side->at, &side->times) != 4)
         _exit(125);
 }
 
@@ -94,12 +99,16 @@ ssize_t recv(int file, void *buffer, size_t count, int flags)
 {
     long most = room(&receives, count);
 
-    return most <= 0 ? most : moved(&receives, syscall(SYS_recvfrom, file, buffer, (size_t)most, flags, NULL, NULL));
+    return most <= 0 ? most
+                     : moved(&receives,
+                             syscall(SYS_recvfrom, file, buffer, (size_t)most, flags, NULL, NULL));
 }
 
 ssize_t send(int file, const void *text, size_t count, int flags)
 {
     long most = room(&sends, count);
 
-    return most <= 0 ? most : moved(&sends, syscall(SYS_sendto, file, text, (size_t)most, flags, NULL, NULL));
+    return most <= 0
+               ? most
+               : moved(&sends, syscall(SYS_sendto, file, text, (size_t)most, flags, NULL, NULL));
 }

@@ -1,7 +1,9 @@
-/* For tests: carries out scripts through libdrm alone, and writes the answers as docs/FORMATS.md has them.
+/* For tests: carries out scripts through libdrm alone, and writes the answers as docs/FORMATS.md
+ * has them.
  *
- * A refusal is `denied ERRNO`, and a client has no number: libdrm tells no more. `open L lease T` takes the descriptor of the T-th
- * lease that was made, and a PRIME token T stands for the T-th descriptor that was exported.
+ * A refusal is `denied ERRNO`, and a client has no number: libdrm tells no more. `open L lease T`
+ * takes the descriptor of the T-th lease that was made, and a PRIME token T stands for the T-th
+ * descriptor that was exported.
  */
 #include <errno.h>
 #include <fcntl.h>
@@ -17,7 +19,8 @@
 
 #define MOST 64
 
-/* The descriptors of labels, of leases and of PRIME tokens, and how many leases and tokens were made. */
+/* The descriptors of labels, of leases and of PRIME tokens, and how many leases and tokens were
+ * made. */
 static int labels[26], leases[MOST], tokens[MOST];
 static unsigned lease_count, token_count;
 
@@ -26,7 +29,8 @@ static void denied(int error)
     printf("denied %d\n", error);
 }
 
-/* What came of a call that answers nothing: some give the error as a negative number, and some in errno. */
+/* What came of a call that answers nothing: some give the error as a negative number, and some in
+ * errno. */
 static void done(int result)
 {
     if (result == 0)
@@ -61,7 +65,8 @@ static void version(int fd, const uint64_t *words)
     if (found == NULL)
         denied(errno);
     else
-        printf("version %d %d %d\n", found->version_major, found->version_minor, found->version_patchlevel);
+        printf("version %d %d %d\n", found->version_major, found->version_minor,
+               found->version_patchlevel);
     drmFreeVersion(found);
 }
 
@@ -181,8 +186,8 @@ static void setcrtc(int fd, const uint64_t *words)
     drmModeModeInfo mode = {.hdisplay = 64, .vdisplay = 64, .htotal = 64, .vtotal = 64, .clock = 1};
     uint32_t connector = (uint32_t)words[2];
 
-    done(drmModeSetCrtc(fd, (uint32_t)words[0], (uint32_t)words[1], 0, 0, &connector, connector != 0,
-                        words[1] != 0 ? &mode : NULL));
+    done(drmModeSetCrtc(fd, (uint32_t)words[0], (uint32_t)words[1], 0, 0, &connector,
+                        connector != 0, words[1] != 0 ? &mode : NULL));
 }
 
 static void getencoder(int fd, const uint64_t *words)
@@ -197,7 +202,8 @@ static void getconnector(int fd, const uint64_t *words)
 {
     drmModeConnector *found = drmModeGetConnector(fd, (uint32_t)words[0]);
 
-    number(found == NULL ? -1 : 0, found == NULL || found->count_encoders != 1 ? 0 : found->encoders[0]);
+    number(found == NULL ? -1 : 0,
+           found == NULL || found->count_encoders != 1 ? 0 : found->encoders[0]);
     drmModeFreeConnector(found);
 }
 
@@ -230,8 +236,8 @@ static void setplane(int fd, const uint64_t *words)
 {
     const uint32_t side = 64;
 
-    done(drmModeSetPlane(fd, (uint32_t)words[0], (uint32_t)words[1], (uint32_t)words[2], 0, 0, 0, side, side, 0, 0, side << 16,
-                         side << 16));
+    done(drmModeSetPlane(fd, (uint32_t)words[0], (uint32_t)words[1], (uint32_t)words[2], 0, 0, 0,
+                         side, side, 0, 0, side << 16, side << 16));
 }
 
 static void getfb(int fd, const uint64_t *words)
@@ -241,15 +247,19 @@ static void getfb(int fd, const uint64_t *words)
     if (found == NULL)
         denied(errno);
     else
-        printf("framebuffer %u %u %u %u %u\n", (unsigned)found->width, (unsigned)found->height, (unsigned)found->pitch,
-               (unsigned)found->bpp, (unsigned)found->handle);
+        printf("framebuffer %u %u %u %u %u\n", (unsigned)found->width, (unsigned)found->height,
+               (unsigned)found->pitch, (unsigned)found->bpp, (unsigned)found->handle);
     drmModeFreeFB(found);
 }
 
 static void addfb(int fd, const uint64_t *words)
 {
-    struct drm_mode_fb_cmd made = {.width = (uint32_t)words[0], .height = (uint32_t)words[1], .pitch = (uint32_t)words[2],
-                                   .bpp = (uint32_t)words[3], .depth = 24, .handle = (uint32_t)words[4]};
+    struct drm_mode_fb_cmd made = {.width = (uint32_t)words[0],
+                                   .height = (uint32_t)words[1],
+                                   .pitch = (uint32_t)words[2],
+                                   .bpp = (uint32_t)words[3],
+                                   .depth = 24,
+                                   .handle = (uint32_t)words[4]};
     int result = drmIoctl(fd, DRM_IOCTL_MODE_ADDFB, &made);
 
     number(result, made.fb_id);
@@ -262,12 +272,14 @@ static void rmfb(int fd, const uint64_t *words)
 
 static void create_dumb(int fd, const uint64_t *words)
 {
-    struct drm_mode_create_dumb made = {.width = (uint32_t)words[0], .height = (uint32_t)words[1], .bpp = (uint32_t)words[2]};
+    struct drm_mode_create_dumb made = {
+        .width = (uint32_t)words[0], .height = (uint32_t)words[1], .bpp = (uint32_t)words[2]};
 
     if (drmIoctl(fd, DRM_IOCTL_MODE_CREATE_DUMB, &made) != 0)
         denied(errno);
     else
-        printf("dumb %u %u %llu\n", (unsigned)made.handle, (unsigned)made.pitch, (unsigned long long)made.size);
+        printf("dumb %u %u %llu\n", (unsigned)made.handle, (unsigned)made.pitch,
+               (unsigned long long)made.size);
 }
 
 /* A buffer of a size alone, which libdrm has no call for, as a dumb buffer of one line. */
@@ -340,16 +352,39 @@ static const struct {
     const char *word;
     void (*call)(int fd, const uint64_t *words);
 } calls[] = {
-    {"version", version}, {"get_magic", get_magic}, {"auth_magic", auth_magic}, {"set_master", set_master},
-    {"drop_master", drop_master}, {"gem_close", gem_close}, {"gem_flink", gem_flink}, {"gem_open", gem_open},
-    {"prime_export", prime_export}, {"prime_import", prime_import}, {"get_cap", get_cap}, {"set_client_cap", set_client_cap},
-    {"getresources", getresources}, {"getcrtc", getcrtc}, {"setcrtc", setcrtc}, {"getencoder", getencoder},
-    {"getconnector", getconnector}, {"getplaneresources", getplaneresources}, {"getplane", getplane}, {"setplane", setplane},
-    {"getfb", getfb}, {"addfb", addfb}, {"rmfb", rmfb}, {"create_dumb", create_dumb}, {"buf_create", buf_create},
-    {"destroy_dumb", destroy_dumb}, {"list_lessees", list_lessees}, {"get_lease", get_lease}, {"revoke_lease", revoke_lease},
+    {"version", version},
+    {"get_magic", get_magic},
+    {"auth_magic", auth_magic},
+    {"set_master", set_master},
+    {"drop_master", drop_master},
+    {"gem_close", gem_close},
+    {"gem_flink", gem_flink},
+    {"gem_open", gem_open},
+    {"prime_export", prime_export},
+    {"prime_import", prime_import},
+    {"get_cap", get_cap},
+    {"set_client_cap", set_client_cap},
+    {"getresources", getresources},
+    {"getcrtc", getcrtc},
+    {"setcrtc", setcrtc},
+    {"getencoder", getencoder},
+    {"getconnector", getconnector},
+    {"getplaneresources", getplaneresources},
+    {"getplane", getplane},
+    {"setplane", setplane},
+    {"getfb", getfb},
+    {"addfb", addfb},
+    {"rmfb", rmfb},
+    {"create_dumb", create_dumb},
+    {"buf_create", buf_create},
+    {"destroy_dumb", destroy_dumb},
+    {"list_lessees", list_lessees},
+    {"get_lease", get_lease},
+    {"revoke_lease", revoke_lease},
 };
 
-/* The descriptor of an opening: of a node, or of the lease that was made as the so many-th, once. */
+/* The descriptor of an opening: of a node, or of the lease that was made as the so many-th, once.
+ */
 static int opened(const char *what, uint64_t lease)
 {
     if (strcmp(what, "card") == 0)
@@ -368,12 +403,15 @@ static int opened(const char *what, uint64_t lease)
     return -1;
 }
 
-/* `open` of a script opens with universal planes on, `open2` with universal planes off, as a program does. */
+/* `open` of a script opens with universal planes on, `open2` with universal planes off, as a
+ * program does. */
 static void open_label(char label, const char *what, uint64_t lease, bool universal)
 {
     int fd = opened(what, lease);
 
-    if (fd < 0 || (universal && strcmp(what, "render") != 0 && drmSetClientCap(fd, DRM_CLIENT_CAP_UNIVERSAL_PLANES, 1) != 0)) {
+    if (fd < 0
+        || (universal && strcmp(what, "render") != 0
+            && drmSetClientCap(fd, DRM_CLIENT_CAP_UNIVERSAL_PLANES, 1) != 0)) {
         denied(errno);
         return;
     }
@@ -421,7 +459,8 @@ static void carry_out(char *line)
     if (count < 2)
         return;
     if (strcmp(words[0], "open") == 0 || strcmp(words[0], "open2") == 0)
-        open_label(words[1][0], words[2], count > 3 ? numbers[3] : 0, strcmp(words[0], "open") == 0);
+        open_label(words[1][0], words[2], count > 3 ? numbers[3] : 0,
+                   strcmp(words[0], "open") == 0);
     else if (strcmp(words[0], "close") == 0)
         close_label(words[1][0]);
     else

@@ -1,5 +1,5 @@
-/* For tests: what a call through libdrm costs beside the same call by the C client, which asks the server itself. The two take
- * turns, and the medians are written, in nanoseconds.
+/* For tests: what a call through libdrm costs beside the same call by the C client, which asks the
+ * server itself. The two take turns, and the medians are written, in nanoseconds.
  */
 #define _GNU_SOURCE
 #include <dlfcn.h>
@@ -44,7 +44,8 @@ static int64_t median(int64_t *times, int count)
 /* The argument says how often each asks. */
 int main(int words, char **word)
 {
-    int fd = open("/dev/dri/card0", O_RDWR | O_CLOEXEC), times = words > 1 ? atoi(word[1]) : MOST_TIMES, at, failed = 0;
+    int fd = open("/dev/dri/card0", O_RDWR | O_CLOEXEC),
+        times = words > 1 ? atoi(word[1]) : MOST_TIMES, at, failed = 0;
     struct zirkoshe_client client;
     uint64_t value;
     void *found;
@@ -63,6 +64,7 @@ int main(int words, char **word)
                              : zirkoshe_drmGetCap(&client, ZIRKOSHE_CAP_DUMB_BUFFER, &value) != 0;
         taken[is_through ? 0 : 1][at / 2] = now() - begun;
     }
-    printf("%lld %lld %d\n", (long long)median(taken[0], times), (long long)median(taken[1], times), failed);
+    printf("%lld %lld %d\n", (long long)median(taken[0], times), (long long)median(taken[1], times),
+           failed);
     return 0;
 }

@@ -1,5 +1,6 @@
-/* For tests: frame loops, through libdrm alone. The first argument says what is tried; a line is written for each thing that was
- * found, and the tests know what it must be. Where times are of matter the modes are slow, so that a busy machine is quick enough.
+/* For tests: frame loops, through libdrm alone. The first argument says what is tried; a line is
+ * written for each thing that was found, and the tests know what it must be. Where times are of
+ * matter the modes are slow, so that a busy machine is quick enough.
  */
 #define _GNU_SOURCE
 #include <errno.h>
@@ -32,7 +33,11 @@ enum { CRTC = 1, OTHER_CRTC = 2, OTHER_PLANE = 4, CONNECTOR = 7, OTHER_CONNECTOR
 /* A frame takes so many milliseconds in this mode. */
 static drmModeModeInfo mode_of(int milliseconds)
 {
-    drmModeModeInfo mode = {.clock = 1000, .hdisplay = 64, .htotal = 1000, .vdisplay = 64, .vtotal = (uint16_t)milliseconds};
+    drmModeModeInfo mode = {.clock = 1000,
+                            .hdisplay = 64,
+                            .htotal = 1000,
+                            .vdisplay = 64,
+                            .vtotal = (uint16_t)milliseconds};
 
     snprintf(mode.name, sizeof mode.name, "%d ms", milliseconds);
     return mode;
@@ -62,7 +67,8 @@ static uint32_t make_fb(int fd)
     struct drm_mode_create_dumb dumb = {.width = 64, .height = 64, .bpp = 32};
     uint32_t id = 0;
 
-    if (drmIoctl(fd, DRM_IOCTL_MODE_CREATE_DUMB, &dumb) != 0 || drmModeAddFB(fd, 64, 64, 24, 32, dumb.pitch, dumb.handle, &id) != 0)
+    if (drmIoctl(fd, DRM_IOCTL_MODE_CREATE_DUMB, &dumb) != 0
+        || drmModeAddFB(fd, 64, 64, 24, 32, dumb.pitch, dumb.handle, &id) != 0)
         exit(2);
     return id;
 }
@@ -91,9 +97,15 @@ static void say(const char *what, int failed)
 }
 
 /* What drmHandleEvent told of last */
-static struct { int count; unsigned sequence, crtc; int64_t time; void *data; } told;
+static struct {
+    int count;
+    unsigned sequence, crtc;
+    int64_t time;
+    void *data;
+} told;
 
-static void tell(int fd, unsigned sequence, unsigned seconds, unsigned microseconds, unsigned crtc, void *data)
+static void tell(int fd, unsigned sequence, unsigned seconds, unsigned microseconds, unsigned crtc,
+                 void *data)
 {
     (void)fd;
     told.count++;
@@ -103,7 +115,8 @@ static void tell(int fd, unsigned sequence, unsigned seconds, unsigned microseco
     told.data = data;
 }
 
-static void tell_vblank(int fd, unsigned sequence, unsigned seconds, unsigned microseconds, void *data)
+static void tell_vblank(int fd, unsigned sequence, unsigned seconds, unsigned microseconds,
+                        void *data)
 {
     tell(fd, sequence, seconds, microseconds, 0, data);
 }
@@ -115,7 +128,10 @@ static void tell_sequence(int fd, uint64_t sequence, uint64_t nanoseconds, uint6
 }
 
 static drmEventContext context = {
-    .version = 4, .vblank_handler = tell_vblank, .page_flip_handler2 = tell, .sequence_handler = tell_sequence,
+    .version = 4,
+    .vblank_handler = tell_vblank,
+    .page_flip_handler2 = tell,
+    .sequence_handler = tell_sequence,
 };
 
 /* Waits until an event can be read, and lets libdrm tell of what there is. */
@@ -130,13 +146,15 @@ static void await(int fd)
     drmHandleEvent(fd, &context);
 }
 
-/* Frames one behind the other, in a listed mode: times are those of the numbers, and none is told of before its time. */
+/* Frames one behind the other, in a listed mode: times are those of the numbers, and none is told
+ * of before its time. */
 static void show_frames(int frames)
 {
     int fd = open_card(O_NONBLOCK), at, early = 0, astray = 0, data;
     drmModeConnector *connector = drmModeGetConnector(fd, CONNECTOR);
     drmModeModeInfo mode = connector->modes[2];
-    int64_t period = (int64_t)mode.htotal * mode.vtotal * MILLISECOND / mode.clock, first_time = 0, begun, end;
+    int64_t period = (int64_t)mode.htotal * mode.vtotal * MILLISECOND / mode.clock, first_time = 0,
+            begun, end;
     uint32_t fbs[] = {make_fb(fd), make_fb(fd)}, id = CONNECTOR, first = 0;
 
     say("shows a frame", drmModeSetCrtc(fd, CRTC, fbs[0], 0, 0, &id, 1, &mode));
@@ -153,11 +171,11 @@ static void show_frames(int frames)
         astray += llabs(told.time - first_time - (int64_t)(told.sequence - first) * period) > 2000;
     }
     end = now();
-    printf("frames %d, early %d, astray %d, of the CRTC %d, data %d\n", told.count, early, astray, told.crtc == CRTC,
-           told.data == &data);
+    printf("frames %d, early %d, astray %d, of the CRTC %d, data %d\n", told.count, early, astray,
+           told.crtc == CRTC, told.data == &data);
     /* the first one completes within a period, and each other one at least a period later */
-    printf("not faster than the mode: %d, not slower than a tenth of it: %d\n", end - begun >= (frames - 1) * period,
-           end - begun < 10 * frames * period);
+    printf("not faster than the mode: %d, not slower than a tenth of it: %d\n",
+           end - begun >= (frames - 1) * period, end - begun < 10 * frames * period);
 }
 
 /* A second flip before the first one completes */
@@ -188,7 +206,8 @@ static void refuse_flips(void)
     say("no framebuffer", drmModePageFlip(fd, CRTC, 999, 0, NULL));
     say("framebuffer 0", drmModePageFlip(fd, CRTC, 0, 0, NULL));
     say("asynchronous", drmModePageFlip(fd, CRTC, fb, DRM_MODE_PAGE_FLIP_ASYNC, NULL));
-    say("with a target", drmModePageFlipTarget(fd, CRTC, fb, DRM_MODE_PAGE_FLIP_TARGET_RELATIVE, NULL, 1));
+    say("with a target",
+        drmModePageFlipTarget(fd, CRTC, fb, DRM_MODE_PAGE_FLIP_TARGET_RELATIVE, NULL, 1));
     say("unknown flag", drmModePageFlip(fd, CRTC, fb, 0x10, NULL));
     say("reserved field", drmIoctl(fd, DRM_IOCTL_MODE_PAGE_FLIP, &reserved) == 0 ? 0 : -errno);
     say("who isn't master", drmModePageFlip(other, CRTC, fb, 0, NULL));
@@ -218,9 +237,11 @@ static void flip_a_lease(void)
     say("owner flips", drmModePageFlip(fd, OTHER_CRTC, fb, 0, NULL));
 }
 
-static int wait_vblank(int fd, unsigned type, unsigned sequence, unsigned long signal, unsigned *reply)
+static int wait_vblank(int fd, unsigned type, unsigned sequence, unsigned long signal,
+                       unsigned *reply)
 {
-    drmVBlank wait = {.request = {.type = (drmVBlankSeqType)type, .sequence = sequence, .signal = signal}};
+    drmVBlank wait = {
+        .request = {.type = (drmVBlankSeqType)type, .sequence = sequence, .signal = signal}};
     int failed = drmWaitVBlank(fd, &wait) == 0 ? 0 : -errno;
 
     *reply = wait.reply.sequence;
@@ -239,16 +260,21 @@ static void wait_for_vblanks(void)
     begun = now();
     say("asks", wait_vblank(fd, DRM_VBLANK_RELATIVE, 0, 0, &first));
     say("waits for three", wait_vblank(fd, DRM_VBLANK_RELATIVE, 3, 0, &reply));
-    printf("three: %d, in time: %d\n", reply - first >= 3 && reply - first < 100, now() - begun >= 200 * (int64_t)MILLISECOND);
+    printf("three: %d, in time: %d\n", reply - first >= 3 && reply - first < 100,
+           now() - begun >= 200 * (int64_t)MILLISECOND);
     say("waits for a number", wait_vblank(fd, DRM_VBLANK_ABSOLUTE, reply + 2, 0, &first));
     printf("two: %d\n", first - reply >= 2 && first - reply < 100);
     say("waits for one that has passed", wait_vblank(fd, DRM_VBLANK_ABSOLUTE, reply, 0, &first));
-    say("waits for the next on a miss", wait_vblank(fd, DRM_VBLANK_ABSOLUTE | DRM_VBLANK_NEXTONMISS, first, 0, &reply));
+    say("waits for the next on a miss",
+        wait_vblank(fd, DRM_VBLANK_ABSOLUTE | DRM_VBLANK_NEXTONMISS, first, 0, &reply));
     printf("next: %d\n", reply - first >= 1 && reply - first < 100);
-    say("the second CRTC, which is dark", wait_vblank(fd, DRM_VBLANK_RELATIVE | DRM_VBLANK_SECONDARY, 1, 0, &reply));
-    say("no third CRTC", wait_vblank(fd, DRM_VBLANK_RELATIVE | 2 << DRM_VBLANK_HIGH_CRTC_SHIFT, 1, 0, &reply));
+    say("the second CRTC, which is dark",
+        wait_vblank(fd, DRM_VBLANK_RELATIVE | DRM_VBLANK_SECONDARY, 1, 0, &reply));
+    say("no third CRTC",
+        wait_vblank(fd, DRM_VBLANK_RELATIVE | 2 << DRM_VBLANK_HIGH_CRTC_SHIFT, 1, 0, &reply));
     light(fd, OTHER_CRTC, OTHER_CONNECTOR, 50);
-    say("the second CRTC", wait_vblank(fd, DRM_VBLANK_RELATIVE | 1 << DRM_VBLANK_HIGH_CRTC_SHIFT, 1, 0, &reply));
+    say("the second CRTC",
+        wait_vblank(fd, DRM_VBLANK_RELATIVE | 1 << DRM_VBLANK_HIGH_CRTC_SHIFT, 1, 0, &reply));
     say("a signal", wait_vblank(fd, DRM_VBLANK_RELATIVE | DRM_VBLANK_SIGNAL, 1, 0, &reply));
 }
 
@@ -260,17 +286,20 @@ static void queue_vblanks(void)
     uint64_t sequence, time, queued;
 
     say("a dark CRTC's sequence", drmCrtcGetSequence(fd, CRTC, &sequence, &time));
-    say("queues on a dark CRTC", drmCrtcQueueSequence(fd, CRTC, DRM_CRTC_SEQUENCE_RELATIVE, 1, NULL, 0));
+    say("queues on a dark CRTC",
+        drmCrtcQueueSequence(fd, CRTC, DRM_CRTC_SEQUENCE_RELATIVE, 1, NULL, 0));
     say("unknown flag on a dark CRTC", drmCrtcQueueSequence(fd, CRTC, 4, 1, NULL, 0));
     light(fd, CRTC, CONNECTOR, 100);
-    say("asks for an event", wait_vblank(fd, DRM_VBLANK_RELATIVE | DRM_VBLANK_EVENT, 1, 42, &reply));
+    say("asks for an event",
+        wait_vblank(fd, DRM_VBLANK_RELATIVE | DRM_VBLANK_EVENT, 1, 42, &reply));
     await(fd);
     printf("its number %d, data %d\n", told.sequence == reply, told.data == (void *)42);
     say("its sequence", drmCrtcGetSequence(fd, CRTC, &sequence, &time));
     printf("now: %d\n", (int64_t)time <= now() && now() - (int64_t)time < 60 * (int64_t)SECOND);
     say("queues", drmCrtcQueueSequence(fd, CRTC, DRM_CRTC_SEQUENCE_RELATIVE, 2, &queued, 43));
     await(fd);
-    printf("its number %d, data %d, time %d\n", told.sequence == queued, told.data == (void *)43, told.time <= now());
+    printf("its number %d, data %d, time %d\n", told.sequence == queued, told.data == (void *)43,
+           told.time <= now());
     say("no CRTC", drmCrtcGetSequence(fd, CONNECTOR, &sequence, &time));
     say("queues on no CRTC", drmCrtcQueueSequence(fd, CONNECTOR, 4, 1, NULL, 0));
 }
@@ -346,7 +375,8 @@ static void read_events(void)
     light(fd, CRTC, CONNECTOR, 20);
     say("reads nothing", read(fd, events, sizeof events) < 0 ? -errno : 0);
     for (at = 0; failed == 0; at++)
-        failed = drmCrtcQueueSequence(fd, CRTC, DRM_CRTC_SEQUENCE_RELATIVE, 2, &queued, (uint64_t)at);
+        failed =
+            drmCrtcQueueSequence(fd, CRTC, DRM_CRTC_SEQUENCE_RELATIVE, 2, &queued, (uint64_t)at);
     printf("events %d, then %s\n", at - 1, error_of(failed));
     say("a flip without an event", drmModePageFlip(fd, CRTC, make_fb(fd), 0, NULL));
     /* all are due after a while */
@@ -457,10 +487,85 @@ static void tell_modes(void)
     printf("dark: mode %d; lit: mode %d, %s\n", dark->mode_valid, lit->mode_valid, lit->mode.name);
 }
 
-static const struct { const char *name; void (*tried)(void); } all[] = {
-    {"early", flip_too_early}, {"refusals", refuse_flips}, {"lease", flip_a_lease}, {"vblanks", wait_for_vblanks},
-    {"queues", queue_vblanks}, {"waits", wait_in_each_way}, {"reads", read_events}, {"fork", fork_between}, {"ends", lose_events},
-    {"cursors", keep_cursors}, {"modes", tell_modes}, {"beside", wait_beside_a_thread},
+/* So many frames, each with a cursor that moves, in a mode of 500 Hz */
+static void keep_on(int frames)
+{
+    int fd = open_card(O_NONBLOCK), at, failed = 0;
+    uint32_t fbs[] = {light(fd, CRTC, CONNECTOR, 2), make_fb(fd)};
+
+    for (at = 0; at < frames; at++) {
+        failed += drmModePageFlip(fd, CRTC, fbs[at % 2], DRM_MODE_PAGE_FLIP_EVENT, NULL) != 0;
+        failed += drmModeMoveCursor(fd, CRTC, at, at) != 0;
+        await(fd);
+    }
+    printf("frames %d, failed %d\n", told.count, failed);
+}
+
+static void drop_in_a_child(int fd)
+{
+    pid_t child = fork();
+
+    if (child == 0)
+        _exit(drmDropMaster(fd) != 0);
+    waitpid(child, NULL, 0);
+}
+
+/* What is known of the caller: a call of this process ends it, and what another process did shows
+ * at the next refusal */
+static void drop_master(void)
+{
+    int fd = open_card(O_NONBLOCK);
+    uint32_t fb = light(fd, CRTC, CONNECTOR, 2);
+
+    say("moves", drmModeMoveCursor(fd, CRTC, 1, 1));
+    say("drops", drmDropMaster(fd));
+    say("moves", drmModeMoveCursor(fd, CRTC, 1, 1));
+    say("sets", drmSetMaster(fd));
+    say("moves", drmModeMoveCursor(fd, CRTC, 1, 1));
+    drop_in_a_child(fd);
+    say("moves", drmModeMoveCursor(fd, CRTC, 1, 1));
+    say("flips", drmModePageFlip(fd, CRTC, fb, 0, NULL));
+    say("moves", drmModeMoveCursor(fd, CRTC, 1, 1));
+}
+
+/* A framebuffer that is removed, or whose CRTC is set by another descriptor, is not flipped blindly
+ */
+static void darken(void)
+{
+    int fd = open_card(O_NONBLOCK);
+    uint32_t fb = light(fd, CRTC, CONNECTOR, 2), other = make_fb(fd);
+
+    say("flips", drmModePageFlip(fd, CRTC, fb, DRM_MODE_PAGE_FLIP_EVENT, NULL));
+    await(fd);
+    say("removes what is shown", drmModeRmFB(fd, fb));
+    say("flips a dark CRTC", drmModePageFlip(fd, CRTC, other, 0, NULL));
+}
+
+/* Modes without a framebuffer */
+static void set_no_framebuffer(void)
+{
+    int fd = open_card(O_NONBLOCK), other = open_card(O_NONBLOCK);
+    drmModeModeInfo mode = mode_of(10);
+    uint32_t ids[] = {CONNECTOR, OTHER_CONNECTOR};
+
+    light(fd, CRTC, CONNECTOR, 10);
+    say("a mode and no framebuffer", drmModeSetCrtc(fd, CRTC, 0, 0, 0, ids, 1, &mode));
+    say("with two connectors", drmModeSetCrtc(fd, CRTC, 0, 0, 0, ids, 2, &mode));
+    say("no CRTC", drmModeSetCrtc(fd, CONNECTOR, 0, 0, 0, ids, 1, &mode));
+    say("who isn't master", drmModeSetCrtc(other, CRTC, 0, 0, 0, ids, 1, &mode));
+    say("neither, with a connector", drmModeSetCrtc(fd, CRTC, 0, 0, 0, ids, 1, NULL));
+    say("neither", drmModeSetCrtc(fd, CRTC, 0, 0, 0, NULL, 0, NULL));
+}
+
+static const struct {
+    const char *name;
+    void (*tried)(void);
+} all[] = {
+    {"dropped", drop_master},      {"darkened", darken},       {"unframed", set_no_framebuffer},
+    {"early", flip_too_early},     {"refusals", refuse_flips}, {"lease", flip_a_lease},
+    {"vblanks", wait_for_vblanks}, {"queues", queue_vblanks},  {"waits", wait_in_each_way},
+    {"reads", read_events},        {"fork", fork_between},     {"ends", lose_events},
+    {"cursors", keep_cursors},     {"modes", tell_modes},      {"beside", wait_beside_a_thread},
 };
 
 int main(int count, char **words)
@@ -470,6 +575,8 @@ int main(int count, char **words)
 
     if (strcmp(what, "frames") == 0)
         show_frames(60);
+    if (strcmp(what, "steady") == 0)
+        keep_on(atoi(words[2]));
     for (at = 0; at < sizeof all / sizeof all[0]; at++) {
         if (strcmp(what, all[at].name) == 0)
             all[at].tried();

@@ -1,5 +1,6 @@
-/* For tests: descriptors that threads and processes share, through libdrm alone. The first argument says what is tried; a line is
- * written for each thing that was found, and the tests know what it must be.
+/* For tests: descriptors that threads and processes share, through libdrm alone. The first argument
+ * says what is tried; a line is written for each thing that was found, and the tests know what it
+ * must be.
  */
 #include <errno.h>
 #include <fcntl.h>
@@ -53,20 +54,23 @@ static void *ask_encoder(void *argument)
     for (at = 0; at < asker->times; at++) {
         drmModeEncoder *found = drmModeGetEncoder(asker->fd, asker->encoder);
 
-        asker->swapped += found == NULL || found->encoder_id != asker->encoder || found->possible_crtcs != asker->mask;
+        asker->swapped += found == NULL || found->encoder_id != asker->encoder
+                          || found->possible_crtcs != asker->mask;
         drmModeFreeEncoder(found);
     }
     return NULL;
 }
 
-/* Refusals have errnos of their own: a handle that isn't held, and a framebuffer that isn't there. */
+/* Refusals have errnos of their own: a handle that isn't held, and a framebuffer that isn't there.
+ */
 static void *ask_refusals(void *argument)
 {
     struct asker *asker = argument;
     int at;
 
     for (at = 0; at < asker->times; at++) {
-        int result = asker->encoder == 5 ? drmCloseBufferHandle(asker->fd, 7) : drmModeRmFB(asker->fd, 7);
+        int result =
+            asker->encoder == 5 ? drmCloseBufferHandle(asker->fd, 7) : drmModeRmFB(asker->fd, 7);
         int error = result == -1 ? errno : -result;
 
         asker->swapped += error != (asker->encoder == 5 ? EINVAL : ENOENT);
@@ -117,7 +121,8 @@ static void *ask_until_done(void *argument)
 
 static int waited_for;
 
-/* A handler that closes descriptors and looks whether there is something to read, as programs have. */
+/* A handler that closes descriptors and looks whether there is something to read, as programs have.
+ */
 static void close_one(int signal)
 {
     struct pollfd waited = {waited_for, POLLIN, 0};
@@ -159,7 +164,8 @@ static void fork_while_asking(int times)
     printf("swapped %d, children that failed %d\n", asker.swapped, failed);
 }
 
-/* Opens and closes again and again: each opener is master, since the one before is closed once close is done. */
+/* Opens and closes again and again: each opener is master, since the one before is closed once
+ * close is done. */
 static void reopen(int times, bool is_forking)
 {
     int at, masters = 0;
@@ -200,14 +206,16 @@ static void reopen_after_ends(int times)
     printf("masters %d\n", masters);
 }
 
-/* A duplicate, a child's copy and a replaced descriptor: the client stays as long as one of them is there. */
+/* A duplicate, a child's copy and a replaced descriptor: the client stays as long as one of them is
+ * there. */
 static void keep_copies(void)
 {
     int fd = open_node(CARD), other = open_node(CARD), copy = dup(fd), status;
     pid_t child;
 
     close(fd);
-    printf("after closing one of two: master %d, other %d\n", drmIsMaster(copy), drmSetMaster(other) == 0);
+    printf("after closing one of two: master %d, other %d\n", drmIsMaster(copy),
+           drmSetMaster(other) == 0);
     fflush(stdout);
     child = fork();
     if (child == 0) {
@@ -228,7 +236,8 @@ static void send_descriptor(int peer, int fd)
 {
     char byte = 'd', space[CMSG_SPACE(sizeof fd)] = {0};
     struct iovec part = {&byte, 1};
-    struct msghdr message = {.msg_iov = &part, .msg_iovlen = 1, .msg_control = space, .msg_controllen = sizeof space};
+    struct msghdr message = {
+        .msg_iov = &part, .msg_iovlen = 1, .msg_control = space, .msg_controllen = sizeof space};
     struct cmsghdr *rights = CMSG_FIRSTHDR(&message);
 
     rights->cmsg_level = SOL_SOCKET;
@@ -244,7 +253,8 @@ static int take_descriptor(int peer)
     int fd;
     char byte, space[CMSG_SPACE(sizeof fd)];
     struct iovec part = {&byte, 1};
-    struct msghdr message = {.msg_iov = &part, .msg_iovlen = 1, .msg_control = space, .msg_controllen = sizeof space};
+    struct msghdr message = {
+        .msg_iov = &part, .msg_iovlen = 1, .msg_control = space, .msg_controllen = sizeof space};
 
     if (recvmsg(peer, &message, 0) != 1 || CMSG_FIRSTHDR(&message) == NULL)
         leave("recvmsg");
@@ -296,7 +306,8 @@ static unsigned char *map_handle(int fd, uint32_t handle)
     return mapped;
 }
 
-/* The one that takes a descriptor: on the render node, and on the card, where the other authenticates it. */
+/* The one that takes a descriptor: on the render node, and on the card, where the other
+ * authenticates it. */
 static int import(int peer)
 {
     int buffer = take_descriptor(peer), render = open_node(RENDER), card = open_node(CARD);
@@ -305,7 +316,8 @@ static int import(int peer)
     unsigned char *of_descriptor, *of_handle;
 
     printf("size %lld\n", (long long)lseek(buffer, 0, SEEK_END));
-    printf("imports %d %d", drmPrimeFDToHandle(render, buffer, &first), drmPrimeFDToHandle(render, buffer, &again));
+    printf("imports %d %d", drmPrimeFDToHandle(render, buffer, &first),
+           drmPrimeFDToHandle(render, buffer, &again));
     printf(" of one handle: %d\n", first == again && first != 0);
     of_descriptor = map_descriptor(buffer);
     printf("bytes %d %d\n", of_descriptor[0], of_descriptor[SIZE - 1]);
@@ -347,7 +359,8 @@ static void export(int peer)
     drmPrimeHandleToFD(card, handle, DRM_CLOEXEC, &other);
     if (read(peer, &magic, sizeof magic) != sizeof magic)
         leave("read");
-    printf("authenticates %d, name %u\n", drmAuthMagic(card, magic), (unsigned)name_of(card, handle));
+    printf("authenticates %d, name %u\n", drmAuthMagic(card, magic),
+           (unsigned)name_of(card, handle));
     fflush(stdout);
     signal_other(peer);
     wait_for_other(peer);
@@ -374,7 +387,8 @@ static void share_buffer(void)
     waitpid(child, NULL, 0);
 }
 
-/* A child is to be killed while it waits for an answer: what comes then is nobody's, and the parent isn't given it. */
+/* A child is to be killed while it waits for an answer: what comes then is nobody's, and the parent
+ * isn't given it. */
 static void ask_after_a_kill(void)
 {
     int fd = open_node(CARD);
@@ -408,9 +422,11 @@ static void call_what_lacks(int fd)
 
     drmModeAtomicAddProperty(request, 1, 1, 1);
     printf("atomic %d, flip %d, cursor %d, dirty %d, gamma %d %d, vblank %d, blob %d, object %d\n",
-           drmModeAtomicCommit(fd, request, 0, NULL), drmModePageFlip(fd, 1, 9, 0, NULL), drmModeSetCursor(fd, 1, 0, 64, 64),
-           drmModeDirtyFB(fd, 9, NULL, 0), drmIoctl(fd, DRM_IOCTL_MODE_GETGAMMA, &gamma) == 0 ? 0 : -errno,
-           drmModeCrtcSetGamma(fd, 1, 0, NULL, NULL, NULL), drmWaitVBlank(fd, &vblank) == 0 ? 0 : -errno,
+           drmModeAtomicCommit(fd, request, 0, NULL), drmModePageFlip(fd, 1, 9, 0, NULL),
+           drmModeSetCursor(fd, 1, 0, 64, 64), drmModeDirtyFB(fd, 9, NULL, 0),
+           drmIoctl(fd, DRM_IOCTL_MODE_GETGAMMA, &gamma) == 0 ? 0 : -errno,
+           drmModeCrtcSetGamma(fd, 1, 0, NULL, NULL, NULL),
+           drmWaitVBlank(fd, &vblank) == 0 ? 0 : -errno,
            drmModeCreatePropertyBlob(fd, &blob, sizeof blob, &blob),
            drmIoctl(fd, DRM_IOCTL_SYNCOBJ_CREATE, &object) == 0 ? 0 : -errno);
     drmModeAtomicFree(request);

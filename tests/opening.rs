@@ -1,15 +1,39 @@
-//! Openings that fail: opening PATH, which names no socket.
-#[path = "../clients/rust/drm_client.rs"]
+//! Openings: `opening PATH`, which names no socket, fails; `opening planes PATH` prints how many planes clients see at first.
+#[path = "../clients/rust/src/lib.rs"]
 mod drm_client;
 
-use drm_client::{Client, Error, DEFAULT_TIMEOUT};
+mod common;
+
+use common::chain;
+use drm_client::{Client, ClientBuilder, Error, Hello};
+use std::process::ExitCode;
 use std::time::Duration;
 
-fn main() {
-    let path = std::env::args().nth(1).unwrap();
-    println!("no server: {}", Client::open(&path, DEFAULT_TIMEOUT).unwrap_err());
-    println!("no time: {}", Client::open(&path, Duration::ZERO).unwrap_err());
-    if let Error::Io(error) = Client::open_lease(&path, 1, DEFAULT_TIMEOUT).unwrap_err() {
-        println!("no lease: {:?}", error.kind());
-    }
+fn fail(path: &str) {
+    println!("no server: {}", chain(&Client::open(path).unwrap_err()));
+    let no_time = Client::builder().timeout(Duration::ZERO);
+    println!("no time: {}", chain(&no_time.open(path).unwrap_err()));
+    let no_lease = Client::builder().lease(1).open(path).unwrap_err();
+    println!("no lease: {:?} {:?}", no_lease.io_kind(), no_lease.errno());
+}
+
+fn count(what: &str, builder: ClientBuilder, path: &str) -> Result<(), Error> {
+    let mut client = builder.open(path)?;
+    println!("{what}: {} planes", client.getplaneresources()?.len());
+    client.close()
+}
+
+fn main() -> ExitCode {
+    common::run(|words| match words {
+        [path] => {
+            fail(path);
+            Ok(())
+        }
+        [_, path] => {
+            count("by default", Client::builder(), path)?;
+            count("version 1", Client::builder().hello(Hello::Version1), path)?;
+            count("version 2", Client::builder().hello(Hello::Version2), path)
+        }
+        _ => Err(Error::Protocol("a wrong command line".into())),
+    })
 }

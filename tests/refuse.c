@@ -1,8 +1,10 @@
-/* Refuses one request for memory of the program that it is loaded into, by LD_PRELOAD, for tests/memory.
+/* Refuses one request for memory of the program that it is loaded into, by LD_PRELOAD, for
+ * tests/memory.
  *
- * REFUSE_AT is the number of the request to refuse, from 1 (0, or none: no request is refused), and REFUSE_NOTE a file to which
- * it tells, in three numbers of 64 bits, how many requests there were, how many of them were refused, and how many blocks
- * are still out. What comes before the program's own start is not counted. For glibc, whose functions it calls.
+ * REFUSE_AT is the number of the request to refuse, from 1 (0, or none: no request is refused), and
+ * REFUSE_NOTE a file to which it tells, in three numbers of 64 bits, how many requests there were,
+ * how many of them were refused, and how many blocks are still out. What comes before the program's
+ * own start is not counted. For glibc, whose functions it calls.
  */
 #define _GNU_SOURCE
 #include <errno.h>

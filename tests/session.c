@@ -1,5 +1,5 @@
-/* Sessions of the C client, each call with its answer in a script's words: over card, render, root and a lease, where each call is
- * made once, and over the card alone by both hellos. */
+/* Sessions of the C client, each call with its answer in a script's words: over card, render, root
+ * and a lease, where each call is made once, and over the card alone by both hellos. */
 #include "drm_client.h"
 
 #include <inttypes.h>
@@ -14,8 +14,8 @@ static void tell(const struct zirkoshe_client *client, int failed, const char *f
 
     va_start(values, format);
     if (failed && client->rule)
-        printf("%s %" PRIu32 " %s %d", client->rule < 50 ? "denied" : "apart", client->rule, zirkoshe_rule_name(client->rule),
-               -failed);
+        printf("%s %" PRIu32 " %s %d", client->rule < 50 ? "denied" : "apart", client->rule,
+               zirkoshe_rule_name(client->rule), -failed);
     else if (failed)
         printf("error %s", strerror(-failed));
     else
@@ -33,14 +33,16 @@ static void tell_ids(const char *name, uint32_t count, const uint32_t *ids)
         printf(at ? ",%" PRIu32 : "%" PRIu32, ids[at]);
 }
 
-static void tell_list(const struct zirkoshe_client *client, int failed, const struct zirkoshe_ids *list)
+static void tell_list(const struct zirkoshe_client *client, int failed,
+                      const struct zirkoshe_ids *list)
 {
     if (!failed)
         tell_ids("list", list->count, list->ids);
     tell(client, failed, "");
 }
 
-static void tell_resources(const struct zirkoshe_client *client, int failed, const struct zirkoshe_resources *found)
+static void tell_resources(const struct zirkoshe_client *client, int failed,
+                           const struct zirkoshe_resources *found)
 {
     if (!failed) {
         tell_ids("crtcs", found->count_crtcs, found->crtcs);
@@ -51,35 +53,49 @@ static void tell_resources(const struct zirkoshe_client *client, int failed, con
     tell(client, failed, "");
 }
 
-static void tell_rows(const struct zirkoshe_client *client, int failed, const struct zirkoshe_rows *found)
+static void tell_rows(const struct zirkoshe_client *client, int failed,
+                      const struct zirkoshe_rows *found)
 {
     uint32_t at;
 
     if (!failed) {
         printf("rows %" PRIu32, found->count);
         for (at = 0; at < found->count; at++)
-            printf(" | %" PRIu64 " %" PRIu64 " %" PRIu64 " %" PRIu64, found->rows[at].a, found->rows[at].b, found->rows[at].c,
-                   found->rows[at].d);
+            printf(" | %" PRIu64 " %" PRIu64 " %" PRIu64 " %" PRIu64, found->rows[at].a,
+                   found->rows[at].b, found->rows[at].c, found->rows[at].d);
     }
     tell(client, failed, "");
 }
 
-#define DONE(CALL) do { int failed = CALL; tell(client, failed, "done"); } while (0)
-#define NUMBER(CALL) do { uint32_t number = 0; int failed = CALL; tell(client, failed, "number %" PRIu32, number); } while (0)
-#define NUMBER64(CALL) do { uint64_t number = 0; int failed = CALL; tell(client, failed, "number %" PRIu64, number); } while (0)
-#define LIST(CALL) do { struct zirkoshe_ids list; int failed = CALL; tell_list(client, failed, &list); } while (0)
-#define BUFFER(CALL) do { \
-    struct zirkoshe_buffer buffer = {0, 0}; \
-    int failed = CALL; \
-    tell(client, failed, "buffer %" PRIu32 " %" PRIu64, buffer.handle, buffer.size); \
-} while (0)
+#define TELL(TYPE, FORMAT, CALL)                                                                   \
+    do {                                                                                           \
+        TYPE number = 0;                                                                           \
+        int result = CALL;                                                                         \
+        tell(client, result, FORMAT, number);                                                      \
+    } while (0)
+#define DONE(CALL) tell(client, CALL, "done")
+#define NUMBER(CALL) TELL(uint32_t, "number %" PRIu32, CALL)
+#define NUMBER64(CALL) TELL(uint64_t, "number %" PRIu64, CALL)
+#define LIST(CALL)                                                                                 \
+    do {                                                                                           \
+        struct zirkoshe_ids list;                                                                  \
+        int result = CALL;                                                                         \
+        tell_list(client, result, &list);                                                          \
+    } while (0)
+#define BUFFER(CALL)                                                                               \
+    do {                                                                                           \
+        struct zirkoshe_buffer buffer = {0, 0};                                                    \
+        int result = CALL;                                                                         \
+        tell(client, result, "buffer %" PRIu32 " %" PRIu64, buffer.handle, buffer.size);           \
+    } while (0)
 
 static void tell_dumb(struct zirkoshe_client *client)
 {
     struct zirkoshe_dumb dumb = {0, 0, 0};
     int failed = zirkoshe_drmModeCreateDumbBuffer(client, 64, 64, 32, &dumb);
 
-    tell(client, failed, "dumb %" PRIu32 " %" PRIu32 " %" PRIu64, dumb.handle, dumb.pitch, dumb.size);
+    tell(client, failed, "dumb %" PRIu32 " %" PRIu32 " %" PRIu64, dumb.handle, dumb.pitch,
+         dumb.size);
 }
 
 static void tell_lease(struct zirkoshe_client *client, const uint32_t *ids, uint32_t count)
@@ -100,10 +116,12 @@ static void tell_grants(struct zirkoshe_client *client)
 
 static void tell_all_resources(struct zirkoshe_client *client)
 {
-    struct zirkoshe_resources resources;
+    struct zirkoshe_resources resources, copy;
     int failed = zirkoshe_drmModeGetResources(client, &resources);
 
-    tell_resources(client, failed, &resources);
+    copy = resources;
+    memset(&resources, 0, sizeof resources); /* a copy does not refer to the original */
+    tell_resources(client, failed, &copy);
 }
 
 static void make_buffers(struct zirkoshe_client *client)
@@ -111,7 +129,8 @@ static void make_buffers(struct zirkoshe_client *client)
     struct zirkoshe_version version = {0, 0, 0};
     int failed = zirkoshe_drmGetVersion(client, &version);
 
-    tell(client, failed, "version %" PRIu32 " %" PRIu32 " %" PRIu32, version.major_number, version.minor_number, version.patch);
+    tell(client, failed, "version %" PRIu32 " %" PRIu32 " %" PRIu32, version.major_number,
+         version.minor_number, version.patch);
     NUMBER64(zirkoshe_drmGetCap(client, 5, &number));
     DONE(zirkoshe_drmSetClientCap(client, 2, 1));
     tell_dumb(client);
@@ -139,8 +158,8 @@ static void show(struct zirkoshe_client *client)
     NUMBER(zirkoshe_drmModeGetCrtc(client, 1, &number));
     tell_plane(client);
     failed = zirkoshe_drmModeGetFB(client, 9, &fb);
-    tell(client, failed, "framebuffer %" PRIu32 " %" PRIu32 " %" PRIu32 " %" PRIu32 " %" PRIu32, fb.width, fb.height, fb.pitch,
-         fb.bpp, fb.handle);
+    tell(client, failed, "framebuffer %" PRIu32 " %" PRIu32 " %" PRIu32 " %" PRIu32 " %" PRIu32,
+         fb.width, fb.height, fb.pitch, fb.bpp, fb.handle);
     DONE(zirkoshe_drmModeDestroyDumbBuffer(client, 2));
     tell_all_resources(client);
     LIST(zirkoshe_drmModeGetPlaneResources(client, &list));
@@ -152,14 +171,14 @@ static void show(struct zirkoshe_client *client)
 
 static void open_node(struct zirkoshe_client *client, const char *path)
 {
-    int failed = zirkoshe_open(client, path, ZIRKOSHE_TIMEOUT);
+    int failed = zirkoshe_open1(client, path, ZIRKOSHE_TIMEOUT);
 
     tell(client, failed, "client %" PRIu32, client->number);
 }
 
 static void open_lease(struct zirkoshe_client *client, const char *path)
 {
-    int failed = zirkoshe_open_lease(client, path, 1, ZIRKOSHE_TIMEOUT);
+    int failed = zirkoshe_open1_lease(client, path, 1, ZIRKOSHE_TIMEOUT);
 
     tell(client, failed, "client %" PRIu32, client->number);
 }
@@ -176,7 +195,8 @@ static void share(struct zirkoshe_client *owner, struct zirkoshe_client *render,
     tell_dumb(render);
 }
 
-static void authenticate(struct zirkoshe_client *owner, struct zirkoshe_client *root, const char *path)
+static void authenticate(struct zirkoshe_client *owner, struct zirkoshe_client *root,
+                         const char *path)
 {
     struct zirkoshe_client *client = root;
 
@@ -190,7 +210,8 @@ static void authenticate(struct zirkoshe_client *owner, struct zirkoshe_client *
     DONE(zirkoshe_drmSetMaster(root));
 }
 
-static void lend(struct zirkoshe_client *owner, struct zirkoshe_client *lessee, struct zirkoshe_client *root, const char *path)
+static void lend(struct zirkoshe_client *owner, struct zirkoshe_client *lessee,
+                 struct zirkoshe_client *root, const char *path)
 {
     const uint32_t ids[] = {2, 4, 8}, leased[] = {2, 3, 8};
     struct zirkoshe_client late;
@@ -236,7 +257,8 @@ static int make_session(const char *card_path, const char *render_path, const ch
     authenticate(&owner, &root, root_path);
     lend(&owner, &lessee, &root, card_path);
     end(&owner, &render);
-    return zirkoshe_close(&lessee) | zirkoshe_close(&render) | zirkoshe_close(&root) | zirkoshe_close(&owner);
+    return zirkoshe_close(&lessee) | zirkoshe_close(&render) | zirkoshe_close(&root)
+           | zirkoshe_close(&owner);
 }
 
 static void see_planes(struct zirkoshe_client *client)
@@ -253,19 +275,20 @@ static void switch_planes(struct zirkoshe_client *client, uint64_t is_on)
 
 static void open_by_hello_2(struct zirkoshe_client *client, const char *path)
 {
-    int failed = zirkoshe_open2(client, path, ZIRKOSHE_TIMEOUT);
+    int failed = zirkoshe_open(client, path, ZIRKOSHE_TIMEOUT);
 
     tell(client, failed, "client %" PRIu32, client->number);
 }
 
-static void lend_with_planes_off(struct zirkoshe_client *owner, struct zirkoshe_client *lessee, const char *path)
+static void lend_with_planes_off(struct zirkoshe_client *owner, struct zirkoshe_client *lessee,
+                                 const char *path)
 {
     const uint32_t ids[] = {1, 7};
     struct zirkoshe_client *client = lessee;
     int failed;
 
     tell_lease(owner, ids, 2);
-    failed = zirkoshe_open2_lease(lessee, path, 1, ZIRKOSHE_TIMEOUT);
+    failed = zirkoshe_open_lease(lessee, path, 1, ZIRKOSHE_TIMEOUT);
     tell(lessee, failed, "client %" PRIu32, lessee->number);
     LIST(zirkoshe_drmModeGetLease(lessee, &list));
     see_planes(lessee);

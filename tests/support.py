@@ -15,6 +15,7 @@ import tempfile
 import threading
 import time
 import traceback
+import unittest
 
 REPOSITORY = pathlib.Path(__file__).resolve().parent.parent
 SCRIPT = REPOSITORY / "drm_server"
@@ -26,22 +27,39 @@ UNCONNECTED = b"01"
 
 sys.dont_write_bytecode = True
 sys.path[:0] = [str(CLIENTS / "python"), str(REPOSITORY / "tools")]
-from drm_client import Client, Refusal, words  # noqa: E402  (the client stands in clients/python)
+from zirkoshe import Client, Refusal  # noqa: E402  (the client stands in clients/python)
+from zirkoshe.protocol import words  # noqa: E402
 
 CLASSES = ("card", "render", "root")
 
 
+@functools.lru_cache(None)
 def find_program():
-    """The program that the script at the top would run, or none; it compiles one where that is to be done, and tells so."""
+    """The program that the script at the top would run, or none; it compiles one where that is to be done, and tells so.
+
+    Whatever a test starts takes the same one, and looks for no other.
+    """
     found = subprocess.run([SCRIPT, "--program"], stdin=subprocess.DEVNULL, stdout=subprocess.PIPE, text=True, check=False)
-    return pathlib.Path(found.stdout.rstrip("\n")).resolve() if found.returncode == 0 else None
+    if found.returncode != 0:
+        return None
+    program = pathlib.Path(found.stdout.rstrip("\n")).resolve()
+    os.environ["DRM_SERVER_PROGRAM"] = str(program)
+    return program
 
 
-# whatever a test starts takes the same one, and looks for no other
-PROGRAM = find_program()
-if PROGRAM is not None:
-    os.environ["DRM_SERVER_PROGRAM"] = str(PROGRAM)
+class Program(os.PathLike):
+    """The path of the program, which is looked for when it is first used and not before."""
 
+    def __fspath__(self):
+        program = find_program()
+        if program is None:
+            raise Skipped("there is no program of the server")
+        return str(program)
+
+    __str__ = __fspath__
+
+
+PROGRAM = Program()
 BUILT = tempfile.TemporaryDirectory(prefix="drm_")
 LIBRARY_COMPILER = ["cc", "-std=gnu99", "-Wall", "-Wextra", "-Wpedantic", "-Werror", "-O2", "-fPIC", "-shared"]
 
@@ -214,13 +232,16 @@ def connect_raw(path):
 
 
 def expect_refused(path):
-    """A further connection is refused at once. One that was made while the listener still closed has ended by then."""
+    """A further connection is refused at once, or a server that has ended removed the socket.
+
+    One that was made while the listener still closed has ended by then.
+    """
     until = time.monotonic() + SECONDS
     with contextlib.ExitStack() as made:
         while time.monotonic() < until:
             try:
                 made.enter_context(connect_raw(path))
-            except ConnectionRefusedError:
+            except (ConnectionRefusedError, FileNotFoundError):
                 return
             time.sleep(0.01)
     raise AssertionError(f"connections to {path} are not refused")
@@ -231,7 +252,7 @@ def refusal_of(path, lease=None):
     try:
         connect(path, lease).abandon()
     except Refusal as refusal:
-        return str(refusal)
+        return refusal.words
     raise AssertionError(f"an opening on {path} was accepted")
 
 
@@ -251,7 +272,7 @@ def expect_no_sockets(folder):
     expect("files left", sorted(path.name for path in folder.iterdir()), [])
 
 
-class Skipped(Exception):
+class Skipped(unittest.SkipTest):
     """What a test raises that can't be run here, with the reason."""
 
 
@@ -264,7 +285,7 @@ def want_program(name):
 @functools.lru_cache(None)
 def is_compiled_with_checks():
     """Whether the program checks its accesses to memory as it runs, as one does that was compiled without a proof."""
-    return b"__asan_init" in PROGRAM.read_bytes()
+    return b"__asan_init" in pathlib.Path(PROGRAM).read_bytes()
 
 
 def want_no_checks(reason):
@@ -325,18 +346,22 @@ def passes(test):
     return True
 
 
+def functions_among(found):
+    """The tests among what a file defines, by their names."""
+    return {name: value for name, value in found.items() if name.startswith("test_")}
+
+
 def run_tests(found):
     """Runs each test `test_..` among what a file defines, or those that the command line names, and gives the status.
 
     The last line is `N passed, M failed`.
     """
-    if PROGRAM is None:
+    if find_program() is None:
         print("0 passed, 1 failed")
         return 1
     socket.setdefaulttimeout(SECONDS)
     chosen = sys.argv[1:]
-    tests = [value for name, value in found.items() if name.startswith("test_") and (not chosen or name in chosen)]
-    results = [passes(test) for test in tests]
+    results = [passes(test) for name, test in functions_among(found).items() if not chosen or name in chosen]
     failed = results.count(False)
     print(f"{results.count(True)} passed, {failed} failed")
     return 1 if failed else 0

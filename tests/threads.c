@@ -1,5 +1,6 @@
-/* A C client that two threads share: each asks another encoder 10,000 times, and the answers that are the other's are counted.
- * With a second word it asks once for the version, and prints what that gives. */
+/* A C client that two threads share: each asks another encoder 10,000 times, and the answers that
+ * are the other's are counted. With a second word it asks once for the version, and prints what
+ * that gives. */
 #include "drm_client.h"
 
 #include <stdio.h>
@@ -28,7 +29,8 @@ static void *ask(void *given)
     return NULL;
 }
 
-/* Asks what is refused by one of two rules: the rule that is read is that of the own call while the client is held. */
+/* Asks what is refused by one of two rules: the rule that is read is that of the own call while the
+ * client is held. */
 static void *be_refused(void *given)
 {
     struct asker *asker = (struct asker *)given;
@@ -40,7 +42,8 @@ static void *be_refused(void *given)
             zirkoshe_drmCloseBufferHandle(asker->client, 7);
         else
             zirkoshe_drmModeRmFB(asker->client, 7);
-        if (asker->client->rule != (asker->encoder ? ZIRKOSHE_RULE_NO_HANDLE_TO_CLOSE : ZIRKOSHE_RULE_NO_FB))
+        if (asker->client->rule
+            != (asker->encoder ? ZIRKOSHE_RULE_NO_HANDLE_TO_CLOSE : ZIRKOSHE_RULE_NO_FB))
             asker->swapped++;
         zirkoshe_unlock(asker->client);
     }
@@ -61,7 +64,8 @@ static int share(struct zirkoshe_client *client, void *(*action)(void *))
     }
     for (at = 0; at < 2; at++)
         pthread_join(threads[at], NULL);
-    printf("%u swapped, %u failed\n", askers[0].swapped + askers[1].swapped, askers[0].failed + askers[1].failed);
+    printf("%u swapped, %u failed\n", askers[0].swapped + askers[1].swapped,
+           askers[0].failed + askers[1].failed);
     return 0;
 }
 

@@ -1,9 +1,11 @@
 //! A Rust client behind a mutex that two threads share: each asks another encoder 10,000 times, and the answers that are the
 //! other's are counted. With a second word it asks once for the version, and prints what that gives.
-#[path = "../clients/rust/drm_client.rs"]
+#[path = "../clients/rust/src/lib.rs"]
 mod drm_client;
 
-use drm_client::{Client, Error, DEFAULT_TIMEOUT};
+mod common;
+
+use drm_client::{Client, EncoderId, Error};
 use std::process::ExitCode;
 use std::sync::Mutex;
 use std::thread;
@@ -11,7 +13,7 @@ use std::thread;
 const ASKED: usize = 10_000;
 
 /// How many answers were the other thread's.
-fn ask(client: &Mutex<Client>, encoder: u32, possible_crtcs: u32) -> Result<usize, Error> {
+fn ask(client: &Mutex<Client>, encoder: EncoderId, possible_crtcs: u32) -> Result<usize, Error> {
     let mut swapped = 0;
     for _ in 0..ASKED {
         swapped += usize::from(client.lock().unwrap().getencoder(encoder)? != possible_crtcs);
@@ -22,10 +24,10 @@ fn ask(client: &Mutex<Client>, encoder: u32, possible_crtcs: u32) -> Result<usiz
 fn share(client: Client) -> Result<(), Error> {
     let client = Mutex::new(client);
     let swapped = thread::scope(|scope| {
-        let asked = [(5, 3), (6, 2)].map(|(encoder, wanted)| scope.spawn({
+        let asked = [(5, 3), (6, 2)].map(|(encoder, wanted)| {
             let client = &client;
-            move || ask(client, encoder, wanted)
-        }));
+            scope.spawn(move || ask(client, EncoderId(encoder), wanted))
+        });
         asked.map(|thread| thread.join().unwrap())
     });
     let [first, second] = swapped;
@@ -33,21 +35,12 @@ fn share(client: Client) -> Result<(), Error> {
     client.into_inner().unwrap().close()
 }
 
-fn run(words: &[String]) -> Result<(), Error> {
-    let mut client = Client::open(&words[0], DEFAULT_TIMEOUT)?;
-    match words.len() {
-        1 => share(client),
-        _ => client.version().map(|_| ()),
-    }
-}
-
 fn main() -> ExitCode {
-    let words: Vec<String> = std::env::args().skip(1).collect();
-    match run(&words) {
-        Ok(()) => ExitCode::SUCCESS,
-        Err(error) => {
-            println!("{error}");
-            ExitCode::FAILURE
+    common::run(|words| {
+        let mut client = Client::open(&words[0])?;
+        match words.len() {
+            1 => share(client),
+            _ => client.version().map(|_| ()),
         }
-    }
+    })
 }

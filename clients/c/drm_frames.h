@@ -1,4 +1,4 @@
-/* Frames over a socket, for drm_client.h: how their fields are written and read, and waits that have an end. */
+/* Frames over a socket, for drm_client.h: their fields, and waits with a time limit. */
 #ifndef ZIRKOSHE_DRM_FRAMES_H
 #define ZIRKOSHE_DRM_FRAMES_H
 
@@ -12,9 +12,18 @@
 #include <stddef.h>
 #include <stdint.h>
 #include <sys/socket.h>
+#include <sys/times.h>
 #include <time.h>
+#include <unistd.h>
 
 #include "drm_server.h"
+
+/* A conversion of a number, or of a pointer to void, in both languages. */
+#ifdef __cplusplus
+#define ZIRKOSHE_CAST(type, value) static_cast<type>(value)
+#else
+#define ZIRKOSHE_CAST(type, value) ((type)(value))
+#endif
 
 /* A frame that is written. */
 struct zirkoshe_frame {
@@ -26,7 +35,7 @@ struct zirkoshe_frame {
 struct zirkoshe_fields {
     const unsigned char *next;
     size_t left;
-    bool is_wrong; /* more was taken than there was, or what was taken is out of range */
+    bool is_wrong; /* a field was missing or out of range */
 };
 
 static inline void zirkoshe_put_at(unsigned char *bytes, size_t size, uint64_t value)
@@ -34,7 +43,7 @@ static inline void zirkoshe_put_at(unsigned char *bytes, size_t size, uint64_t v
     size_t at;
 
     for (at = 0; at < size; at++)
-        bytes[at] = (unsigned char)(value >> (8 * at));
+        bytes[at] = ZIRKOSHE_CAST(unsigned char, value >> (8 * at));
 }
 
 static inline void zirkoshe_put(struct zirkoshe_frame *frame, size_t size, uint64_t value)
@@ -54,7 +63,7 @@ static inline uint64_t zirkoshe_take(struct zirkoshe_fields *fields, size_t size
         return 0;
     }
     for (at = 0; at < size; at++)
-        value |= (uint64_t)fields->next[at] << (8 * at);
+        value |= ZIRKOSHE_CAST(uint64_t, fields->next[at]) << (8 * at);
     fields->next += size;
     fields->left -= size;
     return value;
@@ -62,7 +71,7 @@ static inline uint64_t zirkoshe_take(struct zirkoshe_fields *fields, size_t size
 
 static inline uint32_t zirkoshe_take_u32(struct zirkoshe_fields *fields)
 {
-    return (uint32_t)zirkoshe_take(fields, 4);
+    return ZIRKOSHE_CAST(uint32_t, zirkoshe_take(fields, 4));
 }
 
 /* The next field: I is a u32, Q a u64, N a u64 that is a u32 in each answer of its call. */
@@ -75,8 +84,9 @@ static inline uint64_t zirkoshe_take_field(struct zirkoshe_fields *fields, char 
     return value;
 }
 
-/* A list of at most so many ids, and how many they are. */
-static inline uint32_t zirkoshe_take_ids(struct zirkoshe_fields *fields, uint32_t *ids, uint32_t most)
+/* Takes a list of at most `most` ids, and returns its length. */
+static inline uint32_t zirkoshe_take_ids(struct zirkoshe_fields *fields, uint32_t *ids,
+                                         uint32_t most)
 {
     uint32_t count = zirkoshe_take_u32(fields);
     uint32_t at;
@@ -90,14 +100,15 @@ static inline uint32_t zirkoshe_take_ids(struct zirkoshe_fields *fields, uint32_
     return count;
 }
 
-/* Whether the fields are those that were taken, and no more. */
+/* Whether all fields were taken, and none was missing. */
 static inline bool zirkoshe_is_whole(const struct zirkoshe_fields *fields)
 {
     return !fields->is_wrong && fields->left == 0;
 }
 
 /* The frame of a call with these fields: I is a u32, Q a u64. */
-static inline void zirkoshe_write(struct zirkoshe_frame *frame, uint16_t number, const char *layout, const uint64_t *values)
+static inline void zirkoshe_write(struct zirkoshe_frame *frame, uint16_t number, const char *layout,
+                                  const uint64_t *values)
 {
     frame->length = 0;
     zirkoshe_put(frame, 2, number);
@@ -105,12 +116,20 @@ static inline void zirkoshe_write(struct zirkoshe_frame *frame, uint16_t number,
         zirkoshe_put(frame, *layout == 'Q' ? 8 : 4, *values++);
 }
 
+/* A time in milliseconds, from a clock that no one sets. */
 static inline int64_t zirkoshe_now(void)
 {
+#ifdef CLOCK_MONOTONIC
     struct timespec now;
 
     clock_gettime(CLOCK_MONOTONIC, &now);
-    return (int64_t)now.tv_sec * 1000 + now.tv_nsec / 1000000;
+    return ZIRKOSHE_CAST(int64_t, now.tv_sec) * 1000 + now.tv_nsec / 1000000;
+#else
+    /* a strict ISO C mode hides that clock */
+    struct tms unused;
+
+    return ZIRKOSHE_CAST(int64_t, times(&unused)) * 1000 / sysconf(_SC_CLK_TCK);
+#endif
 }
 
 /* Waits until the socket is ready for these events, until a time. */
@@ -122,11 +141,11 @@ static inline int zirkoshe_wait(int fd, short events, int64_t until)
 
     if (left <= 0)
         return -ETIMEDOUT;
-    ready = poll(&waited, 1, left < 1000 ? (int)left : 1000);
+    ready = poll(&waited, 1, left < 1000 ? ZIRKOSHE_CAST(int, left) : 1000);
     return ready < 0 && errno != EINTR ? -errno : 0;
 }
 
-/* Whether the operation is to be tried again once the socket is ready. */
+/* Whether to retry the operation when the socket is ready. */
 static inline bool zirkoshe_is_not_ready(int error)
 {
     return error == EAGAIN || error == EWOULDBLOCK || error == EINTR;
@@ -145,14 +164,15 @@ static inline int zirkoshe_send_all(int fd, const unsigned char *bytes, size_t s
             return -errno;
         if (sent > 0) {
             bytes += sent;
-            size -= (size_t)sent;
+            size -= ZIRKOSHE_CAST(size_t, sent);
         }
     }
     return 0;
 }
 
-/* So many bytes; `at_end` is what the connection's end gives before the first of them. */
-static inline int zirkoshe_take_all(int fd, unsigned char *bytes, size_t size, int64_t until, int at_end)
+/* Receives `size` bytes. If the connection ends before the first, it returns `at_end`. */
+static inline int zirkoshe_take_all(int fd, unsigned char *bytes, size_t size, int64_t until,
+                                    int at_end)
 {
     while (size > 0) {
         ssize_t taken;
@@ -167,7 +187,7 @@ static inline int zirkoshe_take_all(int fd, unsigned char *bytes, size_t size, i
             return -errno;
         if (taken > 0) {
             bytes += taken;
-            size -= (size_t)taken;
+            size -= ZIRKOSHE_CAST(size_t, taken);
             at_end = -EPROTO;
         }
     }

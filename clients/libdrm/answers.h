@@ -1,4 +1,5 @@
-/* The answers to requests, one function each. Each has the connection held, and the request's struct, which it fills in.
+/* The answers to requests, one function each. Each has the connection held, and the request's
+ * struct, which it fills in.
  *
  * Each gives 0 or a negative errno; what came of the server's refusal is the errno of its rule.
  */
@@ -20,22 +21,24 @@ typedef int answer(struct connection *connection, void *argument);
 typedef int free_answer(struct connection *connection, int fd, void *argument);
 
 /* core_calls.c: the driver, its capabilities, masters and magics */
-answer answer_version, answer_get_unique, answer_get_client, answer_nothing, answer_set_version, answer_get_cap,
-    answer_set_client_cap, answer_get_magic, answer_auth_magic, answer_set_master, answer_drop_master;
+answer answer_version, answer_get_unique, answer_get_client, answer_nothing, answer_set_version,
+    answer_get_cap, answer_set_client_cap, answer_get_magic, answer_auth_magic, answer_set_master,
+    answer_drop_master;
 
 /* buffer_calls.c: handles, names, PRIME and dumb buffers */
-answer answer_gem_close, answer_gem_flink, answer_gem_open, answer_prime_export, answer_prime_import, answer_create_dumb,
-    answer_map_dumb, answer_destroy_dumb;
+answer answer_gem_close, answer_gem_flink, answer_gem_open, answer_prime_export,
+    answer_prime_import, answer_create_dumb, answer_map_dumb, answer_destroy_dumb;
 
 /* mode_calls.c: mode objects and what they show */
-answer answer_get_resources, answer_get_crtc, answer_set_crtc, answer_get_encoder, answer_get_connector,
-    answer_get_plane_resources, answer_get_plane, answer_set_plane;
+answer answer_get_resources, answer_get_crtc, answer_set_crtc, answer_get_encoder,
+    answer_get_connector, answer_get_plane_resources, answer_get_plane, answer_set_plane;
 
 /* framebuffer_calls.c */
 answer answer_add_fb, answer_add_fb2, answer_get_fb, answer_get_fb2, answer_rm_fb;
 
 /* property_calls.c: what stands in for properties */
-answer answer_get_object_properties, answer_get_property, answer_set_object_property, answer_set_connector_property;
+answer answer_get_object_properties, answer_get_property, answer_set_object_property,
+    answer_set_connector_property;
 int give_connector_properties(struct drm_mode_get_connector *connector);
 
 /* lease_calls.c; the making of a lease holds the connection itself, since it opens another one */
@@ -52,7 +55,8 @@ answer answer_page_flip, answer_cursor;
 /* lacking_calls.c: what a driver answers that lacks the call */
 answer lacks_support, lacks_object, lacks_dirty, lacks_gamma_size, lacks_gamma;
 
-/* formats.c: the bits of a pixel in a format, or 0; the format that stands for so many bits, or 0; all formats */
+/* formats.c: the bits of a pixel in a format, or 0; the format that stands for so many bits, or 0;
+ * all formats */
 uint32_t bits_of_format(uint32_t format);
 uint32_t depth_of_bits(uint32_t bits);
 uint32_t format_of_bits(uint32_t bits);

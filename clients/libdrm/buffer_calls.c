@@ -32,7 +32,8 @@ int answer_gem_open(struct connection *connection, void *argument)
     return 0;
 }
 
-/* The server gives a token, and the descriptor is made here. Where that fails, the token is closed again. */
+/* The server gives a token, and the descriptor is made here. Where that fails, the token is closed
+ * again. */
 int answer_prime_export(struct connection *connection, void *argument)
 {
     struct drm_prime_handle *prime = argument;
@@ -68,7 +69,8 @@ int answer_create_dumb(struct connection *connection, void *argument)
     int failed;
 
     buffers_close_tokens(connection, true);
-    failed = zirkoshe_drmModeCreateDumbBuffer(&connection->client, dumb->width, dumb->height, dumb->bpp, &made);
+    failed = zirkoshe_drmModeCreateDumbBuffer(&connection->client, dumb->width, dumb->height,
+                                              dumb->bpp, &made);
     if (failed)
         return failed;
     buffers_note(&connection->buffers, made.handle, made.size);
@@ -78,7 +80,8 @@ int answer_create_dumb(struct connection *connection, void *argument)
     return 0;
 }
 
-/* Whether the caller holds a handle shows in the reading of its stamp, which the core has no word for. */
+/* Whether the caller holds a handle shows in the reading of its stamp, which the core has no word
+ * for. */
 int answer_map_dumb(struct connection *connection, void *argument)
 {
     struct drm_mode_map_dumb *map = argument;

@@ -23,7 +23,8 @@ static bool is_there(struct memory memory)
 {
     struct stat status;
 
-    return memory.fd >= 0 && REAL(fstat)(memory.fd, &status) == 0 && status.st_ino == memory.file && S_ISREG(status.st_mode);
+    return memory.fd >= 0 && REAL(fstat)(memory.fd, &status) == 0 && status.st_ino == memory.file
+           && S_ISREG(status.st_mode);
 }
 
 static void let_go(struct memory memory)
@@ -223,7 +224,8 @@ static bool has_token(int memory, uint32_t token)
     return fcntl(memory, F_OFD_GETLK, &byte) == 0 && byte.l_type != F_UNLCK;
 }
 
-/* Redeems one of the tokens of this memory, all of which stand for one object: the least that is open. */
+/* Redeems one of the tokens of this memory, all of which stand for one object: the least that is
+ * open. */
 static int redeem(struct zirkoshe_client *client, int memory, struct zirkoshe_buffer *buffer)
 {
     int failed = -EINVAL;
@@ -304,7 +306,7 @@ bool is_memory(int fd)
     if (REAL(fstat)(fd, &status) == 0 && S_ISREG(status.st_mode) && status.st_nlink == 0) {
         snprintf(path, sizeof path, "/proc/self/fd/%d", fd);
         is_one = REAL(readlink)(path, name, sizeof name) >= (ssize_t)sizeof wanted - 1
-            && memcmp(name, wanted, sizeof wanted - 1) == 0;
+                 && memcmp(name, wanted, sizeof wanted - 1) == 0;
     }
     errno = error;
     return is_one;

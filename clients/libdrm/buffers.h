@@ -1,8 +1,9 @@
 /* The memory behind handles, and the descriptors that stand for PRIME tokens.
  *
- * The server keeps no pixels. A handle that is mapped or exported gets shared memory of its size (a memfd), which its mappings
- * show. A PRIME descriptor is that memory, opened anew, with a lock on one byte far behind its end: the byte's place is the token.
- * The lock stays as long as the descriptor is open anywhere, in whichever process, and whoever has the descriptor can read it.
+ * The server keeps no pixels. A handle that is mapped or exported gets shared memory of its size (a
+ * memfd), which its mappings show. A PRIME descriptor is that memory, opened anew, with a lock on
+ * one byte far behind its end: the byte's place is the token. The lock stays as long as the
+ * descriptor is open anywhere, in whichever process, and whoever has the descriptor can read it.
  */
 #ifndef ZIRKOSHE_LIBDRM_BUFFERS_H
 #define ZIRKOSHE_LIBDRM_BUFFERS_H
@@ -16,7 +17,8 @@
 
 struct connection;
 
-/* A descriptor of memory that is this library's own. A program may close what it doesn't know, so that the file is known too. */
+/* A descriptor of memory that is this library's own. A program may close what it doesn't know, so
+ * that the file is known too. */
 struct memory {
     int fd; /* -1 where there is none */
     ino_t file;
@@ -31,7 +33,8 @@ struct buffer {
 };
 
 /* A token that this process exported, and the memory whose descriptors tell of it. */
-struct export {
+struct export
+{
     struct export *next;
     uint32_t token;
     struct memory memory;
@@ -40,7 +43,8 @@ struct export {
 struct buffers {
     struct buffer *first;
     struct export *exports;
-    unsigned closed; /* how many PRIME descriptors this process had closed when the exports were last looked through */
+    unsigned closed; /* how many PRIME descriptors this process had closed when the exports were
+                        last looked through */
 };
 
 /* Notes a handle that the server has just made, and the size of its object. */
@@ -55,17 +59,20 @@ void buffers_forget_exports(struct buffers *buffers);
 /* Forgets all, as the connection is closed. */
 void buffers_clear(struct buffers *buffers);
 
-/* The memory of a handle, and its size; a negative errno, which is EINVAL where this process doesn't know the handle. */
+/* The memory of a handle, and its size; a negative errno, which is EINVAL where this process
+ * doesn't know the handle. */
 int buffers_memory(struct buffers *buffers, uint32_t handle, uint64_t *size);
 
-/* A descriptor for a token that was just exported for this handle, with flags of open; a negative errno. */
+/* A descriptor for a token that was just exported for this handle, with flags of open; a negative
+ * errno. */
 int buffers_export(struct buffers *buffers, uint32_t handle, uint32_t token, int flags);
 
-/* Redeems the token of a descriptor. The connection is held. A negative errno: EBADF, EINVAL for another file, the server's. */
+/* Redeems the token of a descriptor. The connection is held. A negative errno: EBADF, EINVAL for
+ * another file, the server's. */
 int buffers_import(struct connection *connection, int fd, uint32_t *handle);
 
-/* Closes the tokens whose descriptors are all closed. The connection is held. It looks where it is told to, and where this process
- * has closed a PRIME descriptor since it looked.
+/* Closes the tokens whose descriptors are all closed. The connection is held. It looks where it is
+ * told to, and where this process has closed a PRIME descriptor since it looked.
  */
 void buffers_close_tokens(struct connection *connection, bool is_to_look);
 
@@ -76,7 +83,8 @@ bool memory_exists(void);
 /* Notes that a PRIME descriptor was closed in this process. */
 void memory_was_closed(void);
 
-/* The least offset of a handle's memory in its connection; which handle has an offset, 0 for none; and how far in it is. */
+/* The least offset of a handle's memory in its connection; which handle has an offset, 0 for none;
+ * and how far in it is. */
 uint64_t offset_of(uint32_t handle);
 uint32_t handle_at(uint64_t offset);
 uint64_t place_at(uint64_t offset);

@@ -1,17 +1,22 @@
-/* The program's descriptors that are connections to the server: which they are, who holds them, and how they end. */
+/* The program's descriptors that are connections to the server: which they are, who holds them, and
+ * how they end. */
 #include "connections.h"
 
+#include "crtcs.h"
 #include "others.h"
 
 #include <dirent.h>
+#include <limits.h>
 #include <stdlib.h>
 
-static pthread_mutex_t list_turn = PTHREAD_MUTEX_INITIALIZER; /* never taken by a thread that has the turn of a connection */
+static pthread_mutex_t list_turn =
+    PTHREAD_MUTEX_INITIALIZER; /* never taken by a thread that has the turn of a connection */
 static struct connection *connections;
 static atomic_bool any_connection;
 static pid_t own_process;
 static _Thread_local uint32_t refused_by;
-static sigset_t forking_signals; /* what the thread that forks had blocked before; it holds the list meanwhile */
+static sigset_t forking_signals; /* what the thread that forks had blocked before; it holds the list
+                                    meanwhile */
 
 /* A handler of signals may close descriptors, too: none runs while the list is held. */
 static void hold_list(sigset_t *before)
@@ -46,8 +51,9 @@ static uint64_t cookie_of(int fd)
     return getsockopt(fd, SOL_SOCKET, SO_COOKIE, &cookie, &size) == 0 ? cookie : 0;
 }
 
-/* A mark on the socket, which all who have it see: that this library made it and, meanwhile, that an answer is to come. A socket to
- * the server that a program made itself has none. (Unix sockets have no other use for a priority.)
+/* A mark on the socket, which all who have it see: that this library made it and, meanwhile, that
+ * an answer is to come. A socket to the server that a program made itself has none. (Unix sockets
+ * have no other use for a priority.)
  */
 enum mark { MARK_NONE, MARK_OURS, MARK_ASKING };
 
@@ -63,7 +69,8 @@ static enum mark mark_of(int fd)
     int priority = MARK_NONE;
     socklen_t size = sizeof priority;
 
-    return getsockopt(fd, SOL_SOCKET, SO_PRIORITY, &priority, &size) == 0 ? (enum mark)priority : MARK_NONE;
+    return getsockopt(fd, SOL_SOCKET, SO_PRIORITY, &priority, &size) == 0 ? (enum mark)priority
+                                                                          : MARK_NONE;
 }
 
 /* Whether the socket is one of this library's to the server, and to which node. */
@@ -111,13 +118,15 @@ static void enlist(struct connection *connection)
     atomic_store(&any_connection, true);
 }
 
-/* Between vfork and exec a child has this memory, and descriptors of its own, whose closing is none of this. */
+/* Between vfork and exec a child has this memory, and descriptors of its own, whose closing is none
+ * of this. */
 bool connections_exist(void)
 {
     return atomic_load(&any_connection) && getpid() == own_process;
 }
 
-/* What an opening is refused by: a rule's errno, what the socket's file says, or ENODEV where no server answers. */
+/* What an opening is refused by: a rule's errno, what the socket's file says, or ENODEV where no
+ * server answers. */
 static int opening_error(const struct zirkoshe_client *client, int failed)
 {
     switch (failed) {
@@ -145,7 +154,8 @@ int connection_open(enum node node, bool is_lease, uint32_t token, int flags)
     if (connection == NULL)
         return -ENOMEM;
     /* by version 2 universal planes are off until the program turns them on, as in a kernel */
-    failed = zirkoshe_open_by(&connection->client, path, 2, is_lease ? 1 : 0, token, ZIRKOSHE_TIMEOUT);
+    failed =
+        zirkoshe_open_by(&connection->client, path, 2, is_lease ? 1 : 0, token, ZIRKOSHE_TIMEOUT);
     if (failed) {
         failed = opening_error(&connection->client, failed);
         free(connection);
@@ -163,7 +173,8 @@ int connection_open(enum node node, bool is_lease, uint32_t token, int flags)
     return fd;
 }
 
-/* A connection that came from another process, or from before an exec, is known by the socket that it leads to. */
+/* A connection that came from another process, or from before an exec, is known by the socket that
+ * it leads to. */
 static struct connection *recognise(int fd, uint64_t cookie)
 {
     struct connection *connection;
@@ -176,6 +187,7 @@ static struct connection *recognise(int fd, uint64_t cookie)
         free(connection);
         return NULL;
     }
+    connection->client.is_ready = true;
     connection->cookie = cookie;
     connection->is_received = true;
     connection->client.timeout = ZIRKOSHE_TIMEOUT;
@@ -220,7 +232,7 @@ void connection_release(struct connection *connection)
     let_list_go(&before);
     if (is_unused) {
         events_end(&connection->events);
-        pthread_mutex_destroy(&connection->client.turn);
+        zirkoshe_destroy_turn(&connection->client.turn);
         free(connection);
     }
 }
@@ -233,7 +245,7 @@ static void unlist(struct connection *connection)
     sigset_t before;
 
     hold_list(&before);
-    for (place = &connections; *place != NULL && !was_there; ) {
+    for (place = &connections; *place != NULL && !was_there;) {
         was_there = *place == connection;
         if (was_there)
             *place = connection->next;
@@ -251,8 +263,8 @@ static bool is_shared(const struct connection *connection)
     return connection->is_forked || connection->is_received || connection->is_sent;
 }
 
-/* No handler of signals runs in a thread that has the turn: it might wait for the list, and who forks has that and waits for the
- * turn. Signals of faults stay, which come at once or never.
+/* No handler of signals runs in a thread that has the turn: it might wait for the list, and who
+ * forks has that and waits for the turn. Signals of faults stay, which come at once or never.
  */
 void connection_lock(struct connection *connection, sigset_t *before)
 {
@@ -273,8 +285,8 @@ void connection_unlock(struct connection *connection, const sigset_t *before)
     pthread_sigmask(SIG_SETMASK, before, NULL);
 }
 
-/* Takes the turn, and keeps handlers of signals and cancellation away while an answer is to come: in a kernel they don't come in
- * between either.
+/* Takes the turn, and keeps handlers of signals and cancellation away while an answer is to come:
+ * in a kernel they don't come in between either.
  */
 static void take_turn(struct connection *connection)
 {
@@ -295,7 +307,8 @@ static void end_turn(struct connection *connection)
     pthread_sigmask(SIG_SETMASK, &signals, NULL);
 }
 
-/* Keeps other processes from asking, or lets them. The lock is the process's own, and goes with it. */
+/* Keeps other processes from asking, or lets them. The lock is the process's own, and goes with it.
+ */
 static void lock_out_processes(int fd, short kind)
 {
     struct flock whole;
@@ -308,7 +321,8 @@ static void lock_out_processes(int fd, short kind)
         poll(NULL, 0, 1);
 }
 
-/* Holds it also against other processes. A mark that is there is of one that was killed: whose answer comes next can't be known. */
+/* Holds it also against other processes. A mark that is there is of one that was killed: whose
+ * answer comes next can't be known. */
 static int hold_against_processes(int fd)
 {
     lock_out_processes(fd, F_WRLCK);
@@ -342,6 +356,27 @@ int connection_hold(struct connection *connection, int fd)
     return failed;
 }
 
+/* How often a call of this process can have changed who is current, from 1. */
+static atomic_uint standings_age = 1;
+
+bool connection_is_current(const struct connection *connection)
+{
+    return connection->known_at == atomic_load(&standings_age);
+}
+
+void connection_is_found_current(struct connection *connection)
+{
+    if (!connection_is_current(connection))
+        connection->known_crtc = 0;
+    connection->known_at = atomic_load(&standings_age);
+}
+
+void standings_changed(void)
+{
+    if (atomic_fetch_add(&standings_age, 1) == UINT_MAX)
+        atomic_store(&standings_age, 1);
+}
+
 uint32_t connection_refused_by(void)
 {
     return refused_by;
@@ -360,6 +395,8 @@ int connection_let_go(struct connection *connection, int fd, int failed)
     int duplicate = connection->client.socket;
 
     refused_by = rule_of(&connection->client, failed);
+    if (failed)
+        connection->known_at = 0;
     if (duplicate < 0) {
         /* the client gave it up: what comes late could be taken for the answer to another call */
         if (cookie_of(fd) == connection->cookie)
@@ -378,12 +415,14 @@ int connection_let_go(struct connection *connection, int fd, int failed)
 }
 
 /* Whether this descriptor is the last one of its socket in this process, and in all. */
-static void find_others(const struct connection *connection, int fd, bool *is_last_here, bool *is_last)
+static void find_others(const struct connection *connection, int fd, bool *is_last_here,
+                        bool *is_last)
 {
     bool may_be_elsewhere = connection->is_forked || connection->is_received;
 
     *is_last_here = is_only_one_here(fd);
-    *is_last = *is_last_here && !connection->is_sent && !(may_be_elsewhere && is_elsewhere(fd, connection->is_received));
+    *is_last = *is_last_here && !connection->is_sent
+               && !(may_be_elsewhere && is_elsewhere(fd, connection->is_received));
 }
 
 int connection_close(struct connection *connection, int fd)
@@ -395,8 +434,12 @@ int connection_close(struct connection *connection, int fd)
     connection_lock(connection, &before);
     find_others(connection, fd, &is_last_here, &is_last);
     if (is_last && connection_hold(connection, fd) == 0) {
-        zirkoshe_close(&connection->client);
+        zirkoshe_disconnect(&connection->client);
         connection_let_go(connection, fd, 0);
+    }
+    if (is_last) {
+        standings_changed();
+        crtcs_are_unsure();
     }
     if (is_last_here) {
         buffers_clear(&connection->buffers);
@@ -448,8 +491,8 @@ static void after_fork_in_parent(void)
     let_list_go(&before);
 }
 
-/* The turns were taken by a thread of the parent: they are made anew. The parent alone closes the tokens that it exported, and gets
- * the events that it asked for.
+/* The turns were taken by a thread of the parent: they are made anew. The parent alone closes the
+ * tokens that it exported, and gets the events that it asked for.
  */
 static void after_fork_in_child(void)
 {
@@ -472,7 +515,8 @@ __attribute__((constructor)) static void begin(void)
     pthread_atfork(before_fork, after_fork_in_parent, after_fork_in_child);
 }
 
-/* At a process's end its connections are closed as by close, so that who waits for it finds them closed. */
+/* At a process's end its connections are closed as by close, so that who waits for it finds them
+ * closed. */
 __attribute__((destructor)) static void end(void)
 {
     DIR *listed = connections_exist() ? opendir("/proc/self/fd") : NULL;

@@ -1,8 +1,9 @@
 /* The program's descriptors that are connections to the server.
  *
- * What the program gets for a node is the socket itself. So dup, fork, exec, passing it to another process and its closing are
- * what they are for every descriptor, and the server's client goes with the last of them. A descriptor is told by the socket's
- * cookie, a number that the kernel gives no other socket; so no table of descriptors is kept, and none can be wrong.
+ * What the program gets for a node is the socket itself. So dup, fork, exec, passing it to another
+ * process and its closing are what they are for every descriptor, and the server's client goes with
+ * the last of them. A descriptor is told by the socket's cookie, a number that the kernel gives no
+ * other socket; so no table of descriptors is kept, and none can be wrong.
  */
 #ifndef ZIRKOSHE_LIBDRM_CONNECTIONS_H
 #define ZIRKOSHE_LIBDRM_CONNECTIONS_H
@@ -13,7 +14,8 @@
 #include <signal.h>
 #include <unistd.h>
 
-/* The client closes duplicates alone, which are none of the program's closings, and waits for the sockets themselves. */
+/* The client closes duplicates alone, which are none of the program's closings, and waits for the
+ * sockets themselves. */
 #define close libc_close
 #define poll libc_poll
 #include "drm_client.h"
@@ -29,21 +31,26 @@ struct connection {
     struct connection *next;
     uint64_t cookie;
     enum node node;
-    unsigned users;   /* the list, and each thread that found it */
-    bool is_forked;   /* this process has forked since, or was forked with it: its parent and its children may have it */
-    bool is_received; /* this process has it from somewhere else: anybody may have it */
-    bool is_sent;     /* this process has sent it away, and it may still be under way */
+    unsigned users;      /* the list, and each thread that found it */
+    bool is_forked;      /* this process has forked since, or was forked with it: its parent and its
+                            children may have it */
+    bool is_received;    /* this process has it from somewhere else: anybody may have it */
+    bool is_sent;        /* this process has sent it away, and it may still be under way */
+    unsigned known_at;   /* the age of the standings at which the caller was current, or 0 */
+    uint32_t known_crtc; /* a CRTC that the caller saw then, or 0 */
     struct buffers buffers;
     struct events events;
-    struct zirkoshe_client client; /* its socket is a duplicate while the connection is held, and else -1 */
-    sigset_t signals;              /* what the holder had blocked before, */
-    int cancel_state;              /* and whether it could be cancelled */
+    struct zirkoshe_client
+        client;       /* its socket is a duplicate while the connection is held, and else -1 */
+    sigset_t signals; /* what the holder had blocked before, */
+    int cancel_state; /* and whether it could be cancelled */
 };
 
 /* The path of the server's socket for this node, or NULL where there is none. */
 const char *node_path(enum node node);
 
-/* Opens a node, or by a lease token, and gives a descriptor with these flags of open, or a negative errno. */
+/* Opens a node, or by a lease token, and gives a descriptor with these flags of open, or a negative
+ * errno. */
 int connection_open(enum node node, bool is_lease, uint32_t token, int flags);
 
 /* Whether this process has a connection that it knows of, and isn't a child of vfork. */
@@ -53,20 +60,35 @@ bool connections_exist(void);
 struct connection *connection_find(int fd);
 void connection_release(struct connection *connection);
 
-/* Keeps other threads of this process away from the connection, and handlers of signals from this one, or lets them. */
+/* Keeps other threads of this process away from the connection, and handlers of signals from this
+ * one, or lets them. */
 void connection_lock(struct connection *connection, sigset_t *before);
 void connection_unlock(struct connection *connection, const sigset_t *before);
 
-/* Holds the connection, so that nobody else asks, in whichever thread or process; 0, or a negative errno. Calls may follow. */
+/* Holds the connection, so that nobody else asks, in whichever thread or process; 0, or a negative
+ * errno. Calls may follow. */
 int connection_hold(struct connection *connection, int fd);
 
 /* Lets it go, and gives what the calls gave, or -ENODEV where the server is lost. */
 int connection_let_go(struct connection *connection, int fd, int failed);
 
-/* The rule by which the server refused what this thread asked last, or 0 where the errno is another one than that rule's. */
+/* The rule by which the server refused what this thread asked last, or 0 where the errno is another
+ * one than that rule's. */
 uint32_t connection_refused_by(void);
 
-/* Closes this descriptor of the connection. Where it is the last one anywhere, the server has closed its client afterwards. */
+/* Whether the server has said that the caller is current, and nothing since says otherwise: no call
+ * of this process can have changed it, and the server refused nothing. That another client changed
+ * it shows at the next refusal. The connection is held. */
+bool connection_is_current(const struct connection *connection);
+
+/* Notes that the server has said so. */
+void connection_is_found_current(struct connection *connection);
+
+/* Notes that a call of this process can have changed who is current, or what a caller sees. */
+void standings_changed(void);
+
+/* Closes this descriptor of the connection. Where it is the last one anywhere, the server has
+ * closed its client afterwards. */
 int connection_close(struct connection *connection, int fd);
 
 /* Notes that this descriptor is about to be sent to another process, if it is a connection. */

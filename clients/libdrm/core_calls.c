@@ -60,7 +60,8 @@ int answer_get_unique(struct connection *connection, void *argument)
     return 0;
 }
 
-/* The caller itself is client 0, and there is no other. Whether it is authenticated shows in a call that wants it, of no handle. */
+/* The caller itself is client 0, and there is no other. Whether it is authenticated shows in a call
+ * that wants it, of no handle. */
 int answer_get_client(struct connection *connection, void *argument)
 {
     struct drm_client *client = argument;
@@ -87,7 +88,8 @@ int answer_nothing(struct connection *connection, void *argument)
 /* Whether a version that was asked for, -1 for none, is at most this one. */
 static bool is_at_most(int major_number, int minor_number, int own_major, int own_minor)
 {
-    return major_number == -1 || (major_number == own_major && minor_number >= 0 && minor_number <= own_minor);
+    return major_number == -1
+           || (major_number == own_major && minor_number >= 0 && minor_number <= own_minor);
 }
 
 int answer_set_version(struct connection *connection, void *argument)
@@ -100,7 +102,8 @@ int answer_set_version(struct connection *connection, void *argument)
     if (failed)
         return failed;
     is_known = is_at_most(version->drm_di_major, version->drm_di_minor, 1, 4)
-        && is_at_most(version->drm_dd_major, version->drm_dd_minor, (int)own.major_number, (int)own.minor_number);
+               && is_at_most(version->drm_dd_major, version->drm_dd_minor, (int)own.major_number,
+                             (int)own.minor_number);
     version->drm_di_major = 1;
     version->drm_di_minor = 4;
     version->drm_dd_major = (int)own.major_number;
@@ -108,14 +111,25 @@ int answer_set_version(struct connection *connection, void *argument)
     return is_known ? 0 : -EINVAL;
 }
 
-/* What the core answers of capabilities that have nothing to do with the driver, or that the driver lacks. */
+/* What the core answers of capabilities that have nothing to do with the driver, or that the driver
+ * lacks. */
 static int find_core_cap(uint64_t capability, uint64_t *value)
 {
-    static const struct { uint64_t capability, value; } known[] = {
-        {DRM_CAP_VBLANK_HIGH_CRTC, 1}, {DRM_CAP_DUMB_PREFERRED_DEPTH, 0}, {DRM_CAP_DUMB_PREFER_SHADOW, 0},
-        {DRM_CAP_TIMESTAMP_MONOTONIC, 1}, {DRM_CAP_ASYNC_PAGE_FLIP, 0}, {DRM_CAP_CURSOR_WIDTH, MOST_CURSOR_SIDE},
-        {DRM_CAP_CURSOR_HEIGHT, MOST_CURSOR_SIDE}, {DRM_CAP_ADDFB2_MODIFIERS, 0}, {DRM_CAP_PAGE_FLIP_TARGET, 0},
-        {DRM_CAP_CRTC_IN_VBLANK_EVENT, 1}, {DRM_CAP_SYNCOBJ, 0}, {DRM_CAP_SYNCOBJ_TIMELINE, 0},
+    static const struct {
+        uint64_t capability, value;
+    } known[] = {
+        {DRM_CAP_VBLANK_HIGH_CRTC, 1},
+        {DRM_CAP_DUMB_PREFERRED_DEPTH, 0},
+        {DRM_CAP_DUMB_PREFER_SHADOW, 0},
+        {DRM_CAP_TIMESTAMP_MONOTONIC, 1},
+        {DRM_CAP_ASYNC_PAGE_FLIP, 0},
+        {DRM_CAP_CURSOR_WIDTH, MOST_CURSOR_SIDE},
+        {DRM_CAP_CURSOR_HEIGHT, MOST_CURSOR_SIDE},
+        {DRM_CAP_ADDFB2_MODIFIERS, 0},
+        {DRM_CAP_PAGE_FLIP_TARGET, 0},
+        {DRM_CAP_CRTC_IN_VBLANK_EVENT, 1},
+        {DRM_CAP_SYNCOBJ, 0},
+        {DRM_CAP_SYNCOBJ_TIMELINE, 0},
     };
     size_t at;
 
@@ -147,8 +161,8 @@ int answer_get_cap(struct connection *connection, void *argument)
     return failed;
 }
 
-/* What the core does with a capability of a client that the server doesn't know. Layouts of stereo and aspect ratios are told in
- * modes alone, and those here have none.
+/* What the core does with a capability of a client that the server doesn't know. Layouts of stereo
+ * and aspect ratios are told in modes alone, and those here have none.
  */
 static int set_core_cap(const struct drm_set_client_cap *cap)
 {
@@ -194,5 +208,6 @@ int answer_set_master(struct connection *connection, void *argument)
 int answer_drop_master(struct connection *connection, void *argument)
 {
     (void)argument;
+    standings_changed();
     return zirkoshe_drmDropMaster(&connection->client);
 }

@@ -12,12 +12,14 @@ struct crtc {
     uint32_t id; /* 0 where the place is free */
     uint32_t connector_id;
     bool is_lit;
+    bool is_sure; /* no call of this process since can have darkened it */
     int64_t flip_due;
     struct blanking blanking;
     struct drm_mode_modeinfo mode;
 };
 
-/* Taken while a connection is held alone, so that no handler of signals comes in between, and no fork. */
+/* Taken while a connection is held alone, so that no handler of signals comes in between, and no
+ * fork. */
 static pthread_mutex_t turn = PTHREAD_MUTEX_INITIALIZER;
 static struct crtc crtcs[MOST_CRTCS];
 
@@ -25,7 +27,8 @@ struct vblank last_vblank(const struct blanking *blanking, int64_t now)
 {
     int64_t passed = (now - blanking->begin) / blanking->period;
 
-    return (struct vblank){blanking->count + (uint64_t)passed, blanking->begin + passed * blanking->period};
+    return (struct vblank){blanking->count + (uint64_t)passed,
+                           blanking->begin + passed * blanking->period};
 }
 
 struct vblank vblank_of(const struct blanking *blanking, uint64_t sequence)
@@ -43,7 +46,8 @@ bool has_passed(uint64_t sequence, uint64_t wanted)
     return sequence - wanted <= PASSED;
 }
 
-/* What is known of a CRTC. Where a device had more than it can have, the last place is anybody's. */
+/* What is known of a CRTC. Where a device had more than it can have, the last place is anybody's.
+ */
 static struct crtc *find(uint32_t id)
 {
     size_t at = 0;
@@ -61,7 +65,8 @@ static struct crtc *find(uint32_t id)
 static int64_t period_of(const struct drm_mode_modeinfo *mode)
 {
     uint32_t count;
-    const struct drm_mode_modeinfo *timed = mode->clock != 0 && mode->htotal != 0 && mode->vtotal != 0 ? mode : all_modes(&count);
+    const struct drm_mode_modeinfo *timed =
+        mode->clock != 0 && mode->htotal != 0 && mode->vtotal != 0 ? mode : all_modes(&count);
     int64_t period = (int64_t)timed->htotal * timed->vtotal * MILLISECOND / timed->clock;
 
     if (timed->flags & DRM_MODE_FLAG_INTERLACE)
@@ -107,6 +112,7 @@ void crtc_is_seen(uint32_t crtc_id, bool is_lit)
         end(crtc);
     else if (!crtc->is_lit)
         begin(crtc, crtc->mode.clock != 0 ? &crtc->mode : all_modes(&count));
+    crtc->is_sure = true;
     pthread_mutex_unlock(&turn);
 }
 
@@ -121,6 +127,29 @@ void crtc_is_lit(uint32_t crtc_id, const struct drm_mode_modeinfo *mode, uint32_
         end(crtc);
     if (!crtc->is_lit)
         begin(crtc, mode);
+    crtc->is_sure = true;
+    pthread_mutex_unlock(&turn);
+}
+
+bool crtc_is_surely_lit(uint32_t crtc_id)
+{
+    struct crtc *crtc;
+    bool is_lit;
+
+    pthread_mutex_lock(&turn);
+    crtc = find(crtc_id);
+    is_lit = crtc->is_lit && crtc->is_sure;
+    pthread_mutex_unlock(&turn);
+    return is_lit;
+}
+
+void crtcs_are_unsure(void)
+{
+    size_t at;
+
+    pthread_mutex_lock(&turn);
+    for (at = 0; at < MOST_CRTCS; at++)
+        crtcs[at].is_sure = false;
     pthread_mutex_unlock(&turn);
 }
 

@@ -1,8 +1,9 @@
 /* What this process knows of CRTCs, and their vertical blanking, which is made here.
  *
- * The server has no modes and no time. A CRTC that shows something blanks by the mode that this process set there last, or else by
- * the preferred mode: from the moment on at which this process lit it, or first saw it lit. All of it is this process's own, and
- * no other's. The connection that asks is held meanwhile.
+ * The server has no modes and no time. A CRTC that shows something blanks by the mode that this
+ * process set there last, or else by the preferred mode: from the moment on at which this process
+ * lit it, or first saw it lit. All of it is this process's own, and no other's. The connection that
+ * asks is held meanwhile.
  */
 #ifndef ZIRKOSHE_LIBDRM_CRTCS_H
 #define ZIRKOSHE_LIBDRM_CRTCS_H
@@ -24,18 +25,28 @@ struct vblank {
     int64_t time;
 };
 
-/* The last vertical blanking at a time, and the one of a number; times that no clock reaches are the last one that it has. */
+/* The last vertical blanking at a time, and the one of a number; times that no clock reaches are
+ * the last one that it has. */
 struct vblank last_vblank(const struct blanking *blanking, int64_t now);
 struct vblank vblank_of(const struct blanking *blanking, uint64_t sequence);
 
 /* Whether one has passed at another, as the core sees it: numbers go round. */
 bool has_passed(uint64_t sequence, uint64_t wanted);
 
-/* Notes what the server told of a CRTC: whether it shows something. What waits for the blanking of a dark one comes at once. */
+/* Notes what the server told of a CRTC: whether it shows something. What waits for the blanking of
+ * a dark one comes at once. */
 void crtc_is_seen(uint32_t crtc_id, bool is_lit);
 
 /* Notes that this process lit it in this mode, with this connector. */
 void crtc_is_lit(uint32_t crtc_id, const struct drm_mode_modeinfo *mode, uint32_t connector_id);
+
+/* Whether it shows something, as the server last said, and no call of this process since can have
+ * darkened it. Another client can. */
+bool crtc_is_surely_lit(uint32_t crtc_id);
+
+/* Notes that a call of this process can have darkened any CRTC, or that the server refused to flip
+ * one. */
+void crtcs_are_unsure(void);
 
 /* The mode of a CRTC that shows something, and when it blanks. */
 struct drm_mode_modeinfo crtc_mode(uint32_t crtc_id);

@@ -1,10 +1,13 @@
-/* The functions of the C library on descriptors: connections and PRIME descriptors want other answers than sockets and files. */
+/* The functions of the C library on descriptors: connections and PRIME descriptors want other
+ * answers than sockets and files. */
 #include "connections.h"
 
 #include "ioctls.h"
 
 #include <stdarg.h>
 #include <sys/mman.h>
+#include <sys/syscall.h>
+#include <sys/uio.h>
 
 /* What a function gives, where the answer may be a negative errno. */
 static int result_of(int answer)
@@ -60,7 +63,8 @@ SHOWN int close(int fd)
     return result;
 }
 
-/* What is overwritten by dup2 is closed before, so that the server has seen it once dup2 is done. */
+/* What is overwritten by dup2 is closed before, so that the server has seen it once dup2 is done.
+ */
 static void make_way(int from, int to)
 {
     int result;
@@ -109,14 +113,45 @@ SHOWN ssize_t __read_chk(int fd, void *bytes, size_t size, size_t room)
     return size > room ? REAL(__read_chk)(fd, bytes, size, room) : read(fd, bytes, size);
 }
 
+/* A node can't be written to; the server would take the bytes for a request. */
+static bool is_not_written(int fd)
+{
+    struct connection *connection = connections_exist() ? connection_find(fd) : NULL;
+
+    if (connection == NULL)
+        return false;
+    connection_release(connection);
+    errno = EINVAL;
+    return true;
+}
+
+SHOWN ssize_t write(int fd, const void *bytes, size_t size)
+{
+    return is_not_written(fd) ? -1 : REAL(write)(fd, bytes, size);
+}
+
+SHOWN ssize_t writev(int fd, const struct iovec *parts, int count)
+{
+    return is_not_written(fd) ? -1 : REAL(writev)(fd, parts, count);
+}
+
+SHOWN ssize_t pwrite(int fd, const void *bytes, size_t size, off_t offset)
+{
+    return is_not_written(fd) ? -1 : REAL(pwrite)(fd, bytes, size, offset);
+}
+
+SHOWN ALSO(pwrite64, pwrite);
+
 /* Notes which connections a message carries to another process. */
 static void note_sent(const struct msghdr *message)
 {
     struct msghdr *parts = (struct msghdr *)(uintptr_t)message; /* CMSG_NXTHDR changes nothing */
     struct cmsghdr *part;
 
-    for (part = message == NULL ? NULL : CMSG_FIRSTHDR(parts); part != NULL; part = CMSG_NXTHDR(parts, part)) {
-        size_t count = part->cmsg_len < CMSG_LEN(0) ? 0 : (part->cmsg_len - CMSG_LEN(0)) / sizeof(int);
+    for (part = message == NULL ? NULL : CMSG_FIRSTHDR(parts); part != NULL;
+         part = CMSG_NXTHDR(parts, part)) {
+        size_t count =
+            part->cmsg_len < CMSG_LEN(0) ? 0 : (part->cmsg_len - CMSG_LEN(0)) / sizeof(int);
         size_t at;
 
         if (part->cmsg_level != SOL_SOCKET || part->cmsg_type != SCM_RIGHTS)
@@ -146,7 +181,8 @@ SHOWN int sendmmsg(int socket, struct mmsghdr *messages, unsigned count, int fla
 }
 
 /* Maps what a handle's memory has at this offset, if it is one. */
-static void *map(struct connection *connection, void *address, size_t length, int protection, int flags, uint64_t offset)
+static void *map(struct connection *connection, void *address, size_t length, int protection,
+                 int flags, uint64_t offset)
 {
     void *mapped = MAP_FAILED;
     sigset_t before;
@@ -167,7 +203,8 @@ static void *map(struct connection *connection, void *address, size_t length, in
 
 SHOWN void *mmap(void *address, size_t length, int protection, int flags, int fd, off_t offset)
 {
-    struct connection *connection = fd >= 0 && !(flags & MAP_ANONYMOUS) && connections_exist() ? connection_find(fd) : NULL;
+    struct connection *connection =
+        fd >= 0 && !(flags & MAP_ANONYMOUS) && connections_exist() ? connection_find(fd) : NULL;
     void *mapped;
 
     if (connection == NULL)
@@ -180,3 +217,57 @@ SHOWN void *mmap(void *address, size_t length, int protection, int flags, int fd
 _Static_assert(sizeof(off_t) == sizeof(off64_t), "this is for systems of 64 bits");
 
 SHOWN ALSO(mmap64, mmap);
+
+/* The system call itself. */
+static long call_system(long number, const long *word)
+{
+#ifdef __x86_64__
+    register long fourth __asm__("r10") = word[3];
+    register long fifth __asm__("r8") = word[4];
+    register long sixth __asm__("r9") = word[5];
+    long result;
+
+    __asm__ volatile("syscall"
+                     : "=a"(result)
+                     : "a"(number), "D"(word[0]), "S"(word[1]), "d"(word[2]), "r"(fourth),
+                       "r"(fifth), "r"(sixth)
+                     : "rcx", "r11", "memory");
+    if (result >= -4095 && result < 0) {
+        errno = (int)-result;
+        return -1;
+    }
+    return result;
+#else
+    return REAL(syscall)(number, word[0], word[1], word[2], word[3], word[4], word[5]);
+#endif
+}
+
+/* System calls by their numbers, on descriptors that may be connections. */
+SHOWN long syscall(long number, ...)
+{
+    long word[6];
+    va_list list;
+    size_t at;
+
+    va_start(list, number);
+    for (at = 0; at < sizeof word / sizeof word[0]; at++)
+        word[at] = va_arg(list, long);
+    va_end(list);
+    if (!connections_exist())
+        return call_system(number, word);
+    switch (number) {
+    case SYS_ioctl:
+        return ioctl((int)word[0], (unsigned long)word[1], (void *)word[2]);
+    case SYS_read:
+        return read((int)word[0], (void *)word[1], (size_t)word[2]);
+    case SYS_write:
+        return write((int)word[0], (const void *)word[1], (size_t)word[2]);
+    case SYS_close:
+        return close((int)word[0]);
+    case SYS_mmap:
+        return (long)mmap((void *)word[0], (size_t)word[1], (int)word[2], (int)word[3],
+                          (int)word[4], (off_t)word[5]);
+    default:
+        return call_system(number, word);
+    }
+}

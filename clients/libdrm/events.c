@@ -8,10 +8,12 @@
 #include <sys/timerfd.h>
 #include <time.h>
 
-_Static_assert(sizeof(struct drm_event_vblank) == sizeof(struct drm_event_crtc_sequence), "each event has the same length");
+_Static_assert(sizeof(struct drm_event_vblank) == sizeof(struct drm_event_crtc_sequence),
+               "each event has the same length");
 
-static pthread_mutex_t turn = PTHREAD_MUTEX_INITIALIZER; /* no other one is taken by a thread that has it */
-static struct events *timed;                             /* those that have a timer */
+static pthread_mutex_t turn =
+    PTHREAD_MUTEX_INITIALIZER; /* no other one is taken by a thread that has it */
+static struct events *timed;   /* those that have a timer */
 
 /* A handler of signals may read and wait, too: none runs meanwhile. */
 static void hold(sigset_t *before)
@@ -55,7 +57,8 @@ static int make_timer(void)
     return made;
 }
 
-/* Lets the timer expire when the first event is due, or never. A program may have closed it: then there is none any more. */
+/* Lets the timer expire when the first event is due, or never. A program may have closed it: then
+ * there is none any more. */
 static void arm(struct events *events)
 {
     struct itimerspec until;
@@ -158,7 +161,8 @@ void events_add(struct events *events, const struct event *event, uint64_t seque
 }
 
 /* Those of one connection: they come behind what is due already, in their order. */
-static void hasten(struct events *events, uint32_t crtc_id, uint64_t sequence, int64_t time, int64_t now)
+static void hasten(struct events *events, uint32_t crtc_id, uint64_t sequence, int64_t time,
+                   int64_t now)
 {
     unsigned count = events->count, at;
 
@@ -194,7 +198,8 @@ static int take(struct events *events, unsigned char *bytes, size_t size, int64_
         return -EAGAIN;
     if (bytes == NULL && size >= events->queue[0].told.base.length)
         return -EFAULT;
-    while (taken < events->count && events->queue[taken].due <= now && events->queue[taken].told.base.length <= size - length) {
+    while (taken < events->count && events->queue[taken].due <= now
+           && events->queue[taken].told.base.length <= size - length) {
         const struct event *event = &events->queue[taken++];
 
         memcpy(bytes + length, &event->told, event->told.base.length);

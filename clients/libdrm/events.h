@@ -1,7 +1,8 @@
 /* The events of a connection, which this library makes, and what wakes those who wait for them.
  *
- * Each event has a time at which it is due. A timerfd, which is this library's own, is readable from the first one's time on, until
- * that is read; it stands for the connection wherever a program waits. Events are those of the process that asked for them.
+ * Each event has a time at which it is due. A timerfd, which is this library's own, is readable
+ * from the first one's time on, until that is read; it stands for the connection wherever a program
+ * waits. Events are those of the process that asked for them.
  */
 #ifndef ZIRKOSHE_LIBDRM_EVENTS_H
 #define ZIRKOSHE_LIBDRM_EVENTS_H
@@ -49,19 +50,22 @@ void events_end(struct events *events);
 
 bool events_have_room(struct events *events);
 
-/* Adds an event whose kind and data are in place: that of the vertical blanking of this number and time, at which it is due. */
+/* Adds an event whose kind and data are in place: that of the vertical blanking of this number and
+ * time, at which it is due. */
 void events_add(struct events *events, const struct event *event, uint64_t sequence, int64_t time);
 
 /* Makes all events of a CRTC that aren't due yet due now, with this vertical blanking as theirs. */
 void events_hasten(uint32_t crtc_id, uint64_t sequence, int64_t time);
 
-/* Gives whole events that are due, as many as there is room for, and how long they are; -EAGAIN where none is due. */
+/* Gives whole events that are due, as many as there is room for, and how long they are; -EAGAIN
+ * where none is due. */
 int events_take(struct events *events, void *bytes, size_t size);
 
 /* What is readable while an event is due; -1 where no descriptor is left. */
 int events_timer(struct events *events);
 
-/* A fork happens while nothing changes here. In the child, each connection's events are then to be forgotten. */
+/* A fork happens while nothing changes here. In the child, each connection's events are then to be
+ * forgotten. */
 void events_before_fork(void);
 void events_after_fork(bool is_child);
 

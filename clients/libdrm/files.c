@@ -1,4 +1,5 @@
-/* The functions of the C library that open, look at and close files: those of the device are answered here. */
+/* The functions of the C library that open, look at and close files: those of the device are
+ * answered here. */
 #include "tree.h"
 
 #include <limits.h>
@@ -8,7 +9,8 @@
 #include <sys/mman.h>
 #include <sys/sysmacros.h>
 
-_Static_assert(sizeof(struct stat) == sizeof(struct stat64) && sizeof(off_t) == 8, "this is for systems of 64 bits");
+_Static_assert(sizeof(struct stat) == sizeof(struct stat64) && sizeof(off_t) == 8,
+               "this is for systems of 64 bits");
 
 /* Fails as the C library does. */
 static int fail(int error)
@@ -35,8 +37,10 @@ static int open_entry(const struct entry *entry, int flags)
 {
     int opened;
 
+    if (entry->kind == KIND_FOLDER)
+        return flags & (O_WRONLY | O_RDWR) ? fail(EISDIR) : open_folder(entry, flags);
     if (flags & (O_PATH | O_DIRECTORY))
-        return fail(entry->kind == KIND_FOLDER || flags & O_PATH ? EACCES : ENOTDIR);
+        return fail(flags & O_PATH ? EACCES : ENOTDIR);
     if (entry->kind == KIND_TEXT)
         return open_text(entry->text, flags);
     if (entry->kind != KIND_NODE)
@@ -46,26 +50,26 @@ static int open_entry(const struct entry *entry, int flags)
 }
 
 /* Whether the path is the device's; then what open gives is in `fd`. */
-static bool opens(const char *path, int flags, int *fd)
+static bool opens(int folder, const char *path, int flags, int *fd)
 {
-    const struct entry *entry = entry_at(path);
+    const struct entry *entry;
 
-    if (entry == NULL && !is_hidden(path))
+    if (!find_place(folder, path, &entry))
         return false;
     *fd = entry == NULL ? fail(ENOENT) : open_entry(entry, flags);
     return true;
 }
 
 /* The mode of a file that open might make. */
-#define MODE_OF(flags, mode) \
-    do { \
-        if (((flags) & O_CREAT) || ((flags) & O_TMPFILE) == O_TMPFILE) { \
-            va_list list; \
- \
-            va_start(list, flags); \
-            mode = va_arg(list, mode_t); \
-            va_end(list); \
-        } \
+#define MODE_OF(flags, mode)                                                                       \
+    do {                                                                                           \
+        if (((flags)&O_CREAT) || ((flags)&O_TMPFILE) == O_TMPFILE) {                               \
+            va_list list;                                                                          \
+                                                                                                   \
+            va_start(list, flags);                                                                 \
+            mode = va_arg(list, mode_t);                                                           \
+            va_end(list);                                                                          \
+        }                                                                                          \
     } while (0)
 
 SHOWN int open(const char *path, int flags, ...)
@@ -74,7 +78,7 @@ SHOWN int open(const char *path, int flags, ...)
     int fd;
 
     MODE_OF(flags, mode);
-    return opens(path, flags, &fd) ? fd : REAL(open)(path, flags, mode);
+    return opens(AT_FDCWD, path, flags, &fd) ? fd : REAL(open)(path, flags, mode);
 }
 
 SHOWN int openat(int folder, const char *path, int flags, ...)
@@ -83,7 +87,7 @@ SHOWN int openat(int folder, const char *path, int flags, ...)
     int fd;
 
     MODE_OF(flags, mode);
-    return opens(path, flags, &fd) ? fd : REAL(openat)(folder, path, flags, mode);
+    return opens(folder, path, flags, &fd) ? fd : REAL(openat)(folder, path, flags, mode);
 }
 
 /* Sizes have 64 bits in any case. */
@@ -106,9 +110,9 @@ SHOWN ALSO(__openat64_2, __openat_2);
 
 static bool opens_stream(const char *path, const char *mode, FILE **stream)
 {
-    const struct entry *entry = entry_at(path);
+    const struct entry *entry;
 
-    if (entry == NULL && !is_hidden(path))
+    if (!find_place(AT_FDCWD, path, &entry))
         return false;
     *stream = NULL;
     if (entry == NULL)
@@ -130,11 +134,11 @@ SHOWN FILE *fopen(const char *path, const char *mode)
 SHOWN ALSO(fopen64, fopen);
 
 /* Whether the path is the device's; then what stat gives is in `result`. */
-static bool tells(const char *path, bool follows, struct stat *status, int *result)
+static bool tells(int folder, const char *path, bool follows, struct stat *status, int *result)
 {
-    const struct entry *entry = entry_at(path);
+    const struct entry *entry;
 
-    if (entry == NULL && !is_hidden(path))
+    if (!find_place(folder, path, &entry))
         return false;
     *result = entry == NULL ? fail(ENOENT) : 0;
     if (entry != NULL)
@@ -142,72 +146,84 @@ static bool tells(const char *path, bool follows, struct stat *status, int *resu
     return true;
 }
 
-/* What fstat told, where the descriptor turns out to be a connection. */
+/* What fstat returns, if the descriptor is a connection or represents a folder. */
 static int told_of_descriptor(int fd, struct stat *status, int result)
 {
-    struct connection *connection = result == 0 && S_ISSOCK(status->st_mode) ? connection_find(fd) : NULL;
+    struct connection *connection =
+        result == 0 && S_ISSOCK(status->st_mode) ? connection_find(fd) : NULL;
+    const struct entry *folder =
+        result == 0 && S_ISREG(status->st_mode) && status->st_nlink == 0 ? folder_of(fd) : NULL;
 
     if (connection != NULL) {
         node_status(connection->node, status);
         connection_release(connection);
     }
+    if (folder != NULL)
+        entry_status(folder, true, status);
     return result;
 }
 
-/* Whether the descriptor itself is asked of. (The C library's header says that a path is never NULL; a kernel takes it.) */
+/* Whether the descriptor itself is asked of. (The C library's header says that a path is never
+ * NULL; a kernel takes it.) */
 __attribute__((noinline)) static bool is_no_path(const char *path)
 {
     return path == NULL || path[0] == '\0';
 }
 
 /* Each function of stat, of whichever width, which are the same where a file's size has 64 bits. */
-#define STAT_FUNCTIONS(suffix) \
-    SHOWN int stat##suffix(const char *path, struct stat##suffix *status) \
-    { \
-        int result; \
- \
-        return tells(path, true, (struct stat *)status, &result) ? result : REAL(stat##suffix)(path, status); \
-    } \
-    SHOWN int lstat##suffix(const char *path, struct stat##suffix *status) \
-    { \
-        int result; \
- \
-        return tells(path, false, (struct stat *)status, &result) ? result : REAL(lstat##suffix)(path, status); \
-    } \
-    SHOWN int fstatat##suffix(int folder, const char *path, struct stat##suffix *status, int flags) \
-    { \
-        bool follows = !(flags & AT_SYMLINK_NOFOLLOW); \
-        int result; \
- \
-        if (tells(path, follows, (struct stat *)status, &result)) \
-            return result; \
-        result = REAL(fstatat##suffix)(folder, path, status, flags); \
-        return is_no_path(path) ? told_of_descriptor(folder, (struct stat *)status, result) : result; \
-    } \
-    SHOWN int fstat##suffix(int fd, struct stat##suffix *status) \
-    { \
-        return told_of_descriptor(fd, (struct stat *)status, REAL(fstat##suffix)(fd, status)); \
+#define STAT_FUNCTIONS(suffix)                                                                     \
+    SHOWN int stat##suffix(const char *path, struct stat##suffix *status)                          \
+    {                                                                                              \
+        int result;                                                                                \
+                                                                                                   \
+        return tells(AT_FDCWD, path, true, (struct stat *)status, &result)                         \
+                   ? result                                                                        \
+                   : REAL(stat##suffix)(path, status);                                             \
+    }                                                                                              \
+    SHOWN int lstat##suffix(const char *path, struct stat##suffix *status)                         \
+    {                                                                                              \
+        int result;                                                                                \
+                                                                                                   \
+        return tells(AT_FDCWD, path, false, (struct stat *)status, &result)                        \
+                   ? result                                                                        \
+                   : REAL(lstat##suffix)(path, status);                                            \
+    }                                                                                              \
+    SHOWN int fstatat##suffix(int folder, const char *path, struct stat##suffix *status,           \
+                              int flags)                                                           \
+    {                                                                                              \
+        bool follows = !(flags & AT_SYMLINK_NOFOLLOW);                                             \
+        int result;                                                                                \
+                                                                                                   \
+        if (tells(folder, path, follows, (struct stat *)status, &result))                          \
+            return result;                                                                         \
+        result = REAL(fstatat##suffix)(folder, path, status, flags);                               \
+        return is_no_path(path) ? told_of_descriptor(folder, (struct stat *)status, result)        \
+                                : result;                                                          \
+    }                                                                                              \
+    SHOWN int fstat##suffix(int fd, struct stat##suffix *status)                                   \
+    {                                                                                              \
+        return told_of_descriptor(fd, (struct stat *)status, REAL(fstat##suffix)(fd, status));     \
     }
 
 STAT_FUNCTIONS()
 STAT_FUNCTIONS(64)
 
 /* What calls of stat were before glibc 2.33. */
-#define OLD_STAT_FUNCTIONS(suffix) \
-    SHOWN int __xstat##suffix(int version, const char *path, struct stat##suffix *status) \
-    { \
-        (void)version; \
-        return stat##suffix(path, status); \
-    } \
-    SHOWN int __lxstat##suffix(int version, const char *path, struct stat##suffix *status) \
-    { \
-        (void)version; \
-        return lstat##suffix(path, status); \
-    } \
-    SHOWN int __fxstat##suffix(int version, int fd, struct stat##suffix *status) \
-    { \
-        (void)version; \
-        return fstat##suffix(fd, status); \
+#define OLD_STAT_FUNCTIONS(suffix)                                                                 \
+    SHOWN int __xstat##suffix(int version, const char *path, struct stat##suffix *status)          \
+    {                                                                                              \
+        (void)version;                                                                             \
+        return stat##suffix(path, status);                                                         \
+    }                                                                                              \
+    SHOWN int __lxstat##suffix(int version, const char *path, struct stat##suffix *status)         \
+    {                                                                                              \
+        (void)version;                                                                             \
+        return lstat##suffix(path, status);                                                        \
+    }                                                                                              \
+    SHOWN int __fxstat##suffix(int version, int fd, struct stat##suffix *status)                   \
+    {                                                                                              \
+        (void)version;                                                                             \
+        return fstat##suffix(fd, status);                                                          \
     }
 
 int __xstat(int, const char *, struct stat *);
@@ -239,25 +255,29 @@ SHOWN int statx(int folder, const char *path, int flags, unsigned mask, struct s
     struct stat status;
     int result = 0;
 
-    if (!is_of_descriptor && tells(path, !(flags & AT_SYMLINK_NOFOLLOW), &status, &result)) {
+    if (!is_of_descriptor
+        && tells(folder, path, !(flags & AT_SYMLINK_NOFOLLOW), &status, &result)) {
         if (result == 0)
             widen(&status, wide);
         return result;
     }
     result = REAL(statx)(folder, path, flags, mask, wide);
-    if (result == 0 && is_of_descriptor && S_ISSOCK(wide->stx_mode) && fstat(folder, &status) == 0 && S_ISCHR(status.st_mode))
+    if (result == 0 && is_of_descriptor && S_ISSOCK(wide->stx_mode) && fstat(folder, &status) == 0
+        && S_ISCHR(status.st_mode))
         widen(&status, wide);
     return result;
 }
 
 /* Everybody may read and write what is here, and nobody may run it. */
-static bool allows(const char *path, int mode, int *result)
+static bool allows(int folder, const char *path, int mode, int *result)
 {
-    const struct entry *entry = entry_at(path);
+    const struct entry *entry;
 
-    if (entry == NULL && !is_hidden(path))
+    if (!find_place(folder, path, &entry))
         return false;
-    *result = entry == NULL ? fail(ENOENT) : entry->kind == KIND_NODE && (mode & X_OK) ? fail(EACCES) : 0;
+    *result = entry == NULL                               ? fail(ENOENT)
+              : entry->kind == KIND_NODE && (mode & X_OK) ? fail(EACCES)
+                                                          : 0;
     return true;
 }
 
@@ -265,28 +285,29 @@ SHOWN int access(const char *path, int mode)
 {
     int result;
 
-    return allows(path, mode, &result) ? result : REAL(access)(path, mode);
+    return allows(AT_FDCWD, path, mode, &result) ? result : REAL(access)(path, mode);
 }
 
 SHOWN int faccessat(int folder, const char *path, int mode, int flags)
 {
     int result;
 
-    return allows(path, mode, &result) ? result : REAL(faccessat)(folder, path, mode, flags);
+    return allows(folder, path, mode, &result) ? result
+                                               : REAL(faccessat)(folder, path, mode, flags);
 }
 
 SHOWN int euidaccess(const char *path, int mode)
 {
     int result;
 
-    return allows(path, mode, &result) ? result : REAL(euidaccess)(path, mode);
+    return allows(AT_FDCWD, path, mode, &result) ? result : REAL(euidaccess)(path, mode);
 }
 
-static bool leads(const char *path, char *target, size_t size, ssize_t *length)
+static bool leads(int folder, const char *path, char *target, size_t size, ssize_t *length)
 {
-    const struct entry *entry = entry_at(path);
+    const struct entry *entry;
 
-    if (entry == NULL && !is_hidden(path))
+    if (!find_place(folder, path, &entry))
         return false;
     *length = -1;
     if (entry == NULL || entry->kind != KIND_LINK) {
@@ -304,29 +325,32 @@ SHOWN ssize_t readlink(const char *path, char *target, size_t size)
 {
     ssize_t length;
 
-    return leads(path, target, size, &length) ? length : REAL(readlink)(path, target, size);
+    return leads(AT_FDCWD, path, target, size, &length) ? length
+                                                        : REAL(readlink)(path, target, size);
 }
 
 SHOWN ssize_t readlinkat(int folder, const char *path, char *target, size_t size)
 {
     ssize_t length;
 
-    return leads(path, target, size, &length) ? length : REAL(readlinkat)(folder, path, target, size);
+    return leads(folder, path, target, size, &length)
+               ? length
+               : REAL(readlinkat)(folder, path, target, size);
 }
 
 /* The paths of the tree are their own real paths, as far as programs ask for those of nodes. */
 static bool is_real(const char *path, char **resolved)
 {
-    const struct entry *entry = entry_at(path);
+    const struct entry *entry;
 
-    if (entry == NULL && !is_hidden(path))
+    if (!find_place(AT_FDCWD, path, &entry))
         return false;
     if (entry == NULL)
         errno = ENOENT;
     if (*resolved == NULL && entry != NULL)
         *resolved = malloc(PATH_MAX);
     if (*resolved != NULL && entry != NULL)
-        snprintf(*resolved, PATH_MAX, "%s", path);
+        snprintf(*resolved, PATH_MAX, "%s", entry->path[0] != '\0' ? entry->path : path);
     else
         *resolved = NULL;
     return true;

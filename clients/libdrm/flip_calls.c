@@ -1,17 +1,22 @@
-/* Answers to page flips, which are made of SETCRTC, and to cursors, which are taken and shown nowhere. */
+/* Answers to page flips, which are made of SETCRTC, and to cursors, which are taken and shown
+ * nowhere. */
 #include "answers.h"
 
 #include "crtcs.h"
 
-/* What the core and the driver refuse. The caller is the current master where it refuses nothing, or else the server says so. */
-static int refuse_flip(struct connection *connection, const struct drm_mode_crtc_page_flip_target *flip)
+/* What the core and the driver refuse. The caller is the current master where it refuses nothing,
+ * or else the server says so. */
+static int refuse_flip(struct connection *connection,
+                       const struct drm_mode_crtc_page_flip_target *flip)
 {
     bool has_target = (flip->flags & DRM_MODE_PAGE_FLIP_TARGET) != 0;
     uint32_t fb_id;
     int failed;
 
-    if ((flip->flags & ~(uint32_t)DRM_MODE_PAGE_FLIP_FLAGS) || (flip->flags & DRM_MODE_PAGE_FLIP_ASYNC)
-        || (flip->flags & DRM_MODE_PAGE_FLIP_TARGET) == DRM_MODE_PAGE_FLIP_TARGET || (flip->sequence != 0 && !has_target))
+    if ((flip->flags & ~(uint32_t)DRM_MODE_PAGE_FLIP_FLAGS)
+        || (flip->flags & DRM_MODE_PAGE_FLIP_ASYNC)
+        || (flip->flags & DRM_MODE_PAGE_FLIP_TARGET) == DRM_MODE_PAGE_FLIP_TARGET
+        || (flip->sequence != 0 && !has_target))
         return -EINVAL;
     failed = zirkoshe_drmModeGetCrtc(&connection->client, flip->crtc_id, &fb_id);
     if (failed)
@@ -28,7 +33,8 @@ static int refuse_flip(struct connection *connection, const struct drm_mode_crtc
     return crtc_flips(flip->crtc_id) ? -EBUSY : 0;
 }
 
-/* That the caller isn't current comes before all that is wrong with its request; what the server said of that is told else. */
+/* That the caller isn't current comes before all that is wrong with its request; what the server
+ * said of that is told else. */
 static int refuse_others(struct zirkoshe_client *client, int failed)
 {
     uint32_t rule = client->rule;
@@ -42,7 +48,8 @@ static int refuse_others(struct zirkoshe_client *client, int failed)
 }
 
 /* Whether a connector can be driven by the CRTC at this place of the list. */
-static int can_drive(struct zirkoshe_client *client, uint32_t connector_id, uint32_t place, bool *can)
+static int can_drive(struct zirkoshe_client *client, uint32_t connector_id, uint32_t place,
+                     bool *can)
 {
     uint32_t encoder_id, possible_crtcs = 0;
     int failed = zirkoshe_drmModeGetConnector(client, connector_id, &encoder_id);
@@ -53,7 +60,8 @@ static int can_drive(struct zirkoshe_client *client, uint32_t connector_id, uint
     return failed;
 }
 
-/* The connector that last lit the CRTC, as far as this process knows, or else the first one that it can drive; 0 where none is. */
+/* The connector that last lit the CRTC, as far as this process knows, or else the first one that it
+ * can drive; 0 where none is. */
 static int find_connector(struct zirkoshe_client *client, uint32_t crtc_id, uint32_t *connector_id)
 {
     struct zirkoshe_resources resources;
@@ -78,7 +86,8 @@ static int find_connector(struct zirkoshe_client *client, uint32_t crtc_id, uint
 }
 
 /* The flip completes at the next vertical blanking. */
-static void complete(struct connection *connection, const struct drm_mode_crtc_page_flip_target *flip)
+static void complete(struct connection *connection,
+                     const struct drm_mode_crtc_page_flip_target *flip)
 {
     struct blanking blanking = crtc_blanking(flip->crtc_id);
     struct vblank next = vblank_of(&blanking, last_vblank(&blanking, time_now()).sequence + 1);
@@ -94,13 +103,33 @@ static void complete(struct connection *connection, const struct drm_mode_crtc_p
     events_add(&connection->events, &event, next.sequence, next.time);
 }
 
+/* Whether a flip is refused by nothing that this process knows: then SETCRTC alone decides. */
+static bool is_expected_to_flip(struct connection *connection,
+                                const struct drm_mode_crtc_page_flip_target *flip)
+{
+    return (flip->flags & ~(uint32_t)DRM_MODE_PAGE_FLIP_EVENT) == 0 && flip->sequence == 0
+           && flip->fb_id != 0 && crtc_is_surely_lit(flip->crtc_id)
+           && crtc_connector(flip->crtc_id) != 0 && !crtc_flips(flip->crtc_id)
+           && (!(flip->flags & DRM_MODE_PAGE_FLIP_EVENT) || events_have_room(&connection->events));
+}
+
 int answer_page_flip(struct connection *connection, void *argument)
 {
     const struct drm_mode_crtc_page_flip_target *flip = argument;
     struct zirkoshe_client *client = &connection->client;
     uint32_t connector_id;
-    int failed = refuse_flip(connection, flip);
+    int failed;
 
+    if (is_expected_to_flip(connection, flip)) {
+        if (zirkoshe_drmModeSetCrtc(client, flip->crtc_id, flip->fb_id,
+                                    crtc_connector(flip->crtc_id))
+            == 0) {
+            complete(connection, flip);
+            return 0;
+        }
+        crtcs_are_unsure();
+    }
+    failed = refuse_flip(connection, flip);
     if (failed)
         return refuse_others(client, failed);
     failed = find_connector(client, flip->crtc_id, &connector_id);
@@ -111,7 +140,8 @@ int answer_page_flip(struct connection *connection, void *argument)
     return failed;
 }
 
-/* Whether a picture may be a cursor's: whether the caller holds the handle shows in the reading of its stamp. */
+/* Whether a picture may be a cursor's: whether the caller holds the handle shows in the reading of
+ * its stamp. */
 static int look_at_picture(struct zirkoshe_client *client, const struct drm_mode_cursor *cursor)
 {
     uint64_t stamp;
@@ -122,17 +152,32 @@ static int look_at_picture(struct zirkoshe_client *client, const struct drm_mode
     return cursor->width > MOST_CURSOR_SIDE || cursor->height > MOST_CURSOR_SIDE ? -EINVAL : 0;
 }
 
+/* Whether a current caller sees a CRTC, which the server is asked once. */
+static int see_crtc(struct connection *connection, uint32_t crtc_id)
+{
+    uint32_t fb_id;
+    int failed;
+
+    if (crtc_id != 0 && connection_is_current(connection) && connection->known_crtc == crtc_id)
+        return 0;
+    failed = zirkoshe_drmModeGetCrtc(&connection->client, crtc_id, &fb_id);
+    if (!failed)
+        connection->known_crtc = crtc_id;
+    return failed;
+}
+
 /* The older struct of a cursor begins as the newer one does. A handle of 0 hides the cursor. */
 int answer_cursor(struct connection *connection, void *argument)
 {
     const struct drm_mode_cursor *cursor = argument;
-    uint32_t fb_id;
     int failed;
 
     if (cursor->flags == 0 || (cursor->flags & ~(uint32_t)DRM_MODE_CURSOR_FLAGS) != 0)
         return -EINVAL;
-    failed = zirkoshe_drmModeGetCrtc(&connection->client, cursor->crtc_id, &fb_id);
+    failed = see_crtc(connection, cursor->crtc_id);
     if (failed)
         return failed;
-    return (cursor->flags & DRM_MODE_CURSOR_BO) && cursor->handle != 0 ? look_at_picture(&connection->client, cursor) : 0;
+    return (cursor->flags & DRM_MODE_CURSOR_BO) && cursor->handle != 0
+               ? look_at_picture(&connection->client, cursor)
+               : 0;
 }

@@ -1,12 +1,14 @@
 /* The functions of the C library that list folders: those of the device are listed here. */
 #include "tree.h"
 
+#include <glob.h>
 #include <stdlib.h>
 
 /* A folder of the device that the program lists; to the program its address is that of a DIR. */
 struct listing {
     struct listing *next_listing;
     const struct entry *folder;
+    int fd; /* what dirfd returns, or -1 */
     size_t next;
     struct dirent given;
 };
@@ -22,19 +24,21 @@ static struct listing *listing_of(const DIR *stream)
     if (!atomic_load(&any_listing))
         return NULL;
     pthread_mutex_lock(&listings_turn);
-    for (found = listings; found != NULL && (const void *)found != (const void *)stream; found = found->next_listing)
+    for (found = listings; found != NULL && (const void *)found != (const void *)stream;
+         found = found->next_listing)
         ;
     pthread_mutex_unlock(&listings_turn);
     return found;
 }
 
-static DIR *list(const struct entry *folder)
+static DIR *list(const struct entry *folder, int fd)
 {
     struct listing *made = calloc(1, sizeof *made);
 
     if (made == NULL)
         return NULL;
     made->folder = folder;
+    made->fd = fd;
     pthread_mutex_lock(&listings_turn);
     made->next_listing = listings;
     listings = made;
@@ -52,13 +56,18 @@ static void end_listing(struct listing *ended)
         place = &(*place)->next_listing;
     *place = ended->next_listing;
     pthread_mutex_unlock(&listings_turn);
+    if (ended->fd >= 0)
+        libc_close(ended->fd);
     free(ended);
 }
 
 static unsigned char type_of(enum kind kind)
 {
     static const unsigned char types[] = {
-        [KIND_NODE] = DT_CHR, [KIND_FOLDER] = DT_DIR, [KIND_LINK] = DT_LNK, [KIND_TEXT] = DT_REG,
+        [KIND_NODE] = DT_CHR,
+        [KIND_FOLDER] = DT_DIR,
+        [KIND_LINK] = DT_LNK,
+        [KIND_TEXT] = DT_REG,
     };
 
     return types[kind];
@@ -82,14 +91,21 @@ static struct dirent *next_given(struct listing *listing)
 
 SHOWN DIR *opendir(const char *path)
 {
-    const struct entry *entry = entry_at(path);
+    const struct entry *entry;
 
-    if (entry != NULL && entry->kind == KIND_FOLDER)
-        return list(entry);
-    if (entry == NULL && !is_hidden(path))
+    if (!find_place(AT_FDCWD, path, &entry))
         return REAL(opendir)(path);
+    if (entry != NULL && entry->kind == KIND_FOLDER)
+        return list(entry, -1);
     errno = entry == NULL ? ENOENT : ENOTDIR;
     return NULL;
+}
+
+SHOWN DIR *fdopendir(int fd)
+{
+    const struct entry *folder = folder_of(fd);
+
+    return folder != NULL ? list(folder, fd) : REAL(fdopendir)(fd);
 }
 
 SHOWN struct dirent *readdir(DIR *stream)
@@ -120,10 +136,13 @@ SHOWN void rewinddir(DIR *stream)
 
 SHOWN int dirfd(DIR *stream)
 {
-    if (listing_of(stream) == NULL)
+    struct listing *listing = listing_of(stream);
+
+    if (listing == NULL)
         return REAL(dirfd)(stream);
-    errno = ENOTSUP;
-    return -1;
+    if (listing->fd < 0)
+        listing->fd = open_folder(listing->folder, O_CLOEXEC);
+    return listing->fd;
 }
 
 SHOWN int closedir(DIR *stream)
@@ -135,6 +154,40 @@ SHOWN int closedir(DIR *stream)
     end_listing(listing);
     return 0;
 }
+
+/* glob looks at files by the functions that it is given, and else by none that can be overridden.
+ */
+static void *open_for_glob(const char *path)
+{
+    return opendir(path);
+}
+
+static void close_for_glob(void *stream)
+{
+    closedir(stream);
+}
+
+#define GLOB_FUNCTION(suffix)                                                                      \
+    static struct dirent##suffix *read_for_glob##suffix(void *stream)                              \
+    {                                                                                              \
+        return readdir##suffix(stream);                                                            \
+    }                                                                                              \
+    SHOWN int glob##suffix(const char *pattern, int flags, int (*report)(const char *, int),       \
+                           glob##suffix##_t *found)                                                \
+    {                                                                                              \
+        if (is_served() && !(flags & GLOB_ALTDIRFUNC)) {                                           \
+            flags |= GLOB_ALTDIRFUNC;                                                              \
+            found->gl_opendir = open_for_glob;                                                     \
+            found->gl_readdir = read_for_glob##suffix;                                             \
+            found->gl_closedir = close_for_glob;                                                   \
+            found->gl_stat = stat##suffix;                                                         \
+            found->gl_lstat = lstat##suffix;                                                       \
+        }                                                                                          \
+        return REAL(glob##suffix)(pattern, flags, report, found);                                  \
+    }
+
+GLOB_FUNCTION()
+GLOB_FUNCTION(64)
 
 /* A thread that isn't there in a child may have held the list. */
 static void begin_anew(void)

@@ -1,14 +1,18 @@
 /* Answers to requests of framebuffers. */
 #include "answers.h"
 
+#include "crtcs.h"
+
 int answer_add_fb(struct connection *connection, void *argument)
 {
     struct drm_mode_fb_cmd *fb = argument;
 
-    return zirkoshe_drmModeAddFB(&connection->client, fb->width, fb->height, fb->pitch, fb->bpp, fb->handle, &fb->fb_id);
+    return zirkoshe_drmModeAddFB(&connection->client, fb->width, fb->height, fb->pitch, fb->bpp,
+                                 fb->handle, &fb->fb_id);
 }
 
-/* Whether the server can say what is asked for: one plane from the object's front, and no modifier. */
+/* Whether the server can say what is asked for: one plane from the object's front, and no modifier.
+ */
 static bool is_plain(const struct drm_mode_fb_cmd2 *fb)
 {
     size_t at;
@@ -27,10 +31,12 @@ int answer_add_fb2(struct connection *connection, void *argument)
 
     if (bits == 0 || !is_plain(fb))
         return -EINVAL;
-    return zirkoshe_drmModeAddFB(&connection->client, fb->width, fb->height, fb->pitches[0], bits, fb->handles[0], &fb->fb_id);
+    return zirkoshe_drmModeAddFB(&connection->client, fb->width, fb->height, fb->pitches[0], bits,
+                                 fb->handles[0], &fb->fb_id);
 }
 
-/* Asks for a framebuffer. A handle that comes with it is a new one, whose memory is as long as the framebuffer needs. */
+/* Asks for a framebuffer. A handle that comes with it is a new one, whose memory is as long as the
+ * framebuffer needs. */
 static int get_fb(struct connection *connection, uint32_t fb_id, struct zirkoshe_fb *fb)
 {
     int failed = zirkoshe_drmModeGetFB(&connection->client, fb_id, fb);
@@ -83,5 +89,7 @@ int answer_rm_fb(struct connection *connection, void *argument)
 {
     const uint32_t *fb_id = argument;
 
+    /* what shows it becomes dark */
+    crtcs_are_unsure();
     return zirkoshe_drmModeRmFB(&connection->client, *fb_id);
 }

@@ -8,7 +8,8 @@
 #include <stdlib.h>
 #include <sys/ioctl.h>
 
-/* What the core asks of the caller before a call that the server doesn't have; the server asks it before its own. */
+/* What the core asks of the caller before a call that the server doesn't have; the server asks it
+ * before its own. */
 enum wants { WANTS_NOTHING, WANTS_PRIMARY, WANTS_MASTER };
 
 struct row {
@@ -19,8 +20,14 @@ struct row {
     enum wants wants;
 };
 
-#define ROW(name, answer, wants) {DRM_IOCTL_##name, #name, answer, NULL, wants}
-#define FREE_ROW(name, answer, wants) {DRM_IOCTL_##name, #name, NULL, answer, wants}
+#define ROW(name, answer, wants)                                                                   \
+    {                                                                                              \
+        DRM_IOCTL_##name, #name, answer, NULL, wants                                               \
+    }
+#define FREE_ROW(name, answer, wants)                                                              \
+    {                                                                                              \
+        DRM_IOCTL_##name, #name, NULL, answer, wants                                               \
+    }
 
 static const struct row rows[] = {
     ROW(VERSION, answer_version, WANTS_NOTHING),
@@ -118,12 +125,19 @@ static const struct row *row_of(uint32_t request)
     return NULL;
 }
 
-/* Who is current is told by a call that changes nothing and that they alone may make. (A page flip asks by itself.) */
+/* MODE_LIST_LESSEES changes nothing, and only a current caller may make it. (A page flip asks by
+ * itself.) */
 static int permit(struct connection *connection, enum wants wants)
 {
     struct zirkoshe_ids lessees;
+    int failed;
 
-    return wants == WANTS_MASTER ? zirkoshe_drmModeListLessees(&connection->client, &lessees) : 0;
+    if (wants != WANTS_MASTER || connection_is_current(connection))
+        return 0;
+    failed = zirkoshe_drmModeListLessees(&connection->client, &lessees);
+    if (!failed)
+        connection_is_found_current(connection);
+    return failed;
 }
 
 static int ask(struct connection *connection, int fd, const struct row *row, void *argument)
@@ -145,7 +159,8 @@ static int ask(struct connection *connection, int fd, const struct row *row, voi
     return connection_let_go(connection, fd, failed);
 }
 
-/* Tells who wants to know what failed: by a rule of the server, or in this library (0), with the errno. */
+/* Tells who wants to know what failed: by a rule of the server, or in this library (0), with the
+ * errno. */
 static void trace(const char *name, uint32_t rule, int error)
 {
     const char *wanted = getenv("DRM_SERVER_TRACE");
@@ -153,7 +168,8 @@ static void trace(const char *name, uint32_t rule, int error)
     if (wanted == NULL || wanted[0] == '\0')
         return;
     if (rule != 0)
-        dprintf(STDERR_FILENO, "%s: denied %u %s %d\n", name, (unsigned)rule, zirkoshe_rule_name(rule), error);
+        dprintf(STDERR_FILENO, "%s: denied %u %s %d\n", name, (unsigned)rule,
+                zirkoshe_rule_name(rule), error);
     else
         dprintf(STDERR_FILENO, "%s: failed %d\n", name, error);
 }
@@ -163,7 +179,8 @@ static size_t least(size_t one, size_t other)
     return one < other ? one : other;
 }
 
-/* The core takes a struct that is shorter or longer than it knows: what is missing is 0, and what is too much is left alone. */
+/* The core takes a struct that is shorter or longer than it knows: what is missing is 0, and what
+ * is too much is left alone. */
 int carry_out(struct connection *connection, int fd, uint32_t request, void *argument)
 {
     const struct row *row = row_of(request);
@@ -198,5 +215,7 @@ int carry_out_on_memory(uint32_t request, const void *argument)
         return -ENOTTY;
     if (argument == NULL)
         return -EFAULT;
-    return sync->flags & ~(__u64)DMA_BUF_SYNC_VALID_FLAGS_MASK || !(sync->flags & DMA_BUF_SYNC_RW) ? -EINVAL : 0;
+    return sync->flags & ~(__u64)DMA_BUF_SYNC_VALID_FLAGS_MASK || !(sync->flags & DMA_BUF_SYNC_RW)
+               ? -EINVAL
+               : 0;
 }

@@ -1,8 +1,10 @@
 /* Answers to requests of leases. */
 #include "answers.h"
 
-/* The server takes 32 ids at most; more are refused by it as a request that is none, as everywhere. */
-static int create(struct connection *connection, const struct drm_mode_create_lease *create, struct zirkoshe_lease *lease)
+/* The server takes 32 ids at most; more are refused by it as a request that is none, as everywhere.
+ */
+static int create(struct connection *connection, const struct drm_mode_create_lease *create,
+                  struct zirkoshe_lease *lease)
 {
     uint32_t count = create->object_count;
 
@@ -10,17 +12,20 @@ static int create(struct connection *connection, const struct drm_mode_create_le
         return -EINVAL;
     if (count > 0 && create->object_ids == 0)
         return -EFAULT;
-    return zirkoshe_drmModeCreateLease(&connection->client, (const uint32_t *)(uintptr_t)create->object_ids, count, lease);
+    return zirkoshe_drmModeCreateLease(
+        &connection->client, (const uint32_t *)(uintptr_t)create->object_ids, count, lease);
 }
 
-/* Takes a lease back that nobody could open. */
+/* Takes a lease back that could not be opened. */
 static void take_back(struct connection *connection, int fd, uint32_t lessee_id)
 {
     if (connection_hold(connection, fd) == 0)
-        connection_let_go(connection, fd, zirkoshe_drmModeRevokeLease(&connection->client, lessee_id));
+        connection_let_go(connection, fd,
+                          zirkoshe_drmModeRevokeLease(&connection->client, lessee_id));
 }
 
-/* The descriptor is a client that has redeemed the lease, on the card's socket, where nobody is root. */
+/* The descriptor is a client that has redeemed the lease, on the card's socket, where nobody is
+ * root. */
 int answer_create_lease(struct connection *connection, int fd, void *argument)
 {
     struct drm_mode_create_lease *asked = argument;
@@ -52,7 +57,9 @@ int answer_list_lessees(struct connection *connection, void *argument)
 
     if (!failed && listed->pad != 0)
         failed = -EINVAL;
-    return failed ? failed : give(listed->lessees_ptr, &listed->count_lessees, lessees.ids, lessees.count, sizeof lessees.ids[0]);
+    return failed ? failed
+                  : give(listed->lessees_ptr, &listed->count_lessees, lessees.ids, lessees.count,
+                         sizeof lessees.ids[0]);
 }
 
 int answer_get_lease(struct connection *connection, void *argument)
@@ -63,12 +70,15 @@ int answer_get_lease(struct connection *connection, void *argument)
 
     if (!failed && leased->pad != 0)
         failed = -EINVAL;
-    return failed ? failed : give(leased->objects_ptr, &leased->count_objects, objects.ids, objects.count, sizeof objects.ids[0]);
+    return failed ? failed
+                  : give(leased->objects_ptr, &leased->count_objects, objects.ids, objects.count,
+                         sizeof objects.ids[0]);
 }
 
 int answer_revoke_lease(struct connection *connection, void *argument)
 {
     const struct drm_mode_revoke_lease *revoked = argument;
 
+    standings_changed();
     return zirkoshe_drmModeRevokeLease(&connection->client, revoked->lessee_id);
 }

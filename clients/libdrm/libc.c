@@ -9,6 +9,11 @@ int libc_close(int fd)
     return REAL(close)(fd);
 }
 
+ssize_t libc_readlink(const char *path, char *target, size_t size)
+{
+    return REAL(readlink)(path, target, size);
+}
+
 int libc_poll(struct pollfd *waited, nfds_t count, int timeout)
 {
     return REAL(poll)(waited, count, timeout);

@@ -1,15 +1,19 @@
-/* The C library's own functions of the names that this library defines. Each file includes this header, or one that does, first. */
+/* The C library's own functions of the names that this library defines. Each file includes this
+ * header, or one that does, first. */
 #ifndef ZIRKOSHE_LIBDRM_LIBC_H
 #define ZIRKOSHE_LIBDRM_LIBC_H
 
 #ifndef _GNU_SOURCE
 #define _GNU_SOURCE
 #endif
+/* Sizes have 64 bits in any case, and this would give the functions other names. */
+#undef _FILE_OFFSET_BITS
 
 #include <dlfcn.h>
 #include <poll.h>
 #include <stdatomic.h>
 #include <stddef.h>
+#include <sys/types.h>
 
 /* Numbers of descriptors that are this library's own begin here, out of the program's way. */
 #define LEAST_HIDDEN 512
@@ -19,24 +23,28 @@
 #define ALSO(other, name) __typeof__(name) other __attribute__((alias(#name)))
 
 /* The next function of this name behind this library, which is looked up once at each place. */
-#define REAL(name) \
-    __extension__({ \
-        static _Atomic(void *) found; \
-        void *real = atomic_load_explicit(&found, memory_order_relaxed); \
-        if (real == NULL) { \
-            real = dlsym(RTLD_NEXT, #name); \
-            atomic_store_explicit(&found, real, memory_order_relaxed); \
-        } \
-        (__typeof__(&name))real; \
+#define REAL(name)                                                                                 \
+    __extension__({                                                                                \
+        static _Atomic(void *) found;                                                              \
+        void *real = atomic_load_explicit(&found, memory_order_relaxed);                           \
+        if (real == NULL) {                                                                        \
+            real = dlsym(RTLD_NEXT, #name);                                                        \
+            atomic_store_explicit(&found, real, memory_order_relaxed);                             \
+        }                                                                                          \
+        (__typeof__(&name))real;                                                                   \
     })
 
 /* Closes a descriptor that is this library's own. */
 int libc_close(int fd);
 
+/* Reads a link as it is. */
+ssize_t libc_readlink(const char *path, char *target, size_t size);
+
 /* Waits for descriptors as they are. */
 int libc_poll(struct pollfd *waited, nfds_t count, int timeout);
 
-/* A duplicate that is this library's own, out of the program's way where that is possible; -1 with errno. */
+/* A duplicate that is this library's own, out of the program's way where that is possible; -1 with
+ * errno. */
 int libc_duplicate(int fd);
 
 #endif

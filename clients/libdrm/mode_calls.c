@@ -17,19 +17,22 @@ int answer_get_resources(struct connection *connection, void *argument)
         return failed;
     resources->min_width = resources->min_height = LEAST_SIDE;
     resources->max_width = resources->max_height = MOST_SIDE;
-    failed = give(resources->fb_id_ptr, &resources->count_fbs, found.fbs, found.count_fbs, sizeof *found.fbs);
+    failed = give(resources->fb_id_ptr, &resources->count_fbs, found.fbs, found.count_fbs,
+                  sizeof *found.fbs);
     if (!failed)
-        failed = give(resources->crtc_id_ptr, &resources->count_crtcs, found.crtcs, found.count_crtcs, sizeof *found.crtcs);
+        failed = give(resources->crtc_id_ptr, &resources->count_crtcs, found.crtcs,
+                      found.count_crtcs, sizeof *found.crtcs);
     if (!failed)
-        failed = give(resources->connector_id_ptr, &resources->count_connectors, found.connectors, found.count_connectors,
-                      sizeof *found.connectors);
+        failed = give(resources->connector_id_ptr, &resources->count_connectors, found.connectors,
+                      found.count_connectors, sizeof *found.connectors);
     if (!failed)
-        failed = give(resources->encoder_id_ptr, &resources->count_encoders, found.encoders, found.count_encoders,
-                      sizeof *found.encoders);
+        failed = give(resources->encoder_id_ptr, &resources->count_encoders, found.encoders,
+                      found.count_encoders, sizeof *found.encoders);
     return failed;
 }
 
-/* A CRTC that shows something is told to do so from its corner, in the mode that this process set, or else in the preferred one. */
+/* A CRTC that shows something is told to do so from its corner, in the mode that this process set,
+ * or else in the preferred one. */
 int answer_get_crtc(struct connection *connection, void *argument)
 {
     struct drm_mode_crtc *crtc = argument;
@@ -49,8 +52,9 @@ int answer_get_crtc(struct connection *connection, void *argument)
     return 0;
 }
 
-/* What the core refuses before the driver is asked comes behind its tests of who asks, and of the CRTC. */
-static int refuse(struct zirkoshe_client *client, uint32_t crtc_id)
+/* What the core refuses before the driver is asked comes after its tests of the caller, and of the
+ * CRTC. */
+static int refuse(struct zirkoshe_client *client, uint32_t crtc_id, int error)
 {
     struct zirkoshe_ids lessees;
     uint32_t fb_id;
@@ -58,11 +62,12 @@ static int refuse(struct zirkoshe_client *client, uint32_t crtc_id)
 
     if (!failed)
         failed = zirkoshe_drmModeGetCrtc(client, crtc_id, &fb_id);
-    return failed ? failed : -EINVAL;
+    return failed ? failed : error;
 }
 
-/* The framebuffer that a request names: -1 stands for the one that the CRTC shows. */
-static int find_fb(struct zirkoshe_client *client, const struct drm_mode_crtc *crtc, uint32_t *fb_id)
+/* The framebuffer that a request names: -1 is the one that the CRTC shows. A mode needs one. */
+static int find_fb(struct zirkoshe_client *client, const struct drm_mode_crtc *crtc,
+                   uint32_t *fb_id)
 {
     int failed = 0;
 
@@ -70,7 +75,9 @@ static int find_fb(struct zirkoshe_client *client, const struct drm_mode_crtc *c
     if (*fb_id == UINT32_MAX) {
         failed = zirkoshe_drmModeGetCrtc(client, crtc->crtc_id, fb_id);
         if (!failed && *fb_id == 0)
-            failed = refuse(client, crtc->crtc_id);
+            failed = refuse(client, crtc->crtc_id, -EINVAL);
+    } else if (crtc->mode_valid && *fb_id == 0) {
+        failed = refuse(client, crtc->crtc_id, -ENOENT);
     }
     return failed;
 }
@@ -83,15 +90,17 @@ int answer_set_crtc(struct connection *connection, void *argument)
     uint32_t connector_id = 0, fb_id;
     int failed;
 
+    failed = find_fb(client, crtc, &fb_id);
+    if (failed)
+        return failed;
     if (crtc->count_connectors > 1)
-        return refuse(client, crtc->crtc_id);
+        return refuse(client, crtc->crtc_id, -EINVAL);
     if (crtc->count_connectors == 1 && crtc->set_connectors_ptr == 0)
         return -EFAULT;
     if (crtc->count_connectors == 1)
-        memcpy(&connector_id, (const void *)(uintptr_t)crtc->set_connectors_ptr, sizeof connector_id);
-    failed = find_fb(client, crtc, &fb_id);
-    if (!failed)
-        failed = zirkoshe_drmModeSetCrtc(client, crtc->crtc_id, fb_id, connector_id);
+        memcpy(&connector_id, (const void *)(uintptr_t)crtc->set_connectors_ptr,
+               sizeof connector_id);
+    failed = zirkoshe_drmModeSetCrtc(client, crtc->crtc_id, fb_id, connector_id);
     if (!failed && fb_id != 0)
         crtc_is_lit(crtc->crtc_id, &crtc->mode, connector_id);
     else if (!failed)
@@ -103,7 +112,8 @@ int answer_get_encoder(struct connection *connection, void *argument)
 {
     struct drm_mode_get_encoder *encoder = argument;
     uint32_t possible_crtcs;
-    int failed = zirkoshe_drmModeGetEncoder(&connection->client, encoder->encoder_id, &possible_crtcs);
+    int failed =
+        zirkoshe_drmModeGetEncoder(&connection->client, encoder->encoder_id, &possible_crtcs);
 
     if (failed)
         return failed;
@@ -114,7 +124,8 @@ int answer_get_encoder(struct connection *connection, void *argument)
     return 0;
 }
 
-/* Each connector is told to have a monitor of 96 dots to the inch, to be named by its id, and to be driven by no encoder now. */
+/* Each connector is told to have a monitor of 96 dots to the inch, to be named by its id, and to be
+ * driven by no encoder now. */
 static void describe(struct drm_mode_get_connector *connector)
 {
     connector->encoder_id = 0;
@@ -131,7 +142,8 @@ int answer_get_connector(struct connection *connection, void *argument)
     struct drm_mode_get_connector *connector = argument;
     const struct drm_mode_modeinfo *modes;
     uint32_t encoder_id, count;
-    int failed = zirkoshe_drmModeGetConnector(&connection->client, connector->connector_id, &encoder_id);
+    int failed =
+        zirkoshe_drmModeGetConnector(&connection->client, connector->connector_id, &encoder_id);
 
     if (failed)
         return failed;
@@ -142,7 +154,8 @@ int answer_get_connector(struct connection *connection, void *argument)
         connector->count_modes = 0;
     failed = give(connector->modes_ptr, &connector->count_modes, modes, count, sizeof *modes);
     if (!failed)
-        failed = give(connector->encoders_ptr, &connector->count_encoders, &encoder_id, 1, sizeof encoder_id);
+        failed = give(connector->encoders_ptr, &connector->count_encoders, &encoder_id, 1,
+                      sizeof encoder_id);
     if (!failed)
         failed = give_connector_properties(connector);
     return failed;
@@ -156,11 +169,14 @@ int answer_get_plane_resources(struct connection *connection, void *argument)
 
     if (failed)
         return failed;
-    return give(resources->plane_id_ptr, &resources->count_planes, planes.ids, planes.count, sizeof planes.ids[0]);
+    return give(resources->plane_id_ptr, &resources->count_planes, planes.ids, planes.count,
+                sizeof planes.ids[0]);
 }
 
-/* The CRTC of a plane that shows something, where its mask leaves no choice; else 0, since the server doesn't tell. */
-static int find_crtc(struct zirkoshe_client *client, const struct zirkoshe_plane *plane, uint32_t *crtc_id)
+/* The CRTC of a plane that shows something, where its mask leaves no choice; else 0, since the
+ * server doesn't tell. */
+static int find_crtc(struct zirkoshe_client *client, const struct zirkoshe_plane *plane,
+                     uint32_t *crtc_id)
 {
     struct zirkoshe_resources resources;
     uint32_t mask = plane->possible_crtcs;
@@ -192,7 +208,8 @@ int answer_get_plane(struct connection *connection, void *argument)
     plane->possible_crtcs = found.possible_crtcs;
     plane->gamma_size = 0;
     formats = all_formats(&count);
-    return give(plane->format_type_ptr, &plane->count_format_types, formats, count, sizeof *formats);
+    return give(plane->format_type_ptr, &plane->count_format_types, formats, count,
+                sizeof *formats);
 }
 
 /* Where on the CRTC, and what of the framebuffer, the server doesn't ask. */
@@ -200,5 +217,6 @@ int answer_set_plane(struct connection *connection, void *argument)
 {
     const struct drm_mode_set_plane *plane = argument;
 
-    return zirkoshe_drmModeSetPlane(&connection->client, plane->plane_id, plane->crtc_id, plane->fb_id);
+    return zirkoshe_drmModeSetPlane(&connection->client, plane->plane_id, plane->crtc_id,
+                                    plane->fb_id);
 }

@@ -25,7 +25,8 @@ static bool name_of(int fd, char *name, size_t size)
     return true;
 }
 
-/* How many descriptors in a folder of /proc are the file of this name; -1 where that can't be read. */
+/* How many descriptors in a folder of /proc are the file of this name; -1 where that can't be read.
+ */
 static int count_in(const char *folder, const char *name)
 {
     DIR *listed = opendir(folder);

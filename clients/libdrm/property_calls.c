@@ -1,15 +1,19 @@
-/* Answers to requests of properties. There are two, which stand in for what each driver's planes and connectors have.
+/* Answers to requests of properties. There are two, which stand in for what each driver's planes
+ * and connectors have.
  *
- * A plane's `type` stands in for its kind, which no call of the server tells, and a connector's `DPMS` for its power. Both are the
- * same at all times: setting DPMS is allowed to who may set modes, and changes nothing.
+ * A plane's `type` stands in for its kind, which no call of the server tells, and a connector's
+ * `DPMS` for its power. Both are the same at all times: setting DPMS is allowed to who may set
+ * modes, and changes nothing.
  */
 #include "answers.h"
 
 /* Their ids are above every id that the server gives. */
 enum { TYPE = 1000, DPMS = 1001 };
 
-static const struct drm_mode_property_enum types[] = {{0, "Overlay"}, {1, "Primary"}, {2, "Cursor"}};
-static const struct drm_mode_property_enum powers[] = {{0, "On"}, {1, "Standby"}, {2, "Suspend"}, {3, "Off"}};
+static const struct drm_mode_property_enum types[] = {
+    {0, "Overlay"}, {1, "Primary"}, {2, "Cursor"}};
+static const struct drm_mode_property_enum powers[] = {
+    {0, "On"}, {1, "Standby"}, {2, "Suspend"}, {3, "Off"}};
 
 static const struct property {
     uint32_t id;
@@ -57,7 +61,8 @@ static int find_object(struct zirkoshe_client *client, uint32_t id, uint32_t wan
     if (failed && may_be(wanted, *kind = DRM_MODE_OBJECT_CONNECTOR))
         failed = zirkoshe_drmModeGetConnector(client, id, &number);
     /* an encoder is found, and has no properties */
-    if (failed && may_be(wanted, DRM_MODE_OBJECT_ENCODER) && zirkoshe_drmModeGetEncoder(client, id, &number) == 0)
+    if (failed && may_be(wanted, DRM_MODE_OBJECT_ENCODER)
+        && zirkoshe_drmModeGetEncoder(client, id, &number) == 0)
         failed = -EINVAL;
     return failed;
 }
@@ -134,29 +139,36 @@ int answer_get_property(struct connection *connection, void *argument)
     failed = give(asked->values_ptr, &asked->count_values, values, found->count, sizeof values[0]);
     if (failed)
         return failed;
-    return give(asked->enum_blob_ptr, &asked->count_enum_blobs, found->values, found->count, sizeof *found->values);
+    return give(asked->enum_blob_ptr, &asked->count_enum_blobs, found->values, found->count,
+                sizeof *found->values);
 }
 
 /* What the core looks at in the setting of a property, of which DPMS alone can be set. */
-static int set_property(struct zirkoshe_client *client, uint32_t id, uint32_t kind, uint32_t property, uint64_t value)
+static int set_property(struct zirkoshe_client *client, uint32_t id, uint32_t kind,
+                        uint32_t property, uint64_t value)
 {
     int failed = find_object(client, id, kind, &kind);
 
     if (failed)
         return failed;
-    return kind == DRM_MODE_OBJECT_CONNECTOR && property == DPMS && value < sizeof powers / sizeof powers[0] ? 0 : -EINVAL;
+    return kind == DRM_MODE_OBJECT_CONNECTOR && property == DPMS
+                   && value < sizeof powers / sizeof powers[0]
+               ? 0
+               : -EINVAL;
 }
 
 int answer_set_object_property(struct connection *connection, void *argument)
 {
     const struct drm_mode_obj_set_property *asked = argument;
 
-    return set_property(&connection->client, asked->obj_id, asked->obj_type, asked->prop_id, asked->value);
+    return set_property(&connection->client, asked->obj_id, asked->obj_type, asked->prop_id,
+                        asked->value);
 }
 
 int answer_set_connector_property(struct connection *connection, void *argument)
 {
     const struct drm_mode_connector_set_property *asked = argument;
 
-    return set_property(&connection->client, asked->connector_id, DRM_MODE_OBJECT_CONNECTOR, asked->prop_id, asked->value);
+    return set_property(&connection->client, asked->connector_id, DRM_MODE_OBJECT_CONNECTOR,
+                        asked->prop_id, asked->value);
 }

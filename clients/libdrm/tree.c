@@ -1,25 +1,34 @@
 /* The paths that programs look at to find a device. */
 #include "tree.h"
 
+#include <limits.h>
+#include <stdio.h>
+#include <sys/mman.h>
 #include <sys/sysmacros.h>
 
-/* the device numbers of DRM nodes, which are assigned: Documentation/admin-guide/devices.txt of Linux */
+/* the device numbers of DRM nodes, which are assigned: Documentation/admin-guide/devices.txt of
+ * Linux */
 #define DRM_MAJOR 226
 #define FIRST_RENDER 128
 
-/* What /sys has of a node, by its minor number and its name: libdrm looks for the device, its bus, and its other nodes. */
-#define SYSFS_OF(number, name, node) \
-    {"/sys/dev/char/226:" number, KIND_LINK, node, "../../devices/platform/zirkoshe/drm/" name}, \
-    {"/sys/dev/char/226:" number "/uevent", KIND_TEXT, node, \
-     "MAJOR=226\nMINOR=" number "\nDEVNAME=dri/" name "\nDEVTYPE=drm_minor\n"}, \
-    {"/sys/dev/char/226:" number "/dev", KIND_TEXT, node, "226:" number "\n"}, \
-    {"/sys/dev/char/226:" number "/subsystem", KIND_LINK, node, "../../../../../class/drm"}, \
-    {"/sys/dev/char/226:" number "/device", KIND_FOLDER, node, ""}, \
-    {"/sys/dev/char/226:" number "/device/uevent", KIND_TEXT, node, "DRIVER=zirkoshe\nMODALIAS=platform:zirkoshe\n"}, \
-    {"/sys/dev/char/226:" number "/device/subsystem", KIND_LINK, node, "../../../bus/platform"}, \
-    {"/sys/dev/char/226:" number "/device/drm", KIND_FOLDER, node, ""}, \
-    {"/sys/dev/char/226:" number "/device/drm/card0", KIND_FOLDER, NODE_CARD, ""}, \
-    {"/sys/dev/char/226:" number "/device/drm/renderD128", KIND_FOLDER, NODE_RENDER, ""}
+/* What /sys has of a node, by its minor number and its name: libdrm looks for the device, its bus,
+ * and its other nodes. */
+#define SYSFS_OF(number, name, node)                                                               \
+    {"/sys/dev/char/226:" number, KIND_LINK, node, "../../devices/platform/zirkoshe/drm/" name},   \
+        {"/sys/dev/char/226:" number "/uevent", KIND_TEXT, node,                                   \
+         "MAJOR=226\nMINOR=" number "\nDEVNAME=dri/" name "\nDEVTYPE=drm_minor\n"},                \
+        {"/sys/dev/char/226:" number "/dev", KIND_TEXT, node, "226:" number "\n"},                 \
+        {"/sys/dev/char/226:" number "/subsystem", KIND_LINK, node, "../../../../../class/drm"},   \
+        {"/sys/dev/char/226:" number "/device", KIND_FOLDER, node, ""},                            \
+        {"/sys/dev/char/226:" number "/device/uevent", KIND_TEXT, node,                            \
+         "DRIVER=zirkoshe\nMODALIAS=platform:zirkoshe\n"},                                         \
+        {"/sys/dev/char/226:" number "/device/subsystem", KIND_LINK, node,                         \
+         "../../../bus/platform"},                                                                 \
+        {"/sys/dev/char/226:" number "/device/drm", KIND_FOLDER, node, ""},                        \
+        {"/sys/dev/char/226:" number "/device/drm/card0", KIND_FOLDER, NODE_CARD, ""},             \
+    {                                                                                              \
+        "/sys/dev/char/226:" number "/device/drm/renderD128", KIND_FOLDER, NODE_RENDER, ""         \
+    }
 
 static const struct entry entries[] = {
     {"/dev/dri", KIND_FOLDER, NODE_CARD, ""},
@@ -39,28 +48,108 @@ static const struct entry sockets[] = {
     {"", KIND_NODE, NODE_ROOT, ""},
 };
 
-/* Whether a path is the other one, which has no slash too many. */
-static bool is_path(const char *path, const char *plain)
+/* What the name of a descriptor begins with that represents a folder. */
+#define FOLDER_NAME "zirkoshe-folder:"
+#define FOLDER_LINK "/memfd:" FOLDER_NAME
+
+/* Adds the parts of a path to a plain one, which has no `.`, no `..` and no slash too many; false
+ * if there is no room. */
+static bool add_parts(const char *path, char *plain, size_t *length)
 {
-    for (; *path != '\0'; path++) {
-        if (*path == '/' && (path[1] == '/' || path[1] == '\0'))
-            continue;
-        if (*path != *plain++)
-            return false;
+    while (*path != '\0') {
+        size_t size = strcspn(path, "/");
+
+        if (size == 2 && path[0] == '.' && path[1] == '.') {
+            while (*length > 0 && plain[--*length] != '/')
+                ;
+        } else if (size > 1 || (size == 1 && path[0] != '.')) {
+            if (*length + size + 2 > PATH_MAX)
+                return false;
+            plain[(*length)++] = '/';
+            memcpy(plain + *length, path, size);
+            *length += size;
+        }
+        path += size + (path[size] == '/');
     }
-    return *plain == '\0';
+    plain[*length] = '\0';
+    return true;
 }
 
-const struct entry *entry_at(const char *path)
+/* Where a descriptor leads; false if nowhere. */
+static bool follow(int fd, char *target)
+{
+    char link[32];
+    ssize_t length;
+
+    snprintf(link, sizeof link, "/proc/self/fd/%d", fd);
+    length = libc_readlink(link, target, PATH_MAX - 1);
+    if (length < 0)
+        return false;
+    target[length] = '\0';
+    return true;
+}
+
+const struct entry *folder_of(int fd)
+{
+    int error = errno;
+    char target[PATH_MAX];
+    size_t at = COUNT;
+
+    if (follow(fd, target) && strncmp(target, FOLDER_LINK, strlen(FOLDER_LINK)) == 0) {
+        char *name = target + strlen(FOLDER_LINK);
+
+        name[strcspn(name, " ")] = '\0';
+        for (at = 0; at < COUNT && strcmp(entries[at].path, name) != 0; at++)
+            ;
+    }
+    errno = error;
+    return at < COUNT ? &entries[at] : NULL;
+}
+
+int open_folder(const struct entry *folder, int flags)
+{
+    char name[128];
+
+    snprintf(name, sizeof name, FOLDER_NAME "%s", folder->path);
+    return memfd_create(name, flags & O_CLOEXEC ? MFD_CLOEXEC : 0);
+}
+
+/* The path of a folder that is open, or of the working directory; false if it has none. */
+static bool base_of(int folder, char *base)
+{
+    const struct entry *own = folder == AT_FDCWD ? NULL : folder_of(folder);
+
+    if (folder == AT_FDCWD)
+        return getcwd(base, PATH_MAX) != NULL;
+    if (own == NULL)
+        return follow(folder, base);
+    strcpy(base, own->path);
+    return true;
+}
+
+/* The plain form of a path that begins at a folder; false if it has none. */
+static bool make_plain(int folder, const char *path, char *plain)
+{
+    char base[PATH_MAX];
+    size_t length = 0;
+
+    if (path[0] != '/' && (!base_of(folder, base) || !add_parts(base, plain, &length)))
+        return false;
+    return add_parts(path, plain, &length);
+}
+
+static bool begins(const char *path, const char *folder)
+{
+    size_t length = strlen(folder);
+
+    return strncmp(path, folder, length) == 0
+           && (path[length] == '/' || path[length] == ':' || path[length] == '\0');
+}
+
+static const struct entry *socket_at(const char *path)
 {
     size_t at;
 
-    if (path == NULL || path[0] == '\0')
-        return NULL;
-    for (at = 0; at < COUNT; at++) {
-        if (is_path(path, entries[at].path) && node_path(entries[at].node) != NULL)
-            return &entries[at];
-    }
     for (at = 0; at < sizeof sockets / sizeof sockets[0]; at++) {
         const char *socket = node_path(sockets[at].node);
 
@@ -70,19 +159,30 @@ const struct entry *entry_at(const char *path)
     return NULL;
 }
 
-static bool begins(const char *path, const char *folder)
+bool is_served(void)
 {
-    size_t length = strlen(folder);
-
-    return strncmp(path, folder, length) == 0 && (path[length] == '/' || path[length] == ':' || path[length] == '\0');
+    return node_path(NODE_CARD) != NULL || node_path(NODE_RENDER) != NULL;
 }
 
-bool is_hidden(const char *path)
+bool find_place(int folder, const char *path, const struct entry **entry)
 {
-    bool is_served = node_path(NODE_CARD) != NULL || node_path(NODE_RENDER) != NULL;
+    int error = errno;
+    char plain[PATH_MAX];
+    size_t at;
 
-    return path != NULL && is_served && (begins(path, "/dev/dri") || begins(path, "/sys/dev/char/226"))
-        && entry_at(path) == NULL;
+    if (path == NULL || path[0] == '\0')
+        return false;
+    *entry = socket_at(path);
+    if (*entry != NULL || !is_served() || !make_plain(folder, path, plain)) {
+        errno = error;
+        return *entry != NULL;
+    }
+    errno = error;
+    for (at = 0; at < COUNT && *entry == NULL; at++) {
+        if (strcmp(plain, entries[at].path) == 0 && node_path(entries[at].node) != NULL)
+            *entry = &entries[at];
+    }
+    return *entry != NULL || begins(plain, "/dev/dri") || begins(plain, "/sys/dev/char/226");
 }
 
 void node_status(enum node node, struct stat *status)
@@ -100,7 +200,10 @@ void node_status(enum node node, struct stat *status)
 void entry_status(const struct entry *entry, bool follows, struct stat *status)
 {
     static const mode_t modes[] = {
-        [KIND_NODE] = S_IFCHR | 0666, [KIND_FOLDER] = S_IFDIR | 0755, [KIND_LINK] = S_IFLNK | 0777, [KIND_TEXT] = S_IFREG | 0444,
+        [KIND_NODE] = S_IFCHR | 0666,
+        [KIND_FOLDER] = S_IFDIR | 0755,
+        [KIND_LINK] = S_IFLNK | 0777,
+        [KIND_TEXT] = S_IFREG | 0444,
     };
 
     node_status(entry->node, status);

@@ -1,4 +1,5 @@
-/* The paths that programs look at to find a device: the nodes in /dev/dri, and the folders of /sys that tell of them. */
+/* The paths that programs look at to find a device: the nodes in /dev/dri, and the folders of /sys
+ * that tell of them. */
 #ifndef ZIRKOSHE_LIBDRM_TREE_H
 #define ZIRKOSHE_LIBDRM_TREE_H
 
@@ -16,11 +17,20 @@ struct entry {
     const char *text; /* what a text holds, and where a link leads */
 };
 
-/* What is at this path, or NULL where the system's own files are to be asked. */
-const struct entry *entry_at(const char *path);
+/* Whether there are nodes. */
+bool is_served(void);
 
-/* Whether the system's own files aren't to be asked: another device's node, or a file of ours that isn't there. */
-bool is_hidden(const char *path);
+/* Whether a path is the device's, from this folder or AT_FDCWD on. Its entry is NULL if another
+ * device's node, or nothing, is hidden there. `..` is the folder that the path names before it, not
+ * where a link leads. */
+bool find_place(int folder, const char *path, const struct entry **entry);
+
+/* Opens a descriptor that represents a folder of the device, with O_CLOEXEC or not; -1 with errno.
+ */
+int open_folder(const struct entry *folder, int flags);
+
+/* The folder that a descriptor represents, or NULL. */
+const struct entry *folder_of(int fd);
 
 /* What stat tells of an entry; of a link, what is behind it where links are followed. */
 void entry_status(const struct entry *entry, bool follows, struct stat *status);

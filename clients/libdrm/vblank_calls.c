@@ -57,7 +57,8 @@ static uint64_t widen(uint32_t narrow, uint64_t near)
     return near + (uint64_t)(int64_t)(int32_t)(narrow - (uint32_t)near);
 }
 
-/* Which vertical blanking is wanted. A request that is made again, as after a signal, wants the same one. */
+/* Which vertical blanking is wanted. A request that is made again, as after a signal, wants the
+ * same one. */
 static void find_wanted(struct drm_wait_vblank_request *request, struct goal *goal)
 {
     uint64_t last = goal->last.sequence, wanted = widen(request->sequence, last);
@@ -87,7 +88,8 @@ static int queue(struct connection *connection, struct event *event, const struc
     return 0;
 }
 
-static int queue_vblank(struct connection *connection, union drm_wait_vblank *wait, const struct goal *goal)
+static int queue_vblank(struct connection *connection, union drm_wait_vblank *wait,
+                        const struct goal *goal)
 {
     struct event event = {0};
     int failed;
@@ -117,7 +119,8 @@ static int begin_wait(struct connection *connection, union drm_wait_vblank *wait
     return type & _DRM_VBLANK_EVENT ? queue_vblank(connection, wait, goal) : 0;
 }
 
-/* Waits for a time, as the core does: not for ever, and until a signal is handled. The thread isn't cancelled meanwhile. */
+/* Waits for a time, as the core does: not for ever, and until a signal is handled. The thread isn't
+ * cancelled meanwhile. */
 static int wait_until(int64_t time)
 {
     int64_t most = time_now() + MOST_WAIT, end = time < most ? time : most;
@@ -172,7 +175,9 @@ int answer_queue_sequence(struct connection *connection, void *argument)
     struct goal goal = {.crtc_id = asked->crtc_id};
     struct event event = {0};
     uint64_t wanted = asked->sequence;
-    bool is_known = (asked->flags & ~(uint32_t)(DRM_CRTC_SEQUENCE_RELATIVE | DRM_CRTC_SEQUENCE_NEXT_ON_MISS)) == 0;
+    bool is_known =
+        (asked->flags & ~(uint32_t)(DRM_CRTC_SEQUENCE_RELATIVE | DRM_CRTC_SEQUENCE_NEXT_ON_MISS))
+        == 0;
     int failed = find_blanking(connection, &goal);
 
     /* the core looks the CRTC up, then at the flags, and then whether it blanks */
@@ -184,7 +189,8 @@ int answer_queue_sequence(struct connection *connection, void *argument)
         wanted += goal.last.sequence;
     if ((asked->flags & DRM_CRTC_SEQUENCE_NEXT_ON_MISS) && has_passed(goal.last.sequence, wanted))
         wanted = goal.last.sequence + 1;
-    goal.wanted = has_passed(goal.last.sequence, wanted) ? goal.last : vblank_of(&goal.blanking, wanted);
+    goal.wanted =
+        has_passed(goal.last.sequence, wanted) ? goal.last : vblank_of(&goal.blanking, wanted);
     event.told.base.type = DRM_EVENT_CRTC_SEQUENCE;
     event.told.sequence.user_data = asked->user_data;
     failed = queue(connection, &event, &goal);

@@ -1,4 +1,5 @@
-/* The functions of the C library that wait for descriptors: in the place of a connection they wait for its events. */
+/* The functions of the C library that wait for descriptors: in the place of a connection they wait
+ * for its events. */
 #include "connections.h"
 
 #include <stdlib.h>
@@ -26,10 +27,13 @@ static void free_many(void *many)
     free(many);
 }
 
-/* Waits as ppoll does. What the program gave stays as it is, since its other threads may wait by the same. */
-static int wait_for(struct pollfd *given, nfds_t count, const struct timespec *time, const sigset_t *mask)
+/* Waits as ppoll does. What the program gave stays as it is, since its other threads may wait by
+ * the same. */
+static int wait_for(struct pollfd *given, nfds_t count, const struct timespec *time,
+                    const sigset_t *mask)
 {
-    struct pollfd few[FEW], *many = count <= FEW ? NULL : malloc(count * sizeof *many), *own = count <= FEW ? few : many;
+    struct pollfd few[FEW], *many = count <= FEW ? NULL : malloc(count * sizeof *many),
+                            *own = count <= FEW ? few : many;
     nfds_t at;
     int result;
 
@@ -49,7 +53,8 @@ static int wait_for(struct pollfd *given, nfds_t count, const struct timespec *t
     return result;
 }
 
-/* Whether the system's own function is to be asked: there is no connection, or nothing that is waited for. */
+/* Whether the system's own function is to be asked: there is no connection, or nothing that is
+ * waited for. */
 static bool is_plain(const struct pollfd *waited, nfds_t count)
 {
     return count == 0 || waited == NULL || !connections_exist();
@@ -64,9 +69,11 @@ SHOWN int poll(struct pollfd *waited, nfds_t count, int timeout)
     return wait_for(waited, count, timeout < 0 ? NULL : &time, NULL);
 }
 
-SHOWN int ppoll(struct pollfd *waited, nfds_t count, const struct timespec *time, const sigset_t *mask)
+SHOWN int ppoll(struct pollfd *waited, nfds_t count, const struct timespec *time,
+                const sigset_t *mask)
 {
-    return is_plain(waited, count) ? REAL(ppoll)(waited, count, time, mask) : wait_for(waited, count, time, mask);
+    return is_plain(waited, count) ? REAL(ppoll)(waited, count, time, mask)
+                                   : wait_for(waited, count, time, mask);
 }
 
 /* What calls of them become where a program was compiled with checks. */
@@ -75,10 +82,12 @@ int __ppoll_chk(struct pollfd *, nfds_t, const struct timespec *, const sigset_t
 
 SHOWN int __poll_chk(struct pollfd *waited, nfds_t count, int timeout, size_t size)
 {
-    return size / sizeof *waited < count ? REAL(__poll_chk)(waited, count, timeout, size) : poll(waited, count, timeout);
+    return size / sizeof *waited < count ? REAL(__poll_chk)(waited, count, timeout, size)
+                                         : poll(waited, count, timeout);
 }
 
-SHOWN int __ppoll_chk(struct pollfd *waited, nfds_t count, const struct timespec *time, const sigset_t *mask, size_t size)
+SHOWN int __ppoll_chk(struct pollfd *waited, nfds_t count, const struct timespec *time,
+                      const sigset_t *mask, size_t size)
 {
     if (size / sizeof *waited < count)
         return REAL(__ppoll_chk)(waited, count, time, mask, size);
@@ -154,7 +163,8 @@ static int scatter(const struct pollfd *waited, nfds_t found, fd_set *const *set
 }
 
 /* Whether a connection is in the sets; then what pselect gives is in `result`. */
-static bool selects(int count, fd_set *const *sets, const struct timespec *time, const sigset_t *mask, int *result)
+static bool selects(int count, fd_set *const *sets, const struct timespec *time,
+                    const sigset_t *mask, int *result)
 {
     struct pollfd waited[FD_SETSIZE];
     bool has_connection;
@@ -171,12 +181,15 @@ static bool selects(int count, fd_set *const *sets, const struct timespec *time,
     return true;
 }
 
-SHOWN int pselect(int count, fd_set *reads, fd_set *writes, fd_set *excepts, const struct timespec *time, const sigset_t *mask)
+SHOWN int pselect(int count, fd_set *reads, fd_set *writes, fd_set *excepts,
+                  const struct timespec *time, const sigset_t *mask)
 {
     fd_set *const sets[SETS] = {reads, writes, excepts};
     int result;
 
-    return selects(count, sets, time, mask, &result) ? result : REAL(pselect)(count, reads, writes, excepts, time, mask);
+    return selects(count, sets, time, mask, &result)
+               ? result
+               : REAL(pselect)(count, reads, writes, excepts, time, mask);
 }
 
 /* Linux leaves in the time what of it is left. */
@@ -197,7 +210,8 @@ SHOWN int select(int count, fd_set *reads, fd_set *writes, fd_set *excepts, stru
     int result;
 
     if (time != NULL)
-        wanted = (struct timespec){time->tv_sec + time->tv_usec / 1000000, (long)(time->tv_usec % 1000000) * 1000};
+        wanted = (struct timespec){time->tv_sec + time->tv_usec / 1000000,
+                                   (long)(time->tv_usec % 1000000) * 1000};
     until = time_now() + (int64_t)wanted.tv_sec * SECOND + wanted.tv_nsec;
     if (!selects(count, sets, time == NULL ? NULL : &wanted, NULL, &result))
         return REAL(select)(count, reads, writes, excepts, time);

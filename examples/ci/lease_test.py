@@ -12,7 +12,7 @@ import sys
 
 sys.dont_write_bytecode = True
 sys.path.insert(0, str(pathlib.Path(__file__).resolve().parents[2] / "clients/python"))
-from drm_client import Client, Denied  # noqa: E402  (the client is in clients/python)
+from zirkoshe import Client, Denied  # noqa: E402  (it is in clients/python)
 
 CARD = os.environ.get("DRM_SERVER_CARD", "card")
 

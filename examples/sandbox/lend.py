@@ -13,7 +13,7 @@ import sys
 
 sys.dont_write_bytecode = True
 sys.path.insert(0, str(pathlib.Path(__file__).resolve().parents[2] / "clients/python"))
-from drm_client import Client  # noqa: E402  (the client is in clients/python)
+from zirkoshe import Client  # noqa: E402  (it is in clients/python)
 
 CARD = os.environ["DRM_SERVER_CARD"]
 SANDBOX = ["bwrap", "--unshare-all", "--die-with-parent", "--ro-bind", "/", "/", "--dev", "/dev", "--proc", "/proc",

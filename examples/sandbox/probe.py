@@ -9,7 +9,7 @@ import sys
 
 sys.dont_write_bytecode = True
 sys.path.insert(0, str(pathlib.Path(__file__).resolve().parents[2] / "clients/python"))
-from drm_client import Client  # noqa: E402  (the client is in clients/python)
+from zirkoshe import Client  # noqa: E402  (it is in clients/python)
 
 CALLS = ("buf_create 4096", "prime_export 1", "gem_flink 1", "getresources", "setcrtc 1 0 0", "audit 1 0")
 

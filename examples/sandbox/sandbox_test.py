@@ -17,7 +17,7 @@ from typing import List
 FOLDER = pathlib.Path(__file__).resolve().parent
 sys.dont_write_bytecode = True
 sys.path.insert(0, str(FOLDER.parents[1] / "clients/python"))
-from drm_test_server import Server  # noqa: E402  (it is in clients/python)
+from zirkoshe.server import Server  # noqa: E402  (it is in clients/python)
 
 
 def openings(sandbox: str) -> List[str]:

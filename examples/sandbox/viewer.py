@@ -10,7 +10,8 @@ import sys
 
 sys.dont_write_bytecode = True
 sys.path.insert(0, str(pathlib.Path(__file__).resolve().parents[2] / "clients/python"))
-from drm_client import Refusal, answer_of, request_of, words  # noqa: E402  (the client is in clients/python)
+from zirkoshe import Refusal  # noqa: E402  (it is in clients/python)
+from zirkoshe.protocol import answer_of, request_of, words  # noqa: E402
 
 CALLS = ("getresources", "create_dumb 64 64 32", "addfb 64 64 256 32 1", "setcrtc 2 9 8", "setcrtc 1 9 7", "drop_master")
 
@@ -23,7 +24,7 @@ def ask(connection: socket.socket, call: str) -> str:
     try:
         return words(answer_of(int.from_bytes(body[:2], "little"), body[2:]))
     except Refusal as refusal:
-        return str(refusal)
+        return refusal.words
 
 
 def main() -> None:

@@ -14,7 +14,7 @@ from typing import Any
 
 sys.dont_write_bytecode = True
 sys.path.insert(0, str(pathlib.Path(__file__).resolve().parents[2] / "clients/python"))
-from drm_client import Client, Denied  # noqa: E402  (the client is in clients/python)
+from zirkoshe import Client, Denied  # noqa: E402  (it is in clients/python)
 
 CARD = os.environ.get("DRM_SERVER_CARD", "card")
 RENDER = os.environ.get("DRM_SERVER_RENDER", "render")
@@ -33,20 +33,20 @@ def shares_what_it_drew(toolkit: Any) -> None:
     token = toolkit.publish(handle)
     with Client(CARD) as compositor:
         buffer = compositor.prime_import(token)
-        picture = compositor.addfb(64, 64, 256, 32, buffer.handle).value
+        picture = compositor.addfb(64, 64, 256, 32, buffer.handle)
         compositor.setcrtc(1, picture, 7)
-        expect("the picture", compositor.stamp_read(buffer.handle).value, 77)
+        expect("the picture", compositor.stamp_read(buffer.handle), 77)
 
 
 def keeps_a_buffer_in_use(toolkit: Any) -> None:
     """Two windows draw into one buffer of the compositor. The second one still draws after the first has released it."""
     with Client(CARD) as compositor:
         buffer = compositor.create_dumb(64, 64, 32)
-        first = toolkit.receive(compositor.prime_export(buffer.handle).value)
-        second = toolkit.receive(compositor.prime_export(buffer.handle).value)
+        first = toolkit.receive(compositor.prime_export(buffer.handle))
+        second = toolkit.receive(compositor.prime_export(buffer.handle))
         toolkit.release(first)
         toolkit.draw(second, 78)
-        expect("the picture", compositor.stamp_read(buffer.handle).value, 78)
+        expect("the picture", compositor.stamp_read(buffer.handle), 78)
 
 
 def reason(failure: Exception) -> str:

@@ -1,5 +1,5 @@
 """A toolkit's buffers on a render node. It makes one mistake, which the tests of docs/guides/toolkit.md find."""
-from drm_client import Client
+from zirkoshe import Client
 
 
 class Toolkit:
@@ -18,7 +18,7 @@ class Toolkit:
 
     def publish(self, handle: int) -> int:
         """Exports a buffer and returns the token for the compositor."""
-        return self.client.prime_export(handle).value
+        return self.client.prime_export(handle)
 
     def receive(self, token: int) -> int:
         """Imports a buffer and returns its handle."""

@@ -1,7 +1,7 @@
 """A compositor that shows one picture on two outputs. It makes two mistakes, which the tests of docs/guides/compositor.md find."""
 from typing import NamedTuple
 
-from drm_client import Client
+from zirkoshe import Client
 
 
 class Output(NamedTuple):
@@ -17,7 +17,7 @@ class Compositor:
     def __init__(self, path):
         self.client = Client(path)
         buffer = self.client.create_dumb(64, 64, 32)
-        self.picture = self.client.addfb(64, 64, buffer.pitch, 32, buffer.handle).value
+        self.picture = self.client.addfb(64, 64, buffer.pitch, 32, buffer.handle)
 
     def repaint(self):
         """Scans out its picture on each output."""

@@ -13,7 +13,7 @@ import sys
 
 sys.dont_write_bytecode = True
 sys.path.insert(0, str(pathlib.Path(__file__).resolve().parents[2] / "clients/python"))
-from drm_client import Client, Denied  # noqa: E402  (the client is in clients/python)
+from zirkoshe import Client, Denied  # noqa: E402  (it is in clients/python)
 
 CARD = os.environ.get("DRM_SERVER_CARD", "card")
 ROOT = os.environ.get("DRM_SERVER_ROOT", "root")
@@ -23,7 +23,7 @@ SHOWN = 9  # the kind of audit that lists what CRTCs and planes show
 def shown():
     """Returns the framebuffer that each CRTC and plane shows, without those that are dark."""
     with Client(ROOT) as auditor:
-        return {row.a: row.b for row in auditor.audit(SHOWN).rows}
+        return {row.a: row.b for row in auditor.audit(SHOWN)}
 
 
 def expect(what, found, wanted):
@@ -42,7 +42,7 @@ def rests_while_switched_away(compositor):
     compositor.switch_away()
     with Client(CARD) as other:  # the device has no master, so this opening creates one
         buffer = other.create_dumb(64, 64, 32)
-        other.setcrtc(1, other.addfb(64, 64, buffer.pitch, 32, buffer.handle).value, 7)
+        other.setcrtc(1, other.addfb(64, 64, buffer.pitch, 32, buffer.handle), 7)
         compositor.repaint()
     compositor.switch_back()
     expect("what is shown", shown(), {1: compositor.picture, 2: compositor.picture})
@@ -54,7 +54,7 @@ def leaves_what_it_lent(compositor):
     token = compositor.lend((2, 4, 8))
     with Client(CARD, token) as lessee:
         buffer = lessee.create_dumb(64, 64, 32)
-        own = lessee.addfb(64, 64, buffer.pitch, 32, buffer.handle).value
+        own = lessee.addfb(64, 64, buffer.pitch, 32, buffer.handle)
         lessee.setcrtc(2, own, 8)
         compositor.repaint()
         expect("what is shown", shown(), {1: compositor.picture, 2: own})

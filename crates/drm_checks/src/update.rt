@@ -73,8 +73,13 @@ fn put_line(updated: &mut Vec<u8>, line: &[u8]) -> Result<(), AllocError>
     updated.extend_from_slice(LINE_END)
 }
 
-/// Puts an answer behind the line of a script, where both fit into one.
-fn put_answered(
+/// Appends the line of a script, ` -> ` and the answer to `updated`. If these have more than 255 bytes together, it appends the line
+/// alone (own).
+///
+/// # Errors
+///
+/// If memory is refused, `updated` may end with a part of the line.
+pub fn put_answered(
     updated: &mut Vec<u8>,
     script: &[u8],
     answer: &Result<Answer, Apart>,

@@ -1,16 +1,20 @@
 -- What is left of masters and leases without a client.
-use Rattle.std.proofs.Common.{◌≡◌, ℕ, ◌==◌, Bool, true, false, cond, not, ◌&&◌, List, [], ◌∷◌, map, filter, find, None, Some, refl, sym, ap, subst, ◌∙◌}
+use Rattle.std.proofs.Common.{◌≡◌, ℕ, ◌==◌, Bool, true, false, cond, not, ◌&&◌, ◌||◌, List, [], ◌∷◌, map, filter, find, Option, None, Some, refl, sym, ap, subst, ◌∙◌, eq-eqb}
 use Rattle.std.specs.Prelude.{if◌then◌else◌}
-use Rattle.std.specs.Option.{option_map_or, option_and_then}
-use Rattle.std.proofs.lemmas.Bool.{eqb-true}
+use Rattle.std.specs.Option.{option_map, option_map_or, option_and_then}
+use Rattle.std.proofs.lemmas.Bool.{eqb-true, false≢true}
 use Rattle.drm_lists.proofs.Lists.{all_each, all_weaker, filter_all}
-use Rattle.drm_lists.proofs.Found.{none_found}
-use Rattle.drm_lists.proofs.Rising.{found}
+use Rattle.std.specs.List.{list_any}
+use Rattle.std.proofs.lemmas.Option.{none-some, same_Some}
+use Rattle.drm_lists.proofs.Found.{none_found, find-map, is_some-find}
+use Rattle.drm_lists.proofs.Rising.{found, any_found, all_found}
 use Rattle.drm_masters.specs.declared.rows.Member.{Member}
 use Rattle.drm_masters.specs.declared.rows.Master.{Master}
 use Rattle.drm_masters.specs.Masters as masters
 use Rattle.drm_masters.specs.Masters.{MasterSet, AreMasters, swept, is_step_number}
-use Rattle.drm_masters.specs.Calls.{ClosedBy, ClosedOf, closed_own, without_member, released_under, kept_as}
+use Rattle.drm_masters.specs.Calls as calls
+use Rattle.drm_masters.specs.Calls.{ClosedBy, ClosedOf, closed_own, without_member, kept_as}
+use Rattle.drm_masters.proofs.Released.{released_next, spared_here}
 use Rattle.drm_leases.specs.Leases.{LeaseSet}
 use Rattle.drm_leases.specs.Calls as leases
 use Rattle.drm_leases.specs.Agreed.{AreAgreed}
@@ -18,7 +22,8 @@ use Rattle.drm_leases.proofs.Agreeing.{agreed_closed_own}
 use Rattle.drm_lists.specs.Chains.{is_under}
 use Rattle.drm_lists.proofs.Chains.{itself}
 use Rattle.drm_state.specs.Parts.{device_without, own_master, is_below, released, ended, ends_with, without_its_master, without_its_leases}
-use Rattle.drm_state.proofs.Ended.{none_released, none_ended}
+use Rattle.drm_state.specs.Invariants.{AreKeptBy}
+use Rattle.drm_state.proofs.Ended.{none_released, none_ended, closed_released}
 
 -- no master ends with it
 none_ends : (v : MasterSet) (c : ℕ) → own_master (masters.member_of v.members c) ≡ None → ends_with v c ≡ (λ _. false)
@@ -85,6 +90,23 @@ released_again below m is (x ∷ xs) = λ i. one i ∷ released_again below m is
           | false ↦ λ e. refl
         ]) refl
 
+-- it is kept then
+closed_kept : (own : ℕ) (ms : List Master) (x : Master) → masters.master_at (map (λ (y : Master). if is_step_number own y then kept_as true y else y) ms) x.step_number ≡ Some x → x.step_number ≡ own → x.kept ≡ true
+closed_kept own ms x at number = by_row (masters.master_at ms x.step_number) refl (sym (find-map (is_step_number x.step_number) change ms ∙ ap (λ (p : Master → Bool). option_map change (find p ms)) (λ i z. stays z i == x.step_number)) ∙ at)
+  where
+    change : Master → Master
+    change y = if is_step_number own y then kept_as true y else y
+
+    stays : (y : Master) → (change y).step_number ≡ y.step_number
+    stays y = elim (is_step_number own y) as (λ b. (if b then kept_as true y else y).step_number ≡ y.step_number) [ true ↦ refl | false ↦ refl ]
+
+    by_row : (o : Option Master) → masters.master_at ms x.step_number ≡ o → option_map change o ≡ Some x → x.kept ≡ true
+    by_row None e k = absurd (none-some x k)
+    by_row (Some y) e k =
+        let is : change y ≡ x = same_Some (change y) x k in
+        let num : (y.step_number == own) ≡ true = ap (λ n. n == own) (sym (stays y) ∙ ap (λ (z : Master). z.step_number) is) ∙ eq-eqb x.step_number own number in
+        sym (ap (λ (z : Master). z.kept) is) ∙ ap (λ b. (if b then kept_as true y else y).kept) num
+
 -- one of a master of its own, whose leases end with all below it
 module _ (v middle : MasterSet) (c : ℕ) (x : Member) (here : masters.member_of v.members c ≡ Some x) (own : x.is_master ≡ true) (is : middle ≡ closed_own x.client x.master v) where
   below_is : is_below (Some x.master) middle.masters ≡ ends_with v c
@@ -93,7 +115,7 @@ module _ (v middle : MasterSet) (c : ℕ) (x : Member) (here : masters.member_of
       ∙ (λ i n. is_under (kept_above x.master v.masters i) x.master n)
       ∙ (λ i. is_below (sym (own_is v c x true here own) i) v.masters)
 
-  pub owner_gone : (new : MasterSet) → new ≡ swept (released_under x.master middle) → new ≡ without_its_master c v
+  pub owner_gone : (new : MasterSet) → new ≡ swept (calls.released (is_under (masters.lessor_of middle.masters) x.master) middle) → new ≡ without_its_master c v
   owner_gone new f =
       let device : (if masters.is_option x.master v.device_master then None else v.device_master) ≡ device_without v c = ap (λ b. if b && masters.is_option x.master v.device_master then None else v.device_master) (sym own) ∙ device_is v c x here in
       let top : ends_with v c x.master ≡ true = ap (λ (p : ℕ → Bool). p x.master) (sym below_is) ∙ itself (masters.lessor_of middle.masters) x.master x.master in
@@ -110,16 +132,88 @@ module _ (v middle : MasterSet) (c : ℕ) (x : Member) (here : masters.member_of
 
 -- ---- by what the closing gave back
 
-pub closed_without : (v new : MasterSet) (c : ℕ) (x : Member) → masters.member_of v.members c ≡ Some x → ClosedBy v (masters.member_of v.members c) None new → (own_master (masters.member_of v.members c) ≡ None) × (new ≡ without_its_master c v)
-closed_without v new c x here h = by_own x.is_master refl (subst (λ o. ClosedBy v o None new) here h)
+pub closed_without : (v new : MasterSet) (c : ℕ) → AreMasters v → ClosedBy v (masters.member_of v.members c) None new → (own_master (masters.member_of v.members c) ≡ None) × (new ≡ without_its_master c v)
+closed_without v new c are h = by_member (masters.member_of v.members c) refl h
   where
-    by_own : (b : Bool) → x.is_master ≡ b → ClosedOf v x b None new → (own_master (masters.member_of v.members c) ≡ None) × (new ≡ without_its_master c v)
-    by_own true own k = absurd (let n : None ≡ Some k.0.0 = k.0.1 in cc)
-    by_own false own k = (own_is v c x false here own, non_master_gone v new c x here own k.1)
+    by_own : (x : Member) → masters.member_of v.members c ≡ Some x → (b : Bool) → x.is_master ≡ b → ClosedOf v x b None new → (own_master (masters.member_of v.members c) ≡ None) × (new ≡ without_its_master c v)
+    by_own x here true own k = absurd (let n : None ≡ Some k.0.0 = k.0.1 in cc)
+    by_own x here false own k = (own_is v c x false here own, non_master_gone v new c x here own k.1)
 
-pub closed_with : (v middle : MasterSet) (c key : ℕ) (x : Member) → masters.member_of v.members c ≡ Some x → ClosedBy v (masters.member_of v.members c) (Some key) middle → (x.is_master ≡ true) × (middle ≡ closed_own x.client x.master v)
-closed_with v middle c key x here h = by_own x.is_master refl (subst (λ o. ClosedBy v o (Some key) middle) here h)
+    by_member : (o : Option Member) → masters.member_of v.members c ≡ o → ClosedBy v o None new → (own_master (masters.member_of v.members c) ≡ None) × (new ≡ without_its_master c v)
+    by_member None none k = (ap own_master none, k.1 ∙ nobody_gone v c are none)
+    by_member (Some x) here k = by_own x here x.is_master refl k
+
+-- the row of a client whose own master's key it gave back
+pub record Closing (v middle : MasterSet) (c key : ℕ) : Type 0 where
+  pub row : Member
+  pub here : masters.member_of v.members c ≡ Some row
+  pub own : row.is_master ≡ true
+  pub is : middle ≡ closed_own row.client row.master v
+  pub keyed : masters.IsKeyOf middle.masters row.master key
+
+pub closed_with : (v middle : MasterSet) (c key : ℕ) → ClosedBy v (masters.member_of v.members c) (Some key) middle → Closing v middle c key
+closed_with v middle c key h = by_member (masters.member_of v.members c) refl h
   where
-    by_own : (b : Bool) → x.is_master ≡ b → ClosedOf v x b (Some key) middle → (x.is_master ≡ true) × (middle ≡ closed_own x.client x.master v)
-    by_own true own k = (own, k.1)
-    by_own false own k = absurd (let n : Some key ≡ None = k.0 in cc)
+    by_own : (x : Member) → masters.member_of v.members c ≡ Some x → (b : Bool) → x.is_master ≡ b → ClosedOf v x b (Some key) middle → Closing v middle c key
+    by_own x here true own k = record { row = x; here = here; own = own; is = k.1; keyed = subst (masters.IsKeyOf middle.masters x.master) (sym (same_Some key k.0.0 k.0.1)) k.0.2 }
+    by_own x here false own k = absurd (none-some key (sym k.0))
+
+    by_member : (o : Option Member) → masters.member_of v.members c ≡ o → ClosedBy v o (Some key) middle → Closing v middle c key
+    by_member None none k = absurd (none-some key (sym k.0))
+    by_member (Some x) here k = by_own x here x.is_master refl k
+
+-- ---- its leases end, and it is released
+
+module _ (v middle : MasterSet) (c key : ℕ) (k : Closing v middle c key) (l : LeaseSet) (are : AreMasters v) (middle_are : AreMasters middle) (kept : AreKeptBy l.tokens v.masters) where
+  abbrev own : ℕ
+  own = k.row.master
+
+  abbrev below : ℕ → Bool
+  below = is_under (masters.lessor_of middle.masters) own
+
+  abbrev chosen : ℕ → Bool
+  chosen = leases.is_opened_under l.tokens middle.masters own
+
+  -- whichever is chosen of its own master, the sweep leaves the same
+  same_left : (f : ℕ → Bool) → ((m : ℕ) → (m == own) ≡ false → f m ≡ chosen m) → f own ≡ true → swept (calls.released f middle) ≡ swept (calls.released below middle)
+  same_left f others its = λ i. swept (record middle { masters = same i })
+    where
+      here : middle.masters ≡ map (λ (x : Master). if is_step_number own x then kept_as true x else x) v.masters
+      here = ap (λ (w : MasterSet). w.masters) k.is
+
+      same : released f middle.masters ≡ released below middle.masters
+      same = ap (released f) here ∙ closed_released l.tokens below f own others its (itself (masters.lessor_of middle.masters) own own) v.masters kept ∙ ap (released below) (sym here)
+
+  -- it is there, unless its open token was taken
+  there_or : (v2 : MasterSet) → v2 ≡ swept (calls.released chosen middle) → masters.master_at v2.masters own ≡ None → chosen own ≡ true
+  there_or v2 e gone = by_test (chosen own) refl
+    where
+      by_row : (o : Option Master) → find (masters.is_key key) middle.masters ≡ o → option_map (λ (x : Master). x.step_number) o ≡ Some own → chosen own ≡ false → ⊥
+      by_row None f h spared = none-some own h
+      by_row (Some x) f h spared =
+          let number : x.step_number ≡ own = same_Some x.step_number own h in
+          let here = (found (masters.is_key key) (λ (y : Master). masters.master_at middle.masters y.step_number ≡ Some y) x middle.masters (all_found (λ (y : Master). y.step_number) middle.masters middle_are.masters_rise) f).1 in
+          let row_kept : x.kept ≡ true = closed_kept own v.masters x (ap (λ (w : MasterSet). masters.master_at w.masters x.step_number) (sym k.is) ∙ here) number in
+          let left = spared_here middle middle_are.masters_rise middle_are.lessors_older chosen x here (ap (λ b. b || list_any (λ (y : Member). y.master == x.step_number) middle.members) row_kept) (ap chosen number ∙ spared) in
+          none-some x (sym (ap (λ (u : MasterSet). masters.master_at u.masters own) (sym e) ∙ gone) ∙ ap (masters.master_at (swept (calls.released chosen middle)).masters) (sym number) ∙ left)
+
+      by_test : (b : Bool) → chosen own ≡ b → chosen own ≡ true
+      by_test true h = h
+      by_test false h = absurd (by_row (find (masters.is_key key) middle.masters) refl k.keyed h)
+
+  pub spared_left : (v2 : MasterSet) → v2 ≡ swept (calls.released chosen middle) → masters.master_at v2.masters own ≡ None → v2 ≡ swept (calls.released below middle)
+  spared_left v2 e gone = e ∙ same_left chosen (λ m other. refl) (there_or v2 e gone)
+
+  pub released_left : (v2 v3 : MasterSet) (its : ℕ) → v2 ≡ swept (calls.released chosen middle) → masters.step_number_at v2.masters its ≡ own → v3 ≡ swept (calls.with_kept (masters.step_number_at v2.masters its) false v2) → v3 ≡ swept (calls.released below middle)
+  released_left v2 v3 its e number f =
+      f ∙ ap (λ n. swept (calls.with_kept n false v2)) number ∙ ap (λ (u : MasterSet). swept (calls.with_kept own false u)) e
+      ∙ released_next middle middle_are.masters_rise middle_are.lessors_older chosen own
+      ∙ same_left (λ m. chosen m || (m == own)) (λ m other. ap (λ b. chosen m || b) other ∙ plain (chosen m)) (ap (λ b. chosen own || b) (eq-eqb own own refl) ∙ all (chosen own))
+    where
+      plain : (b : Bool) → (b || false) ≡ b
+      plain true = refl
+      plain false = refl
+
+      all : (b : Bool) → (b || true) ≡ true
+      all true = refl
+      all false = refl

@@ -6,7 +6,7 @@ ghost use Rattle.drm_leases.specs.Agreed.{AreAgreed};
 ghost use Rattle.drm_table.specs.declared.events.Event.TheVariants.{Close};
 ghost use Rattle.drm_files.specs.Files.{is_open_client, without_client};
 ghost use Rattle.drm_state.specs.Parts.{keys_of, token_keys, framebuffer_keys, without_tokens_of, LosesFramebuffersOf, without_its_master, without_its_leases};
-ghost use Rattle.drm_state.specs.Invariants.{MeetsInvariants, AreCounted, AreNamed, AreThoseNamed, Leaves};
+ghost use Rattle.drm_state.specs.Invariants.{MeetsInvariants, AreKeptBy, AreCounted, AreNamed, AreThoseNamed, Leaves};
 ghost use Rattle.drm_state.specs.Refinement.{RefinesAnswer};
 
 use drm_files::Files;
@@ -50,16 +50,22 @@ pub fn close(state: &mut State, client: u32) -> Answer
 fn close_master(masters: &mut Masters, leases: &mut Leases, client: u32)
     requires are { AreMasters masters.old }
     requires agreed { AreAgreed leases.old masters.old }
+    requires kept { AreKeptBy leases.old.tokens masters.old.masters }
     ensures masters { masters.new ≡ without_its_master client masters.old }
     ensures leases { leases.new ≡ without_its_leases client masters.old leases.old }
 {
     let Some(member) = masters.member(client) else {
         return;
     };
-    let Some(_own) = masters.on_close(client) else {
+    let Some(own) = masters.on_close(client) else {
         return;
     };
-    leases.revoke(masters, member.master);
+    masters.laws();
+    leases.revoke(masters, own);
+    // if its own lease token was open, the revocation released it
+    if let Some(master) = masters.master(member.master) {
+        masters.release(master.key);
+    }
 }
 
 /// A client's tokens go, and the objects that they alone referred to, whatever handles name.

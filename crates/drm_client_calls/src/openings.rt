@@ -91,17 +91,14 @@ fn open_lease(
     ensures refines { Refines state.old step_number (Open (Lease token root universal)) result state.new }
     ensures invariants { MeetsInvariants state.new }
 {
-    let Some(number) = state.leases.token_master(token) else {
+    let Some(lessee) = state.leases.token_master(token) else {
         return Ok(Answer::Denied(Rule::NoLeaseToken));
     };
     if state.files.is_full() {
         return Ok(Answer::Denied(Rule::Full));
     }
-    let Some(lessee) = state.masters.master(number) else {
-        unreachable!()
-    };
     open_file(&mut state.files, step_number, false, root, universal, true)?;
-    if let Err(NoMemory) = state.masters.on_redeem(step_number, lessee.key) {
+    if let Err(NoMemory) = state.masters.on_redeem(step_number, lessee) {
         let _rest = state.files.close(step_number);
         return Err(AllocError);
     }

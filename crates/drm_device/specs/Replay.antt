@@ -1,5 +1,5 @@
 -- What a replay gives.
-use Rattle.std.specs.Prelude.{◌≡◌, ℕ, ◌+◌, ◌<◌, false, List, Result, Ok, Err, Some, slice_get, take, length}
+use Rattle.std.specs.Prelude.{◌≡◌, ℕ, ◌+◌, ◌<◌, false, List, [], Result, Ok, Err, Some, slice_get, take, length}
 use Rattle.drm_table.specs.declared.apart.Apart.{Apart}
 use Rattle.drm_table.specs.declared.events.Event.{Event}
 use Rattle.drm_table.specs.declared.limits.Limits.{Limits}
@@ -10,19 +10,26 @@ use Rattle.drm_device.specs.declared.replays.ReplayFault.{ReplayFault}
 use Rattle.drm_device.specs.declared.replays.ReplayFault.TheVariants.{New, Stopped}
 use Rattle.drm_table.specs.Limits.{are_in_range}
 
-abbrev pub history_before : Topology → Limits → List Event → ℕ → DeviceValue
-history_before topology limits events n = record { topology = topology; limits = limits; journal = take n events }
+-- a device that has noted nothing
+abbrev pub new_device : Topology → Limits → DeviceValue
+new_device topology limits = record { topology = topology; limits = limits; journal = [] }
 
--- the events before this place found room, so that they were noted; the one at it is refused, and why
-pub record StopsAt (topology : Topology) (limits : Limits) (events : List Event) (index : ℕ) (apart : Apart) : Type 0 where
+-- a new device behind so many of the events
+abbrev pub history_before : DeviceValue → List Event → ℕ → DeviceValue
+history_before first events n = record first { journal = take n events }
+
+-- the event of this number, from 1, is refused, and why; those before it found room, so that they were noted
+pub record StopsAt (first : DeviceValue) (events : List Event) (at : ℕ) (apart : Apart) : Type 0 where
+  pub index : ℕ
+  pub number : at ≡ index + 1
   pub within : index < length events
-  pub found_room : FoundRoom (start_of (history_before topology limits events index)) (take index events)
+  pub found_room : FoundRoom (start_of (history_before first events index)) (take index events)
   pub event : Event
   pub is_there : slice_get events index ≡ Some event
-  pub refused : Step (rows_of (history_before topology limits events index)) event (Err apart) (rows_of (history_before topology limits events index))
+  pub refused : Step (rows_of (history_before first events index)) event (Err apart) (rows_of (history_before first events index))
 
 unfoldable pub IsReplay : Topology → Limits → List Event → Result DeviceValue ReplayFault → Type 0
 IsReplay topology limits events (Ok device) = device ≡ record { topology = topology; limits = limits; journal = events }
 IsReplay topology limits events (Err (New BadLimits)) = are_in_range limits ≡ false
 IsReplay topology limits events (Err (New NoMemory)) = Unit {0}
-IsReplay topology limits events (Err (Stopped at apart)) = (index : ℕ) × (at ≡ index + 1) × StopsAt topology limits events index apart
+IsReplay topology limits events (Err (Stopped at apart)) = StopsAt (new_device topology limits) events at apart

@@ -1,8 +1,8 @@
 //! A device made from a journal.
 
-ghost use Rattle.std.specs.Prelude.{◌≡◌, ◌↔◌, false, Err};
+ghost use Rattle.std.specs.Prelude.{◌≡◌, ◌↔◌, [], false, Err, IfOk, IfErr};
 ghost use Rattle.drm_table.specs.Limits.{are_in_range};
-ghost use Rattle.drm_device.specs.Replay.{IsReplay};
+ghost use Rattle.drm_device.specs.Replay.{IsReplay, StopsAt};
 
 use crate::device::{Device, NewFault};
 use drm_modes::Topology;
@@ -24,6 +24,31 @@ pub enum ReplayFault {
     Stopped { at: usize, apart: Apart },
 }
 
+/// The first event that a device did not note: its number, from 1, and why.
+#[derive(Clone, Copy, PartialEq, Eq, Debug)]
+struct Unnoted {
+    at: usize,
+    apart: Apart,
+}
+
+/// Returns the device after these events, one after the other, or the first that it did not note.
+fn step_each(device: Device, events: &[Event]) -> Result<Device, Unnoted>
+    requires { device.journal ≡ [] }
+    ensures ok { IfOk result (λ after. after ≡ record device { journal = events.now }) }
+    ensures err { IfErr result (λ fault. StopsAt device events.now fault.at fault.apart) }
+{
+    let mut device = device;
+    for (place, event) in events.iter().enumerate() {
+        if let Err(apart) = device.step(copy_of(event)) {
+            return Err(Unnoted {
+                at: place + 1,
+                apart,
+            });
+        }
+    }
+    Ok(device)
+}
+
 /// A new device that was asked these events in turn: its journal is the events, and its rows are those that they leave.
 ///
 /// It stops at the first event that the journal has no place for, or that wants a row for which memory is refused.
@@ -43,19 +68,17 @@ pub fn replay(
     ensures replays { IsReplay topology limits events.now result }
     ensures bad_limits { (result ≡ Err (ReplayFault.New NewFault.BadLimits)) ↔ (are_in_range limits ≡ false) }
 {
-    let mut device = match Device::new(alloc, topology, limits) {
+    let device = match Device::new(alloc, topology, limits) {
         Ok(device) => device,
         Err(fault) => return Err(ReplayFault::New(fault)),
     };
-    for event in events {
-        if let Err(apart) = device.step(copy_of(event)) {
-            return Err(ReplayFault::Stopped {
-                at: device.journal().len() + 1,
-                apart,
-            });
-        }
+    match step_each(device, events) {
+        Ok(device) => Ok(device),
+        Err(first) => Err(ReplayFault::Stopped {
+            at: first.at,
+            apart: first.apart,
+        }),
     }
-    Ok(device)
 }
 
 /// The same event.

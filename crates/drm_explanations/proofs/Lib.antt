@@ -1,1 +1,3 @@
 pub mod ClosingLemmas
+pub mod WithinLemmas
+pub mod OpeningLemmas

@@ -1,7 +1,11 @@
 -- Rows of an explanation.
-use Rattle.std.specs.Prelude.{◌≡◌, ℕ, ◌==◌, Bool, true, not, ◌&&◌, ◌||◌, List, [], ◌++◌, filter, Option, None, Some, IfSome, MatchOption, if◌then◌else◌}
+use Rattle.std.specs.Prelude.{◌≡◌, ℕ, ◌==◌, Bool, true, not, ◌&&◌, ◌||◌, List, [], ◌∷◌, ◌++◌, filter, Option, None, Some, IfSome, MatchOption, if◌then◌else◌}
 use Rattle.std.specs.List.Sorted.{IsNonDecreasing}
-use Rattle.std.specs.Option.{option_map}
+use Rattle.std.specs.Option.{is_some, option_map}
+use Rattle.drm_table.specs.declared.answers.Answer.{Answer}
+use Rattle.drm_table.specs.declared.answers.Answer.TheVariants.{Opened}
+use Rattle.drm_table.specs.declared.events.Event.{Event}
+use Rattle.drm_table.specs.declared.events.Event.TheVariants.{Open}
 use Rattle.drm_model.specs.Rows.{is_option}
 use Rattle.drm_modes.specs.Topology.{Topology, crtc_ids, plane_ids, is_primary_or_cursor}
 use Rattle.drm_history.specs.History.{AnsweredEvent}
@@ -13,7 +17,7 @@ use Rattle.drm_authority.specs.Magics.{is_root_in, known}
 use Rattle.drm_authority.specs.MasterState.{is_master_in, master_in}
 use Rattle.drm_authority.specs.Shown.{is_universal_in}
 use Rattle.drm_rights.specs.Leases.{lent_in}
-use Rattle.drm_rights.specs.Ledgers.{authentication_of, authentications_in, is_current_in, controls_in, lease_client_in, master_state_of, standings_in}
+use Rattle.drm_rights.specs.Ledgers.{authentication_of, authentications_in, capabilities_in, capability_of, is_current_in, controls_in, lease_client_in, master_state_of, standings_in}
 use Rattle.drm_rights.specs.Passing.{first_step_after}
 use Rattle.drm_rights.specs.declared.notes.Authentication.{Authentication}
 use Rattle.drm_rights.specs.declared.notes.MasterState.{MasterState}
@@ -65,9 +69,12 @@ pub record TellsStanding (history : List AnsweredEvent) (c : ℕ) (row : Standin
   pub owner : row.owner ≡ option_map (top_in history) (master_in history c)
   pub current : row.current ≡ is_current_in history c
 
--- The row of an open client reports what the history says. It is reported to be authenticated if it is, with the reason and the
--- step, to have universal planes on if it has, and to be able to set what it may set.
+-- The row of an open client reports what the history says. It is reported to be authenticated exactly if it is, with the reason and
+-- the step, to have universal planes on or off and a standing exactly if a step has said so, and to be able to set what it may set.
 pub record TellsOpen (t : Topology) (history : List AnsweredEvent) (row : ClientRow) : Type 0 where
+  pub is_authenticated : is_some row.authenticated ≡ known history row.client
+  pub has_universal_planes : is_some row.universal_planes ≡ is_some (capability_of (capabilities_in history) row.client)
+  pub has_standing : is_some row.standing ≡ is_some (master_state_of (standings_in history) row.client)
   pub authenticated : IfSome row.authenticated (TellsAuthenticated history row.client)
   pub universal_planes : IfSome row.universal_planes (λ told. told.on ≡ is_universal_in history row.client)
   pub standing : IfSome row.standing (TellsStanding history row.client)
@@ -84,6 +91,27 @@ pub record TellsNothing (row : ClientRow) : Type 0 where
 -- the step that closed a client: the first after its opening that did
 abbrev pub closed_step : List AnsweredEvent → ℕ → Option ℕ
 closed_step history c = first_step_after c (λ step. closes (effect step) c) history
+
+-- ---- which clients have rows
+
+abbrev pub opens_by : Event → Answer → Option ℕ
+opens_by (Open opening) (Opened client) = Some client
+opens_by event answer = None
+
+-- the client of an accepted opening
+abbrev pub opens : AnsweredEvent → Option ℕ
+opens step = opens_by step.event step.answer
+
+-- a row for each client, or for the one that is named
+abbrev pub with_row : Option ℕ → Option ℕ → List ℕ
+with_row only None = []
+with_row None (Some c) = c ∷ []
+with_row (Some named) (Some c) = if named == c then c ∷ [] else []
+
+-- the clients that have rows, in the order of their openings
+unfoldable pub clients_in : Option ℕ → List AnsweredEvent → List ℕ
+clients_in only [] = []
+clients_in only (step ∷ past) = clients_in only past ++ with_row only (opens step)
 
 -- a client is reported as closed by the step that closed it, and has nothing then
 pub record TellsClient (t : Topology) (history : List AnsweredEvent) (row : ClientRow) : Type 0 where

@@ -1,14 +1,17 @@
 //! Rows of clients.
 
-ghost use Rattle.std.specs.Prelude.{◌≡◌, ◌++◌, IfOk, All};
+ghost use Rattle.std.specs.Prelude.{◌≡◌, ◌++◌, [], ◌∷◌, if◌then◌else◌, Some, All, IfOk, IfSome, map, option_to_list};
+ghost use Rattle.std.specs.Option.{option_map};
 ghost use Rattle.drm_modes.specs.Topology as fixed;
+ghost use Rattle.drm_rights.specs.Steps.{entry_of};
 ghost use Rattle.drm_explanations.specs.Rows as rows;
 
-use crate::names::{Labels, at, label_of};
+use crate::fronts::Fronts;
+use crate::names::{Labels, label_of};
 use crate::reasons::{authenticated, closed_at, holds_of, standing_row, universal_row};
 use crate::rows::{ClientRow, Node};
 use drm_modes::{Kind, Topology};
-use drm_rights::Ledger;
+use drm_rights::{Ledger, Step};
 use drm_table::{Answer, Event, Opening};
 use std::alloc::{AllocError, Global};
 
@@ -89,10 +92,12 @@ fn client_row(
     ledger: &Ledger,
     topology: &Topology,
     labels: &Labels,
+    fronts: &mut Fronts,
     client: u64,
     opening: &Opening,
 ) -> Result<ClientRow, AllocError>
-    ensures { IfOk result (λ row. rows.TellsClient topology.now ledger.now row) }
+    ensures tells { IfOk result (λ row. rows.TellsClient topology.now ledger.now row) }
+    ensures client { IfOk result (λ row. row.client ≡ client) }
 {
     let closed = closed_at(ledger.steps(), client);
     let row = closed_row(alloc, labels, client, opening, closed);
@@ -104,9 +109,52 @@ fn client_row(
         universal_planes: universal_row(ledger, client),
         standing: standing_row(ledger, client),
         may_set: settable(alloc, ledger, topology, client)?,
-        holds: holds_of(alloc, ledger, client)?,
+        holds: holds_of(alloc, ledger, fronts, client)?,
         ..row
     })
+}
+
+/// Returns the client of an accepted opening, and how it was opened.
+fn opened_by(step: &Step) -> Option<(u64, &Opening)>
+    ensures { option_map (λ opened. opened.0) result ≡ rows.opens (entry_of step.now) }
+{
+    match (&step.event, &step.answer) {
+        (Event::Open(opening), Answer::Opened { client }) => Some((u64::from(*client), opening)),
+        _ => None,
+    }
+}
+
+/// Returns whether a client has a row: each has, or the one that is named.
+fn has_row(only: Option<u64>, client: u64) -> bool
+    ensures { rows.with_row only (Some client) ≡ (if result then client ∷ [] else []) }
+{
+    match only {
+        Some(named) => named == client,
+        None => true,
+    }
+}
+
+/// The row of the client that a step opened; none where it opened none, or another is named.
+fn opened_row(
+    alloc: Global,
+    ledger: &Ledger,
+    topology: &Topology,
+    labels: &Labels,
+    fronts: &mut Fronts,
+    only: Option<u64>,
+    step: &Step,
+) -> Result<Option<ClientRow>, AllocError>
+    ensures tells { IfOk result (λ row. IfSome row (rows.TellsClient topology.now ledger.now)) }
+    ensures client { IfOk result (λ row. option_to_list (option_map (λ row. row.client) row) ≡ rows.with_row only (rows.opens (entry_of step.now))) }
+{
+    let Some((client, opening)) = opened_by(step) else {
+        return Ok(None);
+    };
+    if !has_row(only, client) {
+        return Ok(None);
+    }
+    let row = client_row(alloc, ledger, topology, labels, fronts, client, opening)?;
+    Ok(Some(row))
 }
 
 /// A row for each client that was opened, in the order of their openings; for one alone where one is named.
@@ -117,16 +165,16 @@ pub(crate) fn client_rows(
     labels: &Labels,
     only: Option<u64>,
 ) -> Result<Vec<ClientRow>, AllocError>
-    ensures { IfOk result (λ told. All (rows.TellsClient topology.now ledger.now) told.items) }
+    ensures tells { IfOk result (λ told. All (rows.TellsClient topology.now ledger.now) told.items) }
+    ensures openings { IfOk result (λ told. map (λ row. row.client) told.items ≡ rows.clients_in only ledger.now) }
 {
+    let steps = ledger.steps();
+    let mut fronts = Fronts::new(alloc, steps.len())?;
     let mut rows = Vec::new(alloc);
-    for step in ledger.steps() {
-        if let (Event::Open(opening), Answer::Opened { client }) = (&step.event, &step.answer) {
-            let client = u64::from(*client);
-            if only.is_some() && only != Some(client) {
-                continue;
-            }
-            rows.push(client_row(alloc, ledger, topology, labels, client, opening)?)?;
+    for step in steps {
+        match opened_row(alloc, ledger, topology, labels, &mut fronts, only, step)? {
+            Some(row) => rows.push(row)?,
+            None => {}
         }
     }
     Ok(rows)

@@ -1,6 +1,6 @@
 //! Explaining a history.
 
-ghost use Rattle.std.specs.Prelude.{◌≡◌, IfOk, All};
+ghost use Rattle.std.specs.Prelude.{◌≡◌, IfOk, All, map};
 ghost use Rattle.drm_authority.specs.MasterState.{owner_in};
 ghost use Rattle.drm_explanations.specs.Rows as rows;
 
@@ -24,6 +24,7 @@ pub fn explain(
 ) -> Result<Explanation, AllocError>
     ensures master { IfOk result (λ told. told.device.master ≡ owner_in ledger.now) }
     ensures clients { IfOk result (λ told. All (rows.TellsClient topology.now ledger.now) told.clients.items) }
+    ensures openings { IfOk result (λ told. map (λ row. row.client) told.clients.items ≡ rows.clients_in only ledger.now) }
     ensures leases { IfOk result (λ told. All (rows.TellsLease topology.now ledger.now) told.leases.items) }
 {
     let steps = ledger.steps();
@@ -63,7 +64,8 @@ impl Explanation {
         self.leases.iter().find(|row| row.master == master)
     }
 
-    /// Leaves the rows of one client, and the leases that it made or redeemed.
+    /// Leaves the rows of one client, and the leases that it made or redeemed. The chains of that client may name rows of others as their
+    /// fronts, unless `explain` was asked for that client alone.
     pub fn retain_client(&mut self, client: u64)
         ensures clients { self.new.clients.items ≡ filter (λ row. row.client == client) self.old.clients.items }
         ensures leases { self.new.leases.items ≡ filter (rows.is_lease_of client) self.old.leases.items }

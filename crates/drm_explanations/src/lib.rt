@@ -3,6 +3,7 @@
 
 mod clients;
 mod explaining;
+mod fronts;
 mod leases;
 mod lines;
 mod names;
@@ -14,6 +15,6 @@ pub use lines::{Subject, line_about, lines_of};
 pub use names::{Labels, Name, at};
 pub use reasons::closed_at;
 pub use rows::{
-    At, Authenticated, AuthenticatedBy, ClientRow, DeviceRow, Explanation, HandleRow, LeaseRow,
-    LinkRow, Node, PublishedBy, PublishedRow, StandingRow,
+    At, Authenticated, AuthenticatedBy, ClientRow, DeviceRow, Explanation, FrontRow, HandleRow,
+    LeaseRow, LinkRow, Node, PublishedBy, PublishedRow, StandingRow,
 };

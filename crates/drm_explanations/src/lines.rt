@@ -2,8 +2,8 @@
 
 use crate::names::{Labels, Name};
 use crate::rows::{
-    At, Authenticated, AuthenticatedBy, ClientRow, Explanation, HandleRow, LeaseRow, LinkRow, Node,
-    PublishedBy, PublishedRow, StandingRow,
+    At, Authenticated, AuthenticatedBy, ClientRow, Explanation, FrontRow, HandleRow, LeaseRow,
+    LinkRow, Node, PublishedBy, PublishedRow, StandingRow,
 };
 use drm_modes::{Kind, Topology};
 use std::alloc::{AllocError, Global};
@@ -391,6 +391,20 @@ fn write_objects(scene: Scene<'_>, ids: &[u32], text: &mut String) -> Result<(),
     Ok(())
 }
 
+/// Which earlier line has the first links of a chain, and up to which step, where they are left out.
+fn front_words(
+    scene: Scene<'_>,
+    front: Option<&FrontRow>,
+    text: &mut String,
+) -> Result<(), AllocError> {
+    let Some(front) = front else {
+        return Ok(());
+    };
+    let name = scene.name(front.client);
+    let FrontRow { handle, step, .. } = front;
+    write!(text, "as handle {handle} of {name} up to step {step}, ")
+}
+
 /// A handle, and the chain by which it came.
 fn hold_line(
     scene: Scene<'_>,
@@ -401,6 +415,7 @@ fn hold_line(
     let name = scene.name(client);
     let HandleRow { handle, object, .. } = hold;
     write!(text, "{name} holds buffer {object} as handle {handle}: ")?;
+    front_words(scene, hold.front.as_ref(), text)?;
     for (place, link) in hold.chain.iter().enumerate() {
         if place > 0 {
             text.push_str(", ")?;

@@ -1,6 +1,7 @@
 //! How clients, calls and steps are named.
 
-ghost use Rattle.std.specs.Prelude.{◌≡◌, IfSome};
+ghost use Rattle.std.specs.Prelude.{◌≡◌, ◌&&◌, IfSome, length, nat_le};
+ghost use Rattle.std.specs.Option.{is_some};
 
 use crate::rows::At;
 use drm_rights::{Step, step_at};
@@ -70,7 +71,8 @@ fn word_of(number: u16) -> &'static str {
 
 /// The step of a number, from 1. An accepted opening is a step of the client that it opens.
 pub fn at(steps: &[Step], number: u64) -> Option<At>
-    ensures { IfSome result (λ told. told.step ≡ number) }
+    ensures step { IfSome result (λ told. told.step ≡ number) }
+    ensures numbers { is_some result ≡ (nat_le 1 number && nat_le number (length steps.now)) }
 {
     let (client, call) = match &step_at(steps, number)?.event {
         Event::Open(_) => (number, "open"),

@@ -1,6 +1,9 @@
 //! Why a client is what it is, and has the handles that it has.
 
 ghost use Rattle.std.specs.Prelude.{◌≡◌, true, IfSome};
+ghost use Rattle.std.specs.Option.{is_some};
+ghost use Rattle.drm_authority.specs.Magics.{known};
+ghost use Rattle.drm_rights.specs.Ledgers.{capabilities_in, capability_of, master_state_of, standings_in};
 ghost use Rattle.drm_authority.specs.Closings as closings;
 ghost use Rattle.drm_authority.specs.Closings.{has_closed};
 ghost use Rattle.drm_authority.specs.Effects.{effect};
@@ -8,12 +11,13 @@ ghost use Rattle.drm_authority.specs.Shown.{is_universal_in};
 ghost use Rattle.drm_rights.specs.Steps.{entry_of, history_of};
 ghost use Rattle.drm_explanations.specs.Rows as rows;
 
+use crate::fronts::Fronts;
 use crate::names::at;
 use crate::rows::{
     Authenticated, AuthenticatedBy, HandleRow, LinkRow, PublishedBy, PublishedRow, StandingRow,
     UniversalRow,
 };
-use drm_rights::{Effect, Key, Ledger, Link, Origin, Step, handles_of};
+use drm_rights::{ChainEnd, Effect, Key, Ledger, Link, Origin, Step, handles_of};
 use std::alloc::{AllocError, Global};
 
 /// Whether a step is a client's closing, carried out.
@@ -43,7 +47,8 @@ pub fn closed_at(steps: &[Step], client: u64) -> Option<u64>
 
 /// Returns why a client is authenticated: it opened as root, else it is a master, else AUTH_MAGIC named its magic.
 pub(crate) fn authenticated(ledger: &Ledger, client: u64) -> Option<Authenticated>
-    ensures { IfSome result (rows.TellsAuthenticated ledger.now client) }
+    ensures tells { IfSome result (rows.TellsAuthenticated ledger.now client) }
+    ensures known { is_some result ≡ known ledger.now client }
 {
     if !ledger.is_known(client) {
         return None;
@@ -57,9 +62,10 @@ pub(crate) fn authenticated(ledger: &Ledger, client: u64) -> Option<Authenticate
         });
     }
     if ledger.is_master(client) {
+        let state = ledger.master_state(client)?;
         return Some(Authenticated {
             by: AuthenticatedBy::Master,
-            since: at(steps, ledger.master_state(client)?.step)?,
+            since: at(steps, state.step)?,
             magic: None,
         });
     }
@@ -73,7 +79,8 @@ pub(crate) fn authenticated(ledger: &Ledger, client: u64) -> Option<Authenticate
 
 /// Whether a client has universal planes on, and since which step.
 pub(crate) fn universal_row(ledger: &Ledger, client: u64) -> Option<UniversalRow>
-    ensures { IfSome result (λ told. told.on ≡ is_universal_in ledger.now client) }
+    ensures tells { IfSome result (λ told. told.on ≡ is_universal_in ledger.now client) }
+    ensures noted { is_some result ≡ is_some (capability_of (capabilities_in ledger.now) client) }
 {
     let capability = ledger.capability(client)?;
     Some(UniversalRow {
@@ -84,7 +91,8 @@ pub(crate) fn universal_row(ledger: &Ledger, client: u64) -> Option<UniversalRow
 
 /// How a client stands to masters, and since which step.
 pub(crate) fn standing_row(ledger: &Ledger, client: u64) -> Option<StandingRow>
-    ensures { IfSome result (rows.TellsStanding ledger.now client) }
+    ensures tells { IfSome result (rows.TellsStanding ledger.now client) }
+    ensures noted { is_some result ≡ is_some (master_state_of (standings_in ledger.now) client) }
 {
     let standing = ledger.master_state(client)?;
     Some(StandingRow {
@@ -132,10 +140,34 @@ fn count_to(number: u64) -> usize {
     usize::try_from(number).unwrap_or(usize::MAX)
 }
 
+/// The row of a client's handle, by the end of its chain, whose links are noted.
+fn hold_row(
+    alloc: Global,
+    steps: &[Step],
+    fronts: &mut Fronts,
+    client: u64,
+    handle: u64,
+    end: &ChainEnd,
+) -> Result<Option<HandleRow>, AllocError> {
+    let Some(object) = fronts.object_of(end) else {
+        return Ok(None);
+    };
+    let front = fronts.front_of(end);
+    let links = end.links.as_slice();
+    fronts.note(client, handle, object, links);
+    Ok(Some(HandleRow {
+        handle,
+        object,
+        front,
+        chain: chain_rows(alloc, steps, links)?,
+    }))
+}
+
 /// The client's handles, each with its chain, which ends in the step that gave it.
 pub(crate) fn holds_of(
     alloc: Global,
     ledger: &Ledger,
+    fronts: &mut Fronts,
     client: u64,
 ) -> Result<Vec<HandleRow>, AllocError> {
     let steps = ledger.steps();
@@ -143,13 +175,10 @@ pub(crate) fn holds_of(
     let mut rows = Vec::new(alloc);
     for held in &handles_of(alloc, steps, client)? {
         let past = count_to(held.step);
-        if let Some(links) = trail.chain_of(alloc, past, client, held.handle)? {
-            if let Some(made) = links.last() {
-                rows.push(HandleRow {
-                    handle: held.handle,
-                    object: made.step,
-                    chain: chain_rows(alloc, steps, links.as_slice())?,
-                })?;
+        let handle = held.handle;
+        if let Some(end) = trail.chain_end_of(alloc, past, client, handle, fronts.marks())? {
+            if let Some(row) = hold_row(alloc, steps, fronts, client, handle, &end)? {
+                rows.push(row)?;
             }
         }
     }

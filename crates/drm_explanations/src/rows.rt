@@ -86,11 +86,24 @@ pub struct LinkRow {
     pub given: At,
 }
 
-/// A handle of a buffer, which is named by the step that made it, and the chain by which it came.
+/// The first links of a chain, as an earlier row has them.
+#[derive(Clone, Copy, PartialEq, Eq, Debug, Serialize)]
+pub struct FrontRow {
+    /// The client of the earlier row.
+    pub client: u64,
+    /// The handle of the earlier row.
+    pub handle: u64,
+    /// The step of the last of these links, from 1.
+    pub step: u64,
+}
+
+/// A handle of a buffer, which is named by the step that made it, and the chain by which it came. Of a chain of more than four links,
+/// those that an earlier row has are left out, except for the last four, and `front` names that row.
 #[derive(PartialEq, Eq, Debug, Drop, Serialize)]
 pub struct HandleRow {
     pub handle: u64,
     pub object: u64,
+    pub front: Option<FrontRow>,
     pub chain: Vec<LinkRow>,
 }
 

@@ -1,17 +1,20 @@
 //! A journal as a script.
 
-use crate::lines::{Line, call_line, close_line, limits_line, open_line};
+ghost use Rattle.std.specs.Prelude.{◌≡◌, ◌<◌, IfSome, IfNone, IfOk, OnOk};
+ghost use Rattle.drm_runs.specs.Script.{event_of, label_bound};
+ghost use Rattle.drm_journals.specs.Journals.{AddsLine, Advances, HasNoLabel, IsScriptOf};
+ghost use Rattle.drm_journals.specs.Lines.{command_at, written_call, written_event};
+
+use crate::lines::{put_call, put_event, put_limits};
 use crate::namings::Namings;
+use drm_checks::put_answered;
 use drm_device::Device;
-use drm_script::line_of;
-use drm_table::{Answer, Apart, Call, Event, Limits};
+use drm_script::Label;
+use drm_table::{Call, Event, Limits};
 use std::alloc::{AllocError, Global};
 
 /// How many bytes a line of a script has at most.
 const LONGEST: usize = 255;
-
-/// What stands between a line of a script and the answer that it expects.
-const ARROW: &[u8] = b" -> ";
 
 /// What stands in place of what follows, where there is no label.
 const LABELS_USED: &[u8] =
@@ -27,105 +30,116 @@ pub struct Journal {
     pub is_whole: bool,
 }
 
-/// The same event.
-fn copy_of(event: &Event) -> Event {
-    match event.clone() {
+/// The same call.
+fn copy_of(call: &Call) -> Call
+    ensures { result ≡ call.now }
+{
+    match call.clone() {
         Ok(copy) => copy,
         Err(_) => unreachable!(),
     }
 }
 
-/// The event, or one that a line of a script can hold. A call that is too long for it names ids of no mode object: it is denied, and
-/// so is the same call with fields that aren't its row's.
-fn fitting(event: &Event) -> Event {
-    if let Event::Ask(client, call) = event {
-        if call_line(0, call).as_bytes().len() > LONGEST {
-            return Event::Ask(*client, Call::BadLayout(call.number()));
+/// Returns the call, or one that a line of a script can hold. A call that is too long for it names ids of no mode object: it is denied,
+/// and so is the same call with fields that aren't its row's. The call is written into `line` to measure it.
+fn written_call(line: &mut Vec<u8>, call: &Call) -> Result<Call, AllocError>
+    ensures { IfOk result (λ written. written ≡ written_call call.now) }
+{
+    line.clear();
+    put_call(line, call)?;
+    // a label is one letter
+    if line.len() >= LONGEST {
+        return Ok(Call::BadLayout(call.number()));
+    }
+    Ok(copy_of(call))
+}
+
+/// Returns the event, or one that a line of a script can hold.
+fn written_event(line: &mut Vec<u8>, event: &Event) -> Result<Event, AllocError>
+    ensures { IfOk result (λ written. written ≡ written_event event.now) }
+{
+    match event {
+        Event::Open(opening) => Ok(Event::Open(*opening)),
+        Event::Close(client) => Ok(Event::Close(*client)),
+        Event::Ask(client, call) => {
+            let call = written_call(line, call)?;
+            Ok(Event::Ask(*client, call))
         }
     }
-    copy_of(event)
 }
 
-/// What an event is in a script.
-#[derive(Drop)]
-enum EventLine {
-    /// A line, and the place of the label that an accepted opening binds.
-    Line(Line, Option<usize>),
-    /// There is no label for its client.
-    Nobody,
-}
-
-fn line_of_event(namings: &Namings, event: &Event) -> EventLine {
+/// Returns the place of the label by which a line asks for an event.
+fn place_for(namings: &Namings, event: &Event) -> Option<usize>
+    ensures within { IfSome result (λ place. place < Label.COUNT) }
+    ensures names { IfSome result (λ place. event_of namings.now (command_at place event.now) ≡ event.now) }
+    ensures none { IfNone result (HasNoLabel namings.now event.now) }
+{
     match event {
-        Event::Open(opening) => match namings.free_place() {
-            Some(place) => EventLine::Line(open_line(place, *opening), Some(place)),
-            None => EventLine::Nobody,
-        },
-        Event::Close(client) => match namings.place_of(*client) {
-            Some(place) => EventLine::Line(close_line(place), None),
-            None => EventLine::Nobody,
-        },
-        Event::Ask(client, call) => match namings.place_of(*client) {
-            Some(place) => EventLine::Line(call_line(place, call), None),
-            None => EventLine::Nobody,
-        },
+        Event::Open(_) => namings.free_place(),
+        Event::Close(client) => namings.place_of(*client),
+        Event::Ask(client, _) => namings.place_of(*client),
     }
 }
 
-/// Writes a line with the answer that it expects. One for which both are too long expects none.
+/// Returns the place of the label that the event binds if it is accepted.
+fn binds(place: usize, event: &Event) -> Option<usize>
+    requires { place < Label.COUNT }
+    ensures label { result ≡ label_bound (command_at place event.now) }
+    ensures within { IfSome result (λ place. place < Label.COUNT) }
+{
+    match event {
+        Event::Open(_) => Some(place),
+        _ => None,
+    }
+}
+
+/// Lets the label of a client that is closed be bound anew.
+fn note_closing(namings: &mut Namings, event: &Event)
+    ensures { namings.new ≡ namings.old }
+{
+    if let Event::Close(client) = event {
+        namings.close(*client);
+    }
+}
+
+/// Writes the line of an event, by the label of this place, with the answer of the device.
 fn write_line(
     text: &mut Vec<u8>,
-    line: &Line,
-    outcome: &Result<Answer, Apart>,
-) -> Result<(), AllocError> {
-    let asked = line.as_bytes();
-    let answer = line_of(outcome);
-    text.extend_from_slice(asked)?;
-    // the answer has its line end
-    if asked.len() + ARROW.len() + answer.as_bytes().len() > LONGEST + 1 {
-        return text.extend_from_slice(b"\n");
-    }
-    text.extend_from_slice(ARROW)?;
-    text.extend_from_slice(answer.as_bytes())
+    line: &mut Vec<u8>,
+    device: &mut Device,
+    namings: &mut Namings,
+    place: usize,
+    event: Event,
+) -> Result<(), AllocError>
+    requires within { place < Label.COUNT }
+    requires names { event_of namings.old (command_at place event) ≡ event }
+    ensures { OnOk result (AddsLine event text.old.items device.old namings.old text.new.items device.new namings.new) }
+{
+    line.clear();
+    put_event(line, place, &event)?;
+    let binds = binds(place, &event);
+    note_closing(namings, &event);
+    let outcome = device.step(event);
+    namings.bind(binds, &outcome);
+    put_answered(text, line.as_slice(), &outcome)
 }
 
-/// Writes an event, and its answer. It says whether there was a label for it.
+/// Writes an event, and its answer. Returns whether there was a label for it.
 fn write_event(
     text: &mut Vec<u8>,
+    line: &mut Vec<u8>,
     device: &mut Device,
     namings: &mut Namings,
     event: &Event,
-) -> Result<bool, AllocError> {
-    let event = fitting(event);
-    let EventLine::Line(line, binds) = line_of_event(namings, &event) else {
+) -> Result<bool, AllocError>
+    ensures { IfOk result (λ is_named. Advances event.now text.old.items device.old namings.old text.new.items device.new namings.new is_named) }
+{
+    let event = written_event(line, event)?;
+    let Some(place) = place_for(namings, &event) else {
         text.extend_from_slice(LABELS_USED)?;
         return Ok(false);
     };
-    if let Event::Close(client) = &event {
-        namings.close(*client);
-    }
-    let outcome = device.step(event);
-    if let Some(place) = binds {
-        if let Ok(Answer::Opened { client }) = &outcome {
-            namings.bind(place, *client);
-        }
-    }
-    write_line(text, &line, &outcome)?;
-    Ok(true)
-}
-
-/// Writes events, and what the device answers. It says whether there was a label for each.
-fn write_events(
-    text: &mut Vec<u8>,
-    device: &mut Device,
-    events: &[Event],
-) -> Result<bool, AllocError> {
-    let mut namings = Namings::new();
-    for event in events {
-        if !write_event(text, device, &mut namings, event)? {
-            return Ok(false);
-        }
-    }
+    write_line(text, line, device, namings, place, event)?;
     Ok(true)
 }
 
@@ -141,11 +155,25 @@ pub fn journal_of(
     events: &[Event],
     limits: Limits,
     device: Device,
-) -> Result<Journal, AllocError> {
+) -> Result<Journal, AllocError>
+    ensures script { IfOk result (λ journal. IsScriptOf limits device events.now journal.text.items journal.is_whole) }
+{
     let mut device = device;
+    let mut namings = Namings::new();
+    let mut line = Vec::new(alloc);
     let mut text = Vec::new(alloc);
-    text.extend_from_slice(limits_line(limits).as_bytes())?;
+    put_limits(&mut text, limits)?;
     text.extend_from_slice(b"\n")?;
-    let is_whole = write_events(&mut text, &mut device, events)?;
-    Ok(Journal { text, is_whole })
+    for event in events {
+        if !write_event(&mut text, &mut line, &mut device, &mut namings, event)? {
+            return Ok(Journal {
+                text,
+                is_whole: false,
+            });
+        }
+    }
+    Ok(Journal {
+        text,
+        is_whole: true,
+    })
 }

@@ -1,63 +1,63 @@
 //! The lines of events.
 
-use arrayvec::ArrayVec;
-use drm_table::{Call, Limits, Opening};
+ghost use Rattle.std.specs.Prelude.{◌≡◌, ◌<◌, ◌++◌, OnOk, codes};
+ghost use Rattle.std.specs.List.{flat_map};
+ghost use Rattle.drm_script.specs.Lines.{number_behind};
+ghost use Rattle.drm_journals.specs.Lines.{call_text, command_at, command_text, label_text, limits_text, open_text, opening_text, spaced};
 
-/// How many bytes the line of an event has at most: of a call of 32 ids of 10 digits each.
-const MOST: usize = 512;
+use drm_script::Label;
+use drm_table::{Call, Event, Field, Limits, Opening};
+use std::alloc::AllocError;
 
-/// A line of a script, without its end.
-#[derive(Drop)]
-pub(crate) struct Line {
-    bytes: ArrayVec<u8, MOST>,
+/// Writes a number behind a word, or behind another number.
+fn put_number(text: &mut Vec<u8>, number: u64) -> Result<(), AllocError>
+    ensures { OnOk result (text.new.items ≡ text.old.items ++ spaced number) }
+{
+    let mut buffer = itoa::Buffer::new();
+    text.extend_from_slice(b" ")?;
+    text.extend_from_slice(buffer.format(number).as_bytes())
 }
 
-impl Line {
-    /// A line that begins with a word.
-    fn of(word: &[u8]) -> Line {
-        let mut line = Line {
-            bytes: ArrayVec::new(),
-        };
-        line.put(word);
-        line
+/// Writes each number, behind the one before.
+fn put_numbers(text: &mut Vec<u8>, numbers: &[u32]) -> Result<(), AllocError>
+    ensures { OnOk result (text.new.items ≡ text.old.items ++ flat_map spaced numbers.now) }
+{
+    for number in numbers {
+        put_number(text, u64::from(*number))?;
     }
-
-    /// A line that begins with a label, by its place.
-    fn of_label(place: usize) -> Line {
-        let mut line = Line {
-            bytes: ArrayVec::new(),
-        };
-        line.label(place);
-        line
-    }
-
-    fn put(&mut self, bytes: &[u8]) {
-        let _ = self.bytes.try_extend_from_slice(bytes);
-    }
-
-    fn label(&mut self, place: usize) {
-        self.put(&[b'a' + (place % 26) as u8]);
-    }
-
-    fn word(&mut self, word: &[u8]) {
-        self.put(b" ");
-        self.put(word);
-    }
-
-    fn number(&mut self, number: u64) {
-        let mut buffer = itoa::Buffer::new();
-        self.word(buffer.format(number).as_bytes());
-    }
-
-    pub(crate) fn as_bytes(&self) -> &[u8] {
-        self.bytes.as_slice()
-    }
+    Ok(())
 }
 
-/// The line that gives a device its limits.
-pub(crate) fn limits_line(limits: Limits) -> Line {
-    let mut line = Line::of(b"limits");
-    for limit in [
+/// Writes a field behind a word, or behind another field.
+fn put_field(text: &mut Vec<u8>, field: Field) -> Result<(), AllocError>
+    ensures { OnOk result (text.new.items ≡ text.old.items ++ number_behind field) }
+{
+    put_number(text, field.number())
+}
+
+/// Writes each field, behind the one before.
+fn put_fields(text: &mut Vec<u8>, fields: &[Field]) -> Result<(), AllocError>
+    ensures { OnOk result (text.new.items ≡ text.old.items ++ flat_map number_behind fields.now) }
+{
+    for field in fields {
+        put_field(text, *field)?;
+    }
+    Ok(())
+}
+
+/// Writes the letter of a label.
+fn put_label(text: &mut Vec<u8>, place: usize) -> Result<(), AllocError>
+    requires { place < Label.COUNT }
+    ensures { OnOk result (text.new.items ≡ text.old.items ++ label_text place) }
+{
+    text.extend_from_slice(&[b'a' + place as u8])
+}
+
+/// Writes the line that gives a device its limits.
+pub(crate) fn put_limits(text: &mut Vec<u8>, limits: Limits) -> Result<(), AllocError>
+    ensures { OnOk result (text.new.items ≡ text.old.items ++ limits_text limits) }
+{
+    let numbers = [
         limits.clients,
         limits.handles,
         limits.names,
@@ -66,64 +66,90 @@ pub(crate) fn limits_line(limits: Limits) -> Line {
         limits.framebuffers,
         limits.lessees,
         limits.journal,
-    ] {
-        line.number(u64::from(limit));
-    }
-    line
+    ];
+    text.extend_from_slice(b"limits")?;
+    put_numbers(text, &numbers)
 }
 
-/// Whether universal planes are on after an opening.
-fn has_universal(opening: Opening) -> bool {
+/// Returns the word of an opening, after which universal planes are on or off.
+fn open_word(opening: Opening) -> &'static [u8]
+    ensures { result.now ≡ open_text opening }
+{
     match opening {
-        Opening::Primary { universal, .. } | Opening::Lease { universal, .. } => universal,
-        Opening::Render => true,
+        Opening::Primary {
+            universal: false,
+            ..
+        } => b"open2 ",
+        Opening::Lease {
+            universal: false,
+            ..
+        } => b"open2 ",
+        _ => b"open ",
     }
 }
 
-/// The line of an opening, whose label has this place.
-pub(crate) fn open_line(place: usize, opening: Opening) -> Line {
-    let mut line = Line::of(if has_universal(opening) {
-        b"open "
-    } else {
-        b"open2 "
-    });
-    line.label(place);
+/// Writes an opening behind its label.
+fn put_opening(text: &mut Vec<u8>, opening: Opening) -> Result<(), AllocError>
+    ensures { OnOk result (text.new.items ≡ text.old.items ++ opening_text opening) }
+{
     match opening {
-        Opening::Primary { root: false, .. } => line.word(b"card"),
-        Opening::Primary { root: true, .. } => line.word(b"root"),
-        Opening::Render => line.word(b"render"),
-        Opening::Lease { token, root, .. } => {
-            line.word(if root { b"rootlease" } else { b"lease" });
-            line.number(u64::from(token));
+        Opening::Primary { root: false, .. } => text.extend_from_slice(b" card"),
+        Opening::Primary { root: true, .. } => text.extend_from_slice(b" root"),
+        Opening::Render => text.extend_from_slice(b" render"),
+        Opening::Lease {
+            token,
+            root: false,
+            ..
+        } => {
+            text.extend_from_slice(b" lease")?;
+            put_number(text, u64::from(token))
+        }
+        Opening::Lease {
+            token,
+            root: true,
+            ..
+        } => {
+            text.extend_from_slice(b" rootlease")?;
+            put_number(text, u64::from(token))
         }
     }
-    line
 }
 
-/// The line of a closing.
-pub(crate) fn close_line(place: usize) -> Line {
-    let mut line = Line::of(b"close ");
-    line.label(place);
-    line
-}
-
-/// The line of a call by its bare number, which is denied.
-fn raw_line(place: usize, call: &Call) -> Line {
-    let mut line = Line::of_label(place);
-    line.word(b"raw");
-    line.number(u64::from(call.number()));
-    line
-}
-
-/// The line of a call.
-pub(crate) fn call_line(place: usize, call: &Call) -> Line {
-    let Some((kind, fields)) = call.row() else {
-        return raw_line(place, call);
-    };
-    let mut line = Line::of_label(place);
-    line.word(kind.word());
-    for field in fields.as_slice() {
-        line.number(field.number());
+/// Writes a call behind its label; one without a row by its bare number.
+pub(crate) fn put_call(text: &mut Vec<u8>, call: &Call) -> Result<(), AllocError>
+    ensures { OnOk result (text.new.items ≡ text.old.items ++ call_text call.now) }
+{
+    match call.row() {
+        Some((kind, fields)) => {
+            text.extend_from_slice(b" ")?;
+            text.extend_from_slice(kind.word())?;
+            put_fields(text, fields.as_slice())
+        }
+        None => {
+            text.extend_from_slice(b" raw")?;
+            put_number(text, u64::from(call.number()))
+        }
     }
-    line
+}
+
+/// Writes the line of an event, by the label of this place.
+pub(crate) fn put_event(text: &mut Vec<u8>, place: usize, event: &Event) -> Result<(), AllocError>
+    requires { place < Label.COUNT }
+    ensures { OnOk result (text.new.items ≡ text.old.items ++ command_text (command_at place event.now)) }
+{
+    match event {
+        Event::Open(opening) => {
+            text.extend_from_slice(open_word(*opening))?;
+            put_label(text, place)?;
+            put_opening(text, *opening)
+        }
+        Event::Close(_) => {
+            text.extend_from_slice(b"close ")?;
+            put_label(text, place)
+        }
+        Event::Ask(_, call) => {
+            put_label(text, place)?;
+            put_call(text, call)
+        }
+    }
 }

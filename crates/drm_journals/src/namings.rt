@@ -1,77 +1,85 @@
 //! Which label stands for which client.
 
-use arrayvec::ArrayVec;
 use drm_script::Label;
+use drm_table::{Answer, Apart};
+use std::marker::Model;
 
-const LABELS: usize = Label::COUNT;
-
-/// A client that a label was bound to.
-#[derive(Clone, Copy, Default)]
-struct Naming {
-    client: u32,
-    is_open: bool,
-}
-
-/// The labels that were bound, in their order; the others were never bound, and name client 0.
+/// The clients that the labels name, the first by `a`; 0 of a label that was never bound. Contracts see these.
 #[derive(Drop)]
 pub(crate) struct Namings {
-    bound: ArrayVec<Naming, LABELS>,
+    clients: [u32; Label::COUNT],
+    /// Whether the client of the label is open.
+    open: [bool; Label::COUNT],
+}
+
+impl Model for Namings {
+    ghost use Rattle.std.specs.Prelude.{List, ℕ};
+
+    ghost Value = { List ℕ };
+
+    ghost view = { λ namings. namings.clients };
 }
 
 impl Namings {
-    pub(crate) fn new() -> Namings {
+    ghost use Rattle.std.specs.Prelude.{◌≡◌, ◌<◌, ◌==◌, IfSome, IfNone, None, position};
+    ghost use Rattle.drm_runs.specs.Script.{bound, unbound};
+
+    /// No label is bound.
+    pub(crate) fn new() -> Namings
+        ensures { result ≡ unbound }
+    {
         Namings {
-            bound: ArrayVec::new(),
+            clients: [0; Label::COUNT],
+            open: [false; Label::COUNT],
         }
     }
 
-    /// The place of the label that names a client.
-    pub(crate) fn place_of(&self, client: u32) -> Option<usize> {
-        if client == 0 {
-            return self.unbound();
+    /// Returns the place of the label that names a client; of client 0, of the first label that was never bound.
+    pub(crate) fn place_of(&self, client: u32) -> Option<usize>
+        ensures place { result ≡ position (λ label. label == client) self.now }
+        ensures within { IfSome result (λ place. place < Label.COUNT) }
+    {
+        self.clients.iter().position(|label| *label == client)
+    }
+
+    /// Returns the place of the first label whose client is closed.
+    fn closed_place(&self) -> Option<usize>
+        ensures { IfSome result (λ place. place < Label.COUNT) }
+    {
+        self.open.iter().position(|open| !*open)
+    }
+
+    /// Returns the place of a label for a further client: of one that was never bound, else of one whose client is closed.
+    pub(crate) fn free_place(&self) -> Option<usize>
+        ensures within { IfSome result (λ place. place < Label.COUNT) }
+        ensures none { IfNone result (position (λ label. label == 0) self.now ≡ None) }
+    {
+        match self.place_of(0) {
+            Some(place) => Some(place),
+            None => self.closed_place(),
         }
-        self.bound
-            .as_slice()
-            .iter()
-            .position(|naming| naming.client == client)
     }
 
-    /// The place of a label for a further client: of one that was never bound, else of one whose client is closed.
-    pub(crate) fn free_place(&self) -> Option<usize> {
-        if let Some(place) = self.unbound() {
-            return Some(place);
-        }
-        self.bound
-            .as_slice()
-            .iter()
-            .position(|naming| !naming.is_open)
-    }
-
-    /// The place of the first label that was never bound.
-    fn unbound(&self) -> Option<usize> {
-        let place = self.bound.len();
-        if place < LABELS { Some(place) } else { None }
-    }
-
-    /// Binds a label to a client that was opened.
-    pub(crate) fn bind(&mut self, place: usize, client: u32) {
-        let naming = Naming {
-            client,
-            is_open: true,
+    /// Lets a label name the client of an accepted opening.
+    pub(crate) fn bind(&mut self, place: Option<usize>, outcome: &Result<Answer, Apart>)
+        requires { IfSome place (λ place. place < Label.COUNT) }
+        ensures { self.new ≡ bound self.old place outcome.now }
+    {
+        let Some(place) = place else {
+            return;
         };
-        if let Some(bound) = self.bound.as_mut_slice().get_mut(place) {
-            *bound = naming;
-        } else if self.bound.len() < LABELS {
-            self.bound.push(naming);
+        if let Ok(Answer::Opened { client }) = outcome {
+            self.clients[place] = *client;
+            self.open[place] = true;
         }
     }
 
     /// Lets the label of a closed client be bound anew. Until it is, it goes on naming that client.
-    pub(crate) fn close(&mut self, client: u32) {
+    pub(crate) fn close(&mut self, client: u32)
+        ensures { self.new ≡ self.old }
+    {
         if let Some(place) = self.place_of(client) {
-            if let Some(naming) = self.bound.as_mut_slice().get_mut(place) {
-                naming.is_open = false;
-            }
+            self.open[place] = false;
         }
     }
 }

@@ -43,7 +43,7 @@ same_append xs ys us vs h k = λ test. length-filter_append test xs us ∙ (λ i
 
 module _ (s : State) (key b m id token : ℕ) (objects : List ℕ) (rise : InOrder (λ (x y : LeaseToken). x.token < y.token) s.leases.tokens) where
   abbrev pub leased : State
-  leased = record s { masters = with_last_master (lessee key b m id) s.masters; leases = with_last_lease token b m objects s.leases }
+  leased = record s { masters = with_last_master (lessee key b m id) s.masters; leases = with_last_lease token key b m objects s.leases }
 
   abbrev tokens_now : List LeaseToken
   tokens_now = placed token_before (lease_token token b) s.leases.tokens

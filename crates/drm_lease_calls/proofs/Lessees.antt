@@ -1,18 +1,23 @@
 -- Lessees and what their leases have, by rows and by what the device keeps.
-use Rattle.std.proofs.Common.{◌≡◌, ℕ, ◌==◌, true, false, ◌&&◌, List, [], ◌∷◌, map, filter, find, length, Option, None, Some, refl, sym, ap, ◌∙◌, arith, inl, inr}
+use Rattle.std.proofs.Common.{◌≡◌, ℕ, ◌==◌, true, false, ◌&&◌, List, [], ◌∷◌, map, filter, find, length, Option, None, Some, refl, sym, ap, subst, ◌∙◌, arith, inl, inr, eq-eqb}
 use Rattle.std.specs.Prelude.{nat_le, unwrap_or}
 use Rattle.std.specs.List.{list_any, AllByRecursion}
 use Rattle.std.specs.Option.{is_some, option_map, option_map_or}
-use Rattle.std.proofs.lemmas.Bool.{eqb-true}
+use Rattle.std.proofs.lemmas.Bool.{eqb-true, ne_eqb, false≢true}
+use Rattle.std.proofs.lemmas.Option.{none-some, same_Some}
 use Rattle.std.proofs.lemmas.Bool.Decides.{nat_tests}
 use Rattle.drm_lists.specs.Chains.{top_of}
 use Rattle.drm_lists.specs.Orders.{InOrder}
-use Rattle.drm_lists.proofs.Lists.{filter_true, filter-map, list_any-map, list_any_agree, map-map}
-use Rattle.drm_lists.proofs.Found.{find-map}
+use Rattle.drm_lists.proofs.Each.{filter_none, none_passes}
+use Rattle.drm_lists.proofs.Rising.{found, all_found}
+use Rattle.drm_lists.proofs.Lists.{all_both, all_weaker, filter_true, filter-map, list_any-map, list_any_agree, map-map}
+use Rattle.drm_lists.proofs.Found.{find-map, none_found}
 use Rattle.drm_lists.proofs.Orders.{RisesTo, in_order_filter, in_order_map, same-any, same-filter, same-map, sorted-same, order_of_numbers}
 use Rattle.drm_modes.specs.Numbers.{numbers_from}
 use Rattle.drm_masters.specs.declared.rows.Master.{Master}
+use Rattle.drm_masters.specs.declared.rows.Member.{Member}
 use Rattle.drm_masters.specs.Masters as masters
+use Rattle.drm_leases.specs.Agreed.{IsAgreed}
 use Rattle.drm_leases.specs.declared.rows.Grant.{Grant}
 use Rattle.drm_leases.specs.Leases as leases
 use Rattle.drm_leases.specs.Leases.{grant_before, is_grant_of, granted_objects, is_direct_lessee}
@@ -31,7 +36,7 @@ use Rattle.drm_state.specs.declared.state.State.{State}
 use Rattle.drm_state.specs.Parts.{master_row_of, masters_of, grant_row_of, grants_of}
 use Rattle.drm_state.specs.Invariants.{MeetsInvariants}
 use Rattle.drm_state.specs.Refinement.{Represents}
-use Rattle.drm_state.proofs.Represented.{bounds_are, masters_are, grants_are, leases_so}
+use Rattle.drm_state.proofs.Represented.{bounds_are, masters_are, masters_so, grants_are, leases_so, leases_agree}
 use Rattle.drm_state.proofs.Living.{above_is}
 use Rattle.drm_state.proofs.Refinements.{call_verdict}
 
@@ -112,3 +117,46 @@ module _ (s : State) (w : Rows) (h : Represents s w) where
           first_failing (check NoLessee (is_some o) ∷ check NotYourLessee (option_map_or (λ (x : Master). masters.is_option m x.lessor) o false) ∷ [])
       by_row None = refl
       by_row (Some x) = refl
+
+-- ---- what is looked up
+
+pub none_there : {X : Type 0} (o : Option X) → is_some o ≡ true → o ≡ None → ⊥
+none_there None h e = let j : false ≡ true = h in cc
+none_there (Some x) h e = let n : Some x ≡ None = e in cc
+
+module _ (s : State) (t : MeetsInvariants s) where
+  -- a caller's master is there
+  pub caller_master_there : (c : ℕ) (x : Member) → masters.member_of s.masters.members c ≡ Some x → is_some (masters.master_at s.masters.masters x.master) ≡ true
+  caller_master_there c x e = (found (masters.is_client c) (λ (y : Member). is_some (masters.master_at s.masters.masters y.master) ≡ true) x s.masters.members (masters_so s t).masters_there e).1
+
+  -- what the lease of a master has is found by its key
+  module _ (m key : ℕ) (keyed : masters.IsKeyOf s.masters.masters m key) where
+    row_of : (n : ℕ) (o : Option Master) → find (masters.is_key n) s.masters.masters ≡ o → option_map (λ (y : Master). y.step_number) o ≡ Some m → (x : Master) × (masters.master_at s.masters.masters m ≡ Some x) × (x.key ≡ n)
+    row_of n None e k = absurd (none-some m k)
+    row_of n (Some x) e k =
+        let w = found (masters.is_key n) (λ (y : Master). masters.master_at s.masters.masters y.step_number ≡ Some y) x s.masters.masters (all_found (λ (y : Master). y.step_number) s.masters.masters (masters_so s t).masters_rise) e in
+        (x, ap (masters.master_at s.masters.masters) (sym (same_Some x.step_number m k)) ∙ w.1, eqb-true x.key n w.0)
+
+    -- it has one key
+    one_key : (n : ℕ) → masters.IsKeyOf s.masters.masters m n → n ≡ key
+    one_key n h =
+        let a = row_of n (find (masters.is_key n) s.masters.masters) refl h in
+        let b = row_of key (find (masters.is_key key) s.masters.masters) refl keyed in
+        sym a.2 ∙ ap (λ (x : Master). x.key) (same_Some a.0 b.0 (sym a.1 ∙ b.1)) ∙ b.2
+
+    pub objects_by_key : option_map_or (granted_objects s.leases.grants) (leases.lessee_at s.leases.lendings key) [] ≡ granted_objects s.leases.grants m
+    objects_by_key = by_row (find (λ (x : leases.Lending). x.key == key) s.leases.lendings) refl
+      where
+        none : (xs : List Grant) → AllByRecursion (λ (g : Grant). is_grant_of m g ≡ false) xs → granted_objects xs m ≡ []
+        none xs h = ap (map (λ (g : Grant). g.mode_object)) (filter_none (is_grant_of m) xs h)
+
+        unlent : find (λ (x : leases.Lending). x.key == key) s.leases.lendings ≡ None → leases.has_some_lease s.leases.lendings m ≡ false
+        unlent e =
+            none_passes (leases.is_lease_of m) s.leases.lendings
+            (all_both (IsAgreed s.masters.members s.masters.masters) (λ (x : leases.Lending). (x.key == key) ≡ false) (λ (x : leases.Lending). (x.lessee == m) ≡ false) (λ x agreed other. ne_eqb x.lessee m (λ same. false≢true (sym other ∙ eq-eqb x.key key (one_key x.key (subst (λ n. masters.IsKeyOf s.masters.masters n x.key) same agreed.2))))) s.leases.lendings (leases_agree s t) (none_found (λ (x : leases.Lending). x.key == key) s.leases.lendings e))
+
+        by_row : (o : Option leases.Lending) → find (λ (x : leases.Lending). x.key == key) s.leases.lendings ≡ o → option_map_or (granted_objects s.leases.grants) (option_map (λ (x : leases.Lending). x.lessee) o) [] ≡ granted_objects s.leases.grants m
+        by_row None e = sym (none s.leases.grants (all_weaker (λ (g : Grant). leases.has_some_lease s.leases.lendings g.master ≡ true) (λ (g : Grant). is_grant_of m g ≡ false) (λ g h. ne_eqb g.master m (λ same. false≢true (sym (unlent e) ∙ ap (leases.has_some_lease s.leases.lendings) (sym same) ∙ h))) s.leases.grants (leases_so s t).grants_lent))
+        by_row (Some x) e =
+            let w = found (λ (y : leases.Lending). y.key == key) (IsAgreed s.masters.members s.masters.masters) x s.leases.lendings (leases_agree s t) e in
+            ap (granted_objects s.leases.grants) (same_Some x.lessee m (sym w.1.2 ∙ ap (λ n. option_map (λ (y : Master). y.step_number) (find (masters.is_key n) s.masters.masters)) (eqb-true x.key key w.0) ∙ keyed))

@@ -1,8 +1,8 @@
 -- The device without the leases of a master and of all below it.
-use Rattle.std.proofs.Common.{◌≡◌, ℕ, Bool, Some}
+use Rattle.std.proofs.Common.{◌≡◌, ℕ, Bool, Some, ◌∙◌}
 use Rattle.drm_masters.specs.Masters as masters
-use Rattle.drm_masters.specs.Masters.{AreMasters}
-use Rattle.drm_masters.specs.Calls.{released_under}
+use Rattle.drm_masters.specs.Masters.{MasterSet, AreMasters}
+use Rattle.drm_masters.specs.Calls as calls
 use Rattle.drm_leases.specs.Leases.{AreLeases}
 use Rattle.drm_leases.specs.Calls as leases
 use Rattle.drm_leases.proofs.Agreeing.{agreed_released}
@@ -15,16 +15,20 @@ use Rattle.drm_state.specs.Parts.{released, is_below, clients_of}
 use Rattle.drm_state.specs.Invariants.{Invariant, MastersAre, LeasesAre, TokensOfLessees, KeptHaveTokens, LeasesAgree, meets_invariant, MeetsInvariants, AreKeptBy}
 use Rattle.drm_state.specs.Refinement.{represents_part, Represents}
 use Rattle.drm_state.proofs.Represented.{clients_are, masters_are, tokens_of_lessees, kept_have_tokens, leases_agree}
-use Rattle.drm_state.proofs.Ended.{kept_ended, of_lessees_ended, kept_swept, of_lessees_swept}
+use Rattle.drm_state.proofs.Ended.{kept_ended, of_lessees_ended, kept_swept, of_lessees_swept, opened_released}
 use Rattle.drm_state.proofs.Living.{swept_masters}
 use Rattle.drm_state.proofs.Sweeps.{with_ended, ended_represents, named_by_clients, unswept}
 
 module _ (s : State) (top : ℕ) where
   abbrev pub revoked : State
-  revoked = record s { masters = masters.swept (released_under top s.masters); leases = leases.ended s.masters.masters top s.leases }
+  revoked = record s { masters = masters.swept (calls.released (is_below (Some top) s.masters.masters) s.masters); leases = leases.ended s.masters.masters top s.leases }
 
   abbrev below : ℕ → Bool
   below = is_below (Some top) s.masters.masters
+
+  -- those whose tokens are taken are released
+  pub opened_below : MeetsInvariants s → (v : MasterSet) → v ≡ masters.swept (calls.released (leases.is_opened_under s.leases.tokens s.masters.masters top) s.masters) → v ≡ revoked.masters
+  opened_below t v e = e ∙ (λ i. masters.swept (record s.masters { masters = opened_released s.leases.tokens below s.masters.masters (kept_have_tokens s t) i }))
 
   module _ (t : MeetsInvariants s) (are : AreMasters revoked.masters) (leases_are : AreLeases revoked.leases) where
     kept : AreKeptBy revoked.leases.tokens (released below s.masters.masters)
@@ -36,7 +40,7 @@ module _ (s : State) (top : ℕ) where
     revoked_invariants LeasesAre = leases_are
     revoked_invariants TokensOfLessees = of_lessees_swept s.masters.members revoked.leases.tokens (released below s.masters.masters) kept (of_lessees_ended below s.leases.tokens s.masters.masters (tokens_of_lessees s t))
     revoked_invariants KeptHaveTokens = kept_swept s.masters.members revoked.leases.tokens (released below s.masters.masters) kept
-    revoked_invariants LeasesAgree = agreed_released below s.masters.members s.masters.masters s.leases.lendings (leases_agree s t)
+    revoked_invariants LeasesAgree = agreed_released below below (λ n e. e) s.masters.members s.masters.masters s.leases.lendings (leases_agree s t)
     revoked_invariants invariant = t invariant
 
     module _ (w : Rows) (h : Represents s w) where

@@ -60,13 +60,16 @@ pub fn revoke_lease(state: &mut State, caller: PrimaryCaller, lessee: u32) -> An
     let Some(master) = state.masters.master(member.master) else {
         unreachable!()
     };
-    let Some(found) = state.masters.lessee(master.key, lessee) else {
+    let Some(key) = state.masters.lessee(master.key, lessee) else {
         return Answer::Denied(Rule::NoLessee);
+    };
+    let Some(found) = state.masters.of_key(key) else {
+        unreachable!()
     };
     if !is_lent_by(found.lessor, member.master) {
         return Answer::Denied(Rule::NotYourLessee);
     }
-    state.leases.revoke(&mut state.masters, found.step_number);
+    state.leases.revoke(&mut state.masters, key);
     state.masters.laws();
     state.leases.laws();
     Answer::Done

@@ -1,14 +1,12 @@
 //! What leases there are.
 
 ghost use Rattle.std.specs.Prelude.{◌≡◌, ◌≤◌, ◌+◌, ◌++◌, true, length};
-ghost use Rattle.drm_masters.specs.Masters as sets;
 ghost use Rattle.drm_table.specs.declared.calls.Call.TheVariants.{ListLessees, GetLease};
 ghost use Rattle.drm_model.specs.Leases.{leasable_ids};
 ghost use Rattle.drm_state.specs.Callers.{IsPrimaryCaller};
 ghost use Rattle.drm_state.specs.Invariants.{MeetsInvariants};
 ghost use Rattle.drm_state.specs.Refinement.{RefinesReply};
 
-use drm_masters::Masters;
 use drm_modes::{Kind, Modes};
 use drm_state::{PrimaryCaller, State};
 use drm_table::{Answer, ShownList};
@@ -20,9 +18,11 @@ pub fn list_lessees(state: &State, caller: PrimaryCaller) -> Answer
     requires caller { IsPrimaryCaller state.now caller }
     ensures { RefinesReply state.now caller.client ListLessees result state.now }
 {
-    let member = caller.member;
+    let Some(master) = state.masters.master(caller.member.master) else {
+        unreachable!()
+    };
     Answer::List {
-        list: state.leases.list(&state.masters, member.master),
+        list: state.leases.list(&state.masters, master.key),
     }
 }
 
@@ -33,23 +33,15 @@ pub fn get_lease(state: &State, caller: PrimaryCaller) -> Answer
     requires caller { IsPrimaryCaller state.now caller }
     ensures { RefinesReply state.now caller.client GetLease result state.now }
 {
-    let member = caller.member;
-    let list = if is_lessee(&state.masters, member.master) {
-        state.leases.objects_of(member.master)
+    let Some(master) = state.masters.master(caller.member.master) else {
+        unreachable!()
+    };
+    let list = if master.lessor.is_some() {
+        state.leases.objects_of(master.key)
     } else {
         leasable(&state.modes)
     };
     Answer::List { list }
-}
-
-/// Whether a master is a lessee. It takes no memory.
-fn is_lessee(masters: &Masters, master: u32) -> bool
-    ensures { result ≡ sets.is_lessee masters.now.masters master }
-{
-    match masters.master(master) {
-        Some(row) => row.lessor.is_some(),
-        None => false,
-    }
 }
 
 /// The CRTCs, planes and connectors, in this order. It takes no memory.

@@ -1,30 +1,34 @@
 -- Leases agree with masters after each change of these.
-use Rattle.std.proofs.Common.{◌≡◌, ℕ, ◌<◌, ◌==◌, nat_lt, Bool, true, false, cond, not, ◌&&◌, ◌||◌, List, [], ◌∷◌, ◌++◌, map, filter, find, Option, None, Some, refl, sym, ap, subst, ◌∙◌, eq-eqb}
+use Rattle.std.proofs.Common.{◌≡◌, ℕ, ◌<◌, ◌==◌, Bool, true, false, cond, not, ◌&&◌, ◌||◌, List, [], ◌∷◌, ◌++◌, map, filter, find, Option, None, Some, refl, sym, ap, subst, ◌∙◌, eq-eqb}
 use Rattle.std.specs.Prelude.{if◌then◌else◌}
 use Rattle.std.specs.List.{list_any, AllByRecursion}
 use Rattle.std.specs.Option.{is_some, option_map, option_map_or, option_and_then}
-use Rattle.std.proofs.lemmas.Bool.{eqb-true, false≢true, or_left, or_right}
+use Rattle.std.proofs.lemmas.Bool.{eqb-true, ne_eqb, false≢true, or_left, or_right}
+use Rattle.std.proofs.lemmas.Option.{none-some, same_Some}
 use Rattle.drm_index_array.specs.Rows.{placed}
 use Rattle.drm_lists.specs.Orders.{InOrder}
 use Rattle.drm_lists.specs.Chains.{is_under}
 use Rattle.drm_lists.proofs.Chains.{itself}
-use Rattle.drm_lists.proofs.Lists.{list_any_left, all_each, all_weaker, list_any-map}
-use Rattle.drm_lists.proofs.Found.{find-map}
-use Rattle.drm_lists.proofs.Placed.{any_placed, all_placed}
+use Rattle.drm_lists.proofs.Lists.{list_any_left, all_each, all_weaker, list_any-map, some_passing}
+use Rattle.drm_lists.proofs.Each.{none_passes}
+use Rattle.drm_lists.proofs.Found.{find-map, none_found}
+use Rattle.drm_lists.proofs.Placed.{any_placed, all_placed, find_placed, find_other}
 use Rattle.drm_lists.proofs.Rising.{found, find_where, any_found, any_left, all_found}
 use Rattle.drm_masters.specs.declared.rows.Master.{Master}
 use Rattle.drm_masters.specs.declared.rows.Member.{Member}
-use Rattle.drm_masters.specs.Masters.{MasterSet, is_client, member_before, master_before, is_step_number, is_option, member_of, master_at, lessor_of, is_held, is_living}
+use Rattle.drm_masters.specs.Masters.{MasterSet, is_client, member_before, master_before, is_step_number, is_key, is_option, IsKeyOf, member_of, master_at, lessor_of, is_held, is_living}
 use Rattle.drm_masters.specs.Calls.{lessee, lease_client, kept_as, closed_own, redeemed}
 use Rattle.drm_leases.specs.declared.rows.Grant.{Grant}
 use Rattle.drm_leases.specs.declared.rows.Lease.{Lease}
-use Rattle.drm_leases.specs.Leases.{Lending, is_leased_out}
+use Rattle.drm_leases.specs.Tokens.{LeaseToken}
+use Rattle.drm_leases.specs.Leases.{LeaseSet, Lending, AreLeases, is_lease_of, has_some_lease, is_leased_out}
 use Rattle.drm_leases.specs.Masks.{has_object, grants_in, lendings_in, is_lent}
 use Rattle.drm_leases.proofs.Granting.{any_with}
 use Rattle.drm_masters.proofs.Living.{IsFresh}
 use Rattle.drm_masters.proofs.Pushed.{there_apart, others_at, new_at}
-use Rattle.drm_leases.specs.Calls.{lending, put_in}
-use Rattle.drm_leases.specs.Agreed.{is_owned, IsAgreed}
+use Rattle.drm_masters.proofs.Released.{marked, marked_step_number, marked_lessor, marked_key}
+use Rattle.drm_leases.specs.Calls.{lending, lending_before}
+use Rattle.drm_leases.specs.Agreed.{is_owned, IsAgreed, AreAgreed, AreHeld}
 
 -- whether it is a client of that master of its own
 abbrev pub owns : ℕ → Member → Bool
@@ -35,14 +39,14 @@ module _ (members members2 : List Member) (ms ms2 : List Master) (x : Lending) w
   abbrev Stays : Type 0
   Stays = (y : Master) → master_at ms x.lessee ≡ Some y → (y.step_number ≡ x.lessee) → is_owned members y ≡ true → (z : Master) × (master_at ms2 x.lessee ≡ Some z) × (z.lessor ≡ y.lessor) × (is_owned members2 z ≡ true)
 
-  pub still_agreed : Stays → IsAgreed members ms x → IsAgreed members2 ms2 x
-  still_agreed stays h = by_row (master_at ms x.lessee) refl h.0 h.1
+  pub still_agreed : Stays → (IsKeyOf ms x.lessee x.key → IsKeyOf ms2 x.lessee x.key) → IsAgreed members ms x → IsAgreed members2 ms2 x
+  still_agreed stays key h = by_row (master_at ms x.lessee) refl h.0 h.1
     where
       by_row : (o : Option Master) → master_at ms x.lessee ≡ o → option_and_then (λ (y : Master). y.lessor) o ≡ Some x.lessor → option_map_or (is_owned members) o false ≡ true → IsAgreed members2 ms2 x
       by_row None e l k = absurd (false≢true k)
       by_row (Some y) e l k =
           let is : y.step_number ≡ x.lessee = eqb-true y.step_number x.lessee (found (is_step_number x.lessee) (λ _. Unit {0}) y ms (all_each (λ _. Unit {0}) (λ _. tt) ms) e).0 in
-          let w = stays y e is k in (ap (option_and_then (λ (y : Master). y.lessor)) w.1 ∙ w.2 ∙ l, ap (λ o. option_map_or (is_owned members2) o false) w.1 ∙ w.3)
+          let w = stays y e is k in (ap (option_and_then (λ (y : Master). y.lessor)) w.1 ∙ w.2 ∙ l, ap (λ o. option_map_or (is_owned members2) o false) w.1 ∙ w.3, key h.2)
 
 -- ---- of one lease
 
@@ -50,22 +54,58 @@ found_more : (p : Master → Bool) (y x : Master) → (ms : List Master) → fin
 found_more p y x [] e = absurd (let n : None ≡ Some x = e in cc)
 found_more p y x (z ∷ zs) e = elim (p z) as (λ b. cond b (Some z) (find p zs) ≡ Some x → cond b (Some z) (find p (zs ++ y ∷ [])) ≡ Some x) [ true ↦ λ k. k | false ↦ λ k. found_more p y x zs k ] e
 
+-- what is found by a key is found among more, and among those that are left
+key_more : (ms : List Master) (z : Master) (m key : ℕ) → IsKeyOf ms m key → IsKeyOf (ms ++ z ∷ []) m key
+key_more ms z m key h = by_row (find (is_key key) ms) refl h
+  where
+    by_row : (o : Option Master) → find (is_key key) ms ≡ o → option_map (λ (y : Master). y.step_number) o ≡ Some m → IsKeyOf (ms ++ z ∷ []) m key
+    by_row None e k = absurd (let n : None ≡ Some m = k in cc)
+    by_row (Some y) e k = ap (option_map (λ (y : Master). y.step_number)) (found_more (is_key key) z y ms e) ∙ k
+
+key_put : (ms : List Master) (z : Master) (m key : ℕ) → IsFresh ms z.step_number → find (is_key z.key) ms ≡ None → IsKeyOf ms m key → IsKeyOf (placed master_before z ms) m key
+key_put ms z m key fresh free h = ap (option_map (λ (y : Master). y.step_number)) (find_other (λ (y : Master). y.step_number) z ms fresh.0 (is_key key) (other (z.key == key) refl)) ∙ h
+  where
+    other : (b : Bool) → (z.key == key) ≡ b → (z.key == key) ≡ false
+    other true e = absurd (none-some m (sym (ap (option_map (λ (y : Master). y.step_number)) (ap (λ k. find (is_key k) ms) (sym (eqb-true z.key key e)) ∙ free)) ∙ h))
+    other false e = e
+
+key_left : (p : Master → Bool) (ms : List Master) (m key : ℕ) → ((y : Master) → (y.step_number ≡ m) → p y ≡ true) → IsKeyOf ms m key → IsKeyOf (filter p ms) m key
+key_left p [] m key passes h = h
+key_left p (y ∷ ms) m key passes h =
+    elim (is_key key y) as (λ b. is_key key y ≡ b → option_map (λ (y : Master). y.step_number) (cond b (Some y) (find (is_key key) ms)) ≡ Some m → option_map (λ (y : Master). y.step_number) (find (is_key key) (cond (p y) (y ∷ filter p ms) (filter p ms))) ≡ Some m) [
+      | true ↦ λ e k. ap (λ b. option_map (λ (y : Master). y.step_number) (find (is_key key) (cond b (y ∷ filter p ms) (filter p ms)))) (passes y (same_Some y.step_number m k)) ∙ ap (λ b. option_map (λ (y : Master). y.step_number) (cond b (Some y) (find (is_key key) (filter p ms)))) e ∙ k
+      | false ↦ λ e k.
+          elim (p y) as (λ b. option_map (λ (y : Master). y.step_number) (find (is_key key) (cond b (y ∷ filter p ms) (filter p ms))) ≡ Some m) [
+            | true ↦ ap (λ b. option_map (λ (y : Master). y.step_number) (cond b (Some y) (find (is_key key) (filter p ms)))) e ∙ key_left p ms m key passes k
+            | false ↦ key_left p ms m key passes k
+          ]
+    ] refl h
+
+key_changed : (change : Master → Master) → ((y : Master) → (change y).step_number ≡ y.step_number) → ((y : Master) → (change y).key ≡ y.key) → (ms : List Master) (m key : ℕ) → IsKeyOf ms m key → IsKeyOf (map change ms) m key
+key_changed change step_numbers keys ms m key h =
+    ap (option_map (λ (y : Master). y.step_number)) (find-map (is_key key) change ms ∙ ap (λ (p : Master → Bool). option_map change (find p ms)) (λ i z. keys z i == key)) ∙ same (find (is_key key) ms) ∙ h
+  where
+    same : (o : Option Master) → option_map (λ (y : Master). y.step_number) (option_map change o) ≡ option_map (λ (y : Master). y.step_number) o
+    same None = refl
+    same (Some y) = ap Some (step_numbers y)
+
 -- one more master, the newest
 one_more : (members : List Member) (ms : List Master) (z : Master) (x : Lending) → IsAgreed members ms x → IsAgreed members (ms ++ z ∷ []) x
-one_more members ms z x = still_agreed members members ms (ms ++ z ∷ []) x (λ y e is k. (y, found_more (is_step_number x.lessee) z y ms e, refl, k))
+one_more members ms z x = still_agreed members members ms (ms ++ z ∷ []) x (λ y e is k. (y, found_more (is_step_number x.lessee) z y ms e, refl, k)) (key_more ms z x.lessee x.key)
 
 -- one more master, at its place
-one_put : (members : List Member) (ms : List Master) (z : Master) → IsFresh ms z.step_number → (x : Lending) → IsAgreed members ms x → IsAgreed members (placed master_before z ms) x
-one_put members ms z fresh x = still_agreed members members ms (placed master_before z ms) x (λ y e is k. (y, others_at ms z fresh x.lessee (there_apart ms z fresh x.lessee (ap is_some e)) ∙ e, refl, k))
+one_put : (members : List Member) (ms : List Master) (z : Master) → IsFresh ms z.step_number → find (is_key z.key) ms ≡ None → (x : Lending) → IsAgreed members ms x → IsAgreed members (placed master_before z ms) x
+one_put members ms z fresh free x =
+    still_agreed members members ms (placed master_before z ms) x (λ y e is k. (y, others_at ms z fresh x.lessee (there_apart ms z fresh x.lessee (ap is_some e)) ∙ e, refl, k)) (key_put ms z x.lessee x.key fresh free)
 
 owned_yet : (members members2 : List Member) (y : Master) → (list_any (owns y.step_number) members ≡ true → list_any (owns y.step_number) members2 ≡ true) → is_owned members y ≡ true → is_owned members2 y ≡ true
 owned_yet members members2 y own k =
     elim y.kept as (λ b. (b || list_any (owns y.step_number) members) ≡ true → (b || list_any (owns y.step_number) members2) ≡ true) [ true ↦ λ h. refl | false ↦ λ h. own h ] k
 
 other_members : (members members2 : List Member) (ms : List Master) (x : Lending) → (list_any (owns x.lessee) members ≡ true → list_any (owns x.lessee) members2 ≡ true) → IsAgreed members ms x → IsAgreed members2 ms x
-other_members members members2 ms x own = still_agreed members members2 ms ms x (λ y e is k. (y, e, refl, owned_yet members members2 y (subst (λ n. list_any (owns n) members ≡ true → list_any (owns n) members2 ≡ true) (sym is) own) k))
+other_members members members2 ms x own = still_agreed members members2 ms ms x (λ y e is k. (y, e, refl, owned_yet members members2 y (subst (λ n. list_any (owns n) members ≡ true → list_any (owns n) members2 ≡ true) (sym is) own) k)) (λ h. h)
 
-held_of : (members : List Member) (y : Master) → is_owned members y ≡ true → is_held members y ≡ true
+pub held_of : (members : List Member) (y : Master) → is_owned members y ≡ true → is_held members y ≡ true
 held_of members y k = elim y.kept as (λ b. (b || list_any (owns y.step_number) members) ≡ true → (b || list_any (λ (z : Member). z.master == y.step_number) members) ≡ true) [ true ↦ λ h. refl | false ↦ λ h. named members h ] k
   where
     named : (zs : List Member) → list_any (owns y.step_number) zs ≡ true → list_any (λ (z : Member). z.master == y.step_number) zs ≡ true
@@ -78,51 +118,50 @@ held_of members y k = elim y.kept as (λ b. (b || list_any (owns y.step_number) 
 
 -- those stay of a sweep
 after_sweep : (members : List Member) (ms : List Master) (x : Lending) → IsAgreed members ms x → IsAgreed members (filter (λ (y : Master). is_living members ms y.step_number) ms) x
-after_sweep members ms x =
-    still_agreed members members ms (filter (λ (y : Master). is_living members ms y.step_number) ms) x (λ y e is k.
-    let top : is_under (lessor_of ms) x.lessee y.step_number ≡ true = ap (is_under (lessor_of ms) x.lessee) is ∙ itself (lessor_of ms) x.lessee x.lessee in
-    let lives : is_living members ms x.lessee ≡ true =
-    any_found (is_step_number x.lessee) (λ (z : Master). is_held members z && is_under (lessor_of ms) x.lessee z.step_number) y ms e (λ i. held_of members y k i && top i) in
-    (y, find_where (λ (z : Master). z.step_number) (is_living members ms) x.lessee ms ∙ ap (λ b. cond b (master_at ms x.lessee) None) lives ∙ e, refl, k))
+after_sweep members ms x h =
+    still_agreed members members ms (filter (λ (y : Master). is_living members ms y.step_number) ms) x
+    (λ y e is k. (y, find_where (λ (z : Master). z.step_number) (is_living members ms) x.lessee ms ∙ ap (λ b. cond b (master_at ms x.lessee) None) lives ∙ e, refl, k))
+    (key_left (λ (y : Master). is_living members ms y.step_number) ms x.lessee x.key (λ y is. ap (is_living members ms) is ∙ lives)) h
+  where
+    lives_by : (o : Option Master) → master_at ms x.lessee ≡ o → option_map_or (is_owned members) o false ≡ true → is_living members ms x.lessee ≡ true
+    lives_by None e k = absurd (false≢true k)
+    lives_by (Some y) e k =
+        let is : y.step_number ≡ x.lessee = eqb-true y.step_number x.lessee (found (is_step_number x.lessee) (λ _. Unit {0}) y ms (all_each (λ _. Unit {0}) (λ _. tt) ms) e).0 in
+        let top : is_under (lessor_of ms) x.lessee y.step_number ≡ true = ap (is_under (lessor_of ms) x.lessee) is ∙ itself (lessor_of ms) x.lessee x.lessee in
+        any_found (is_step_number x.lessee) (λ (z : Master). is_held members z && is_under (lessor_of ms) x.lessee z.step_number) y ms e (λ i. held_of members y k i && top i)
+
+    lives : is_living members ms x.lessee ≡ true
+    lives = lives_by (master_at ms x.lessee) refl h.1
 
 -- masters that are kept, or not any more
-module _ (change : Master → Master) (step_numbers : (y : Master) → (change y).step_number ≡ y.step_number) (lessors : (y : Master) → (change y).lessor ≡ y.lessor) where
+module _ (change : Master → Master) (step_numbers : (y : Master) → (change y).step_number ≡ y.step_number) (lessors : (y : Master) → (change y).lessor ≡ y.lessor) (keys : (y : Master) → (change y).key ≡ y.key) where
   at_changed : (ms : List Master) (n : ℕ) (y : Master) → master_at ms n ≡ Some y → master_at (map change ms) n ≡ Some (change y)
   at_changed ms n y e = find-map (is_step_number n) change ms ∙ ap (λ (p : Master → Bool). option_map change (find p ms)) (λ i z. step_numbers z i == n) ∙ ap (option_map change) e
 
   others_kept : (members members2 : List Member) (ms : List Master) (x : Lending) → ((y : Master) → y.step_number ≡ x.lessee → is_owned members y ≡ true → is_owned members2 (change y) ≡ true) → IsAgreed members ms x → IsAgreed members2 (map change ms) x
-  others_kept members members2 ms x owned = still_agreed members members2 ms (map change ms) x (λ y e is k. (change y, at_changed ms x.lessee y e, lessors y, owned y is k))
-
-abbrev released : (ℕ → Bool) → Master → Master
-released below y = if below y.step_number then kept_as false y else y
-
-released_step_number : (below : ℕ → Bool) (y : Master) → (released below y).step_number ≡ y.step_number
-released_step_number below y = elim (below y.step_number) as (λ b. (if b then kept_as false y else y).step_number ≡ y.step_number) [ true ↦ refl | false ↦ refl ]
-
-released_lessor : (below : ℕ → Bool) (y : Master) → (released below y).lessor ≡ y.lessor
-released_lessor below y = elim (below y.step_number) as (λ b. (if b then kept_as false y else y).lessor ≡ y.lessor) [ true ↦ refl | false ↦ refl ]
+  others_kept members members2 ms x owned = still_agreed members members2 ms (map change ms) x (λ y e is k. (change y, at_changed ms x.lessee y e, lessors y, owned y is k)) (key_changed change step_numbers keys ms x.lessee x.key)
 
 -- those that aren't released
-unreleased : (below : ℕ → Bool) (members : List Member) (ms : List Master) (x : Lending) → below x.lessee ≡ false → IsAgreed members ms x → IsAgreed members (map (released below) ms) x
+unreleased : (below : ℕ → Bool) (members : List Member) (ms : List Master) (x : Lending) → below x.lessee ≡ false → IsAgreed members ms x → IsAgreed members (map (marked below) ms) x
 unreleased below members ms x out =
-    others_kept (released below) (released_step_number below) (released_lessor below) members members ms x (λ y is k. ap (λ b. is_owned members (if b then kept_as false y else y)) (ap below is ∙ out) ∙ k)
+    others_kept (marked below) (marked_step_number below) (marked_lessor below) (marked_key below) members members ms x (λ y is k. ap (λ b. is_owned members (if b then kept_as false y else y)) (ap below is ∙ out) ∙ k)
 
 -- ---- of all leases
 
 each : {P Q : Lending → Type 0} (xs : List Lending) → ((x : Lending) → P x → Q x) → AllByRecursion P xs → AllByRecursion Q xs
 each {P = P} {Q = Q} xs f h = all_weaker P Q f xs h
 
--- the leases that do not end agree with the masters that are left
-pub agreed_released : (below : ℕ → Bool) (members : List Member) (ms : List Master) (xs : List Lending) → AllByRecursion (IsAgreed members ms) xs →
-    AllByRecursion (IsAgreed members (filter (λ (y : Master). is_living members (map (λ (y : Master). if below y.step_number then kept_as false y else y) ms) y.step_number) (map (λ (y : Master). if below y.step_number then kept_as false y else y) ms))) (filter (λ (x : Lending). not (below x.lessee)) xs)
-agreed_released below members ms [] h = tt
-agreed_released below members ms (x ∷ xs) h =
+-- the leases that do not end agree with the masters that are left, where none but lessees of leases that end are released
+pub agreed_released : (below chosen : ℕ → Bool) → ((n : ℕ) → below n ≡ false → chosen n ≡ false) → (members : List Member) (ms : List Master) (xs : List Lending) → AllByRecursion (IsAgreed members ms) xs →
+    AllByRecursion (IsAgreed members (filter (λ (y : Master). is_living members (map (marked chosen) ms) y.step_number) (map (marked chosen) ms))) (filter (λ (x : Lending). not (below x.lessee)) xs)
+agreed_released below chosen only members ms [] h = tt
+agreed_released below chosen only members ms (x ∷ xs) h =
     let rest = filter (λ (x : Lending). not (below x.lessee)) xs in
-    let now = map (released below) ms in
-    let more = agreed_released below members ms xs h.1 in
+    let now = map (marked chosen) ms in
+    let more = agreed_released below chosen only members ms xs h.1 in
     elim (below x.lessee) as (λ b. below x.lessee ≡ b → AllByRecursion (IsAgreed members (filter (λ (y : Master). is_living members now y.step_number) now)) (cond (not b) (x ∷ rest) rest)) [
       | true ↦ λ e. more
-      | false ↦ λ e. (after_sweep members now x (unreleased below members ms x e h.0), more)
+      | false ↦ λ e. (after_sweep members now x (unreleased chosen members ms x (only x.lessee e) h.0), more)
     ] refl
 
 -- one more master, the newest
@@ -130,12 +169,13 @@ pub agreed_more : (members : List Member) (ms : List Master) (z : Master) (xs : 
 agreed_more members ms z xs h = each xs (one_more members ms z) h
 
 -- one more lease
-pub agreed_lent : (members : List Member) (ms : List Master) (key step_number m id : ℕ) → IsFresh ms step_number → (xs : List Lending) → AllByRecursion (IsAgreed members ms) xs → AllByRecursion (IsAgreed members (placed master_before (lessee key step_number m id) ms)) (put_in (λ (x : Lending). x.lessee) step_number (lending step_number m ∷ []) xs)
-agreed_lent members ms key step_number m id fresh xs h =
+pub agreed_lent : (members : List Member) (ms : List Master) (key step_number m id : ℕ) → IsFresh ms step_number → find (is_key key) ms ≡ None → (xs : List Lending) → AllByRecursion (IsAgreed members ms) xs → AllByRecursion (IsAgreed members (placed master_before (lessee key step_number m id) ms)) (placed lending_before (lending step_number m key) xs)
+agreed_lent members ms key step_number m id fresh free xs h =
     let z = lessee key step_number m id in
     let at = new_at ms z fresh in
-    all_placed (IsAgreed members (placed master_before z ms)) (λ (x : Lending). nat_lt x.lessee step_number) (lending step_number m) xs
-    (ap (option_and_then (λ (y : Master). y.lessor)) at, ap (λ o. option_map_or (is_owned members) o false) at) (each xs (one_put members ms z fresh) h)
+    let keyed = find_placed (is_key key) (λ (x : Master). master_before x z) z ms (eq-eqb key key refl) (none_found (is_key key) ms free) in
+    all_placed (IsAgreed members (placed master_before z ms)) (λ (x : Lending). lending_before x (lending step_number m key)) (lending step_number m key) xs
+    (ap (option_and_then (λ (y : Master). y.lessor)) at, ap (λ o. option_map_or (is_owned members) o false) at, ap (option_map (λ (y : Master). y.step_number)) keyed) (each xs (one_put members ms z fresh free) h)
 
 -- a sweep
 pub agreed_swept : (members : List Member) (ms : List Master) (xs : List Lending) → AllByRecursion (IsAgreed members ms) xs → AllByRecursion (IsAgreed members (filter (λ (y : Master). is_living members ms y.step_number) ms)) xs
@@ -149,12 +189,12 @@ agreed_joined members c ms xs h = each xs (λ x. other_members members (members 
 
 -- one of a lessee that was kept
 pub agreed_redeemed : (c m : ℕ) (v : MasterSet) (xs : List Lending) → AllByRecursion (IsAgreed v.members v.masters) xs → AllByRecursion (IsAgreed (redeemed c m v).members (redeemed c m v).masters) xs
-agreed_redeemed c m v xs h = each xs (λ x. others_kept (released (λ n. n == m)) (released_step_number (λ n. n == m)) (released_lessor (λ n. n == m)) v.members (placed member_before (lease_client c m) v.members) v.masters x (λ y is. owned y)) h
+agreed_redeemed c m v xs h = each xs (λ x. others_kept (marked (λ n. n == m)) (marked_step_number (λ n. n == m)) (marked_lessor (λ n. n == m)) (marked_key (λ n. n == m)) v.members (placed member_before (lease_client c m) v.members) v.masters x (λ y is. owned y)) h
   where
     one_more_owns : (n : ℕ) → list_any (owns n) (placed member_before (lease_client c m) v.members) ≡ (owns n (lease_client c m) || list_any (owns n) v.members)
     one_more_owns n = any_placed (owns n) (λ (x : Member). member_before x (lease_client c m)) (lease_client c m) v.members
 
-    owned : (y : Master) → is_owned v.members y ≡ true → is_owned (placed member_before (lease_client c m) v.members) (released (λ n. n == m) y) ≡ true
+    owned : (y : Master) → is_owned v.members y ≡ true → is_owned (placed member_before (lease_client c m) v.members) (marked (λ n. n == m) y) ≡ true
     owned y k =
         elim (y.step_number == m) as (λ b. (y.step_number == m) ≡ b → is_owned (placed member_before (lease_client c m) v.members) (if b then kept_as false y else y) ≡ true) [
           | true ↦ λ e. one_more_owns y.step_number ∙ or_left (owns y.step_number (lease_client c m)) (list_any (owns y.step_number) v.members) (eq-eqb m y.step_number (sym (eqb-true y.step_number m e)))
@@ -198,7 +238,7 @@ agreed_left members c ms below (x ∷ xs) rise own h =
 
 -- one whose own master is kept
 pub agreed_closed_own : (v : MasterSet) (c : ℕ) (x : Member) (xs : List Lending) → Rise v.members → member_of v.members c ≡ Some x → AllByRecursion (IsAgreed v.members v.masters) xs → AllByRecursion (IsAgreed (closed_own c x.master v).members (closed_own c x.master v).masters) xs
-agreed_closed_own v c x xs rise look h = each xs (λ a. others_kept change step_numbers lessors v.members left v.masters a (λ y is. owned y)) h
+agreed_closed_own v c x xs rise look h = each xs (λ a. others_kept change step_numbers lessors keys v.members left v.masters a (λ y is. owned y)) h
   where
     left : List Member
     left = filter (λ (z : Member). not (is_client c z)) v.members
@@ -211,6 +251,9 @@ agreed_closed_own v c x xs rise look h = each xs (λ a. others_kept change step_
 
     lessors : (y : Master) → (change y).lessor ≡ y.lessor
     lessors y = elim (is_step_number x.master y) as (λ b. (if b then kept_as true y else y).lessor ≡ y.lessor) [ true ↦ refl | false ↦ refl ]
+
+    keys : (y : Master) → (change y).key ≡ y.key
+    keys y = elim (is_step_number x.master y) as (λ b. (if b then kept_as true y else y).key ≡ y.key) [ true ↦ refl | false ↦ refl ]
 
     other : (y : Master) → is_step_number x.master y ≡ false → (z : Member) → member_of v.members c ≡ Some z → owns y.step_number z ≡ false
     other y e z here =
@@ -269,3 +312,28 @@ leased_out_is members ms rows h m x = any_with (λ (g : Grant). (g.mode_object =
     lent : (rows : List Lease) → AllByRecursion (IsAgreed members ms) (lendings_in rows) → list_any (λ (a : Lease). has_object a.objects x && is_option m (lessor_of ms a.lessee)) rows ≡ is_lent rows m x
     lent [] h = refl
     lent (a ∷ rows) h = λ i. (ap (λ o. has_object a.objects x && is_option m o) h.0.0 ∙ swap (has_object a.objects x) (a.lessor == m)) i || lent rows h.1 i
+
+-- ---- tokens
+
+-- the lessee of each token is there and held
+pub tokens_held : (l : LeaseSet) (v : MasterSet) → AreLeases l → AreAgreed l v → AreHeld v l.tokens
+tokens_held l v are agreed = all_weaker (λ (row : LeaseToken). has_some_lease l.lendings row.master ≡ true) (λ (row : LeaseToken). option_map_or (is_held v.members) (master_at v.masters row.master) false ≡ true) (λ row h. holds row.master h) l.tokens are.tokens_lent
+  where
+    held : (o : Option Master) → option_map_or (is_owned v.members) o false ≡ true → option_map_or (is_held v.members) o false ≡ true
+    held None k = k
+    held (Some y) k = held_of v.members y k
+
+    holds : (m : ℕ) → has_some_lease l.lendings m ≡ true → option_map_or (is_held v.members) (master_at v.masters m) false ≡ true
+    holds m h =
+        let w = some_passing (is_lease_of m) (IsAgreed v.members v.masters) l.lendings agreed h in
+        held (master_at v.masters m) (ap (λ n. option_map_or (is_owned v.members) (master_at v.masters n) false) (sym (eqb-true w.0.lessee m w.1)) ∙ w.2.1)
+
+-- ---- births
+
+-- who is not there has no lease
+pub none_leased : (members : List Member) (ms : List Master) (xs : List Lending) → AllByRecursion (IsAgreed members ms) xs → (n : ℕ) → is_some (master_at ms n) ≡ false → has_some_lease xs n ≡ false
+none_leased members ms xs h n absent = none_passes (is_lease_of n) xs (each xs (λ x agreed. ne_eqb x.lessee n (λ same. none (master_at ms n) absent (ap (λ k. option_map_or (is_owned members) (master_at ms k) false) (sym same) ∙ agreed.1))) h)
+  where
+    none : (o : Option Master) → is_some o ≡ false → option_map_or (is_owned members) o false ≡ true → ⊥
+    none None e k = false≢true k
+    none (Some y) e k = false≢true (sym e)

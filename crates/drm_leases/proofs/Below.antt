@@ -3,7 +3,7 @@ use Rattle.std.proofs.Common.{◌≡◌, ℕ, suc, zero, ◌+◌, ◌<◌, ◌�
 use Rattle.std.specs.Prelude.{slice_get, ◌⊎◌}
 use Rattle.std.specs.List.{list_any, AllByRecursion}
 use Rattle.std.specs.Option.{option_and_then}
-use Rattle.std.proofs.lemmas.Bool.{eqb-true, false≢true}
+use Rattle.std.proofs.lemmas.Bool.{eqb-true, false≢true, or_left, or_right}
 use Rattle.std.proofs.lemmas.Option.{slice_get_within}
 use Rattle.drm_lists.specs.Chains.{chain_within, is_under}
 use Rattle.drm_lists.specs.Numbers.{is_among}
@@ -156,6 +156,19 @@ module _ (v : MasterSet) (are : AreMasters v) where
           other : {y : ℕ} (b : Bool) → (n == m) ≡ b → m < y → y ≤ n → (n == m) ≡ false
           other true e lt le = let is = eqb-true n m e in absurd (omega (arith, is, lt, le))
           other false e lt le = e
+
+  -- whoever is a direct lessee or below one is below
+  pub under_lessee : (m i n k : ℕ) → slice_get (lessees_of v.masters m) i ≡ Some n → is_under above n k ≡ true → is_below v.masters m k ≡ true
+  under_lessee m i n k at under = below_by_lessees m k ∙ any_at (lessees_of v.masters m) i at
+    where
+      any_at : (xs : List ℕ) (i : ℕ) → slice_get xs i ≡ Some n → list_any (λ y. is_under above y k) xs ≡ true
+      any_at [] i at = absurd (let e : None ≡ Some n = at in cc)
+      any_at (x ∷ xs) zero at = let e : x ≡ n = (let s : Some x ≡ Some n = at in cc) in or_left (is_under above x k) (list_any (λ y. is_under above y k) xs) (subst (λ y. is_under above y k ≡ true) (sym e) under)
+      any_at (x ∷ xs) (suc i) at = or_right (is_under above x k) (list_any (λ y. is_under above y k) xs) (any_at xs i at)
+
+  -- none is below where no direct lessee is left, nor one below it
+  pub none_below : (m i k : ℕ) → slice_get (lessees_of v.masters m) i ≡ None → is_below v.masters m k ≡ true → list_any (λ y. is_under above y k) (take i (lessees_of v.masters m)) ≡ true
+  none_below m i k past h = ap (list_any (λ y. is_under above y k)) (take_past (lessees_of v.masters m) i past) ∙ sym (below_by_lessees m k) ∙ h
 
   -- rows of lessees that are gone when all direct lessees were looked at
   pub all_taken : {X : Type 0} (lessee : X → ℕ) (m i : ℕ) → slice_get (lessees_of v.masters m) i ≡ None → (old now : List X) → now ≡ filter (λ x. not (list_any (λ y. is_under above y (lessee x)) (take i (lessees_of v.masters m)))) old →

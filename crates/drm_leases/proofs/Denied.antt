@@ -1,12 +1,14 @@
 -- What the rules of CREATE_LEASE tell of a master that they deny nothing.
 use Rattle.std.proofs.Common.{◌≡◌, ℕ, ◌+◌, ◌==◌, nat_lt, Bool, true, false, not, ◌&&◌, ◌||◌, List, [], ◌∷◌, ◌++◌, length, Option, None, Some, refl, sym, ap, ◌∙◌, eq-eqb, arith}
 use Rattle.std.specs.Prelude.{if◌then◌else◌, nat_le}
-use Rattle.std.specs.List.{list_any, AllByRecursion}
+use Rattle.std.specs.List.{list_any, list_all, AllByRecursion}
 use Rattle.std.proofs.lemmas.Bool.{or_right, eqb-true}
 use Rattle.std.proofs.lemmas.Bool.Decides.{nat_tests}
 use Rattle.drm_lists.specs.Numbers.{is_among}
 use Rattle.std.specs.Option.{is_some}
-use Rattle.drm_table.specs.Permit.{Check, first_failing}
+use Rattle.drm_table.specs.declared.rules.Rule.{Rule}
+use Rattle.drm_table.specs.declared.rules.Rule.TheVariants.{SubLease, NoModeObject, NotLeasable, Repeated, LeaseShape, LeasedOut, Full}
+use Rattle.drm_table.specs.Permit.{Check, check, first_failing}
 use Rattle.drm_modes.specs.Modes.{ModeSet}
 use Rattle.drm_modes.specs.Numbers.{numbers_from}
 use Rattle.drm_modes.specs.Topology.{Topology, is_crtc, is_plane, is_connector, object_count}
@@ -18,7 +20,7 @@ use Rattle.drm_masters.specs.Masters.{MasterSet, AreMasters, is_client, member_o
 use Rattle.drm_leases.specs.Leases.{LeaseSet, is_leased_out, next_token}
 use Rattle.drm_leases.specs.Calls.{listed_objects}
 use Rattle.drm_leases.specs.Masks.{is_empty, has_object, objects_in}
-use Rattle.drm_leases.specs.Rules.{lease_checks, leased, is_lease}
+use Rattle.drm_leases.specs.Rules.{lease_checks, lease_rules, leased, may_lease, is_seen, is_leasable, stands_once, is_lease}
 use Rattle.drm_leases.proofs.Bits.{among_passing, among_objects}
 
 both : (a b : Bool) → (a && b) ≡ true → (a ≡ true) × (b ≡ true)
@@ -42,16 +44,65 @@ each_holds (c ∷ cs) h =
       | false ↦ λ e k. absurd (let n : Some c.rule ≡ None = k in cc)
     ]) refl h
 
-module _ (l : LeaseSet) (v : MasterSet) (s : ModeSet) (m : ℕ) where
-  -- an id and a token are free
-  pub passed : (universal : Bool) (ids : List ℕ) → first_failing (lease_checks l v s m universal ids) ≡ None → (is_some (free_lessee v m) ≡ true) × (is_some (next_token l) ≡ true)
-  unfolding lease_checks
-  passed universal ids h = both (is_some (free_lessee v m)) (is_some (next_token l)) (each_holds (lease_checks l v s m universal ids) h).1.1.1.1.1.1.0
+-- whatever the last check is, the others decide first
+last_check : (cs : List Check) (x y : Check) → first_failing (cs ++ x ∷ []) ≡ None → first_failing (cs ++ y ∷ []) ≡ first_failing (y ∷ [])
+last_check [] x y h = refl
+last_check (c ∷ cs) x y h =
+    elim c.holds as (λ b. (if b then first_failing (cs ++ x ∷ []) else Some c.rule) ≡ None → (if b then first_failing (cs ++ y ∷ []) else Some c.rule) ≡ first_failing (y ∷ [])) [
+      | true ↦ λ k. last_check cs x y k
+      | false ↦ λ k. absurd (let n : Some c.rule ≡ None = k in cc)
+    ] h
 
-  -- it is a lease
-  pub shaped : (universal : Bool) (ids : List ℕ) → first_failing (lease_checks l v s m universal ids) ≡ None → is_lease s.topology universal ids ≡ true
+other_last : (cs : List Check) (x y : Check) (r : Rule) → (first_failing (x ∷ []) ≡ Some r → first_failing (y ∷ []) ≡ Some r) → first_failing (cs ++ x ∷ []) ≡ Some r → first_failing (cs ++ y ∷ []) ≡ Some r
+other_last [] x y r f h = f h
+other_last (c ∷ cs) x y r f h =
+    elim c.holds as (λ b. (if b then first_failing (cs ++ x ∷ []) else Some c.rule) ≡ Some r → (if b then first_failing (cs ++ y ∷ []) else Some c.rule) ≡ Some r) [
+      | true ↦ λ k. other_last cs x y r f k
+      | false ↦ λ k. k
+    ] h
+
+module _ (l : LeaseSet) (v : MasterSet) (s : ModeSet) (m : ℕ) (universal : Bool) (ids : List ℕ) where
+  abbrev rules_before : List Check
+  rules_before =
+      check SubLease (may_lease v.masters m)
+      ∷ check NoModeObject (list_all (is_seen l.grants v.masters s m universal) ids)
+      ∷ check NotLeasable (list_all (is_leasable s) ids)
+      ∷ check Repeated (list_all (stands_once ids) ids)
+      ∷ check LeaseShape (is_lease s.topology universal ids)
+      ∷ check LeasedOut (not (list_any (is_leased_out l.grants v.masters m) (leased l v s m universal ids)))
+      ∷ []
+
+  module _ (passes : first_failing (lease_rules l v s m universal ids (is_some (next_token l))) ≡ None) where
+    -- a token is free
+    pub token_free : is_some (next_token l) ≡ true
+    token_free = (each_holds (lease_rules l v s m universal ids (is_some (next_token l))) passes).1.1.1.1.1.1.0
+
+    -- it is a lease
+    pub shaped : is_lease s.topology universal ids ≡ true
+    shaped = (each_holds (lease_rules l v s m universal ids (is_some (next_token l))) passes).1.1.1.1.0
+
+    -- no rule denies it where a lessee id is free, and else the last
+    pub all_passed : is_some (free_lessee v m) ≡ true → first_failing (lease_checks l v s m universal ids) ≡ None
+    unfolding lease_checks
+    all_passed free =
+        last_check rules_before (check Full (is_some (next_token l))) (check Full (is_some (free_lessee v m) && is_some (next_token l))) passes
+        ∙ ap (λ b. if b then None else Some Full) (λ i. free i && token_free i)
+
+    pub lessees_full : free_lessee v m ≡ None → first_failing (lease_checks l v s m universal ids) ≡ Some Full
+    unfolding lease_checks
+    lessees_full none =
+        last_check rules_before (check Full (is_some (next_token l))) (check Full (is_some (free_lessee v m) && is_some (next_token l))) passes
+        ∙ ap (λ o. if is_some o && is_some (next_token l) then None else Some Full) none
+
+  -- a rule that denies it does so whatever the ids of lessees
+  pub rule_denies : (r : Rule) → first_failing (lease_rules l v s m universal ids (is_some (next_token l))) ≡ Some r → first_failing (lease_checks l v s m universal ids) ≡ Some r
   unfolding lease_checks
-  shaped universal ids h = (each_holds (lease_checks l v s m universal ids) h).1.1.1.1.0
+  rule_denies r h = other_last rules_before (check Full (is_some (next_token l))) (check Full (is_some (free_lessee v m) && is_some (next_token l))) r (by_room (is_some (free_lessee v m)) (is_some (next_token l))) h
+    where
+      by_room : (a b : Bool) → (if b then None else Some Full) ≡ Some r → (if a && b then None else Some Full) ≡ Some r
+      by_room true b e = e
+      by_room false true e = absurd (let n : None ≡ Some r = e in cc)
+      by_room false false e = e
 
 none_among : (p : ℕ → Bool) → (ids : List ℕ) (x : ℕ) → list_any p ids ≡ false → is_among ids x ≡ true → p x ≡ false
 none_among p [] x h k = absurd (let e : false ≡ true = k in cc)
@@ -66,12 +117,11 @@ none_among p (id ∷ ids) x h k =
     ]) refl h
 
 -- nothing that is leased is leased out already
-pub unlent : (l : LeaseSet) (v : MasterSet) (s : ModeSet) (m : ℕ) (universal : Bool) (ids : List ℕ) → first_failing (lease_checks l v s m universal ids) ≡ None → (mask : ℕ) → objects_in mask ≡ listed_objects s.topology (leased l v s m universal ids) → (x : ℕ) → has_object mask x ≡ true → is_leased_out l.grants v.masters m x ≡ false
-unfolding lease_checks
+pub unlent : (l : LeaseSet) (v : MasterSet) (s : ModeSet) (m : ℕ) (universal : Bool) (ids : List ℕ) → first_failing (lease_rules l v s m universal ids (is_some (next_token l))) ≡ None → (mask : ℕ) → objects_in mask ≡ listed_objects s.topology (leased l v s m universal ids) → (x : ℕ) → has_object mask x ≡ true → is_leased_out l.grants v.masters m x ≡ false
 unlent l v s m universal ids h mask listed x has =
     let all = leased l v s m universal ids in
     let among : (is_among all x && is_among (numbers_from 1 (object_count s.topology)) x) ≡ true = sym (among_passing (is_among all) x (numbers_from 1 (object_count s.topology))) ∙ ap (λ l. is_among l x) (sym listed) ∙ among_objects mask x ∙ has in
-    none_among (is_leased_out l.grants v.masters m) all x (none (list_any (is_leased_out l.grants v.masters m) all) (each_holds (lease_checks l v s m universal ids) h).1.1.1.1.1.0) (both (is_among all x) (is_among (numbers_from 1 (object_count s.topology)) x) among).0
+    none_among (is_leased_out l.grants v.masters m) all x (none (list_any (is_leased_out l.grants v.masters m) all) (each_holds (lease_rules l v s m universal ids (is_some (next_token l))) h).1.1.1.1.1.0) (both (is_among all x) (is_among (numbers_from 1 (object_count s.topology)) x) among).0
   where
     none : (b : Bool) → not b ≡ true → b ≡ false
     none true e = absurd (let j : false ≡ true = e in cc)

@@ -5,10 +5,9 @@ use Rattle.drm_leases.specs.declared.rows.Lease.{Lease}
 use Rattle.drm_leases.specs.Tokens.{LeaseToken, TokenRows}
 use Rattle.drm_leases.specs.declared.leases.Leases.TheInside.{Inside}
 use Rattle.drm_leases.specs.Fields.{set_of}
-use Rattle.drm_leases.specs.Leases.{LeaseSet, Lending, AreLeases}
+use Rattle.drm_leases.specs.Leases.{LeaseSet, Lending}
 use Rattle.drm_leases.specs.Masks.{grants_in, lendings_in}
 use Rattle.drm_leases.proofs.Granting.{grants_where, lendings_where}
-use Rattle.drm_leases.proofs.Sound.{fewer_tokens, fewer_grants}
 
 abbrev pub without : (ℕ → Bool) → LeaseSet → LeaseSet
 without gone l = record l {
@@ -16,10 +15,6 @@ without gone l = record l {
   grants = filter (λ (g : Grant). not (gone g.master)) l.grants;
   lendings = filter (λ (x : Lending). not (gone x.lessee)) l.lendings;
 }
-
-pub without_are : (gone : ℕ → Bool) (l : LeaseSet) → AreLeases l → AreLeases (without gone l)
-without_are gone l are =
-    fewer_grants (record l { tokens = filter (λ (row : LeaseToken). not (gone row.master)) l.tokens }) (fewer_tokens l are (λ (row : LeaseToken). not (gone row.master))) (λ (g : Grant). not (gone g.master)) (filter (λ (x : Lending). not (gone x.lessee)) l.lendings)
 
 -- the fields stand for those that are left
 pub left : (gone : ℕ → Bool) (a : Inside) (tokens : TokenRows) (rows : List Lease) → tokens ≡ (let now : TokenRows = record a.tokens { rows = filter (λ (row : LeaseToken). not (gone row.master)) a.tokens.rows } in now) → rows ≡ filter (λ (x : Lease). not (gone x.lessee)) a.granted.rows →

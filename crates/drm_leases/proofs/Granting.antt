@@ -1,5 +1,5 @@
 -- The leases as a list of grants, and how it changes.
-use Rattle.std.proofs.Common.{◌≡◌, ℕ, zero, suc, ◌-◌, ◌<◌, ◌≤◌, ◌==◌, nat_lt, Bool, true, false, not, cond, ◌&&◌, ◌||◌, T, List, [], ◌∷◌, ◌++◌, map, filter, find as find_row, length, slice_get, Option, Some, None, option_map, option_and_then, is_some, refl, sym, ap, ◌∙◌, arith, append_assoc, append-nil, nat_cmp}
+use Rattle.std.proofs.Common.{◌≡◌, ℕ, zero, suc, ◌-◌, ◌<◌, ◌≤◌, ◌==◌, nat_lt, Bool, true, false, not, cond, ◌&&◌, ◌||◌, T, List, [], ◌∷◌, ◌++◌, map, filter, find as find_row, length, slice_get, Option, Some, None, option_map, option_and_then, is_some, refl, sym, ap, ◌∙◌, arith, append_assoc, append-nil, nat_cmp, eq-eqb}
 use Rattle.std.specs.List.{list_any, AllByRecursion}
 use Rattle.std.specs.Option.{option_map_or}
 use Rattle.std.specs.Ordering.{eq_by_cmp}
@@ -7,21 +7,22 @@ use Rattle.std.specs.Cmp.{nat_cmp_total}
 use Rattle.std.specs.FinMap as fin
 use Rattle.std.specs.FinMap.Entries.{is_sorted, below_all}
 use Rattle.std.proofs.Math.Bool.{and-false}
-use Rattle.std.proofs.lemmas.Bool.{eqb-true, false≢true}
+use Rattle.std.proofs.lemmas.Bool.{eqb-true, false≢true, or_right}
 use Rattle.std.proofs.lemmas.Bool.Decides.{nat_tests}
 use Rattle.std.proofs.lemmas.List.Folds.{list_any-append}
 use Rattle.drm_index_array.specs.Rows.{placed}
 use Rattle.drm_lists.specs.Orders.{InOrder}
 use Rattle.drm_lists.specs.Numbers.{is_among}
-use Rattle.drm_lists.proofs.Lists.{list_any-map}
+use Rattle.drm_lists.proofs.Each.{each_fails}
+use Rattle.drm_lists.proofs.Lists.{list_any-map, all_append, all_mapped, all_of_map, all_each, all_weaker}
 use Rattle.drm_index_array.proofs.Entries.{same_test, before_test, less_of}
 use Rattle.drm_index_array.proofs.Keyed.{left, right, rows_put, rows_where, find_rows, row_at, rows_length, entries_removed}
 use Rattle.drm_leases.specs.declared.rows.Lease.{Lease}
 use Rattle.drm_leases.specs.declared.rows.LeaseRecord.{LeaseRecord}
 use Rattle.drm_leases.specs.declared.rows.Grant.{Grant}
-use Rattle.drm_leases.specs.Leases.{Lending, is_grant_of, is_granted, granted_objects}
+use Rattle.drm_leases.specs.Leases.{Lending, has_some_lease, is_grant_of, is_granted, granted_objects}
 use Rattle.drm_leases.specs.Masks.{has_object, objects_in, is_empty, lease_before, lease_row, leases_in, grants_of, grants_in, lending_of, lendings_in, IsFull}
-use Rattle.drm_leases.specs.Calls.{put_in}
+use Rattle.drm_leases.specs.Calls.{put_in, lending_before}
 use Rattle.drm_leases.proofs.Bits.{among_objects}
 
 abbrev pub Kept : Type 0
@@ -197,28 +198,24 @@ grants_put new xs =
     let behind = filter (λ (x : Lease). not (lease_before x new)) xs in
     grants_both fore (new ∷ behind) ∙ (λ i. grants_where (λ n. nat_lt n m) xs i ++ (grants_of new ++ grants_where (λ n. not (nat_lt n m)) xs i))
 
-pub lendings_put : (new : Lease) (xs : List Lease) → lendings_in (placed lease_before new xs) ≡ put_in (λ (x : Lending). x.lessee) new.lessee (lending_of new ∷ []) (lendings_in xs)
+pub lendings_put : (new : Lease) (xs : List Lease) → lendings_in (placed lease_before new xs) ≡ placed lending_before (lending_of new) (lendings_in xs)
 lendings_put new xs =
     let m = new.lessee in
     let fore = filter (λ (x : Lease). lease_before x new) xs in
     let behind = filter (λ (x : Lease). not (lease_before x new)) xs in
     lendings_both fore (new ∷ behind) ∙ (λ i. lendings_where (λ n. nat_lt n m) xs i ++ lending_of new ∷ lendings_where (λ n. not (nat_lt n m)) xs i)
 
--- no lease is of a lessee of whom no grant is
-pub all_unused : (m : ℕ) → (xs : List Lease) → AllByRecursion IsFull xs → AllByRecursion (λ (g : Grant). (g.master == m) ≡ false) (grants_in xs) → AllByRecursion (λ (x : Lease). is_of m x ≡ false) xs
-all_unused m [] full h = tt
-all_unused m (x ∷ xs) full h = (first (objects_in x.objects) full.0 h, all_unused m xs full.1 (behind (objects_in x.objects) h))
-  where
-    rows : List ℕ → List Grant
-    rows ids = map (λ id. record { master = x.lessee; mode_object = id }) ids
+-- a grant's lessee has a lease
+pub grants_of_leases : (xs : List Lease) → AllByRecursion (λ (g : Grant). has_some_lease (lendings_in xs) g.master ≡ true) (grants_in xs)
+grants_of_leases [] = tt
+grants_of_leases (x ∷ xs) =
+    all_append (λ (g : Grant). has_some_lease (lendings_in (x ∷ xs)) g.master ≡ true) (grants_of x) (grants_in xs)
+    (all_mapped (λ (g : Grant). has_some_lease (lendings_in (x ∷ xs)) g.master ≡ true) (λ id. record { master = x.lessee; mode_object = id }) (objects_in x.objects) (all_each (λ id. has_some_lease (lendings_in (x ∷ xs)) x.lessee ≡ true) (λ id. ap (λ b. b || has_some_lease (lendings_in xs) x.lessee) (eq-eqb x.lessee x.lessee refl)) (objects_in x.objects)))
+    (all_weaker (λ (g : Grant). has_some_lease (lendings_in xs) g.master ≡ true) (λ (g : Grant). has_some_lease (lendings_in (x ∷ xs)) g.master ≡ true) (λ g h. or_right (x.lessee == g.master) (has_some_lease (lendings_in xs) g.master) h) (grants_in xs) (grants_of_leases xs))
 
-    first : (ids : List ℕ) → is_empty ids ≡ false → AllByRecursion (λ (g : Grant). (g.master == m) ≡ false) (map (λ id. record { master = x.lessee; mode_object = id }) ids ++ grants_in xs) → (x.lessee == m) ≡ false
-    first [] e k = absurd (false≢true (sym e))
-    first (id ∷ ids) e k = k.0
-
-    behind : (ids : List ℕ) → AllByRecursion (λ (g : Grant). (g.master == m) ≡ false) (map (λ id. record { master = x.lessee; mode_object = id }) ids ++ grants_in xs) → AllByRecursion (λ (g : Grant). (g.master == m) ≡ false) (grants_in xs)
-    behind [] k = k
-    behind (id ∷ ids) k = behind ids k.1
+-- no lease is of a lessee that has none
+pub all_others : (m : ℕ) → (xs : List Lease) → has_some_lease (lendings_in xs) m ≡ false → AllByRecursion (λ (x : Lease). is_of m x ≡ false) xs
+all_others m xs h = all_of_map (λ (x : Lending). (x.lessee == m) ≡ false) lending_of xs (each_fails (λ (x : Lending). x.lessee == m) (lendings_in xs) h)
 
 -- ---- the grant at a place
 

@@ -12,3 +12,6 @@ pub mod Crossing
 pub mod Keyed
 pub mod Listed
 pub mod Newest
+mod ByKey
+mod Releasing
+mod Lending

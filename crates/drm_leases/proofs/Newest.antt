@@ -1,5 +1,5 @@
 -- A lease of a lessee with a greater number than all others.
-use Rattle.std.proofs.Common.{◌≡◌, ℕ, ◌<◌, ◌==◌, nat_lt, true, false, not, List, [], ◌∷◌, ◌++◌, map, Some, ap, ◌∙◌, append-nil}
+use Rattle.std.proofs.Common.{◌≡◌, ℕ, ◌<◌, ◌==◌, nat_lt, true, false, not, List, ◌++◌, map, Some, ap, ◌∙◌, append-nil}
 use Rattle.std.specs.List.{AllByRecursion}
 use Rattle.std.proofs.lemmas.Bool.{lt-ltb}
 use Rattle.drm_lists.proofs.Each.{filter_none}
@@ -10,15 +10,8 @@ use Rattle.drm_lists.proofs.Orders.{in_order_weaker}
 use Rattle.drm_leases.specs.declared.rows.Grant.{Grant}
 use Rattle.drm_index_array.specs.Rows.{placed}
 use Rattle.drm_leases.specs.Tokens.{LeaseToken, token_before}
-use Rattle.drm_leases.specs.Leases.{LeaseSet, Lending}
-use Rattle.drm_leases.specs.Calls.{IsNewLessee, IsUnusedLessee, put_in, grant, lending, lease_token, with_lease}
-
--- it has no token and no grant
-pub newest_unused : (l : LeaseSet) (m : ℕ) → IsNewLessee l m → IsUnusedLessee l m
-newest_unused l m newest = record {
-  tokens = all_weaker (λ (row : LeaseToken). row.master < m) (λ (row : LeaseToken). (row.master == m) ≡ false) (λ row less. less-differ row.master m less) l.tokens newest.tokens;
-  grants = all_weaker (λ (g : Grant). g.master < m) (λ (g : Grant). (g.master == m) ≡ false) (λ g less. less-differ g.master m less) l.grants newest.grants;
-}
+use Rattle.drm_leases.specs.Leases.{LeaseSet}
+use Rattle.drm_leases.specs.Calls.{IsNewLessee, put_in, grant, lending, lending_before, lease_token, with_lease}
 
 -- the place of its rows is the end
 put_last : {X : Type 0} (lessee : X → ℕ) (m : ℕ) (rows all : List X) → AllByRecursion (λ x. lessee x < m) all → put_in lessee m rows all ≡ all ++ rows
@@ -27,20 +20,20 @@ put_last lessee m rows all newest =
     (λ i. filter_all (λ x. nat_lt (lessee x) m) all before i ++ (rows ++ filter_none (λ x. not (nat_lt (lessee x) m)) all (all_weaker (λ x. nat_lt (lessee x) m ≡ true) (λ x. not (nat_lt (lessee x) m) ≡ false) (λ x e. ap not e) all before) i))
     ∙ ap (λ l. all ++ l) (append-nil rows)
 
-abbrev pub with_last_lease : ℕ → ℕ → ℕ → List ℕ → LeaseSet → LeaseSet
-with_last_lease t m lessor objects l = record l {
+abbrev pub with_last_lease : ℕ → ℕ → ℕ → ℕ → List ℕ → LeaseSet → LeaseSet
+with_last_lease t key m lessor objects l = record l {
   last_given = Some t;
   tokens = placed token_before (lease_token t m) l.tokens;
   grants = l.grants ++ map (grant m) objects;
-  lendings = put_in (λ (x : Lending). x.lessee) m (lending m lessor ∷ []) l.lendings;
+  lendings = placed lending_before (lending m lessor key) l.lendings;
 }
 
-pub newest_last : (t m lessor : ℕ) (objects : List ℕ) (l : LeaseSet) → IsNewLessee l m → with_lease t m lessor objects l ≡ with_last_lease t m lessor objects l
-newest_last t m lessor objects l newest = λ i. record l {
+pub newest_last : (t key m lessor : ℕ) (objects : List ℕ) (l : LeaseSet) → IsNewLessee l m → with_lease t key m lessor objects l ≡ with_last_lease t key m lessor objects l
+newest_last t key m lessor objects l newest = λ i. record l {
   last_given = Some t;
   tokens = placed token_before (lease_token t m) l.tokens;
   grants = put_last (λ (g : Grant). g.master) m (map (grant m) objects) l.grants newest.grants i;
-  lendings = put_in (λ (x : Lending). x.lessee) m (lending m lessor ∷ []) l.lendings;
+  lendings = placed lending_before (lending m lessor key) l.lendings;
 }
 
 -- no token is open twice

@@ -1,10 +1,10 @@
 -- What is so of the leases at all times is so after each change.
 use Rattle.std.proofs.Common.{◌≡◌, ℕ, ◌+◌, ◌<◌, ◌≤◌, ◌==◌, nat_lt, inl, inr, Bool, true, false, cond, not, ◌||◌, List, [], ◌∷◌, ◌++◌, map, filter, find, length, Option, None, Some, refl, sym, ap, subst, ◌∙◌, arith, eq-eqb}
 use Rattle.std.specs.Prelude.{unwrap_or, IfNone}
-use Rattle.std.specs.Option.{option_map}
+use Rattle.std.specs.Option.{is_some, option_map}
 use Rattle.std.specs.List.{list_any, AllByRecursion}
 use Rattle.std.proofs.lemmas.List.{length-map}
-use Rattle.std.proofs.lemmas.Bool.{eqb-true}
+use Rattle.std.proofs.lemmas.Bool.{eqb-true, ne_eqb, false≢true, or_right}
 use Rattle.std.proofs.lemmas.Bool.Decides.{nat_tests}
 use Rattle.drm_index_array.specs.Least.{least}
 use Rattle.drm_index_array.specs.Rows.{placed}
@@ -13,14 +13,15 @@ use Rattle.drm_id_alloc.specs.Table.{or_else}
 use Rattle.drm_lists.specs.Orders.{InOrder}
 use Rattle.drm_lists.proofs.Lists.{all_weaker, all_both, all_each, all_append, all_filter, all_mapped, filter_true, filter-shorter, length-filter_append}
 use Rattle.drm_lists.proofs.Numbers.{flipped}
-use Rattle.drm_lists.proofs.Placed.{all_placed, placed_back, in_order_placed, rise_placed}
+use Rattle.drm_lists.proofs.Each.{any_filter}
+use Rattle.drm_lists.proofs.Placed.{all_placed, any_placed, placed_back, in_order_placed, rise_placed}
 use Rattle.drm_lists.proofs.Orders.{same_parts, in_order_filter, in_order_map, in_order_weaker}
 use Rattle.drm_leases.specs.declared.rows.Grant.{Grant}
 use Rattle.drm_leases.specs.declared.rows.Lease.{Lease}
 use Rattle.drm_leases.specs.Tokens.{LeaseToken, token_before}
 use Rattle.drm_leases.specs.Masks.{lease_before}
-use Rattle.drm_leases.specs.Leases.{LeaseSet, Lending, AreLeases, is_token, is_free, is_grant_of, grant_before, next_token, token_master}
-use Rattle.drm_leases.specs.Calls.{IsUnusedLessee, grant, lease_token, with_lease, without_token}
+use Rattle.drm_leases.specs.Leases.{LeaseSet, Lending, AreLeases, is_lease_of, has_some_lease, is_token, is_free, is_grant_of, grant_before, next_token, token_master}
+use Rattle.drm_leases.specs.Calls.{grant, lending, lending_before, lease_token, with_lease, without_token}
 
 -- ---- rows go
 
@@ -44,24 +45,41 @@ module _ (l : LeaseSet) (a : AreLeases l) where
     lessees_differ = in_order_filter (λ (x y : LeaseToken). (x.master == y.master) ≡ false) p l.tokens a.lessees_differ;
     grants_rise = a.grants_rise;
     few = a.few;
+    tokens_lent = all_filter (λ (row : LeaseToken). has_some_lease l.lendings row.master ≡ true) p l.tokens a.tokens_lent;
+    grants_lent = a.grants_lent;
   }
 
-  pub fewer_grants : (p : Grant → Bool) (xs : List Lending) → AreLeases (record l { grants = filter p l.grants; lendings = xs })
-  fewer_grants p xs = record {
-    last_high = a.last_high;
-    given_high = a.given_high;
-    tokens_low = a.tokens_low;
-    tokens_rise = a.tokens_rise;
-    lessees_differ = a.lessees_differ;
-    grants_rise = in_order_filter grant_before p l.grants a.grants_rise;
-    few = λ m.
-        let object = λ (g : Grant). g.mode_object in
-        let now = length-map (filter (is_grant_of m) (filter p l.grants)) object in
-        let old = length-map (filter (is_grant_of m) l.grants) object in
-        let less = fewer (is_grant_of m) p l.grants in
-        let few = a.few m in
-        omega (arith, now, old, less, few);
-  }
+  -- the leases and open tokens of some lessees go
+  module _ (gone : ℕ → Bool) where
+    abbrev kept : List Lending
+    kept = filter (λ (x : Lending). not (gone x.lessee)) l.lendings
+
+    kept_lent : (m : ℕ) → not (gone m) ≡ true → has_some_lease l.lendings m ≡ true → has_some_lease kept m ≡ true
+    kept_lent m stays h =
+        any_filter (λ _. Unit {0}) (is_lease_of m) (λ (x : Lending). not (gone x.lessee)) (λ x u is. ap (λ n. not (gone n)) (eqb-true x.lessee m is) ∙ stays) l.lendings (all_each (λ _. Unit {0}) (λ _. tt) l.lendings) h
+
+    pub without_are : AreLeases (record l { tokens = filter (λ (row : LeaseToken). not (gone row.master)) l.tokens; grants = filter (λ (g : Grant). not (gone g.master)) l.grants; lendings = kept })
+    without_are = record {
+      last_high = a.last_high;
+      given_high = a.given_high;
+      tokens_low = all_filter (λ (row : LeaseToken). 1 ≤ row.token) (λ (row : LeaseToken). not (gone row.master)) l.tokens a.tokens_low;
+      tokens_rise = in_order_filter (λ (x y : LeaseToken). x.token < y.token) (λ (row : LeaseToken). not (gone row.master)) l.tokens a.tokens_rise;
+      lessees_differ = in_order_filter (λ (x y : LeaseToken). (x.master == y.master) ≡ false) (λ (row : LeaseToken). not (gone row.master)) l.tokens a.lessees_differ;
+      grants_rise = in_order_filter grant_before (λ (g : Grant). not (gone g.master)) l.grants a.grants_rise;
+      few = λ m.
+          let object = λ (g : Grant). g.mode_object in
+          let now = length-map (filter (is_grant_of m) (filter (λ (g : Grant). not (gone g.master)) l.grants)) object in
+          let old = length-map (filter (is_grant_of m) l.grants) object in
+          let less = fewer (is_grant_of m) (λ (g : Grant). not (gone g.master)) l.grants in
+          let few = a.few m in
+          omega (arith, now, old, less, few);
+      tokens_lent =
+          all_both (λ (row : LeaseToken). not (gone row.master) ≡ true) (λ (row : LeaseToken). has_some_lease l.lendings row.master ≡ true) (λ (row : LeaseToken). has_some_lease kept row.master ≡ true) (λ row stays h. kept_lent row.master stays h)
+          (filter (λ (row : LeaseToken). not (gone row.master)) l.tokens) (filter_true (λ (row : LeaseToken). not (gone row.master)) l.tokens) (all_filter (λ (row : LeaseToken). has_some_lease l.lendings row.master ≡ true) (λ (row : LeaseToken). not (gone row.master)) l.tokens a.tokens_lent);
+      grants_lent =
+          all_both (λ (g : Grant). not (gone g.master) ≡ true) (λ (g : Grant). has_some_lease l.lendings g.master ≡ true) (λ (g : Grant). has_some_lease kept g.master ≡ true) (λ g stays h. kept_lent g.master stays h)
+          (filter (λ (g : Grant). not (gone g.master)) l.grants) (filter_true (λ (g : Grant). not (gone g.master)) l.grants) (all_filter (λ (g : Grant). has_some_lease l.lendings g.master ≡ true) (λ (g : Grant). not (gone g.master)) l.grants a.grants_lent);
+    }
 
 -- ---- the token that is given next
 
@@ -97,9 +115,32 @@ none_pass p (x ∷ xs) h = ap (λ b. length (cond b (x ∷ filter p xs) (filter 
 its_grants : (m k : ℕ) (objects : List ℕ) → length (filter (is_grant_of k) (map (grant m) objects)) ≤ length objects
 its_grants m k objects = let less = filter-shorter (is_grant_of k) (map (grant m) objects) in let e = length-map objects (grant m) in omega (arith, less, e)
 
-module _ (l : LeaseSet) (a : AreLeases l) (t m lessor : ℕ) (objects : List ℕ) (new : IsUnusedLessee l m) (next : next_token l ≡ Some t) (rise : InOrder (λ x y. x < y) objects) (few : length objects ≤ 64) where
+module _ (l : LeaseSet) (a : AreLeases l) (t key m lessor : ℕ) (objects : List ℕ) (unlent : has_some_lease l.lendings m ≡ false) (next : next_token l ≡ Some t) (rise : InOrder (λ x y. x < y) objects) (few : length objects ≤ 64) where
   abbrev grants : List Grant
   grants = map (grant m) objects
+
+  -- who has a lease is another
+  another : (n : ℕ) → has_some_lease l.lendings n ≡ true → (n == m) ≡ false
+  another n h = ne_eqb n m (λ same. false≢true (sym unlent ∙ ap (has_some_lease l.lendings) (sym same) ∙ h))
+
+  other_tokens : AllByRecursion (λ (row : LeaseToken). (row.master == m) ≡ false) l.tokens
+  other_tokens = all_weaker (λ (row : LeaseToken). has_some_lease l.lendings row.master ≡ true) (λ (row : LeaseToken). (row.master == m) ≡ false) (λ row h. another row.master h) l.tokens a.tokens_lent
+
+  other_grants : AllByRecursion (λ (g : Grant). (g.master == m) ≡ false) l.grants
+  other_grants = all_weaker (λ (g : Grant). has_some_lease l.lendings g.master ≡ true) (λ (g : Grant). (g.master == m) ≡ false) (λ g h. another g.master h) l.grants a.grants_lent
+
+  -- who has a lease now
+  abbrev lent : List Lending
+  lent = placed lending_before (lending m lessor key) l.lendings
+
+  lent_now : (n : ℕ) → has_some_lease lent n ≡ ((m == n) || has_some_lease l.lendings n)
+  lent_now n = any_placed (is_lease_of n) (λ (x : Lending). lending_before x (lending m lessor key)) (lending m lessor key) l.lendings
+
+  lent_yet : (n : ℕ) → has_some_lease l.lendings n ≡ true → has_some_lease lent n ≡ true
+  lent_yet n h = lent_now n ∙ or_right (m == n) (has_some_lease l.lendings n) h
+
+  lent_too : has_some_lease lent m ≡ true
+  lent_too = lent_now m ∙ ap (λ b. b || has_some_lease l.lendings m) (eq-eqb m m refl)
 
   is : (1 ≤ t) × (t ≤ l.last) × (is_free l.tokens t ≡ true)
   is = next_is l t next
@@ -128,7 +169,7 @@ module _ (l : LeaseSet) (a : AreLeases l) (t m lessor : ℕ) (objects : List ℕ
   few_of : (k : ℕ) (b : Bool) → (k == m) ≡ b → length (filter (is_grant_of k) all) ≤ 64
   few_of k true e =
       let parts = parts_of k in
-      let old = none_pass (is_grant_of k) l.grants (subst (λ n. AllByRecursion (λ (g : Grant). (g.master == n) ≡ false) l.grants) (sym (eqb-true k m e)) new.grants) in
+      let old = none_pass (is_grant_of k) l.grants (subst (λ n. AllByRecursion (λ (g : Grant). (g.master == n) ≡ false) l.grants) (sym (eqb-true k m e)) other_grants) in
       let less = its_grants m k objects in
       omega (arith, parts, old, less, few)
   few_of k false e =
@@ -150,7 +191,7 @@ module _ (l : LeaseSet) (a : AreLeases l) (t m lessor : ℕ) (objects : List ℕ
   above : AllByRecursion (λ (g : Grant). m < g.master) behind
   above =
       all_both (λ (g : Grant). not (is_fore g) ≡ true) (λ (g : Grant). (g.master == m) ≡ false) (λ (g : Grant). m < g.master) (λ g e other. more g.master e other) behind (filter_true (λ g. not (is_fore g)) l.grants)
-      (all_filter (λ (g : Grant). (g.master == m) ≡ false) (λ g. not (is_fore g)) l.grants new.grants)
+      (all_filter (λ (g : Grant). (g.master == m) ≡ false) (λ g. not (is_fore g)) l.grants other_grants)
     where
       more : (n : ℕ) → not (nat_lt n m) ≡ true → (n == m) ≡ false → m < n
       more n e other = grind (arith, nat_tests)
@@ -158,7 +199,7 @@ module _ (l : LeaseSet) (a : AreLeases l) (t m lessor : ℕ) (objects : List ℕ
   new_rise : InOrder grant_before grants
   new_rise = in_order_map grant_before (grant m) objects (in_order_weaker (λ x y. x < y) (λ x y. grant_before (grant m x) (grant m y)) (λ x y lt. inr (refl, lt)) objects rise)
 
-  pub lease_are : AreLeases (with_lease t m lessor objects l)
+  pub lease_are : AreLeases (with_lease t key m lessor objects l)
   lease_are = record {
     last_high = a.last_high;
     given_high = is.1;
@@ -166,14 +207,23 @@ module _ (l : LeaseSet) (a : AreLeases l) (t m lessor : ℕ) (objects : List ℕ
     tokens_rise = rise_placed (λ (row : LeaseToken). row.token) (lease_token t m) l.tokens a.tokens_rise (not_passing (is_token t) l.tokens is.2);
     lessees_differ =
         in_order_placed (λ (row : LeaseToken). row.token) (lease_token t m) l.tokens a.tokens_rise (λ (x y : LeaseToken). (x.master == y.master) ≡ false) a.lessees_differ
-        (all_weaker (λ (row : LeaseToken). (row.master == m) ≡ false) (λ (row : LeaseToken). row.token < t → (row.master == m) ≡ false) (λ row e lt. e) l.tokens new.tokens)
-        (all_weaker (λ (row : LeaseToken). (row.master == m) ≡ false) (λ (row : LeaseToken). nat_lt row.token t ≡ false → (m == row.master) ≡ false) (λ row e k. flipped row.master m e) l.tokens new.tokens);
+        (all_weaker (λ (row : LeaseToken). (row.master == m) ≡ false) (λ (row : LeaseToken). row.token < t → (row.master == m) ≡ false) (λ row e lt. e) l.tokens other_tokens)
+        (all_weaker (λ (row : LeaseToken). (row.master == m) ≡ false) (λ (row : LeaseToken). nat_lt row.token t ≡ false → (m == row.master) ≡ false) (λ row e k. flipped row.master m e) l.tokens other_tokens);
     grants_rise =
         in_order_both grant_before fore (grants ++ behind) (in_order_filter grant_before is_fore l.grants a.grants_rise)
         (in_order_both grant_before grants behind new_rise (in_order_filter grant_before (λ g. not (is_fore g)) l.grants a.grants_rise) (all_mapped (λ (g : Grant). AllByRecursion (grant_before g) behind) (grant m) objects (all_each (λ x. AllByRecursion (grant_before (grant m x)) behind) (λ x. all_weaker (λ (g : Grant). m < g.master) (grant_before (grant m x)) (λ g lt. inl lt) behind above) objects)))
         (all_weaker (λ (g : Grant). g.master < m) (λ (g : Grant). AllByRecursion (grant_before g) (grants ++ behind)) (λ g lt. all_append (grant_before g) grants behind (all_mapped (grant_before g) (grant m) objects (all_each (λ x. grant_before g (grant m x)) (λ x. inl lt) objects)) (all_weaker (λ (h : Grant). m < h.master) (grant_before g) (λ h more. inl (omega (arith, lt, more))) behind above)) fore below);
     few = λ k. let e = length-map (filter (is_grant_of k) all) (λ (g : Grant). g.mode_object) in let less = few_of k (k == m) refl in omega (arith, e, less);
+    tokens_lent =
+        all_placed (λ (row : LeaseToken). has_some_lease lent row.master ≡ true) (λ (row : LeaseToken). token_before row (lease_token t m)) (lease_token t m) l.tokens lent_too
+        (all_weaker (λ (row : LeaseToken). has_some_lease l.lendings row.master ≡ true) (λ (row : LeaseToken). has_some_lease lent row.master ≡ true) (λ row h. lent_yet row.master h) l.tokens a.tokens_lent);
+    grants_lent =
+        all_append (λ (g : Grant). has_some_lease lent g.master ≡ true) fore (grants ++ behind) (old_lent is_fore)
+        (all_append (λ (g : Grant). has_some_lease lent g.master ≡ true) grants behind (all_mapped (λ (g : Grant). has_some_lease lent g.master ≡ true) (grant m) objects (all_each (λ x. has_some_lease lent m ≡ true) (λ x. lent_too) objects)) (old_lent (λ g. not (is_fore g))));
   }
+    where
+      old_lent : (p : Grant → Bool) → AllByRecursion (λ (g : Grant). has_some_lease lent g.master ≡ true) (filter p l.grants)
+      old_lent p = all_filter (λ (g : Grant). has_some_lease lent g.master ≡ true) p l.grants (all_weaker (λ (g : Grant). has_some_lease l.lendings g.master ≡ true) (λ (g : Grant). has_some_lease lent g.master ≡ true) (λ g h. lent_yet g.master h) l.grants a.grants_lent)
 
 -- a lease that is taken back
 pub taken_back : (rows : List Lease) (new : Lease) → InOrder (λ (x y : Lease). x.lessee < y.lessee) rows → AllByRecursion (λ (x : Lease). (x.lessee == new.lessee) ≡ false) rows → filter (λ (x : Lease). not (x.lessee == new.lessee)) (placed lease_before new rows) ≡ rows
@@ -197,6 +247,11 @@ none_spent l new t None is e = is ∙ ap (λ rows. record l { tokens = rows }) (
           | true ↦ λ k n. absurd (let j : Some row ≡ None = n in cc)
           | false ↦ λ k n. ap (λ b. cond (not b) (row ∷ filter (λ (row : LeaseToken). not (is_token t row)) rows) (filter (λ (row : LeaseToken). not (is_token t row)) rows)) k ∙ ap (λ l. row ∷ l) (stays rows n)
         ]) refl h
+
+-- and one that is open goes
+pub some_spent : {X : Type 0} (o : Option X) (P : Type 0) → is_some o ≡ true → IfNone o P
+some_spent None P e = absurd (false≢true e)
+some_spent (Some x) P e = tt
 
 -- the fields stand for a set of which all of it is so
 pub still : (v l : LeaseSet) → v ≡ l → AreLeases l → AreLeases v

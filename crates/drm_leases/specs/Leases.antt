@@ -1,5 +1,5 @@
 -- What lessees control, and open lease tokens (drm-uapi, leases; lease tokens are own), as flat lists.
-use Rattle.std.specs.Prelude.{◌≡◌, ℕ, ◌+◌, ◌==◌, ◌<◌, ◌≤◌, ◌⊎◌, Bool, false, not, ◌&&◌, ◌||◌, List, [], length, Option, None, unwrap_or, find, map, filter, slice_get, if◌then◌else◌, IfSome}
+use Rattle.std.specs.Prelude.{◌≡◌, ℕ, ◌+◌, ◌==◌, ◌<◌, ◌≤◌, ◌⊎◌, Bool, true, false, not, ◌&&◌, ◌||◌, List, [], length, Option, None, unwrap_or, find, map, filter, slice_get, if◌then◌else◌, IfSome}
 use Rattle.std.specs.List.{list_any, AllByRecursion}
 use Rattle.std.specs.Option.{option_map, option_map_or}
 use Rattle.drm_index_array.specs.Least.{least}
@@ -11,10 +11,11 @@ use Rattle.drm_masters.specs.Masters.{is_option, master_at, lessor_of, is_lessee
 use Rattle.drm_leases.specs.declared.rows.Grant.{Grant}
 use Rattle.drm_leases.specs.Tokens.{LeaseToken}
 
--- a lease: whose it is, and who lent it
+-- a lease: whose it is, who lent it, and the key of its lessee
 pub record Lending : Type 0 where
   pub lessee : ℕ
   pub lessor : ℕ
+  pub key : ℕ
 
 -- tokens run from 1 to `last`, of which `last_given` is the last one given, if any was. A lessee is named by its step number. Tokens
 -- rise, grants and leases are in the order of their lessees
@@ -31,6 +32,23 @@ no_leases last = record { last = last; last_given = None; tokens = []; grants = 
 -- the row at a place of an audit's kind, of which grants are the seventh (own)
 abbrev pub nth_row : LeaseSet → ℕ → ℕ → Option Grant
 nth_row l kind i = if kind == 7 then slice_get l.grants i else None
+
+-- leases
+
+abbrev pub is_lease_of : ℕ → Lending → Bool
+is_lease_of m x = x.lessee == m
+
+-- whether the lessee has a lease
+abbrev pub has_some_lease : List Lending → ℕ → Bool
+has_some_lease lendings m = list_any (is_lease_of m) lendings
+
+-- the lessee whose lease has the key
+abbrev pub lessee_at : List Lending → ℕ → Option ℕ
+lessee_at lendings key = option_map (λ (x : Lending). x.lessee) (find (λ (x : Lending). x.key == key) lendings)
+
+-- the key of a lessee that has a lease
+abbrev pub key_at : List Lending → ℕ → Option ℕ
+key_at lendings m = option_map (λ (x : Lending). x.key) (find (is_lease_of m) lendings)
 
 -- what a lease has
 
@@ -75,6 +93,10 @@ is_token t row = row.token == t
 abbrev pub is_token_of : ℕ → LeaseToken → Bool
 is_token_of m row = row.master == m
 
+-- whether the lessee has an open token
+abbrev pub has_token : List LeaseToken → ℕ → Bool
+has_token tokens m = list_any (is_token_of m) tokens
+
 -- the lessee that a token opens
 abbrev pub token_master : List LeaseToken → ℕ → Option ℕ
 token_master tokens t = option_map (λ (row : LeaseToken). row.master) (find (is_token t) tokens)
@@ -99,7 +121,8 @@ next_token l = next_of l.tokens l.last_given l.last
 abbrev pub grant_before : Grant → Grant → Type 0
 grant_before g h = (g.master < h.master) ⊎ ((g.master ≡ h.master) × (g.mode_object < h.mode_object))
 
--- no token is open twice, and no lessee has two; no mode object stands twice in a lease, which has 64 at most
+-- no token is open twice, and no lessee has two; no mode object stands twice in a lease, which has 64 at most; each token and each
+-- grant is of a lessee that has a lease
 pub record AreLeases (l : LeaseSet) : Type 0 where
   pub last_high : l.last ≤ 4294967295
   pub given_high : IfSome l.last_given (λ t. t ≤ l.last)
@@ -108,3 +131,5 @@ pub record AreLeases (l : LeaseSet) : Type 0 where
   pub lessees_differ : InOrder (λ (x y : LeaseToken). (x.master == y.master) ≡ false) l.tokens
   pub grants_rise : InOrder grant_before l.grants
   pub few : (m : ℕ) → length (granted_objects l.grants m) ≤ 64
+  pub tokens_lent : AllByRecursion (λ (row : LeaseToken). has_some_lease l.lendings row.master ≡ true) l.tokens
+  pub grants_lent : AllByRecursion (λ (g : Grant). has_some_lease l.lendings g.master ≡ true) l.grants

@@ -31,15 +31,15 @@ is_empty (x ∷ xs) = false
 pub record LeaseRows : Type 0 where
   pub rows : List Lease
 
-abbrev pub lease : ℕ → ℕ → ℕ → Lease
-lease lessee lessor objects = record { lessee = lessee; lessor = lessor; objects = objects }
+abbrev pub lease : ℕ → ℕ → ℕ → ℕ → Lease
+lease lessee lessor key objects = record { lessee = lessee; lessor = lessor; key = key; objects = objects }
 
 -- the order of the leases
 abbrev pub lease_before : Lease → Lease → Bool
 lease_before x y = nat_lt x.lessee y.lessee
 
 abbrev pub lease_row : ℕ × LeaseRecord → Lease
-lease_row e = lease e.0 e.1.lessor e.1.objects
+lease_row e = lease e.0 e.1.lessor e.1.key e.1.objects
 
 abbrev pub leases_in : map.FinMap nat_cmp LeaseRecord → List Lease
 leases_in kept = list_map lease_row (map.entries kept)
@@ -51,7 +51,7 @@ abbrev pub grants_in : List Lease → List Grant
 grants_in rows = flat_map grants_of rows
 
 abbrev pub lending_of : Lease → Lending
-lending_of x = record { lessee = x.lessee; lessor = x.lessor }
+lending_of x = record { lessee = x.lessee; lessor = x.lessor; key = x.key }
 
 abbrev pub lendings_in : List Lease → List Lending
 lendings_in rows = list_map lending_of rows

@@ -41,9 +41,10 @@ brought_along grants masters t m universal ids = rules.brought_along t universal
 abbrev pub leased : LeaseSet → MasterSet → ModeSet → ℕ → Bool → List ℕ → List ℕ
 leased l v s m universal ids = ids ++ brought_along l.grants v.masters s.topology m universal ids
 
--- what is asked of a master that leases these for a client with universal planes on or off, each rule over all ids
-unfoldable pub lease_checks : LeaseSet → MasterSet → ModeSet → ℕ → Bool → List ℕ → List Check
-lease_checks l v s m universal ids =
+-- what is asked of a master that leases these for a client with universal planes on or off, each rule over all ids; where there is no
+-- room, the last
+abbrev pub lease_rules : LeaseSet → MasterSet → ModeSet → ℕ → Bool → List ℕ → Bool → List Check
+lease_rules l v s m universal ids room =
     rules.rules_in_order
     (may_lease v.masters m)
     (list_all (is_seen l.grants v.masters s m universal) ids)
@@ -51,4 +52,8 @@ lease_checks l v s m universal ids =
     (list_all (stands_once ids) ids)
     (is_lease s.topology universal ids)
     (not (list_any (is_leased_out l.grants v.masters m) (leased l v s m universal ids)))
-    (is_some (free_lessee v m) && is_some (next_token l))
+    room
+
+-- there is room where a lessee id and a token are free
+unfoldable pub lease_checks : LeaseSet → MasterSet → ModeSet → ℕ → Bool → List ℕ → List Check
+lease_checks l v s m universal ids = lease_rules l v s m universal ids (is_some (free_lessee v m) && is_some (next_token l))

@@ -5,22 +5,24 @@ ghost use Rattle.std.specs.List.{AllByRecursion};
 ghost use Rattle.drm_index_array.specs.Rows.{placed};
 ghost use Rattle.drm_lists.specs.Orders.{InOrder};
 ghost use Rattle.drm_leases.specs.Leases as sets;
-ghost use Rattle.drm_leases.specs.Masks.{has_object, grants_in, is_lent, IsFull, lease, lease_before};
+ghost use Rattle.drm_leases.specs.Masks.{has_object, grants_in, lendings_in, is_lent, IsFull, lease, lease_before};
 
 use crate::lent::Lent;
 use crate::masks;
 use crate::rows::{Lease, LeaseRecord};
 use drm_index_array::IndexArray;
-use drm_masters::NoMemory;
+use drm_masters::{MasterKey, NoMemory};
 use drm_table::ShownList;
 use std::alloc::Global;
 use std::marker::Model;
 
-/// The leases, by the step numbers of the lessees, and what each lessor has lent by them; a lease without a mode object is none, and
-/// no lessor lends a mode object twice. Contracts see a flat list, in the order of the lessees.
+/// The leases, found by the step numbers and by the keys of their lessees, and what each lessor has lent by them; a lease without a
+/// mode object is none, and no lessor lends a mode object twice. Contracts see a flat list, in the order of the lessees.
 #[derive(Drop)]
 pub struct Granted {
     leases: IndexArray<LeaseRecord>,
+    // the step numbers of the lessees, by their keys
+    lessees: IndexArray<u32>,
     lent: Lent,
 }
 
@@ -43,6 +45,7 @@ impl Granted {
     {
         Granted {
             leases: IndexArray::new(alloc),
+            lessees: IndexArray::new(alloc),
             lent: Lent::new(alloc),
         }
     }
@@ -69,6 +72,20 @@ impl Granted {
         let lessee = self.leases.nth(position)?;
         let kept = *self.leases.get(lessee)?;
         Some(lease_of(lessee, kept))
+    }
+
+    /// Returns the lessee whose lease has the key. Does not allocate.
+    pub fn lessee(&self, key: MasterKey) -> Option<u32>
+        ensures { result ≡ sets.lessee_at (lendings_in self.now.rows) key }
+    {
+        self.lessees.get(key.number()).copied()
+    }
+
+    /// Returns the key of a lessee that has a lease. Does not allocate.
+    pub fn key(&self, lessee: u32) -> Option<MasterKey>
+        ensures { result ≡ sets.key_at (lendings_in self.now.rows) lessee }
+    {
+        Some(self.leases.get(lessee)?.key)
     }
 
     /// Whether the lease of a lessee has the mode object.
@@ -98,17 +115,33 @@ impl Granted {
         self.lent.mask(lessor)
     }
 
-    /// Adds the lease of a lessee that has none. If memory is refused, nothing changes.
-    pub fn add(&mut self, lessee: u32, lessor: u32, objects: u64) -> Result<(), NoMemory>
-        requires some { IsFull (lease lessee lessor objects) }
+    /// Adds the lease of a lessee that has none, under a key that no lease has. If memory is refused, nothing changes.
+    pub fn add(
+        &mut self,
+        lessee: u32,
+        lessor: u32,
+        key: MasterKey,
+        objects: u64,
+    ) -> Result<(), NoMemory>
+        requires some { IsFull (lease lessee lessor key objects) }
         requires unlent { (x : ℕ) → has_object objects x ≡ true → is_lent self.old.rows lessor x ≡ false }
-        ensures ok { OnOk result (self.new.rows ≡ placed lease_before (lease lessee lessor objects) self.old.rows) }
+        ensures ok { OnOk result (self.new.rows ≡ placed lease_before (lease lessee lessor key objects) self.old.rows) }
         ensures err { OnErr result (self.new ≡ self.old) }
     {
         if let Err(NoMemory) = self.lent.lend(lessor, objects) {
             return Err(NoMemory);
         }
-        if let Err(_fault) = self.leases.insert(lessee, LeaseRecord { lessor, objects }) {
+        if let Err(_fault) = self.lessees.insert(key.number(), lessee) {
+            self.lent.give_back(lessor, objects);
+            return Err(NoMemory);
+        }
+        let record = LeaseRecord {
+            lessor,
+            key,
+            objects,
+        };
+        if let Err(_fault) = self.leases.insert(lessee, record) {
+            let _lessee = self.lessees.remove(key.number());
             self.lent.give_back(lessor, objects);
             return Err(NoMemory);
         }
@@ -122,16 +155,18 @@ impl Granted {
         let Some(kept) = self.leases.remove(lessee) else {
             return;
         };
+        let _lessee = self.lessees.remove(kept.key.number());
         self.lent.give_back(kept.lessor, kept.objects);
     }
 }
 
 fn lease_of(lessee: u32, kept: LeaseRecord) -> Lease
-    ensures { result ≡ lease lessee kept.lessor kept.objects }
+    ensures { result ≡ lease lessee kept.lessor kept.key kept.objects }
 {
     Lease {
         lessee,
         lessor: kept.lessor,
+        key: kept.key,
         objects: kept.objects,
     }
 }

@@ -1,16 +1,17 @@
 //! The leases.
 
-ghost use Rattle.std.specs.Prelude.{◌≡◌, ◌≤◌, ◌<◌, true, false, None, find, slice_get, length, IfSome, IfNone, OnErr};
-ghost use Rattle.std.specs.Option.{is_some, option_map, option_map_or};
+ghost use Rattle.std.specs.Prelude.{◌≡◌, ℕ, ◌≤◌, ◌<◌, [], true, false, None, find, slice_get, length, IfSome, IfNone, OnErr};
+ghost use Rattle.std.specs.Option.{is_some, option_map, option_map_or, option_and_then};
 ghost use Rattle.drm_masters.specs.Masters as masters_sets;
 ghost use Rattle.drm_masters.specs.Calls as masters_calls;
 ghost use Rattle.drm_leases.specs.Leases as sets;
 ghost use Rattle.drm_leases.specs.Calls as calls;
+ghost use Rattle.drm_leases.specs.Masks.{has_object, objects_in, is_empty};
 ghost use Rattle.drm_leases.specs.Rules as rules;
 ghost use Rattle.drm_leases.specs.Agreed.{AreAgreed};
 ghost use Rattle.drm_table.specs.Permit.{first_failing};
 
-use crate::endings::{end_leases, end_leases_below};
+use crate::endings::{end_leases, end_leases_below, release_open, release_open_below};
 use crate::faults::LeaseFault;
 use crate::granted::Granted;
 use crate::rows::{Grant, Leased};
@@ -18,7 +19,7 @@ use crate::rules::{are_leasable, are_seen, is_lease, may_lease, planes_along, st
 use crate::searches::{any_leased_out, controls, has_lease, is_leased_out, nth_grant};
 use crate::tokens::LeaseTokens;
 use crate::writes::listed_mask;
-use drm_masters::{Masters, NoMemory};
+use drm_masters::{LesseeFault, MasterKey, Masters, NoMemory};
 use drm_modes::Modes;
 use drm_table::{Rule, ShownList};
 use std::alloc::Global;
@@ -27,8 +28,9 @@ use std::marker::Model;
 /// The number of an audit's rows of grants (own).
 const GRANT_KIND: u32 = 7;
 
-/// What lessees control, and the open lease tokens (drm-uapi, leases; tokens are own). A lessee is named by the number of the
-/// step that made it, since a key may be given again. Contracts see flat lists, in the order of the lessees.
+/// What lessees control, and the open lease tokens (drm-uapi, leases; tokens are own). Masters are named by their keys. A lease that
+/// ended is not found by its lessee's key, so a key that is given again finds no old lease. Contracts see flat lists, in the order of
+/// the lessees, which they name by the numbers of the steps that made them.
 ///
 /// ```rust
 /// let Some(topology) = Topology::new(2, &[1, 2], &[3, 2], &[5, 6]) else { return };
@@ -89,7 +91,7 @@ impl Leases {
 
     /// Creates a lessee of a client's master, a lease of the listed mode objects, and the token that opens it (drm-uapi,
     /// CREATE_LEASE). If the client has universal planes off, each listed CRTC brings along its primary and its cursor plane,
-    /// if the master controls it (own). No master, grant or open token has this birth yet, and that of the client's master is
+    /// if the master controls it (own). No master has this birth yet, and that of the client's master is
     /// lower: the step that made the lessor is earlier.
     ///
     /// # Errors
@@ -111,7 +113,6 @@ impl Leases {
     ) -> Result<Leased, LeaseFault>
         requires open_client { is_some (masters_sets.member_of masters.old.members client) ≡ true }
         requires new_step_number { is_some (masters_sets.master_at masters.old.masters birth) ≡ false }
-        requires new_lessee { calls.IsUnusedLessee self.old birth }
         requires later { IfSome (masters_sets.member_of masters.old.members client) (λ x. x.master < birth) }
         requires agreed { AreAgreed self.old masters.old }
         ensures created { IfSome (masters_sets.member_of masters.old.members client) (λ x. calls.Created self.old masters.old modes.now x.master universal ids.now birth result self.new masters.new) }
@@ -130,39 +131,29 @@ impl Leases {
             unreachable!()
         };
         let objects = listed_mask(modes, ids, along);
-        self.granted.laws();
-        if let Err(NoMemory) = self.granted.add(birth, member.master, objects) {
-            return Err(LeaseFault::NoMemory);
+        match self.lend(masters, lessor.key, objects, birth) {
+            Ok(made) => Ok(made),
+            Err(LesseeFault::Full) => Err(LeaseFault::Denied(Rule::Full)),
+            Err(LesseeFault::NoMemory) => Err(LeaseFault::NoMemory),
         }
-        let Ok(made) = masters.make_lessee(lessor.key, birth) else {
-            self.granted.remove(birth);
-            return Err(LeaseFault::NoMemory);
-        };
-        let Ok(token) = self.tokens.give(birth) else {
-            masters.release(made.0);
-            self.granted.remove(birth);
-            return Err(LeaseFault::NoMemory);
-        };
-        Ok(Leased {
-            m: made.0,
-            id: made.1,
-            token,
-        })
     }
 
-    /// Whether the lease of a lessee has a mode object. It takes no memory.
+    /// Returns whether the lease of a lessee has a mode object; false if no lessee with a lease has the key. Does not allocate.
     ///
     /// ```rust
-    /// assert!(leases.holds(2, 1) && !leases.holds(2, 2));
+    /// assert!(leases.holds(leased.m, 1) && !leases.holds(leased.m, 2));
     /// ```
-    pub fn holds(&self, master: u32, mode_object: u32) -> bool
-        ensures { result ≡ sets.is_granted self.now.grants master mode_object }
+    pub fn holds(&self, master: MasterKey, mode_object: u32) -> bool
+        ensures { result ≡ option_map_or (λ m. sets.is_granted self.now.grants m mode_object) (sets.lessee_at self.now.lendings master) false }
     {
-        self.granted.has(master, mode_object)
+        match self.granted.lessee(master) {
+            Some(lessee) => self.granted.has(lessee, mode_object),
+            None => false,
+        }
     }
 
-    /// Whether a master controls a mode object (drm-uapi, leases): one without a lessor all, a lessee what its lease has. It takes no
-    /// memory.
+    /// Returns whether a master controls a mode object (drm-uapi, leases): one without a lessor all, a lessee what its lease has. The
+    /// master is named by the number of the step that made it. Does not allocate.
     ///
     /// ```rust
     /// assert!(leases.controls(&masters, 1, 2) && !leases.controls(&masters, 2, 2));
@@ -173,61 +164,75 @@ impl Leases {
         controls(&self.granted, masters, master, mode_object)
     }
 
-    /// Whether the lease of a direct lessee of the master has a mode object. It takes no memory.
+    /// Returns whether the lease of a direct lessee of the master has a mode object. Does not allocate.
     ///
     /// ```rust
-    /// assert!(leases.leased_out(&masters, 1, 3));
+    /// let Some(owner) = masters.master(1) else { return };
+    /// assert!(leases.leased_out(&masters, owner.key, 3));
     /// ```
-    pub fn leased_out(&self, masters: &Masters, master: u32, mode_object: u32) -> bool
-        requires { AreAgreed self.now masters.now }
-        ensures { result ≡ sets.is_leased_out self.now.grants masters.now.masters master mode_object }
+    pub fn leased_out(&self, masters: &Masters, master: MasterKey, mode_object: u32) -> bool
+        requires there { masters_sets.is_there masters.now.masters master ≡ true }
+        requires agreed { AreAgreed self.now masters.now }
+        ensures { result ≡ sets.is_leased_out self.now.grants masters.now.masters (masters_sets.step_number_at masters.now.masters master) mode_object }
     {
-        is_leased_out(&self.granted, masters, master, mode_object)
+        let Some(lessor) = masters.of_key(master) else {
+            unreachable!()
+        };
+        is_leased_out(&self.granted, masters, lessor.step_number, mode_object)
     }
 
     /// Returns the ids of the direct lessees of the master whose lease is not empty, in rising order (drm-uapi, leases;
     /// the order is own). Does not allocate.
     ///
     /// ```rust
-    /// assert!(leases.list(&masters, 1).ids() == [1].as_slice());
+    /// let Some(owner) = masters.master(1) else { return };
+    /// assert!(leases.list(&masters, owner.key).ids() == [1].as_slice());
     /// ```
-    pub fn list(&self, masters: &Masters, master: u32) -> ShownList
-        ensures { result ≡ sets.lessee_ids self.now.grants masters.now.masters masters.now.last_lessee master }
+    pub fn list(&self, masters: &Masters, master: MasterKey) -> ShownList
+        requires { masters_sets.is_there masters.now.masters master ≡ true }
+        ensures { result ≡ sets.lessee_ids self.now.grants masters.now.masters masters.now.last_lessee (masters_sets.step_number_at masters.now.masters master) }
     {
+        let Some(lessor) = masters.of_key(master) else {
+            unreachable!()
+        };
         masters.laws();
         let mut list = ShownList::new();
         let last = masters.last_lessee();
         for id in 1..=last {
-            if has_lease(&self.granted, masters, master, id) {
+            if has_lease(&self.granted, masters, lessor.step_number, id) {
                 list.push(id);
             }
         }
         list
     }
 
-    /// The mode objects in the lease of a lessee, rising. It takes no memory.
+    /// Returns the mode objects in the lease of a lessee, rising; none if no lessee with a lease has the key. Does not allocate.
     ///
     /// ```rust
-    /// assert!(leases.objects_of(2).ids() == [1, 3, 7].as_slice());
+    /// assert!(leases.objects_of(leased.m).ids() == [1, 3, 7].as_slice());
     /// ```
-    pub fn objects_of(&self, master: u32) -> ShownList
-        ensures { result ≡ sets.granted_objects self.now.grants master }
+    pub fn objects_of(&self, master: MasterKey) -> ShownList
+        ensures { result ≡ option_map_or (sets.granted_objects self.now.grants) (sets.lessee_at self.now.lendings master) [] }
     {
-        self.granted.objects_of(master)
+        match self.granted.lessee(master) {
+            Some(lessee) => self.granted.objects_of(lessee),
+            None => ShownList::new(),
+        }
     }
 
-    /// The lessee that a token opens, if the token is open. It takes no memory.
+    /// Returns the lessee that a token opens, if the token is open. Does not allocate.
     ///
     /// ```rust
-    /// assert!(leases.token_master(leased.token) == Some(2));
+    /// assert!(leases.token_master(leased.token) == Some(leased.m));
     /// ```
-    pub fn token_master(&self, token: u32) -> Option<u32>
-        ensures { result ≡ sets.token_master self.now.tokens token }
+    pub fn token_master(&self, token: u32) -> Option<MasterKey>
+        ensures { result ≡ option_and_then (sets.key_at self.now.lendings) (sets.token_master self.now.tokens token) }
     {
-        self.tokens.lessee(token)
+        let lessee = self.tokens.lessee(token)?;
+        self.granted.key(lessee)
     }
 
-    /// The open token of a lessee, if it has one. It takes no memory.
+    /// Returns the open token of a lessee, if it has one. The lessee is named by the number of the step that made it. Does not allocate.
     ///
     /// ```rust
     /// assert!(leases.token_of(2) == Some(leased.token));
@@ -238,53 +243,64 @@ impl Leases {
         self.tokens.of(master)
     }
 
-    /// Spends an open token, and gives the lessee that it opens. Where the token isn't open nothing changes. It takes no memory.
+    /// Spends an open token, and returns the lessee that it opens. If the token is not open, nothing changes. Does not allocate.
     ///
     /// ```rust
-    /// assert!(leases.redeem(leased.token) == Some(2));
+    /// assert!(leases.redeem(leased.token) == Some(leased.m));
     /// assert!(leases.token_of(2).is_none());
     /// ```
-    pub fn redeem(&mut self, token: u32) -> Option<u32>
-        ensures master { result ≡ sets.token_master self.old.tokens token }
+    pub fn redeem(&mut self, token: u32) -> Option<MasterKey>
+        ensures master { result ≡ option_and_then (sets.key_at self.old.lendings) (sets.token_master self.old.tokens token) }
         ensures spent { self.new ≡ calls.without_token token self.old }
         ensures none { IfNone result (self.new ≡ self.old) }
     {
-        self.tokens.spend(token)
+        let lessee = self.tokens.spend(token)?;
+        self.granted.key(lessee)
     }
 
-    /// Empties the lease of a master and of all below it, takes their open tokens, and releases them: a lessee that nobody
-    /// redeemed goes, and a master that was kept (drm-uapi, leases; what comes of tokens is own). It takes no memory.
+    /// Ends the leases of a master and of all below it, takes their open tokens, and releases each lessee whose token it takes. Such a
+    /// lessee is freed unless a client or a lessee of its own holds it (drm-uapi, leases; tokens are own). No other master is released:
+    /// the own master of a client that closed stays until [`Masters::release`]. Does not allocate.
     ///
     /// ```rust
-    /// leases.revoke(&mut masters, 2);
-    /// assert!(leases.objects_of(2).ids().is_empty());
+    /// if masters.of_key(leased.m).is_some() {
+    ///     leases.revoke(&mut masters, leased.m);
+    /// }
+    /// assert!(leases.objects_of(leased.m).ids().is_empty());
     /// ```
-    pub fn revoke(&mut self, masters: &mut Masters, master: u32)
-        requires { AreAgreed self.old masters.old }
-        ensures leases { self.new ≡ calls.ended masters.old.masters master self.old }
-        ensures masters { masters.new ≡ masters_sets.swept (masters_calls.released_under master masters.old) }
+    pub fn revoke(&mut self, masters: &mut Masters, master: MasterKey)
+        requires there { masters_sets.is_there masters.old.masters master ≡ true }
+        requires agreed { AreAgreed self.old masters.old }
+        ensures leases { self.new ≡ calls.ended masters.old.masters (masters_sets.step_number_at masters.old.masters master) self.old }
+        ensures masters { masters.new ≡ masters_sets.swept (masters_calls.released (calls.is_opened_under self.old.tokens masters.old.masters (masters_sets.step_number_at masters.old.masters master)) masters.old) }
         ensures agreed { AreAgreed self.new masters.new }
     {
-        end_leases(&mut self.granted, &mut self.tokens, masters, master);
-        masters.release_under(master);
+        let Some(top) = masters.of_key(master) else {
+            unreachable!()
+        };
+        end_leases(&mut self.granted, masters, top.step_number);
+        release_open(&mut self.tokens, masters, top.step_number);
     }
 
-    /// Empties the leases of all below a master, takes their open tokens, and releases them. Its own lease, open token and stay
-    /// remain; it goes only where nothing but what was below it held it (drm-uapi, leases; what comes of tokens is own). It takes
-    /// no memory.
+    /// Ends the leases of all below a master, takes their open tokens, and releases each lessee whose token it takes. The master's own
+    /// lease and open token remain, and no other master is released (drm-uapi, leases; tokens are own). Does not allocate.
     ///
     /// ```rust
-    /// leases.revoke_below(&mut masters, 1);
-    /// assert!(leases.list(&masters, 1).ids().is_empty());
+    /// let Some(owner) = masters.master(1) else { return };
+    /// leases.revoke_below(&mut masters, owner.key);
     /// ```
-    pub fn revoke_below(&mut self, masters: &mut Masters, master: u32)
-        requires { AreAgreed self.old masters.old }
-        ensures leases { self.new ≡ calls.ended_below masters.old.masters master self.old }
-        ensures masters { masters.new ≡ masters_sets.swept (masters_calls.released_below master masters.old) }
+    pub fn revoke_below(&mut self, masters: &mut Masters, master: MasterKey)
+        requires there { masters_sets.is_there masters.old.masters master ≡ true }
+        requires agreed { AreAgreed self.old masters.old }
+        ensures leases { self.new ≡ calls.ended_below masters.old.masters (masters_sets.step_number_at masters.old.masters master) self.old }
+        ensures masters { masters.new ≡ masters_sets.swept (masters_calls.released (calls.is_opened_below self.old.tokens masters.old.masters (masters_sets.step_number_at masters.old.masters master)) masters.old) }
         ensures agreed { AreAgreed self.new masters.new }
     {
-        end_leases_below(&mut self.granted, &mut self.tokens, masters, master);
-        masters.release_below(master);
+        let Some(top) = masters.of_key(master) else {
+            unreachable!()
+        };
+        end_leases_below(&mut self.granted, masters, top.step_number);
+        release_open_below(&mut self.tokens, masters, top.step_number);
     }
 
     /// The last token given; none before the first.
@@ -324,6 +340,47 @@ impl Leases {
         nth_grant(&self.granted, position)
     }
 
+    // creates a lessee of a master, with a lease of these mode objects and a token, if a lessee id is free
+    fn lend(
+        &mut self,
+        masters: &mut Masters,
+        lessor: MasterKey,
+        objects: u64,
+        birth: u32,
+    ) -> Result<Leased, LesseeFault>
+        requires there { masters_sets.is_there masters.old.masters lessor ≡ true }
+        requires new_step_number { is_some (masters_sets.master_at masters.old.masters birth) ≡ false }
+        requires later { masters_sets.step_number_at masters.old.masters lessor < birth }
+        requires some { is_empty (objects_in objects) ≡ false }
+        requires unlent { (x : ℕ) → has_object objects x ≡ true → sets.is_leased_out self.old.grants masters.old.masters (masters_sets.step_number_at masters.old.masters lessor) x ≡ false }
+        requires token { is_some (sets.next_token self.old) ≡ true }
+        requires agreed { AreAgreed self.old masters.old }
+        ensures lent { calls.Lends self.old masters.old (masters_sets.step_number_at masters.old.masters lessor) (objects_in objects) birth result self.new masters.new }
+        ensures err { OnErr result ((self.new ≡ self.old) × (masters.new ≡ masters.old)) }
+        ensures agreed { AreAgreed self.new masters.new }
+    {
+        masters.laws();
+        let Some(above) = masters.of_key(lessor) else {
+            unreachable!()
+        };
+        let made = masters.make_lessee(lessor, birth)?;
+        self.granted.laws();
+        if let Err(NoMemory) = self.granted.add(birth, above.step_number, made.0, objects) {
+            masters.release(made.0);
+            return Err(LesseeFault::NoMemory);
+        }
+        let Ok(token) = self.tokens.give(birth) else {
+            self.granted.remove(birth);
+            masters.release(made.0);
+            return Err(LesseeFault::NoMemory);
+        };
+        Ok(Leased {
+            m: made.0,
+            id: made.1,
+            token,
+        })
+    }
+
     // the planes that come along with the CRTCs of a lease
     fn brought_along(
         &self,
@@ -338,8 +395,7 @@ impl Leases {
         planes_along(&self.granted, masters, modes, master, universal, ids)
     }
 
-    // the first rule that denies a lease to a master
-    #[tactic(auto, unfolding(crate::specs::Rules::lease_checks))]
+    // returns the first rule that denies a lease to a master, if a lessee id is free
     fn denied(
         &self,
         masters: &Masters,
@@ -351,7 +407,7 @@ impl Leases {
     ) -> Option<Rule>
         requires agreed { AreAgreed self.now masters.now }
         requires along { along.now ≡ rules.brought_along self.now.grants masters.now.masters modes.now.topology master universal ids.now }
-        ensures { result ≡ first_failing (rules.lease_checks self.now masters.now modes.now master universal ids.now) }
+        ensures { result ≡ first_failing (rules.lease_rules self.now masters.now modes.now master universal ids.now (is_some (sets.next_token self.now))) }
     {
         if !may_lease(masters, master) {
             return Some(Rule::SubLease);
@@ -373,7 +429,7 @@ impl Leases {
         {
             return Some(Rule::LeasedOut);
         }
-        if masters.free_lessee(master).is_none() || self.tokens.is_full() {
+        if self.tokens.is_full() {
             return Some(Rule::Full);
         }
         None

@@ -21,11 +21,12 @@ pub struct Grant {
     pub mode_object: u32,
 }
 
-/// A lease: whose it is, who lent it, and what it has.
+/// A lease: whose it is, who lent it, the key of its lessee, and what it has.
 #[derive(Clone, Copy)]
 pub struct Lease {
     pub lessee: u32,
     pub lessor: u32,
+    pub key: MasterKey,
     pub objects: u64,
 }
 
@@ -33,6 +34,7 @@ pub struct Lease {
 #[derive(Clone, Copy)]
 pub struct LeaseRecord {
     pub lessor: u32,
+    pub key: MasterKey,
     pub objects: u64,
 }
 

@@ -64,6 +64,13 @@ impl LeaseTokens {
         self.lessees.get(token).copied()
     }
 
+    /// Returns whether a lessee has a token. Does not allocate.
+    pub fn is_open(&self, lessee: u32) -> bool
+        ensures { result ≡ sets.has_token self.now.rows lessee }
+    {
+        self.of(lessee).is_some()
+    }
+
     /// Returns the token of a lessee. Does not allocate.
     pub fn of(&self, lessee: u32) -> Option<u32>
         ensures { result ≡ sets.token_of self.now.rows lessee }

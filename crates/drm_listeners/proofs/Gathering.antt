@@ -1,5 +1,5 @@
 -- The sessions of three listeners, and their participants.
-use Rattle.std.proofs.Common.{◌≡◌, ℕ, suc, ◌+◌, List, [], ◌∷◌, ◌++◌, All, length, refl, sym, ap, ◌∙◌, subst, arith, append_assoc, length-append, inl, inr}
+use Rattle.std.proofs.Common.{◌≡◌, ℕ, zero, suc, ◌+◌, List, [], ◌∷◌, ◌++◌, All, length, refl, sym, ap, ◌∙◌, subst, arith, append_assoc, length-append, inl, inr}
 use Rattle.std.specs.List.{AllByRecursion}
 use Rattle.std.specs.Prelude.{map, take, drop, Result, Ok, Err, IfOk, OnOk}
 use Rattle.std.proofs.Math.Seq.{drop-append-add, drop-append_seam, take-append_seam}
@@ -17,7 +17,7 @@ use Rattle.drm_listeners.specs.declared.counts.Counts.{Counts}
 use Rattle.drm_listeners.specs.declared.listeners.ByClass.{ByClass}
 use Rattle.drm_listeners.specs.Connections.{IsServed, IsSessionBy, IsSessionOf, SessionState, participants_in, sessions_in}
 use Rattle.drm_listeners.specs.Listeners.{AreServed}
-use Rattle.drm_listeners.specs.Serving.{AreSessionsOf, HaveSat, IsTold, card_sessions, render_sessions, root_sessions}
+use Rattle.drm_listeners.specs.Serving.{AreSessionsOf, HaveSat, IsBy, IsTold, card_sessions, render_sessions, root_sessions}
 
 -- ---- lists
 
@@ -73,29 +73,39 @@ of-class class (s ∷ sittings) h =
 of-listener : (class : Class) (count : ℕ) (participant : ParticipantView) (served : ServedListener) → IsServed class count participant served → All (IsSessionOf class) served.sessions.items
 of-listener class count participant served h = subst (λ (l : List Session). All (IsSessionOf class) l) (sym h.sessions) (of-class class h.sittings h.of_class)
 
-parted : (counts : Counts) (cards renders roots : List Session) → length cards ≡ counts.cards → length renders ≡ counts.renders → length roots ≡ counts.roots
-    → All (IsSessionOf Card) cards → All (IsSessionOf Render) renders → All (IsSessionOf Root) roots → AreSessionsOf counts (cards ++ (renders ++ roots))
-parted counts cards renders roots c r o of_cards of_renders of_roots =
-    let later : List Session = renders ++ roots in
-    let all : List Session = cards ++ later in
-    let behind : drop counts.cards all ≡ later = ap (λ (n : ℕ). drop n all) (sym c) ∙ drop-append_seam cards later in
-    record {
-      count = (let a = length-append cards later in let b = length-append renders roots in omega (arith, a, b, c, r, o));
-      cards = All-same (IsSessionOf Card) (card_sessions counts all) cards (ap (λ (n : ℕ). take n all) (sym c) ∙ take-append_seam cards later) of_cards;
-      renders = All-same (IsSessionOf Render) (render_sessions counts all) renders
-          (ap (λ (l : List Session). take counts.renders l) behind ∙ ap (λ (n : ℕ). take n later) (sym r) ∙ take-append_seam renders roots) of_renders;
-      roots = All-same (IsSessionOf Root) (root_sessions counts all) roots
-          (ap (λ (n : ℕ). drop (n + counts.renders) all) (sym c) ∙ drop-append-add cards later counts.renders ∙ ap (λ (n : ℕ). drop n later) (sym r) ∙ drop-append_seam renders roots) of_roots;
-    }
+-- what stands in each of three parts, whose lengths are the counts
+parted : {A : Type 0} (P Q R : A → Type 0) (counts : Counts) (cards renders roots : List A) → length cards ≡ counts.cards → length renders ≡ counts.renders
+    → All P cards → All Q renders → All R roots
+    → All P (card_sessions counts (cards ++ (renders ++ roots))) × All Q (render_sessions counts (cards ++ (renders ++ roots))) × All R (root_sessions counts (cards ++ (renders ++ roots)))
+parted {A} P Q R counts cards renders roots c r of_cards of_renders of_roots =
+    let later : List A = renders ++ roots in
+    let all : List A = cards ++ later in
+    let behind : drop counts.cards all ≡ later = ap (λ (n : ℕ). drop n all) (sym c) ∙ drop-append_seam cards later in (
+      All-same P (card_sessions counts all) cards (ap (λ (n : ℕ). take n all) (sym c) ∙ take-append_seam cards later) of_cards,
+      All-same Q (render_sessions counts all) renders (ap (λ (l : List A). take counts.renders l) behind ∙ ap (λ (n : ℕ). take n later) (sym r) ∙ take-append_seam renders roots) of_renders,
+      All-same R (root_sessions counts all) roots
+          (ap (λ (n : ℕ). drop (n + counts.renders) all) (sym c) ∙ drop-append-add cards later counts.renders ∙ ap (λ (n : ℕ). drop n later) (sym r) ∙ drop-append_seam renders roots) of_roots,
+    )
 
 pub are-sessions : (counts : Counts) (participants : ByClass ParticipantView) (served : ByClass ServedListener) → AreServed counts participants served
     → AreSessionsOf counts (served.card.sessions.items ++ (served.render.sessions.items ++ served.root.sessions.items))
-are-sessions counts participants served h = parted counts _ _ _ h.card.number h.render.number h.root.number (of-listener _ _ _ _ h.card) (of-listener _ _ _ _ h.render) (of-listener _ _ _ _ h.root)
+are-sessions counts participants served h =
+    let cards : List Session = served.card.sessions.items in
+    let renders : List Session = served.render.sessions.items in
+    let roots : List Session = served.root.sessions.items in
+    let parts =
+    parted (IsSessionOf Card) (IsSessionOf Render) (IsSessionOf Root) counts cards renders roots h.card.number h.render.number (of-listener _ _ _ _ h.card) (of-listener _ _ _ _ h.render) (of-listener _ _ _ _ h.root) in
+    record {
+      count = (let a = length-append cards (renders ++ roots) in let b = length-append renders roots in let c = h.card.number in let r = h.render.number in let o = h.root.number in omega (arith, a, b, c, r, o));
+      cards = parts.0;
+      renders = parts.1;
+      roots = parts.2;
+    }
 
 -- ---- the participants of all
 
-some-class : (class : Class) (sittings : List SessionState) → All (λ (s : SessionState). IsSessionBy class s.participant s.session) sittings → All (λ (s : SessionState). (c : Class) × IsSessionBy c s.participant s.session) sittings
-some-class class sittings h = λ k d within. (class, h k d within)
+number-of : (class : Class) (count : ℕ) (participant : ParticipantView) (served : ServedListener) (h : IsServed class count participant served) → length h.sittings ≡ count
+number-of class count participant served h = sym (length-sessions h.sittings) ∙ (ap (λ (l : List Session). length l) (sym h.sessions) ∙ h.number)
 
 numbers-three : (xs ys zs : List SessionState) → numbers_of (participants_in (xs ++ (ys ++ zs))) ≡ numbers_of (participants_in xs) ++ (numbers_of (participants_in ys) ++ numbers_of (participants_in zs))
 numbers-three xs ys zs = ap numbers_of (map-three (λ (s : SessionState). s.participant) xs ys zs) ∙ map-three (λ (s : ParticipantView). s.number) (participants_in xs) (participants_in ys) (participants_in zs)
@@ -103,7 +113,7 @@ numbers-three xs ys zs = ap numbers_of (map-three (λ (s : SessionState). s.part
 pub have-sat : (counts : Counts) (participants : ByClass ParticipantView) (served : ByClass ServedListener) (old new : ParticipantView) (sessions : List Session) → AreServed counts participants served
     → StartsWith new.seen served.card.participant.seen × StartsWith new.seen served.render.participant.seen × StartsWith new.seen served.root.participant.seen
     → old.merged ≡ [] → new.merged ≡ ((old.merged ++ served.card.participant.number ∷ served.card.participant.merged) ++ served.render.participant.number ∷ served.render.participant.merged) ++ served.root.participant.number ∷ served.root.participant.merged
-    → AllDiffer new.merged → sessions ≡ served.card.sessions.items ++ (served.render.sessions.items ++ served.root.sessions.items) → HaveSat new sessions
+    → AllDiffer new.merged → sessions ≡ served.card.sessions.items ++ (served.render.sessions.items ++ served.root.sessions.items) → HaveSat counts new sessions
 have-sat counts participants served old new sessions h seen none merged differ is =
     let cards : List SessionState = h.card.sittings in
     let renders : List SessionState = h.render.sittings in
@@ -117,11 +127,14 @@ have-sat counts participants served old new sessions h seen none merged differ i
     let without_card : AllDiffer (old.merged ++ (card ++ (render ++ root))) = differ-without old.merged served.card.participant.number (card ++ (render ++ root)) (subst AllDiffer (append_assoc old.merged (served.card.participant.number ∷ card) (render ++ root)) without_render) in
     let numbers : card ++ (render ++ root) ≡ numbers_of (participants_in (cards ++ (renders ++ roots))) =
     (λ i. h.card.taken.merged i ++ (h.render.taken.merged i ++ h.root.taken.merged i)) ∙ sym (numbers-three cards renders roots) in
+    let parts =
+    parted (IsBy Card) (IsBy Render) (IsBy Root) counts cards renders roots (number-of _ _ _ _ h.card) (number-of _ _ _ _ h.render) h.card.of_class h.render.of_class h.root.of_class in
     record {
       sittings = cards ++ (renders ++ roots);
       are = is ∙ (λ i. h.card.sessions i ++ (h.render.sessions i ++ h.root.sessions i)) ∙ sym (map-three (λ (s : SessionState). s.session) cards renders roots);
-      by = All-append (λ (s : SessionState). (c : Class) × IsSessionBy c s.participant s.session) cards (renders ++ roots) (some-class Card cards h.card.of_class)
-          (All-append (λ (s : SessionState). (c : Class) × IsSessionBy c s.participant s.session) renders roots (some-class Render renders h.render.of_class) (some-class Root roots h.root.of_class));
+      cards = parts.0;
+      renders = parts.1;
+      roots = parts.2;
       seen = subst (λ (l : List ParticipantView). AllByRecursion (HasSeen new) l) (sym (map-three (λ (s : SessionState). s.participant) cards renders roots))
           (all-both (HasSeen new) (participants_in cards) (participants_in renders ++ participants_in roots) (all-seen-more served.card.participant new seen.0 (participants_in cards) h.card.taken.seen)
           (all-both (HasSeen new) (participants_in renders) (participants_in roots) (all-seen-more served.render.participant new seen.1 (participants_in renders) h.render.taken.seen) (all-seen-more served.root.participant new seen.2 (participants_in roots) h.root.taken.seen)));
@@ -130,17 +143,37 @@ have-sat counts participants served old new sessions h seen none merged differ i
 
 -- ---- the history
 
-pub all-told : (log : List Entry) (participant : ParticipantView) → StartsWith log participant.seen → (sittings : List SessionState) → All (λ (s : SessionState). (c : Class) × IsSessionBy c s.participant s.session) sittings
-    → AllByRecursion (HasSeen participant) (participants_in sittings) → All (IsTold log) sittings
-all-told log participant more [] by seen = All-nil (IsTold log)
-all-told log participant more (s ∷ sittings) by seen =
-    let one = All-head (λ (x : SessionState). (c : Class) × IsSessionBy c x.participant x.session) s sittings by in
-    All-cons (IsTold log) s sittings
+seen-take : (P : ParticipantView → Type 0) (n : ℕ) (xs : List SessionState) → AllByRecursion P (participants_in xs) → AllByRecursion P (participants_in (take n xs))
+seen-take P zero xs h = tt
+seen-take P (suc n) [] h = tt
+seen-take P (suc n) (x ∷ xs) h = (h.0, seen-take P n xs h.1)
+
+seen-drop : (P : ParticipantView → Type 0) (n : ℕ) (xs : List SessionState) → AllByRecursion P (participants_in xs) → AllByRecursion P (participants_in (drop n xs))
+seen-drop P zero xs h = h
+seen-drop P (suc n) [] h = tt
+seen-drop P (suc n) (x ∷ xs) h = seen-drop P n xs h.1
+
+all-told : (log : List Entry) (class : Class) (participant : ParticipantView) → StartsWith log participant.seen → (sittings : List SessionState) → All (IsBy class) sittings
+    → AllByRecursion (HasSeen participant) (participants_in sittings) → All (IsTold log class) sittings
+all-told log class participant more [] by seen = All-nil (IsTold log class)
+all-told log class participant more (s ∷ sittings) by seen =
+    let one : IsBy class s = All-head (IsBy class) s sittings by in
+    All-cons (IsTold log class) s sittings
     record {
-      class = one.0;
-      by = one.1;
+      by = one;
       seen = starts_on log participant.seen s.participant.seen more seen.0.seen;
       own = seen.0.own;
-      steps = (let own = ap (λ (l : List Entry). length l) seen.0.own in let made = one.1.serves.steps in let none = ap (λ (l : List Entry). length l) one.1.nothing_made in omega (arith, own, made, none));
+      steps = (let own = ap (λ (l : List Entry). length l) seen.0.own in let made = one.serves.steps in let none = ap (λ (l : List Entry). length l) one.nothing_made in omega (arith, own, made, none));
     }
-    (all-told log participant more sittings (All-tail (λ (x : SessionState). (c : Class) × IsSessionBy c x.participant x.session) s sittings by) seen.1)
+    (all-told log class participant more sittings (All-tail (IsBy class) s sittings by) seen.1)
+
+-- the history has each session as one of its class
+pub told-by-class : (log : List Entry) (counts : Counts) (participant : ParticipantView) (sessions : List Session) → StartsWith log participant.seen → (sat : HaveSat counts participant sessions)
+    → All (IsTold log Card) (card_sessions counts sat.sittings) × All (IsTold log Render) (render_sessions counts sat.sittings) × All (IsTold log Root) (root_sessions counts sat.sittings)
+told-by-class log counts participant sessions more sat =
+    let sittings : List SessionState = sat.sittings in
+    let later = seen-drop (HasSeen participant) counts.cards sittings sat.seen in (
+      all-told log Card participant more (card_sessions counts sittings) sat.cards (seen-take (HasSeen participant) counts.cards sittings sat.seen),
+      all-told log Render participant more (render_sessions counts sittings) sat.renders (seen-take (HasSeen participant) counts.renders (drop counts.cards sittings) later),
+      all-told log Root participant more (root_sessions counts sittings) sat.roots (seen-drop (HasSeen participant) (counts.cards + counts.renders) sittings sat.seen),
+    )

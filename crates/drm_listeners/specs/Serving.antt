@@ -16,13 +16,13 @@ abbrev pub connections : Counts → ℕ
 connections counts = counts.cards + counts.renders + counts.roots
 
 -- the sessions of each class, where those of cards come first, then those of renders, then those of roots
-abbrev pub card_sessions : Counts → List Session → List Session
+abbrev pub card_sessions : {A : Type 0} → Counts → List A → List A
 card_sessions counts sessions = take counts.cards sessions
 
-abbrev pub render_sessions : Counts → List Session → List Session
+abbrev pub render_sessions : {A : Type 0} → Counts → List A → List A
 render_sessions counts sessions = take counts.renders (drop counts.cards sessions)
 
-abbrev pub root_sessions : Counts → List Session → List Session
+abbrev pub root_sessions : {A : Type 0} → Counts → List A → List A
 root_sessions counts sessions = drop (counts.cards + counts.renders) sessions
 
 -- As many sessions as there were connections, each of its class.
@@ -34,30 +34,44 @@ pub record AreSessionsOf (counts : Counts) (sessions : List Session) : Type 0 wh
 
 -- ---- the history of all sessions
 
--- Each session had a participant of a number of its own, and this participant has seen what that had seen.
-pub record HaveSat (participant : ParticipantView) (sessions : List Session) : Type 0 where
+-- the session is one of this class, through its participant
+abbrev pub IsBy : Class → SessionState → Type 0
+IsBy class sitting = IsSessionBy class sitting.participant sitting.session
+
+-- Each session was of its class, through a participant of a number of its own, and this participant has seen what that had seen.
+pub record HaveSat (counts : Counts) (participant : ParticipantView) (sessions : List Session) : Type 0 where
   pub sittings : List SessionState
   pub are : sessions ≡ sessions_in sittings
-  pub by : All (λ sitting. (class : Class) × IsSessionBy class sitting.participant sitting.session) sittings
+  pub cards : All (IsBy Card) (card_sessions counts sittings)
+  pub renders : All (IsBy Render) (render_sessions counts sittings)
+  pub roots : All (IsBy Root) (root_sessions counts sittings)
   pub seen : AllByRecursion (HasSeen participant) (participants_in sittings)
   pub differ : AllDiffer (numbers_of (participants_in sittings))
 
--- The history has the steps of the session, as the entries of its participant's number in what that had seen.
-pub record IsTold (log : List Entry) (sitting : SessionState) : Type 0 where
-  pub class : Class
-  pub by : IsSessionBy class sitting.participant sitting.session
+-- The history has the steps of a session of this class, as the entries of its participant's number in what that had seen.
+pub record IsTold (log : List Entry) (class : Class) (sitting : SessionState) : Type 0 where
+  pub by : IsBy class sitting
   pub seen : StartsWith log sitting.participant.seen
   pub own : calls_by sitting.participant.number sitting.participant.seen ≡ sitting.participant.mine
   pub steps : length (calls_by sitting.participant.number sitting.participant.seen) ≡ sitting.session.steps
 
--- One legal history, of which the device has the events: it begins with what the device had noted before, and tells each
--- session, under numbers that differ.
-pub record IsHistoryOf (before after : DeviceValue) (sessions : List Session) : Type 0 where
+-- One legal history, of which the device has the events: it begins with what the device had noted before, and has each
+-- session, as one of its class, under numbers that differ.
+pub record IsHistoryOf (counts : Counts) (before after : DeviceValue) (sessions : List Session) : Type 0 where
   pub log : List Entry
   pub device : after ≡ device_at before log
   pub legal : IsLegal before log
   pub begins : StartsWith log (journaled_before before)
   pub sittings : List SessionState
   pub are : sessions ≡ sessions_in sittings
-  pub told : All (IsTold log) sittings
+  pub cards : All (IsTold log Card) (card_sessions counts sittings)
+  pub renders : All (IsTold log Render) (render_sessions counts sittings)
+  pub roots : All (IsTold log Root) (root_sessions counts sittings)
   pub differ : AllDiffer (numbers_of (participants_in sittings))
+
+-- The device has the events of a legal history that begins with what it had noted before.
+pub record Continues (before after : DeviceValue) : Type 0 where
+  pub log : List Entry
+  pub device : after ≡ device_at before log
+  pub legal : IsLegal before log
+  pub begins : StartsWith log (journaled_before before)

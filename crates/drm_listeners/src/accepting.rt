@@ -17,9 +17,10 @@ const ENFILE: i32 = 23;
 
 const ENOBUFS: i32 = 105;
 
-/// How long a listener waits where the system can't accept, in milliseconds, and how often in a row: five seconds in all.
+/// How long a listener waits where the system can't accept, in milliseconds.
 const PAUSE: i32 = 100;
 
+/// How many pauses a listener makes in a row while no connection is open, before it gives up: five seconds in all.
 const MOST_PAUSES: u32 = 50;
 
 // What may be otherwise after a while: the system lacks descriptors or memory, or the client went before.
@@ -32,12 +33,26 @@ fn may_pass(reason: &io::Error) -> bool {
     }
 }
 
+fn asking(socket: &UnixListener) -> pollfd {
+    pollfd {
+        fd: socket.as_raw_fd(),
+        events: POLLIN,
+        revents: 0,
+    }
+}
+
+// Waits until a client connects, or all were told to end: a listener needs no descriptor before.
+fn wait_for_client(socket: &UnixListener) {
+    poll(&mut [asking(socket)], -1);
+}
+
 // Accepts a connection. Where all were told to end nobody comes any more: it is one whose client has ended.
 fn accept_or_end<R: Wait>(
     rt: &R,
     open: &OpenConnections,
     socket: &UnixListener,
 ) -> io::Result<UnixStream> {
+    wait_for_client(socket);
     match socket.accept() {
         Ok((stream, _)) => Ok(stream),
         Err(reason) => match open.ended(rt) {
@@ -47,21 +62,33 @@ fn accept_or_end<R: Wait>(
     }
 }
 
-/// Accepts the next connection. Where the system can't for want of descriptors or of memory its reason is logged, and it is asked again,
-/// ten times a second, for five seconds; who connects meanwhile waits. Where all were told to end it is one whose client has ended.
+/// Accepts the next connection. If the system lacks descriptors or memory for it, this logs the reason and retries ten times a second,
+/// while a connection is open, and then for five seconds; who connects meanwhile waits. Where all were told to end it is one whose
+/// client has ended.
 pub(crate) fn accept_next<R: Wait + Log>(
     rt: &R,
     open: &OpenConnections,
     socket: &UnixListener,
     class: Class,
 ) -> io::Result<UnixStream> {
-    for pause in 0..MOST_PAUSES {
+    let mut is_logged = false;
+    let mut pauses: u32 = 0;
+    for _ in rt.forever() {
         match accept_or_end(rt, open, socket) {
             Err(reason) if may_pass(&reason) => {
-                if pause == 0 {
+                if !is_logged {
                     error!(rt; "{}: {reason}; trying again", class_word(class));
+                    is_logged = true;
+                }
+                if pauses == MOST_PAUSES {
+                    return Err(reason);
                 }
                 poll(&mut [], PAUSE);
+                pauses = if open.is_serving(rt) {
+                    0
+                } else {
+                    pauses.saturating_add(1)
+                };
             }
             accepted => return accepted,
         }
@@ -72,11 +99,7 @@ pub(crate) fn accept_next<R: Wait + Log>(
 /// Logs where a connection waits behind the last one that a listener accepts, which is refused as the listener is closed. Whoever
 /// connects later isn't seen: the system refuses it.
 pub(crate) fn note_beyond<R: Log>(rt: &R, socket: &UnixListener, class: Class) {
-    let mut asked = [pollfd {
-        fd: socket.as_raw_fd(),
-        events: POLLIN,
-        revents: 0,
-    }];
+    let mut asked = [asking(socket)];
     // a listener that was told to end has more to tell
     if poll(&mut asked, 0) == 1 && asked[0].revents == POLLIN {
         warn!(rt; "{}: a connection beyond the count was refused", class_word(class));

@@ -11,11 +11,14 @@ ghost use Rattle.drm_sessions.specs.Shared.{ServesShared};
 ghost use Rattle.drm_listeners.specs.Connections.{IsFaultOf, IsFresh, IsRoomFor, IsSessionBy, Serves, SessionState, connection_turns, participants_in, sessions_in};
 
 use crate::accepting::{accept_next, note_beyond};
+use crate::answering::Answering;
+use crate::backlog::Ahead;
 use crate::classes::class_word;
 use crate::counts::MOST;
 use crate::greeting::Greeting;
 use crate::hall::Gathering;
 use crate::notes::note_session;
+use crate::open_connections::Role;
 use crate::serve_faults::ServeFault;
 use arrayvec::ArrayVec;
 use drm_sessions::{Class, NoGate, Served, Session, serve_through};
@@ -96,8 +99,30 @@ fn serve_sides<R: Wait, D: Sharing, S: Source, K: Sink>(
     )
 }
 
-// Serves a connection, which is closed as the session ends. A session that doesn't end plainly is logged before, unless all were
-// told to end.
+// Serves a connection, which is closed as the session ends. Nobody waits for it any more afterwards.
+fn serve_attended<R: Wait, D: Gathering>(
+    rt: &R,
+    shared: &D,
+    participant: Seat,
+    class: Class,
+    stream: UnixStream,
+) -> Served
+    requires { IsFresh (D.table shared.now) participant }
+    ensures session { IsSessionBy class result.participant result.session }
+    ensures same { Same participant result.participant }
+    ensures merged { result.participant.merged ≡ [] }
+    ensures unchanged { Unchanged participant result.participant }
+{
+    let attendance = shared
+        .open()
+        .attend(rt, stream.as_raw_fd(), Role::Connection);
+    let ahead = Ahead::new(shared.open().alloc(rt));
+    let mut source = FromRead::new(Greeting::new(&stream, &ahead, &attendance));
+    let mut sink = ToWrite::new(Answering::new(&stream, &ahead));
+    serve_sides(rt, shared, participant, class, &mut source, &mut sink)
+}
+
+// Serves a connection. A session that doesn't end plainly is logged once its connection is closed, unless all were told to end.
 fn serve_connection<R: Wait + Log, D: Gathering>(
     rt: &R,
     shared: &D,
@@ -111,10 +136,7 @@ fn serve_connection<R: Wait + Log, D: Gathering>(
     ensures merged { result.participant.merged ≡ [] }
     ensures unchanged { Unchanged participant result.participant }
 {
-    let attendance = shared.open().attend(rt, stream.as_raw_fd());
-    let mut source = FromRead::new(Greeting::new(&stream, &attendance));
-    let mut sink = ToWrite::new(&stream);
-    let served = serve_sides(rt, shared, participant, class, &mut source, &mut sink);
+    let served = serve_attended(rt, shared, participant, class, stream);
     if !shared.open().has_ended(rt) {
         note_session(rt, class, &served.session);
     }
@@ -178,7 +200,9 @@ fn start_connections<'s, E: 's, R: Wait + Threads + Log + Sync, D: Gathering + S
     ensures outstanding { IfOk result (λ handles. own.new.outstanding ≡ own.old.outstanding + array_vec_len handles) }
 {
     let mut handles = ConnectionHandles::new();
-    let _attendance = shared.open().attend(rt, listener.socket.as_raw_fd());
+    let _attendance = shared
+        .open()
+        .attend(rt, listener.socket.as_raw_fd(), Role::Listener);
     for _ in 0..listener.count {
         let participant = shared.device().split(own);
         let handle = start_connection(scope, rt, shared, participant, &listener)?;

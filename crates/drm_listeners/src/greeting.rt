@@ -1,5 +1,6 @@
 //! The bytes that a connection brings, and what its first frame waits for.
 
+use crate::backlog::Ahead;
 use crate::open_connections::Attendance;
 use std::io;
 use std::io::Read;
@@ -13,6 +14,7 @@ const HELLO: usize = 18;
 #[derive(Drop)]
 pub(crate) struct Greeting<'a, R: Wait> {
     stream: &'a UnixStream,
+    ahead: &'a Ahead,
     attendance: &'a Attendance<'a, R>,
     lacking: usize,
 }
@@ -20,10 +22,12 @@ pub(crate) struct Greeting<'a, R: Wait> {
 impl<'a, R: Wait> Greeting<'a, R> {
     pub(crate) fn new(
         stream: &'a UnixStream,
+        ahead: &'a Ahead,
         attendance: &'a Attendance<'a, R>,
     ) -> Greeting<'a, R> {
         Greeting {
             stream,
+            ahead,
             attendance,
             lacking: HELLO,
         }
@@ -32,7 +36,13 @@ impl<'a, R: Wait> Greeting<'a, R> {
 
 impl<R: Wait> Read for Greeting<'_, R> {
     fn read(&mut self, buf: &mut [u8]) -> io::Result<usize> {
-        let count = self.stream.read(buf)?;
+        let room = buf.len();
+        let taken = self.ahead.take(buf);
+        let count = if taken == 0 || taken > room {
+            self.stream.read(buf)?
+        } else {
+            taken
+        };
         if self.lacking > 0 {
             self.lacking = self.lacking.saturating_sub(count);
             if self.lacking == 0 {

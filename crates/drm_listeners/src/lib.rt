@@ -2,6 +2,8 @@
 #![tactic(auto)]
 
 mod accepting;
+mod answering;
+mod backlog;
 mod classes;
 mod connections;
 mod counts;
@@ -17,4 +19,4 @@ pub use classes::class_word;
 pub use counts::Counts;
 pub use open_connections::OpenConnections;
 pub use serve_faults::ServeFault;
-pub use serving::{serve_all, serve_until_told};
+pub use serving::{Unserved, serve_all, serve_keeping, serve_until_told};

@@ -13,12 +13,22 @@ use std::sync::{Condvar, Mutex, Wait};
 /// How many listeners there are.
 const LISTENERS: usize = 3;
 
-/// A socket on which a thread waits: a listener's, or a connection's.
+/// What a socket on which a thread waits is.
+#[derive(Clone, Copy, PartialEq, Eq)]
+pub(crate) enum Role {
+    /// A listener.
+    Listener,
+    /// A connection that has not sent its first frame.
+    Connection,
+    /// A connection whose first frame was let through, so that its client may be open.
+    Admitted,
+}
+
+/// A socket on which a thread waits.
 #[derive(Clone, Copy)]
 struct Attending {
     socket: RawFd,
-    /// Whether it is a connection whose first frame was let through, so that its client may be open.
-    is_admitted: bool,
+    role: Role,
 }
 
 impl Attending {
@@ -30,7 +40,7 @@ impl Attending {
             events: 0,
             revents: 0,
         }];
-        self.is_admitted && poll(&mut asked, 0) == 1 && asked[0].revents & POLLHUP != 0
+        self.role == Role::Admitted && poll(&mut asked, 0) == 1 && asked[0].revents & POLLHUP != 0
     }
 }
 
@@ -39,6 +49,7 @@ impl Attending {
 struct Places {
     has_ended: bool,
     places: Vec<Option<Attending>>,
+    alloc: Global,
 }
 
 impl Places {
@@ -47,6 +58,18 @@ impl Places {
         for place in self.places.iter() {
             if let Some(attending) = place {
                 if attending.has_gone() {
+                    return true;
+                }
+            }
+        }
+        false
+    }
+
+    /// Whether a connection is served.
+    fn is_serving(&self) -> bool {
+        for place in self.places.iter() {
+            if let Some(attending) = place {
+                if attending.role != Role::Listener {
                     return true;
                 }
             }
@@ -110,6 +133,7 @@ impl OpenConnections {
             places: Mutex::new(Places {
                 has_ended: false,
                 places,
+                alloc,
             }),
             left: Condvar::new(),
             ended,
@@ -137,12 +161,24 @@ impl OpenConnections {
         }
     }
 
+    /// Returns whether a connection is served.
+    pub(crate) fn is_serving<R: Wait>(&self, rt: &R) -> bool {
+        self.places.lock(rt).is_serving()
+    }
+
+    /// Returns the allocator that the connections were given.
+    pub(crate) fn alloc<R: Wait>(&self, rt: &R) -> Global {
+        self.places.lock(rt).alloc
+    }
+
     /// Takes in a socket, until the attendance is let go; it has to be open for as long. Where all were told to end, it is.
-    pub(crate) fn attend<'a, R: Wait>(&'a self, rt: &'a R, socket: RawFd) -> Attendance<'a, R> {
-        let attending = Attending {
-            socket,
-            is_admitted: false,
-        };
+    pub(crate) fn attend<'a, R: Wait>(
+        &'a self,
+        rt: &'a R,
+        socket: RawFd,
+        role: Role,
+    ) -> Attendance<'a, R> {
+        let attending = Attending { socket, role };
         let mut places = self.places.lock(rt);
         if places.has_ended {
             shutdown(socket, SHUT_RDWR);
@@ -171,7 +207,7 @@ impl<R: Wait> Attendance<'_, R> {
     pub(crate) fn admit(&self) {
         let admitted = Attending {
             socket: self.socket,
-            is_admitted: true,
+            role: Role::Admitted,
         };
         let gathered = self.open.places.lock(self.rt);
         let mut places = self

@@ -1,6 +1,6 @@
 //! Serving the connections of three listeners.
 
-ghost use Rattle.std.specs.Prelude.{◌≡◌, ◌≢◌, ◌+◌, ◌-◌, ◌≤◌, ◌∷◌, ◌++◌, [], Err, All, IfErr, IfOk, OnOk, length, vec_len};
+ghost use Rattle.std.specs.Prelude.{◌≡◌, ◌≢◌, ◌+◌, ◌-◌, ◌≤◌, ◌∷◌, ◌++◌, [], Err, All, IfErr, IfOk, IfSome, OnOk, length, vec_len};
 ghost use Rattle.std.specs.Vec.{vec_capacity};
 ghost use Rattle.drm_turns.specs.History.{AllDiffer, StartsWith};
 ghost use Rattle.drm_turns.specs.Participants.{Same};
@@ -9,7 +9,7 @@ ghost use Rattle.drm_sessions.specs.declared.class.Class.TheVariants.{Card, Rend
 ghost use Rattle.drm_listeners.specs.declared.serve_faults.ServeFault.TheVariants.{NoMemory, TurnOut};
 ghost use Rattle.drm_listeners.specs.Connections.{IsSessionOf};
 ghost use Rattle.drm_listeners.specs.Listeners.{AreChildren, AreRooms};
-ghost use Rattle.drm_listeners.specs.Serving.{AreSessionsOf, HaveSat, IsHistoryOf, card_sessions, connections, render_sessions, root_sessions};
+ghost use Rattle.drm_listeners.specs.Serving.{AreSessionsOf, Continues, HaveSat, IsHistoryOf, card_sessions, connections, render_sessions, root_sessions};
 
 use crate::connections::ServedListener;
 use crate::counts::Counts;
@@ -114,7 +114,7 @@ fn serve_shared<R: Wait + Threads + Log + Sync>(
     requires own { participant.old.table ≡ shared.now }
     requires merged { participant.old.merged ≡ [] }
     ensures sessions { IfOk result (λ sessions. AreSessionsOf counts sessions.items) }
-    ensures participants { IfOk result (λ sessions. HaveSat participant.new sessions.items) }
+    ensures participants { IfOk result (λ sessions. HaveSat counts participant.new sessions.items) }
     ensures same { Same participant.old participant.new × StartsWith participant.new.seen participant.old.seen }
     ensures outstanding { OnOk result (participant.new.outstanding ≡ participant.old.outstanding) }
     ensures journaled { IfOk result (λ sessions. participant.new.journaled ≡ participant.old.journaled + all_steps sessions.items) }
@@ -137,6 +137,71 @@ fn serve_shared<R: Wait + Threads + Log + Sync>(
     Ok(gather(shared, participant, served, sessions))
 }
 
+/// The reason that not all connections were served, with the device that served the others (own).
+#[derive(Drop)]
+pub struct Unserved {
+    /// The reason.
+    pub fault: ServeFault,
+    /// The device. `None` if there was no memory to share it, or if a thread ended without passing its turn on.
+    pub device: Option<Device>,
+}
+
+/// Serves connections as [`serve_until_told`] does, and returns the device on a fault too (own). It may wait.
+///
+/// # Errors
+///
+/// [`Unserved`] has the fault, and the device with the events of one legal history. That history begins with what the device had
+/// recorded before, and ends with the last step before all threads ended. There is no device if there was no memory to share it, or
+/// if a thread ended without passing its turn on.
+pub fn serve_keeping<R: Wait + Threads + Log + Sync>(
+    rt: &R,
+    alloc: Global,
+    device: Device,
+    card: UnixListener,
+    render: UnixListener,
+    root: UnixListener,
+    counts: Counts,
+    open: &OpenConnections,
+) -> Result<(Device, Vec<Session>), Unserved>
+    ensures count { IfOk result (λ served. vec_len served.1 ≡ connections counts) }
+    ensures cards { IfOk result (λ served. All (IsSessionOf Card) (card_sessions counts served.1.items)) }
+    ensures renders { IfOk result (λ served. All (IsSessionOf Render) (render_sessions counts served.1.items)) }
+    ensures roots { IfOk result (λ served. All (IsSessionOf Root) (root_sessions counts served.1.items)) }
+    ensures history { IfOk result (λ served. IsHistoryOf counts device served.0 served.1.items) }
+    ensures journaled { IfOk result (λ served. length served.0.journal ≡ length device.journal + all_steps served.1.items) }
+    ensures turn { IfErr result (λ unserved. unserved.fault ≢ TurnOut) }
+    ensures kept { IfErr result (λ unserved. IfSome unserved.device (Continues device)) }
+{
+    let Ok((shared, mut participant)) = SharedDevice::new(alloc, device) else {
+        return Err(Unserved {
+            fault: ServeFault::NoMemory,
+            device: None,
+        });
+    };
+    let sockets = ByClass { card, render, root };
+    let served = serve_shared(rt, alloc, &shared, open, &mut participant, sockets, counts);
+    let closed = shared.close(participant);
+    match served {
+        Ok(sessions) => match closed {
+            Ok(device) => Ok((device, sessions)),
+            Err(_) => Err(Unserved {
+                fault: ServeFault::TurnOut,
+                device: None,
+            }),
+        },
+        Err(fault) => match closed {
+            Ok(device) => Err(Unserved {
+                fault,
+                device: Some(device),
+            }),
+            Err(_) => Err(Unserved {
+                fault,
+                device: None,
+            }),
+        },
+    }
+}
+
 /// Accepts so many connections on the three listeners and serves each in a thread of its own, on one device that they
 /// share, until all have ended (own). It may wait.
 ///
@@ -149,15 +214,16 @@ fn serve_shared<R: Wait + Threads + Log + Sync>(
 ///
 /// A listener is closed once it has accepted its last connection, or couldn't accept one, while sessions go on: whoever
 /// connects later is refused. One that accepts none is closed at once. Where the system lacks descriptors or memory for a connection,
-/// or its client has gone, the listener asks again for five seconds before that is a fault.
+/// or its client has gone, the listener asks again while a connection is open, and then for five seconds before that is a fault.
 ///
 /// The connections stand in `open` for as long as they are served, which needs room for all of them. Where that is told to end,
 /// each connection ends as if its client had ended it. Those that were still to come count as accepted: each is one whose client
 /// had ended before its first frame, so that it made no step. What ends so is not logged.
 ///
-/// On a fault the threads that were started are waited for, and then the device is dropped. `NoThread` comes where a thread
-/// can't be started, for whatever cause. `NoMemory` comes only before the first connection is accepted: room for the sessions of all
-/// listeners is reserved before the first thread is started, so that nothing that was served is lost for want of it.
+/// On a fault the threads that were started are waited for, and then the device is dropped. [`serve_keeping`] returns it. `NoThread`
+/// comes where a thread can't be started, for whatever cause. `NoMemory` comes only before the first connection is accepted: room
+/// for the sessions of all listeners is reserved before the first thread is started, so that nothing that was served is lost for
+/// want of it.
 ///
 /// A session that ends in another way than `Ended` is logged as it ends, with its listener and its client; so is the system's
 /// reason where a connection can't be accepted, at the first try and at the last, and a connection that waits behind a listener's last
@@ -176,19 +242,14 @@ pub fn serve_until_told<R: Wait + Threads + Log + Sync>(
     ensures cards { IfOk result (λ served. All (IsSessionOf Card) (card_sessions counts served.1.items)) }
     ensures renders { IfOk result (λ served. All (IsSessionOf Render) (render_sessions counts served.1.items)) }
     ensures roots { IfOk result (λ served. All (IsSessionOf Root) (root_sessions counts served.1.items)) }
-    ensures history { IfOk result (λ served. IsHistoryOf device served.0 served.1.items) }
+    ensures history { IfOk result (λ served. IsHistoryOf counts device served.0 served.1.items) }
     ensures journaled { IfOk result (λ served. length served.0.journal ≡ length device.journal + all_steps served.1.items) }
     ensures turn { result ≢ Err TurnOut }
 {
-    let Ok((shared, mut participant)) = SharedDevice::new(alloc, device) else {
-        return Err(ServeFault::NoMemory);
-    };
-    let sockets = ByClass { card, render, root };
-    let sessions = serve_shared(rt, alloc, &shared, open, &mut participant, sockets, counts)?;
-    let Ok(device) = shared.close(participant) else {
-        return Err(ServeFault::TurnOut);
-    };
-    Ok((device, sessions))
+    match serve_keeping(rt, alloc, device, card, render, root, counts, open) {
+        Ok(served) => Ok(served),
+        Err(unserved) => Err(unserved.fault),
+    }
 }
 
 /// Serves so many connections of three listeners, as `serve_until_told` does where nobody tells it (own). It may wait.
@@ -205,7 +266,7 @@ pub fn serve_all<R: Wait + Threads + Log + Sync>(
     ensures cards { IfOk result (λ served. All (IsSessionOf Card) (card_sessions counts served.1.items)) }
     ensures renders { IfOk result (λ served. All (IsSessionOf Render) (render_sessions counts served.1.items)) }
     ensures roots { IfOk result (λ served. All (IsSessionOf Root) (root_sessions counts served.1.items)) }
-    ensures history { IfOk result (λ served. IsHistoryOf device served.0 served.1.items) }
+    ensures history { IfOk result (λ served. IsHistoryOf counts device served.0 served.1.items) }
     ensures journaled { IfOk result (λ served. length served.0.journal ≡ length device.journal + all_steps served.1.items) }
     ensures turn { result ≢ Err TurnOut }
 {

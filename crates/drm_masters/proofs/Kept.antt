@@ -1,8 +1,7 @@
 -- The masters in their slab.
-use Rattle.std.proofs.Common.{◌≡◌, ℕ, ◌==◌, true, false, not, cond, List, [], ◌∷◌, map, filter, find as find_row, Some, None, option_and_then, is_some, refl, sym, ap, ◌∙◌, nat_cmp}
+use Rattle.std.proofs.Common.{◌≡◌, ℕ, ◌==◌, true, false, not, cond, List, [], ◌∷◌, map, filter, find as find_row, Some, None, option_and_then, refl, sym, ap, ◌∙◌, nat_cmp}
 use Rattle.std.specs.Prelude.{if◌then◌else◌}
 use Rattle.std.specs.FinMap as fin
-use Rattle.std.proofs.lemmas.Bool.{false≢true}
 use Rattle.slab.specs.Slab.{Slab, get}
 use Rattle.drm_keys.specs.Keys.{rows_in, IsKeyed}
 use Rattle.drm_keys.proofs.KeyLemmas.{by_step_number}

@@ -1,26 +1,23 @@
 -- The lessees of each master, as masters come and go.
-use Rattle.std.proofs.Common.{◌≡◌, ℕ, ◌<◌, ◌≤◌, ◌==◌, Bool, true, false, not, cond, ◌&&◌, ◌||◌, List, [], ◌∷◌, ◌++◌, map, filter, Option, None, Some, refl, sym, ap, ◌∙◌, eq-eqb, arith, nat_cmp}
+use Rattle.std.proofs.Common.{◌≡◌, ℕ, ◌<◌, ◌≤◌, ◌==◌, Bool, true, false, not, cond, ◌&&◌, ◌||◌, List, [], ◌∷◌, map, filter, Option, None, Some, refl, sym, ap, ◌∙◌, eq-eqb, arith, nat_cmp}
 use Rattle.std.specs.Prelude.{T, IfNone}
 use Rattle.std.specs.List.{list_any, AllByRecursion}
 use Rattle.std.specs.Option.{is_some, option_map_or, option_and_then}
-use Rattle.std.specs.Ordering.{is_lt}
 use Rattle.std.specs.FinMap as fin
 use Rattle.std.specs.FinMap.Entries.{is_sorted, below_all}
 use Rattle.std.proofs.lemmas.Bool.{eqb-true, ne_eqb, false≢true}
-use Rattle.std.proofs.lemmas.Bool.Decides.{nat_tests}
 use Rattle.drm_index_array.specs.Least.{least}
 use Rattle.drm_index_array.specs.Rows.{placed}
 use Rattle.drm_index_array.specs.Indexed.{Indexed}
 use Rattle.drm_index_array.proofs.Keyed.{left, right}
-use Rattle.drm_index_array.proofs.Least.{least-same, least_some}
+use Rattle.drm_index_array.proofs.Least.{least_some}
 use Rattle.drm_id_alloc.proofs.NumberLemmas.{among_numbers}
 use Rattle.drm_id_alloc.specs.Groups.{Groups, GroupMap, has, numbers_of}
 use Rattle.drm_lists.specs.Orders.{InOrder}
 use Rattle.drm_lists.specs.Numbers.{is_among}
 use Rattle.drm_lists.proofs.Lists.{all_weaker, all_filter, all_mapped}
 use Rattle.drm_lists.proofs.Found.{find_none}
-use Rattle.drm_lists.proofs.Numbers.{less-differ, flipped}
-use Rattle.drm_lists.proofs.Rising.{any_found, all_found, find_more, find_where}
+use Rattle.drm_lists.proofs.Rising.{any_found, all_found, find_where}
 use Rattle.drm_masters.specs.declared.rows.Master.{Master}
 use Rattle.drm_masters.specs.Masters.{is_step_number, master_before, is_option, master_at, lessor_of, lessees_of}
 use Rattle.drm_masters.specs.Tables.{AreLesseesOf, IsListed, IsUnlisted}

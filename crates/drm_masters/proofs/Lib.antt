@@ -9,11 +9,10 @@ pub mod Rewritten
 mod Settled
 mod Upward
 mod Below
-mod SweptBelow
 pub mod Pushed
-mod Released
 mod Owned
 mod Swept
+pub mod Released
 mod Numbered
 mod Flagged
 mod Sound

@@ -1,5 +1,5 @@
 -- The ids of each owner's lessees, as masters come and go.
-use Rattle.std.proofs.Common.{◌≡◌, ℕ, ◌<◌, ◌==◌, Bool, true, false, not, cond, ◌&&◌, ◌||◌, List, [], ◌∷◌, ◌++◌, map, filter, find, Option, None, Some, refl, sym, ap, ◌∙◌, eq-eqb, arith}
+use Rattle.std.proofs.Common.{◌≡◌, ℕ, ◌==◌, Bool, true, false, not, cond, ◌&&◌, ◌||◌, List, [], ◌∷◌, map, filter, find, Option, None, Some, refl, sym, ap, ◌∙◌, eq-eqb}
 use Rattle.std.specs.Prelude.{if◌then◌else◌}
 use Rattle.std.specs.List.{list_any, AllByRecursion}
 use Rattle.std.specs.Option.{is_some, option_map, option_map_or, option_and_then}
@@ -9,11 +9,11 @@ use Rattle.drm_index_array.specs.Least.{least}
 use Rattle.drm_index_array.proofs.Least.{least-same}
 use Rattle.drm_lists.specs.Chains.{top_of}
 use Rattle.drm_lists.proofs.Chains.{top_some}
-use Rattle.drm_lists.proofs.Lists.{all_weaker, all_each, all_both, all_append}
-use Rattle.drm_lists.proofs.Found.{is_some-find, find_none, find_last}
+use Rattle.drm_lists.proofs.Lists.{all_weaker, all_each}
+use Rattle.drm_lists.proofs.Found.{is_some-find, find_none}
 use Rattle.drm_lists.proofs.Placed.{all_placed}
-use Rattle.drm_lists.proofs.Numbers.{less-differ, flipped, same_either}
-use Rattle.drm_lists.proofs.Rising.{found, any_found, all_found, find_more, find_where}
+use Rattle.drm_lists.proofs.Numbers.{flipped, same_either}
+use Rattle.drm_lists.proofs.Rising.{found, any_found, all_found, find_where}
 use Rattle.drm_masters.specs.declared.rows.Master.{Master}
 use Rattle.drm_masters.specs.declared.rows.Member.{Member}
 use Rattle.drm_masters.specs.Masters.{is_step_number, master_before, is_option, master_at, lessor_of, owner_of, is_held, is_used, HasOlderLessor, is_lessee_of}

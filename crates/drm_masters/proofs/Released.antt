@@ -1,138 +1,174 @@
--- All below a master are kept no more: those below its lessees up to one are released, the others are as they were.
-use Rattle.std.proofs.Common.{◌≡◌, ℕ, ◌<◌, ◌≤◌, ◌==◌, Bool, true, false, not, ◌&&◌, ◌||◌, inl, inr, List, [], ◌∷◌, map, Option, Some, refl, sym, ap, subst, ◌∙◌, eq-eqb, arith}
-use Rattle.std.specs.Prelude.{nat_lt, if◌then◌else◌}
-use Rattle.std.proofs.lemmas.Bool.{eqb-true, ne_eqb, false≢true, or_right, and_parts, and_from}
+-- Masters that are kept no more, one after the other, with a sweep after each.
+use Rattle.std.proofs.Common.{◌≡◌, ℕ, ◌<◌, ◌==◌, Bool, true, false, ◌&&◌, ◌||◌, cond, List, [], ◌∷◌, map, filter, Option, None, Some, option_map, refl, sym, ap, subst, ◌∙◌}
+use Rattle.std.specs.Prelude.{if◌then◌else◌}
+use Rattle.std.specs.List.{list_any}
+use Rattle.std.proofs.lemmas.Bool.{and_parts, and_from, or_right}
 use Rattle.drm_lists.specs.Chains.{is_under}
-use Rattle.drm_lists.proofs.Chains.{itself, child, above_too}
-use Rattle.drm_lists.proofs.Lists.{map-map}
+use Rattle.drm_lists.proofs.Chains.{itself}
+use Rattle.drm_lists.proofs.Lists.{map-map, filter-map, filter-both, filter-same, all_each, filter_all}
+use Rattle.drm_lists.proofs.Orders.{in_order_filter}
+use Rattle.drm_lists.proofs.Rising.{find_where}
+use Rattle.drm_masters.specs.declared.rows.Member.{Member}
 use Rattle.drm_masters.specs.declared.rows.Master.{Master}
-use Rattle.drm_masters.specs.Masters.{is_step_number, is_option, lessor_of, is_below}
-use Rattle.drm_masters.specs.Calls.{kept_as}
-use Rattle.drm_masters.proofs.Living.{Rise, Older, falls}
-use Rattle.drm_masters.proofs.Below.{named_is, less_of, lt_of, le_of, low}
-use Rattle.drm_masters.proofs.Pushed.{over_lessors, over_rise, over_older}
+use Rattle.drm_masters.specs.Masters.{MasterSet, AreMasters, is_step_number, master_at, lessor_of, is_held, is_living, swept}
+use Rattle.drm_masters.specs.Calls.{kept_as, with_kept, released}
+use Rattle.drm_masters.proofs.Living.{Rise, Older, living_by, held_below}
+use Rattle.drm_masters.proofs.Pushed.{kept_at, step_number_stays, lessor_stays, over_at, over_lessors, over_rise, over_older}
+use Rattle.drm_masters.proofs.Swept.{at_is, under_is}
 
+-- a chosen master is kept no more
 abbrev pub marked : (ℕ → Bool) → Master → Master
-marked under x = if under x.step_number then kept_as false x else x
+marked chosen x = if chosen x.step_number then kept_as false x else x
 
-pub marked_step_number : (under : ℕ → Bool) (x : Master) → (marked under x).step_number ≡ x.step_number
-marked_step_number under x = elim (under x.step_number) as (λ b. (if b then kept_as false x else x).step_number ≡ x.step_number) [ true ↦ refl | false ↦ refl ]
+pub marked_step_number : (chosen : ℕ → Bool) (x : Master) → (marked chosen x).step_number ≡ x.step_number
+marked_step_number chosen x = elim (chosen x.step_number) as (λ b. (if b then kept_as false x else x).step_number ≡ x.step_number) [ true ↦ refl | false ↦ refl ]
 
-pub marked_lessor : (under : ℕ → Bool) (x : Master) → (marked under x).lessor ≡ x.lessor
-marked_lessor under x = elim (under x.step_number) as (λ b. (if b then kept_as false x else x).lessor ≡ x.lessor) [ true ↦ refl | false ↦ refl ]
+pub marked_lessor : (chosen : ℕ → Bool) (x : Master) → (marked chosen x).lessor ≡ x.lessor
+marked_lessor chosen x = elim (chosen x.step_number) as (λ b. (if b then kept_as false x else x).lessor ≡ x.lessor) [ true ↦ refl | false ↦ refl ]
 
-pub marked_key : (under : ℕ → Bool) (x : Master) → (marked under x).key ≡ x.key
-marked_key under x = elim (under x.step_number) as (λ b. (if b then kept_as false x else x).key ≡ x.key) [ true ↦ refl | false ↦ refl ]
+pub marked_key : (chosen : ℕ → Bool) (x : Master) → (marked chosen x).key ≡ x.key
+marked_key chosen x = elim (chosen x.step_number) as (λ b. (if b then kept_as false x else x).key ≡ x.key) [ true ↦ refl | false ↦ refl ]
 
 map_each : {X : Type 0} (f g : X → X) → ((x : X) → f x ≡ g x) → (xs : List X) → map f xs ≡ map g xs
 map_each f g same [] = refl
 map_each f g same (x ∷ xs) = λ i. same x i ∷ map_each f g same xs i
 
-unmarked : (ms : List Master) → ms ≡ map (marked (λ n. false)) ms
-unmarked [] = refl
-unmarked (x ∷ ms) = λ i. x ∷ unmarked ms i
+same_bool : (a b : Bool) → (a ≡ true → b ≡ true) → (b ≡ true → a ≡ true) → a ≡ b
+same_bool true b f g = sym (f refl)
+same_bool false true f g = g refl
+same_bool false false f g = refl
 
--- a master and all below it are kept no more
-pub both_released : (ms items next : List Master) (top : ℕ) → items ≡ map (λ (x : Master). if is_step_number top x then kept_as false x else x) ms → next ≡ map (λ (x : Master). if is_below items top x.step_number then kept_as false x else x) items → next ≡ map (marked (is_under (lessor_of ms) top)) ms
-both_released ms items next top e f =
-    f ∙ ap (λ (above : ℕ → Option ℕ). map (λ (x : Master). if is_under above top x.step_number && not (x.step_number == top) then kept_as false x else x) items) (λ i n. lessors n i)
-    ∙ ap (map (marked (is_below ms top))) e ∙ map-map (marked (is_below ms top)) (marked (λ n. n == top)) ms ∙ map_each (λ x. marked (is_below ms top) (marked (λ n. n == top) x)) (marked (is_under (lessor_of ms) top)) each ms
+-- where none is chosen all is as it was
+pub none_released : (v : MasterSet) → AreMasters v → v ≡ swept (released (λ n. false) v)
+none_released v are = λ i. record v { masters = (sym (filter_all (λ (x : Master). is_living v.members v.masters x.step_number) v.masters are.used) ∙ ap (λ (ms : List Master). filter (λ (x : Master). is_living v.members ms x.step_number) ms) (unmarked v.masters)) i }
   where
-    lessors : (n : ℕ) → lessor_of items n ≡ lessor_of ms n
-    lessors n = ap (λ l. lessor_of l n) e ∙ over_lessors (marked (λ k. k == top)) (marked_step_number (λ k. k == top)) (marked_lessor (λ k. k == top)) ms n
+    unmarked : (ms : List Master) → ms ≡ map (marked (λ n. false)) ms
+    unmarked [] = refl
+    unmarked (x ∷ ms) = λ i. x ∷ unmarked ms i
 
-    plain : (b : Bool) → (b && true) ≡ b
-    plain true = refl
-    plain false = refl
+-- what a sweep takes, the sweep after the next release takes too
+module _ (members : List Member) (ms : List Master) (rise : Rise ms) (older : Older ms) (n : ℕ) where
+  abbrev lives : ℕ → Bool
+  lives = is_living members ms
 
-    each : (x : Master) → marked (is_below ms top) (marked (λ n. n == top) x) ≡ marked (is_under (lessor_of ms) top) x
-    each x =
-        elim (x.step_number == top) as (λ b. (x.step_number == top) ≡ b → (if is_below ms top (if b then kept_as false x else x).step_number then kept_as false (if b then kept_as false x else x) else (if b then kept_as false x else x)) ≡ (if is_under (lessor_of ms) top x.step_number then kept_as false x else x)) [
-          | true ↦ λ e.
-              (elim (is_below ms top x.step_number) as (λ b. (if b then kept_as false (kept_as false x) else kept_as false x) ≡ kept_as false x) [ true ↦ refl | false ↦ refl ])
-              ∙ ap (λ b. if b then kept_as false x else x) (sym (ap (is_under (lessor_of ms) top) (eqb-true x.step_number top e) ∙ itself (lessor_of ms) top top))
-          | false ↦ λ e. ap (λ b. if b then kept_as false x else x) (ap (λ b. is_under (lessor_of ms) top x.step_number && not b) e ∙ plain (is_under (lessor_of ms) top x.step_number))
-        ] refl
+  abbrev left : List Master
+  left = filter (λ (x : Master). lives x.step_number) ms
 
--- those below its lessees up to one are kept no more
-pub record Releasing (ms : List Master) (top after : ℕ) (items : List Master) : Type 0 where
-  pub under : ℕ → Bool
-  pub is : items ≡ map (marked under) ms
-  pub from : top ≤ after
-  pub only : (n : ℕ) → under n ≡ true → is_below ms top n ≡ true
-  pub below : (y n : ℕ) → lessor_of ms y ≡ Some top → y ≤ after → is_under (lessor_of ms) y n ≡ true → under n ≡ true
+  abbrev now : List Master
+  now = map (kept_at n false) ms
 
-module _ (ms : List Master) (rise : Rise ms) (older : Older ms) (top : ℕ) where
-  pub none_yet : Releasing ms top top ms
-  none_yet = record {
-    under = λ n. false;
-    is = unmarked ms;
-    from = omega arith;
-    only = λ n h. absurd (false≢true h);
-    below = λ y n up le h. let lt = falls ms older y top up in absurd (omega (arith, lt, le));
-  }
+  -- of those that are left, one is kept no more
+  abbrev left_now : List Master
+  left_now = map (kept_at n false) left
 
-  module _ (after : ℕ) (items : List Master) (h : Releasing ms top after items) where
-    lessors : (n : ℕ) → lessor_of items n ≡ lessor_of ms n
-    lessors n = ap (λ l. lessor_of l n) h.is ∙ over_lessors (marked h.under) (marked_step_number h.under) (marked_lessor h.under) ms n
+  same_left : left_now ≡ filter (λ (x : Master). lives x.step_number) now
+  same_left = sym (filter-map (λ (x : Master). lives x.step_number) (kept_at n false) ms ∙ ap (map (kept_at n false)) (filter-same (λ x. lives (kept_at n false x).step_number) (λ (x : Master). lives x.step_number) ms (all_each (λ x. lives (kept_at n false x).step_number ≡ lives x.step_number) (λ x. ap lives (step_number_stays n false x)) ms)))
 
-    pub now_rise : Rise items
-    now_rise = subst Rise (sym h.is) (over_rise (marked h.under) (marked_step_number h.under) (marked_lessor h.under) ms rise)
+  now_rise : Rise now
+  now_rise = over_rise (kept_at n false) (step_number_stays n false) (lessor_stays n false) ms rise
 
-    pub now_older : Older items
-    now_older = subst Older (sym h.is) (over_older (marked h.under) (marked_step_number h.under) (marked_lessor h.under) ms older)
+  now_older : Older now
+  now_older = over_older (kept_at n false) (step_number_stays n false) (lessor_stays n false) ms older
 
-    pub one_released : (l : ℕ) (next : List Master) → is_option top (lessor_of items l) ≡ true → after < l → ((k : ℕ) → after < k → k < l → is_option top (lessor_of items k) ≡ false) → next ≡ map (marked (is_under (lessor_of items) l)) items → Releasing ms top l next
-    one_released l next is_lessee later least e = record {
-      under = λ n. h.under n || is_under (lessor_of ms) l n;
-      is = e ∙ ap (λ (above : ℕ → Option ℕ). map (λ (x : Master). if is_under above l x.step_number then kept_as false x else x) items) (λ i n. lessors n i)
-          ∙ ap (map (marked (is_under (lessor_of ms) l))) h.is ∙ map-map (marked (is_under (lessor_of ms) l)) (marked h.under) ms ∙ map_each (λ x. marked (is_under (lessor_of ms) l) (marked h.under x)) (marked (λ n. h.under n || is_under (lessor_of ms) l n)) each ms;
-      from = let f = h.from in omega (arith, f, later);
-      only = λ n k. by_mark n (h.under n) refl k;
-      below = λ y n up le k. by_last y n up le k (y == l) refl;
-    }
-      where
-        up_l : lessor_of ms l ≡ Some top
-        up_l = sym (lessors l) ∙ named_is top (lessor_of items l) is_lessee
+  now_lessors : (k : ℕ) → lessor_of now k ≡ lessor_of ms k
+  now_lessors = over_lessors (kept_at n false) (step_number_stays n false) (lessor_stays n false) ms
 
-        each : (x : Master) → marked (is_under (lessor_of ms) l) (marked h.under x) ≡ marked (λ n. h.under n || is_under (lessor_of ms) l n) x
-        each x =
-            elim (h.under x.step_number) as (λ b. (if is_under (lessor_of ms) l (if b then kept_as false x else x).step_number then kept_as false (if b then kept_as false x else x) else (if b then kept_as false x else x)) ≡ (if (b || is_under (lessor_of ms) l x.step_number) then kept_as false x else x)) [
-              | true ↦ elim (is_under (lessor_of ms) l x.step_number) as (λ b. (if b then kept_as false (kept_as false x) else kept_as false x) ≡ kept_as false x) [ true ↦ refl | false ↦ refl ]
-              | false ↦ refl
-            ]
+  now_under : (b k : ℕ) → is_under (lessor_of now) b k ≡ is_under (lessor_of ms) b k
+  now_under b k = ap (λ (above : ℕ → Option ℕ). is_under above b k) (λ i j. now_lessors j i)
 
-        by_mark : (n : ℕ) (b : Bool) → h.under n ≡ b → (b || is_under (lessor_of ms) l n) ≡ true → is_below ms top n ≡ true
-        by_mark n true k j = h.only n k
-        by_mark n false k j =
-            and_from (is_under (lessor_of ms) top n) (not (n == top)) (above_too (lessor_of ms) (falls ms older) n l n top (omega arith) up_l j)
-            (ap not (ne_eqb n top (λ same. let le = low (lessor_of ms) (falls ms older) l n j in let f = h.from in omega (arith, le, f, later, same))))
+  left_under : (b k : ℕ) → lives k ≡ true → is_under (lessor_of left_now) b k ≡ is_under (lessor_of ms) b k
+  left_under b k h = ap (λ (above : ℕ → Option ℕ). is_under above b k) (λ i j. over_lessors (kept_at n false) (step_number_stays n false) (lessor_stays n false) left j i) ∙ under_is members ms rise older b k h
 
-        by_last : (y n : ℕ) → lessor_of ms y ≡ Some top → y ≤ l → is_under (lessor_of ms) y n ≡ true → (b : Bool) → (y == l) ≡ b → (h.under n || is_under (lessor_of ms) l n) ≡ true
-        by_last y n up le k true same = or_right (h.under n) (is_under (lessor_of ms) l n) (subst (λ z. is_under (lessor_of ms) z n ≡ true) (eqb-true y l same) k)
-        by_last y n up le k false differs = ap (λ b. b || is_under (lessor_of ms) l n) (h.below y n up (by_order (nat_lt after y) refl) k)
-          where
-            less : y < l
-            less = less_of y l le (λ same. false≢true (sym differs ∙ eq-eqb y l same))
+  left_at : (k : ℕ) → master_at left_now k ≡ cond (lives k) (master_at now k) None
+  left_at k = ap (λ (l : List Master). master_at l k) same_left ∙ find_where (λ (x : Master). x.step_number) lives k now
 
-            by_order : (b : Bool) → nat_lt after y ≡ b → y ≤ after
-            by_order true lt = absurd (false≢true (sym (least y (lt_of after y lt) less) ∙ ap (is_option top) (lessors y ∙ up) ∙ eq-eqb top top refl))
-            by_order false lt = le_of after y lt
+  left_rise : Rise left_now
+  left_rise = subst Rise (sym same_left) (in_order_filter (λ (x y : Master). x.step_number < y.step_number) (λ (x : Master). lives x.step_number) now now_rise)
 
-    pub all_released : ((k : ℕ) → after < k → is_option top (lessor_of items k) ≡ false) → items ≡ map (marked (is_below ms top)) ms
-    all_released last = h.is ∙ map_each (marked h.under) (marked (is_below ms top)) (λ x. ap (λ b. if b then kept_as false x else x) (same x.step_number)) ms
-      where
-        same_bool : (a b : Bool) → (a ≡ true → b ≡ true) → (b ≡ true → a ≡ true) → a ≡ b
-        same_bool true b f g = sym (f refl)
-        same_bool false true f g = g refl
-        same_bool false false f g = refl
+  -- who is held yet was held
+  held_before : (z : Master) → master_at now z.step_number ≡ Some z → is_held members z ≡ true → (x : Master) × (master_at ms x.step_number ≡ Some x) × (is_held members x ≡ true) × (x.step_number ≡ z.step_number)
+  held_before z here held = by_row (master_at ms z.step_number) refl (sym (over_at (kept_at n false) (step_number_stays n false) (lessor_stays n false) ms z.step_number) ∙ here)
+    where
+      held_too : (x : Master) → is_held members (kept_at n false x) ≡ true → is_held members x ≡ true
+      held_too x =
+          elim (x.step_number == n) as (λ b. is_held members (if b then kept_as false x else x) ≡ true → is_held members x ≡ true) [
+            | true ↦ or_right x.kept (list_any (λ (y : Member). y.master == x.step_number) members)
+            | false ↦ λ k. k
+          ]
 
-        by_order : (y : ℕ) → lessor_of ms y ≡ Some top → (b : Bool) → nat_lt after y ≡ b → y ≤ after
-        by_order y up true lt = absurd (false≢true (sym (last y (lt_of after y lt)) ∙ ap (is_option top) (lessors y ∙ up) ∙ eq-eqb top top refl))
-        by_order y up false lt = le_of after y lt
+      by_row : (o : Option Master) → master_at ms z.step_number ≡ o → option_map (kept_at n false) o ≡ Some z → (x : Master) × (master_at ms x.step_number ≡ Some x) × (is_held members x ≡ true) × (x.step_number ≡ z.step_number)
+      by_row None e h = absurd (let none : None ≡ Some z = h in cc)
+      by_row (Some x) e h =
+          let is : kept_at n false x ≡ z = (let s : Some (kept_at n false x) ≡ Some z = h in cc) in
+          let same : x.step_number ≡ z.step_number = sym (step_number_stays n false x) ∙ ap (λ (y : Master). y.step_number) is in
+          (x, ap (master_at ms) same ∙ e, held_too x (ap (is_held members) is ∙ held), same)
 
-        same : (n : ℕ) → h.under n ≡ is_below ms top n
-        same n = same_bool (h.under n) (is_below ms top n) (h.only n) (λ k. let parts = and_parts (is_under (lessor_of ms) top n) (not (n == top)) k in elim (child (lessor_of ms) n top n parts.0) [
-          | inl e ↦ absurd (false≢true (ap not (sym (eq-eqb n top (sym e))) ∙ parts.1))
-          | inr up ↦ h.below up.0 n up.1 (by_order up.0 up.1 (nat_lt after up.0) refl) up.2
-        ])
+  same_living : (b : ℕ) → (lives b && is_living members left_now b) ≡ is_living members now b
+  same_living b = same_bool (lives b && is_living members left_now b) (is_living members now b) forth back
+    where
+      at_now : (k : ℕ) (z : Master) (t : Bool) → lives k ≡ t → cond t (master_at now k) None ≡ Some z → (lives k ≡ true) × (master_at now k ≡ Some z)
+      at_now k z true e h = (e, h)
+      at_now k z false e h = absurd (let none : None ≡ Some z = h in cc)
+
+      forth : (lives b && is_living members left_now b) ≡ true → is_living members now b ≡ true
+      forth h =
+          let w = held_below left_now members left_rise b (and_parts (lives b) (is_living members left_now b) h).1 in
+          let k = w.0.step_number in
+          let there = at_now k w.0 (lives k) refl (sym (left_at k) ∙ w.1) in
+          living_by now members b w.0 there.1 w.2 (now_under b k ∙ sym (left_under b k there.0) ∙ w.3)
+
+      back : is_living members now b ≡ true → (lives b && is_living members left_now b) ≡ true
+      back h =
+          let w = held_below now members now_rise b h in
+          let k = w.0.step_number in
+          let x = held_before w.0 w.1 w.2 in
+          let under : is_under (lessor_of ms) b k ≡ true = sym (now_under b k) ∙ w.3 in
+          let lives_k : lives k ≡ true = living_by ms members k x.0 x.1 x.2 (ap (is_under (lessor_of ms) k) x.3 ∙ itself (lessor_of ms) k k) in
+          let here : master_at left_now k ≡ Some w.0 = left_at k ∙ ap (λ t. cond t (master_at now k) None) lives_k ∙ w.1 in
+          and_from (lives b) (is_living members left_now b) (living_by ms members b x.0 x.1 x.2 (ap (is_under (lessor_of ms) b) x.3 ∙ under)) (living_by left_now members b w.0 here w.2 (left_under b k lives_k ∙ under))
+
+  pub sweep_again : filter (λ (x : Master). is_living members left_now x.step_number) left_now ≡ filter (λ (x : Master). is_living members now x.step_number) now
+  sweep_again =
+      ap (filter (λ (x : Master). is_living members left_now x.step_number)) same_left
+      ∙ filter-both (λ (x : Master). is_living members left_now x.step_number) (λ (x : Master). lives x.step_number) now
+      ∙ filter-same (λ (x : Master). lives x.step_number && is_living members left_now x.step_number) (λ (x : Master). is_living members now x.step_number) now (all_each (λ (x : Master). (lives x.step_number && is_living members left_now x.step_number) ≡ is_living members now x.step_number) (λ x. same_living x.step_number) now)
+
+-- one more is released, and what nothing holds is swept again
+module _ (v : MasterSet) (rise : Rise v.masters) (older : Older v.masters) (chosen : ℕ → Bool) where
+  abbrev marks : List Master
+  marks = map (marked chosen) v.masters
+
+  marks_rise : Rise marks
+  marks_rise = over_rise (marked chosen) (marked_step_number chosen) (marked_lessor chosen) v.masters rise
+
+  marks_older : Older marks
+  marks_older = over_older (marked chosen) (marked_step_number chosen) (marked_lessor chosen) v.masters older
+
+  pub released_next : (n : ℕ) → swept (with_kept n false (swept (released chosen v))) ≡ swept (released (λ k. chosen k || (k == n)) v)
+  released_next n = λ i. record v { masters = (sweep_again v.members marks marks_rise marks_older n ∙ ap (λ (ms : List Master). filter (λ (x : Master). is_living v.members ms x.step_number) ms) both) i }
+    where
+      both : map (kept_at n false) marks ≡ map (marked (λ k. chosen k || (k == n))) v.masters
+      both = map-map (kept_at n false) (marked chosen) v.masters ∙ map_each (λ x. kept_at n false (marked chosen x)) (marked (λ k. chosen k || (k == n))) each v.masters
+        where
+          each : (x : Master) → kept_at n false (marked chosen x) ≡ marked (λ k. chosen k || (k == n)) x
+          each x =
+              elim (chosen x.step_number) as (λ b. (if is_step_number n (if b then kept_as false x else x) then kept_as false (if b then kept_as false x else x) else (if b then kept_as false x else x)) ≡ (if (b || (x.step_number == n)) then kept_as false x else x)) [
+                | true ↦ elim (x.step_number == n) as (λ b. (if b then kept_as false (kept_as false x) else kept_as false x) ≡ kept_as false x) [ true ↦ refl | false ↦ refl ]
+                | false ↦ refl
+              ]
+
+  -- a master that is held and not chosen is as it was, and so is what is above it
+  module _ (x : Master) (here : master_at v.masters x.step_number ≡ Some x) (held : is_held v.members x ≡ true) (spared : chosen x.step_number ≡ false) where
+    marked_here : master_at marks x.step_number ≡ Some x
+    marked_here = over_at (marked chosen) (marked_step_number chosen) (marked_lessor chosen) v.masters x.step_number ∙ ap (option_map (marked chosen)) here ∙ ap (λ b. Some (if b then kept_as false x else x)) spared
+
+    lives_yet : is_living v.members marks x.step_number ≡ true
+    lives_yet = living_by marks v.members x.step_number x marked_here held (itself (lessor_of marks) x.step_number x.step_number)
+
+    pub spared_here : master_at (swept (released chosen v)).masters x.step_number ≡ Some x
+    spared_here = at_is v.members marks marks_rise marks_older x.step_number lives_yet ∙ marked_here
+
+    pub spared_under : (top : ℕ) → is_under (lessor_of (swept (released chosen v)).masters) top x.step_number ≡ is_under (lessor_of v.masters) top x.step_number
+    spared_under top =
+        under_is v.members marks marks_rise marks_older top x.step_number lives_yet
+        ∙ ap (λ (above : ℕ → Option ℕ). is_under above top x.step_number) (λ i k. over_lessors (marked chosen) (marked_step_number chosen) (marked_lessor chosen) v.masters k i)

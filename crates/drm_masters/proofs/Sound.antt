@@ -1,18 +1,17 @@
 -- What is so of the masters at all times is so after each change.
-use Rattle.std.proofs.Common.{◌≡◌, ℕ, ◌<◌, ◌≤◌, ◌==◌, nat_lt, Bool, true, false, not, ◌&&◌, ◌||◌, List, [], ◌∷◌, ◌++◌, map, filter, find, length, Option, None, Some, refl, sym, ap, subst, ◌∙◌, eq-eqb, arith}
+use Rattle.std.proofs.Common.{◌≡◌, ℕ, ◌<◌, ◌≤◌, ◌==◌, nat_lt, Bool, true, false, not, ◌&&◌, ◌||◌, List, [], ◌∷◌, map, filter, find, length, Option, None, Some, refl, sym, ap, subst, ◌∙◌, eq-eqb, arith}
 use Rattle.std.specs.Prelude.{if◌then◌else◌, IfSome}
 use Rattle.std.specs.List.{list_any, AllByRecursion}
 use Rattle.std.specs.Option.{is_some, option_map, option_map_or}
 use Rattle.std.specs.FinSet as set
 use Rattle.std.proofs.Math.Bool.{and-false}
 use Rattle.std.proofs.lemmas.List.{length-map}
-use Rattle.std.proofs.lemmas.Bool.{eqb-true, false≢true, or_left, or_right, and_parts, and_from}
+use Rattle.std.proofs.lemmas.Bool.{eqb-true, or_left, or_right, and_parts, and_from}
 use Rattle.drm_index_array.specs.Rows.{placed}
 use Rattle.drm_lists.specs.Orders.{InOrder}
-use Rattle.drm_lists.specs.Chains.{is_under}
-use Rattle.drm_lists.proofs.Lists.{all_weaker, all_both, all_each, all_append, all_filter, all_mapped, filter-shorter, list_any-map, list_any_agree, list_any_left, some_passing}
+use Rattle.drm_lists.proofs.Lists.{all_weaker, all_both, all_each, all_filter, all_mapped, filter-shorter, list_any-map, list_any_agree, some_passing}
 use Rattle.drm_lists.proofs.Found.{is_some-find, none_found}
-use Rattle.drm_lists.proofs.Orders.{in_order_append, in_order_filter}
+use Rattle.drm_lists.proofs.Orders.{in_order_filter}
 use Rattle.drm_lists.proofs.Numbers.{flipped}
 use Rattle.drm_lists.proofs.Placed.{any_placed, length_placed, all_placed, in_order_placed, rise_placed}
 use Rattle.drm_lists.proofs.Rising.{found, any_found, any_more, any_left, all_found, all_found_apart, in_order_kept, in_order_mapped, in_order_both, each_is_there}
@@ -23,8 +22,7 @@ use Rattle.drm_masters.specs.Masters.{MasterSet, AreMasters, HaveOtherMagics, Ha
 use Rattle.drm_masters.specs.declared.masters.Masters.TheInside.{Inside}
 use Rattle.drm_masters.specs.Fields.{set_of, IsSound}
 use Rattle.drm_masters.specs.Calls.{with_member, with_master, with_device, without_member, changed_member, with_kept, with_magic, closed_own}
-use Rattle.drm_masters.proofs.Pushed.{step_number_stays, lessor_stays, kept_at, kept_there, kept_rise, kept_older, kept_used, same_used, there_too, new_there, pushed_rise, pushed_older, pushed_used, over_there, over_lessors, over_rise, over_older, over_keyed, kept_lessors, pushed_owner, pushed_lessor, new_lessor}
-use Rattle.drm_masters.proofs.Released.{marked, marked_step_number, marked_lessor, marked_key}
+use Rattle.drm_masters.proofs.Pushed.{step_number_stays, lessor_stays, kept_at, kept_there, kept_rise, kept_older, kept_used, same_used, there_too, new_there, pushed_rise, pushed_older, pushed_used, kept_lessors, pushed_owner, pushed_lessor, new_lessor}
 use Rattle.drm_masters.proofs.Living.{Rise, IsFresh}
 use Rattle.drm_masters.proofs.Upward.{OthersUsed, all_living_used}
 use Rattle.drm_masters.proofs.Flagged.{same_owners, under_same, others_apart, one_more}
@@ -39,10 +37,6 @@ Flags a v = (c : ℕ) → set.contains a.members.flags c ≡ is_current v c
 
 abbrev MembersRise : List Member → Type 0
 MembersRise xs = InOrder (λ (x y : Member). x.client < y.client) xs
-
--- some masters are kept no more
-abbrev pub freed : (ℕ → Bool) → MasterSet → MasterSet
-freed under v = record v { masters = map (marked under) v.masters }
 
 -- all of it but that each master is used
 pub record AreTied (v : MasterSet) : Type 0 where
@@ -227,25 +221,6 @@ module _ (v : MasterSet) (a : AreMasters v) where
     few = a.few;
     few_ids = a.few_ids;
   }
-
-  -- some are kept no more
-  pub freed_ties : (under : ℕ → Bool) → AreTied (freed under v)
-  freed_ties under =
-      let g = marked under in
-      let step_numbers = marked_step_number under in
-      let lessors = marked_lessor under in
-      record {
-        members_rise = a.members_rise;
-        masters_rise = over_rise g step_numbers lessors v.masters a.masters_rise;
-        lessors_older = over_older g step_numbers lessors v.masters a.lessors_older;
-        masters_there = all_weaker (λ (x : Member). is_some (master_at v.masters x.master) ≡ true) (λ (x : Member). is_some (master_at (map g v.masters) x.master) ≡ true) (λ x e. over_there g step_numbers lessors v.masters x.master ∙ e) v.members a.masters_there;
-        device_own = a.device_own;
-        device_owner = λ n e. over_lessors g step_numbers lessors v.masters n ∙ a.device_owner n e;
-        guests_of_owners = guests_over v.masters (map g v.masters) (over_lessors g step_numbers lessors v.masters) v.members a.guests_of_owners;
-        magics_differ = a.magics_differ;
-        few = a.few;
-        few_ids = a.few_ids;
-      }
 
   -- each client is found by its number
   clients_found : AllByRecursion (λ (x : Member). member_of v.members x.client ≡ Some x) v.members
@@ -521,31 +496,6 @@ released_used v a m =
     ap (λ (u : Master). is_used v.members (with_kept m false v).masters u) same ∙ ap (λ b. is_held v.members z || b) (list_any-map (λ (y : Master). is_option z.step_number y.lessor) (kept_at m false) v.masters ∙ list_any_agree (λ (y : Master). is_option z.step_number (kept_at m false y).lessor) (λ (y : Master). is_option z.step_number y.lessor) (λ y. ap (is_option z.step_number) (lessor_stays m false y)) v.masters) ∙ used
     ) v.masters (all_living_used v.members v.masters a.masters_rise a.lessors_older a.used))
 
--- where those that are released are below one, those that aren't are used
-pub freed_others : (v : MasterSet) → AreMasters v → (top : ℕ) (under : ℕ → Bool) → ((n : ℕ) → under n ≡ true → is_under (lessor_of v.masters) top n ≡ true) → AllByRecursion (λ (x : Master). is_under (lessor_of (freed under v).masters) top x.step_number ≡ false → is_used v.members (freed under v).masters x ≡ true) (freed under v).masters
-freed_others v a top under within =
-    all_mapped (λ (z : Master). is_under (lessor_of new) top z.step_number ≡ false → is_used v.members new z ≡ true) g v.masters
-    (all_weaker (λ (z : Master). is_used v.members v.masters z ≡ true) (λ (z : Master). is_under (lessor_of new) top (g z).step_number ≡ false → is_used v.members new (g z) ≡ true) each v.masters (all_living_used v.members v.masters a.masters_rise a.lessors_older a.used))
-  where
-    g : Master → Master
-    g = marked under
-
-    new : List Master
-    new = map g v.masters
-
-    apart_not : (n : ℕ) (b : Bool) → under n ≡ b → is_under (lessor_of v.masters) top n ≡ false → under n ≡ false
-    apart_not n true e apart = absurd (false≢true (sym apart ∙ within n e))
-    apart_not n false e apart = e
-
-    each : (z : Master) → is_used v.members v.masters z ≡ true → is_under (lessor_of new) top (g z).step_number ≡ false → is_used v.members new (g z) ≡ true
-    each z used apart =
-        let step_numbers = marked_step_number under in
-        let lessors = marked_lessor under in
-        let test : is_under (lessor_of v.masters) top z.step_number ≡ false = ap (λ (above : ℕ → Option ℕ). is_under above top z.step_number) (λ i n. sym (over_lessors g step_numbers lessors v.masters n) i) ∙ ap (is_under (lessor_of new) top) (sym (step_numbers z)) ∙ apart in
-        let same : g z ≡ z = ap (λ b. if b then record z { kept = false } else z) (apart_not z.step_number (under z.step_number) refl test) in
-        ap (λ (u : Master). is_used v.members new u) same
-        ∙ ap (λ b. is_held v.members z || b) (list_any-map (λ (y : Master). is_option z.step_number y.lessor) g v.masters ∙ list_any_agree (λ (y : Master). is_option z.step_number (g y).lessor) (λ (y : Master). is_option z.step_number y.lessor) (λ y. ap (is_option z.step_number) (lessors y)) v.masters) ∙ used
-
 -- ---- who is current
 
 -- a sweep makes nobody current, and takes it from nobody
@@ -564,9 +514,6 @@ pushed_same v a z fresh =
 -- nor whether masters are kept
 pub kept_same : (v : MasterSet) (m : ℕ) (kept : Bool) → (c : ℕ) → is_current (with_kept m kept v) c ≡ is_current v c
 kept_same v m kept = under_same v.members v.masters (with_kept m kept v).masters v.device_master (kept_lessors m kept v.masters)
-
-pub freed_same : (v : MasterSet) (under : ℕ → Bool) → (c : ℕ) → is_current (freed under v) c ≡ is_current v c
-freed_same v under = under_same v.members v.masters (freed under v).masters v.device_master (over_lessors (marked under) (marked_step_number under) (marked_lessor under) v.masters)
 
 -- a client that is no master is not current
 pub non_master_same : (v : MasterSet) (y : Member) → y.is_master ≡ false → AreMasters v → is_some (member_of v.members y.client) ≡ false → (c : ℕ) → is_current (with_member y v) c ≡ is_current v c
@@ -630,13 +577,3 @@ pub at_step_number : (ms : List Master) (m : ℕ) (x : Master) → master_at ms 
 at_step_number ms m x e =
     let num : x.step_number ≡ m = eqb-true x.step_number m (found (is_step_number m) (λ _. Unit {0}) x ms (all_each (λ _. Unit {0}) (λ _. tt) ms) e).0 in
     (num, ap (master_at ms) num ∙ e)
-
--- some masters are kept no more, and a sweep takes those that nothing holds
-pub freed_sound : (a b : Inside) (v : MasterSet) (under : ℕ → Bool) → set_of a ≡ v → IsSound a → ((c : ℕ) → set.contains b.members.flags c ≡ set.contains a.members.flags c) → set_of b ≡ swept (freed under v) → IsSound b
-freed_sound a b v under is sound_a flags now =
-    let are : AreMasters v = subst AreMasters is sound_a.are in
-    let keyed : Keyed v.masters = subst (λ (w : MasterSet). Keyed w.masters) is sound_a.keyed in
-    let new = freed under v in
-    sound b (swept new) now (swept_are new (freed_ties v are under))
-    (keyed_fewer new.masters (λ (u : Master). is_living v.members new.masters u.step_number) (over_keyed (marked under) (marked_step_number under) (marked_lessor under) v.masters (marked_key under) keyed))
-    (λ k. flags k ∙ sound_a.flagged k ∙ ap (λ (w : MasterSet). is_current w k) is ∙ sym (swept_same new (freed_ties v are under) k ∙ freed_same v under k))

@@ -19,7 +19,7 @@ module _ (members : List Member) (ms : List Master) (rise : Rise ms) (older : Ol
   left = filter (λ (x : Master). is_living members ms x.step_number) ms
 
   -- what stays is found as before
-  at_is : (n : ℕ) → is_living members ms n ≡ true → master_at left n ≡ master_at ms n
+  pub at_is : (n : ℕ) → is_living members ms n ≡ true → master_at left n ≡ master_at ms n
   at_is n h = find_where (λ (x : Master). x.step_number) (is_living members ms) n ms ∙ ap (λ b. cond b (master_at ms n) None) h
 
   lessors_are : (n : ℕ) → is_living members ms n ≡ true → lessor_of left n ≡ lessor_of ms n
@@ -31,7 +31,7 @@ module _ (members : List Member) (ms : List Master) (rise : Rise ms) (older : Ol
       ap (option_and_then (λ (x : Master). x.lessor)) (find_where (λ (x : Master). x.step_number) (is_living members ms) n ms)
       ∙ elim (is_living members ms n) as (λ b. option_and_then (λ (x : Master). x.lessor) (cond b (master_at ms n) None) ≡ None) [ true ↦ h | false ↦ refl ]
 
-  under_is : (b n : ℕ) → is_living members ms n ≡ true → is_under (lessor_of left) b n ≡ is_under (lessor_of ms) b n
+  pub under_is : (b n : ℕ) → is_living members ms n ≡ true → is_under (lessor_of left) b n ≡ is_under (lessor_of ms) b n
   under_is b n h = ap (λ l. is_among l b) (same_chain (λ k. is_living members ms k ≡ true) (lessor_of ms) (lessor_of left) lessors_are (λ k l p e. lessor_lives ms members rise older k l p e) n n h)
 
   abbrev WithLessor : Master → Type 0

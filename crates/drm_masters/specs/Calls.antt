@@ -1,5 +1,5 @@
 -- What each call does.
-use Rattle.std.specs.Prelude.{◌≡◌, ℕ, ◌<◌, Bool, true, false, not, ◌&&◌, ◌||◌, List, [], ◌∷◌, ◌++◌, Option, None, Some, Result, Ok, Err, find, map, filter, if◌then◌else◌}
+use Rattle.std.specs.Prelude.{◌≡◌, ℕ, ◌<◌, Bool, true, false, not, ◌&&◌, ◌||◌, List, [], ◌∷◌, Option, None, Some, Result, Ok, Err, find, map, filter, if◌then◌else◌}
 use Rattle.std.specs.List.{AllByRecursion}
 use Rattle.std.specs.Option.{is_some}
 use Rattle.drm_index_array.specs.Rows.{placed}
@@ -15,8 +15,7 @@ use Rattle.drm_masters.specs.declared.faults.LesseeFault.TheVariants.{Full, NoMe
 use Rattle.drm_masters.specs.declared.rows.Magic.{Magic}
 use Rattle.drm_masters.specs.declared.rows.Master.{Master}
 use Rattle.drm_masters.specs.declared.rows.Member.{Member}
-use Rattle.drm_lists.specs.Chains.{is_under}
-use Rattle.drm_masters.specs.Masters.{MasterSet, is_client, member_before, master_before, is_step_number, is_key, is_option, IsKeyOf, lessor_of, is_lessee, is_below, is_current_member, has_open_magic, free_magic, free_lessee, swept}
+use Rattle.drm_masters.specs.Masters.{MasterSet, is_client, member_before, master_before, is_step_number, is_key, is_option, IsKeyOf, is_lessee, is_current_member, has_open_magic, free_magic, free_lessee, swept}
 
 -- each client that is there is older
 abbrev pub IsNewClient : MasterSet → ℕ → Type 0
@@ -80,13 +79,9 @@ kept_as kept x = record x { kept = kept }
 abbrev pub with_kept : ℕ → Bool → MasterSet → MasterSet
 with_kept m kept v = record v { masters = map (λ (x : Master). if is_step_number m x then kept_as kept x else x) v.masters }
 
--- the master is kept no more, nor is any below it
-abbrev pub released_under : ℕ → MasterSet → MasterSet
-released_under top v = record v { masters = map (λ (x : Master). if is_under (lessor_of v.masters) top x.step_number then kept_as false x else x) v.masters }
-
--- all below the master are kept no more; it stays kept if it is
-abbrev pub released_below : ℕ → MasterSet → MasterSet
-released_below top v = record v { masters = map (λ (x : Master). if is_below v.masters top x.step_number then kept_as false x else x) v.masters }
+-- the chosen masters are kept no more
+abbrev pub released : (ℕ → Bool) → MasterSet → MasterSet
+released chosen v = record v { masters = map (λ (x : Master). if chosen x.step_number then kept_as false x else x) v.masters }
 
 abbrev pub with_magic : ℕ → Bool → Member → Member
 with_magic n spent x = record x { magic = Some (record { number = n; spent = spent }) }

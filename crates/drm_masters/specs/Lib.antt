@@ -5,4 +5,3 @@ pub mod Tables
 pub mod Ids
 pub mod Records
 pub mod Members
-pub mod Sweeps

@@ -145,6 +145,10 @@ free_magic v m = least (λ n. not (list_any (has_magic m n) v.members)) 1 v.last
 abbrev pub is_lessee_of : List Master → ℕ → ℕ → Master → Bool
 is_lessee_of masters owner id x = is_some x.lessor && (x.lessee_id == id) && (owner_of masters x.step_number == owner)
 
+-- the lessee of this id among all of the master's owner
+abbrev pub lessee_of : List Master → ℕ → ℕ → Option Master
+lessee_of masters m id = find (is_lessee_of masters (owner_of masters m) id) masters
+
 -- the least id that no lessee has under the owner of the master (drm-uapi, leases; ids own)
 abbrev pub free_lessee : MasterSet → ℕ → Option ℕ
 free_lessee v m = least (λ id. not (list_any (is_lessee_of v.masters (owner_of v.masters m) id) v.masters)) 1 v.last_lessee

@@ -10,7 +10,7 @@ use crate::faults::{LesseeFault, NoMemory, SetDone, SetFault};
 use crate::members::Members;
 use crate::rows::{Master, MasterKey, MasterRow, Member};
 use crate::searches::{depth_of, find_open_magic, free_magic, is_option, lessor_of, owner_of};
-use crate::sweeps::{release_all_below, release_all_under, sweep_under, sweep_up};
+use crate::sweeps::sweep_up;
 use crate::table::MasterTable;
 use crate::writes::{
     device_without, founded_master, lease_client, lessee, non_master, owner, with_magic,
@@ -129,6 +129,19 @@ impl Masters {
         ensures keyed { IfSome result (λ x. sets.IsKeyOf self.now.masters step_number x.key) }
     {
         self.masters.at(step_number)
+    }
+
+    /// Returns the master that a key names, if it exists. Does not allocate.
+    ///
+    /// ```rust
+    /// if let Some(row) = masters.master(1) {
+    ///     assert!(masters.of_key(row.key) == Some(row));
+    /// }
+    /// ```
+    pub fn of_key(&self, master: MasterKey) -> Option<Master>
+        ensures { result ≡ find (sets.is_key master) self.now.masters }
+    {
+        self.masters.of_key(master)
     }
 
     /// How deep a master lies below its owner: 0 where it has no lessor, else one more than its lessor (own). Masters are named
@@ -455,20 +468,20 @@ impl Masters {
         Ok((key, id))
     }
 
-    /// The lessee of this id among all of the master's owner. It takes no memory.
+    /// Returns the key of the lessee with this id among all of the master's owner. Does not allocate.
     ///
     /// ```rust
     /// let Some(owner) = masters.master(1) else { return };
-    /// assert!(matches!(masters.lessee(owner.key, id), Some(row) if row.key == lessee));
+    /// assert!(masters.lessee(owner.key, id) == Some(lessee));
     /// ```
-    pub fn lessee(&self, master: MasterKey, id: u32) -> Option<Master>
+    pub fn lessee(&self, master: MasterKey, id: u32) -> Option<MasterKey>
         requires { sets.is_there self.now.masters master ≡ true }
-        ensures lessee { result ≡ find (sets.is_lessee_of self.now.masters (sets.owner_of self.now.masters (sets.step_number_at self.now.masters master)) id) self.now.masters }
-        ensures keyed { IfSome result (λ x. sets.IsKeyOf self.now.masters x.step_number x.key) }
+        ensures lessee { result ≡ option_map (λ x. x.key) (sets.lessee_of self.now.masters (sets.step_number_at self.now.masters master) id) }
+        ensures keyed { IfSome (sets.lessee_of self.now.masters (sets.step_number_at self.now.masters master) id) (λ x. sets.IsKeyOf self.now.masters x.step_number x.key) }
     {
         let step_number = self.masters.of_key(master)?.step_number;
         let owner = owner_of(&self.masters, step_number);
-        self.masters.lessee(owner, id)
+        Some(self.masters.lessee(owner, id)?.key)
     }
 
     /// The last id that a lessee may have.
@@ -511,34 +524,6 @@ impl Masters {
         };
         self.masters.set_kept(released.step_number, false);
         sweep_up(&self.members, &mut self.masters, released.step_number);
-    }
-
-    /// Ends the stay of a master and of all below it, where they are kept. Each goes, and those above it, as far as nothing
-    /// else holds them. It takes no memory.
-    ///
-    /// ```rust
-    /// masters.release_under(1);
-    /// assert!(masters.master(1).is_some());
-    /// ```
-    pub fn release_under(&mut self, top: u32)
-        ensures { self.new ≡ sets.swept (calls.released_under top self.old) }
-    {
-        release_all_under(&mut self.masters, top);
-        sweep_under(&self.members, &mut self.masters, top);
-    }
-
-    /// Ends the stay of all below a master, where they are kept, and not its own. Each goes, and those above it, as far as
-    /// nothing else holds them. It takes no memory.
-    ///
-    /// ```rust
-    /// masters.release_below(1);
-    /// assert!(masters.master(1).is_some());
-    /// ```
-    pub fn release_below(&mut self, top: u32)
-        ensures { self.new ≡ sets.swept (calls.released_below top self.old) }
-    {
-        release_all_below(&mut self.masters, top);
-        sweep_under(&self.members, &mut self.masters, top);
     }
 
     /// The client at a place, from 0, in the order of their numbers, among those that stand to masters; none past the last. It

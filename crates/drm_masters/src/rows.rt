@@ -35,7 +35,13 @@ impl MasterKey {
         MasterKey { number }
     }
 
-    pub(crate) fn number(self) -> u32
+    /// Returns the key as a number, by which another table may find what belongs to the master. Does not allocate.
+    ///
+    /// ```rust
+    /// let Some(row) = masters.master(1) else { return };
+    /// assert!(row.key.number() == key.number());
+    /// ```
+    pub fn number(self) -> u32
         ensures { result ≡ self }
     {
         self.number
@@ -95,6 +101,7 @@ pub enum MasterRow {
 /// A master.
 ///
 /// ```rust
+/// let Some(key) = masters.master_of(1) else { return };
 /// let master = Master { key, step_number: 1, lessor: None, lessee_id: 0, kept: false };
 /// assert!(masters.nth_master(0) == Some(master));
 /// ```

@@ -191,18 +191,6 @@ impl MasterTable {
     {
         self.lessees.nth(lessor, position)
     }
-
-    /// The oldest direct lessee of a master that is younger than this step number.
-    pub fn lessee_after(&self, lessor: u32, after: u32) -> Option<u32>
-        ensures least { result ≡ least (λ n. sets.is_option lessor (sets.lessor_of self.now.items n)) (after + 1) u32.MAX }
-        ensures none_above { IfNone result ((n : ℕ) → after < n → sets.is_option lessor (sets.lessor_of self.now.items n) ≡ false) }
-    {
-        let lessees = &self.lessees;
-        if after == u32::MAX {
-            return None;
-        }
-        lessees.next(lessor, after + 1)
-    }
 }
 
 /// The owner of a master that is to come: that of its lessor, or else itself.

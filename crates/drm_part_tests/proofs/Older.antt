@@ -9,7 +9,13 @@ use Rattle.drm_lists.proofs.Placed.{all_placed}
 use Rattle.drm_lists.proofs.Rising.{found, all_found}
 use Rattle.drm_modes.specs.Modes.{ModeSet}
 use Rattle.drm_masters.specs.declared.rows.Master.{Master}
-use Rattle.drm_masters.specs.Masters.{MasterSet, AreMasters, is_key, is_step_number, master_at, master_before, lessor_of, is_below, is_living, swept, IsKeyOf}
+use Rattle.std.proofs.lemmas.Bool.{eqb-true}
+use Rattle.std.proofs.lemmas.Option.{none-some, same_Some}
+use Rattle.drm_masters.specs.declared.rows.Member.{Member}
+use Rattle.drm_leases.specs.Agreed.{AreAgreed}
+use Rattle.drm_leases.proofs.Agreeing.{agreed_closed_own}
+use Rattle.drm_leases.proofs.Keyed.{keyed_there}
+use Rattle.drm_masters.specs.Masters.{MasterSet, AreMasters, is_client, member_of, is_there, is_key, is_step_number, master_at, master_before, lessor_of, is_below, is_living, swept, IsKeyOf}
 use Rattle.drm_masters.specs.Calls as masters_calls
 use Rattle.drm_leases.specs.declared.faults.LeaseFault.{LeaseFault}
 use Rattle.drm_leases.specs.declared.faults.LeaseFault.TheVariants.{Denied, NoMemory}
@@ -38,7 +44,7 @@ module _ (l : LeaseSet) (v : MasterSet) (s : ModeSet) (m : ℕ) (universal : Boo
   created_lessees (Ok made) l2 v2 h c =
       let k = later_lessees l step_number h in
       let objects = listed_objects s.topology (leased l v s m universal ids) in
-      subst (λ (w : LeaseSet). IsNewLessee w (step_number + 1)) (sym (c.3 ∙ newest_last made.token step_number m objects l h))
+      subst (λ (w : LeaseSet). IsNewLessee w (step_number + 1)) (sym (c.3 ∙ newest_last made.token made.m step_number m objects l h))
       (record {
         tokens = all_placed (λ (row : LeaseToken). row.master < step_number + 1) (λ (row : LeaseToken). token_before row (lease_token made.token step_number)) (lease_token made.token step_number) l.tokens (omega arith) k.tokens;
         grants = all_append (λ (g : Grant). g.master < step_number + 1) l.grants (map (grant step_number) objects) k.grants (all_mapped (λ (g : Grant). g.master < step_number + 1) (grant step_number) objects (all_each (λ x. (grant step_number x).master < step_number + 1) (λ x. omega arith) objects));
@@ -77,11 +83,8 @@ module _ (v : MasterSet) (n : ℕ) (p : ℕ → Bool) (h : IsBefore v n) where
         four = h.four;
       }
 
-pub ended_before : (v v2 : MasterSet) (top n : ℕ) → IsBefore v n → v2 ≡ swept (masters_calls.released_under top v) → IsBefore v2 n
-ended_before v v2 top n h e = subst (λ (w : MasterSet). IsBefore w n) (sym e) (released_older v n (is_under (lessor_of v.masters) top) h)
-
-pub ended_below_before : (v v2 : MasterSet) (top n : ℕ) → IsBefore v n → v2 ≡ swept (masters_calls.released_below top v) → IsBefore v2 n
-ended_below_before v v2 top n h e = subst (λ (w : MasterSet). IsBefore w n) (sym e) (released_older v n (is_below v.masters top) h)
+pub ended_before : (v v2 : MasterSet) (chosen : ℕ → Bool) (n : ℕ) → IsBefore v n → v2 ≡ swept (masters_calls.released chosen v) → IsBefore v2 n
+ended_before v v2 chosen n h e = subst (λ (w : MasterSet). IsBefore w n) (sym e) (released_older v n chosen h)
 
 module _ (l : LeaseSet) (n : ℕ) (p : ℕ → Bool) (h : IsNewLessee l n) where
   thinned_lessees : (lendings : List Lending) → IsNewLessee (record l { tokens = filter (λ (row : LeaseToken). not (p row.master)) l.tokens; grants = filter (λ (g : Grant). not (p g.master)) l.grants; lendings = lendings }) n
@@ -129,3 +132,21 @@ of_its_key v are b x at keyed = by_row (find (is_key x.key) v.masters) refl keye
 
 pub unredeemed : (v : MasterSet) → AreMasters v → (b : ℕ) (x : Master) → master_at v.masters b ≡ Some x → IsKeyOf v.masters b x.key → x.kept ≡ true → is_some x.lessor ≡ true → option_map_or (λ (y : Master). y.kept && is_some y.lessor) (find (is_key x.key) v.masters) false ≡ true
 unredeemed v are b x at keyed kept lessee = ap (λ o. option_map_or (λ (y : Master). y.kept && is_some y.lessor) o false) (of_its_key v are b x at keyed) ∙ ap (λ k. k && is_some x.lessor) kept ∙ lessee
+
+-- ---- a client that is a master closes
+
+-- the leases agree with its master, which is kept, and its key is that of a master
+pub closed_agrees : (v new : MasterSet) (c key : ℕ) (l : LeaseSet) → AreMasters v → AreAgreed l v → masters_calls.ClosedBy v (member_of v.members c) (Some key) new → AreAgreed l new × (is_there new.masters key ≡ true)
+closed_agrees v new c key l are agreed h = by_member (member_of v.members c) refl h
+  where
+    by_own : (x : Member) → member_of v.members c ≡ Some x → (b : Bool) → masters_calls.ClosedOf v x b (Some key) new → AreAgreed l new × (is_there new.masters key ≡ true)
+    by_own x here true k =
+        let number : x.client ≡ c = eqb-true x.client c (found (is_client c) (λ _. Unit {0}) x v.members (all_each (λ _. Unit {0}) (λ _. tt) v.members) here).0 in (
+          subst (AreAgreed l) (sym k.1) (subst (λ n. AreAgreed l (masters_calls.closed_own n x.master v)) (sym number) (agreed_closed_own v c x l.lendings are.members_rise here agreed)),
+          ap (is_there new.masters) (same_Some key k.0.0 k.0.1) ∙ keyed_there new.masters x.master k.0.0 k.0.2,
+        )
+    by_own x here false k = absurd (none-some key (sym k.0))
+
+    by_member : (o : Option Member) → member_of v.members c ≡ o → masters_calls.ClosedBy v o (Some key) new → AreAgreed l new × (is_there new.masters key ≡ true)
+    by_member None none k = absurd (none-some key (sym k.0))
+    by_member (Some x) here k = by_own x here x.is_master k

@@ -1,18 +1,19 @@
 //! Leases and their tokens, call by call.
 
-ghost use Rattle.std.specs.Prelude.{◌≡◌, ◌+◌, ◌<◌, ◌≤◌, IfOk, Some, Err};
+ghost use Rattle.std.specs.Prelude.{◌≡◌, ◌+◌, ◌<◌, ◌≤◌, true, IfOk, IfSome, Some, Err};
 ghost use Rattle.drm_leases.specs.declared.faults.LeaseFault.{LeaseFault as AFault};
 ghost use Rattle.drm_leases.specs.Leases.{LeaseSet};
 ghost use Rattle.drm_leases.specs.Calls.{IsNewLessee};
 ghost use Rattle.drm_leases.specs.Agreed.{AreAgreed};
-ghost use Rattle.drm_masters.specs.Masters.{MasterSet};
+ghost use Rattle.drm_masters.specs.Masters.{MasterSet, is_there};
 ghost use Rattle.drm_part_tests.specs.Older.{IsBefore};
 ghost use Rattle.drm_part_tests.specs.declared.asking.Told.TheVariants as told;
 
 use crate::asking::Told;
+use crate::master_calls::key_of;
 use crate::modes::test_topology;
 use drm_leases::{LeaseFault, Leased, Leases};
-use drm_masters::Masters;
+use drm_masters::{MasterKey, Masters};
 use drm_modes::Modes;
 use drm_table::Rule;
 use std::alloc::Global;
@@ -159,8 +160,13 @@ fn enter_again(masters: &mut Masters, lessee: u32, client: u32) -> Told
     }
 }
 
+/// The number of the step that made a master, if a key is told.
+fn step_of(masters: &Masters, key: Option<MasterKey>) -> Option<u32> {
+    Some(masters.of_key(key?)?.step_number)
+}
+
 /// Spends a token before the step of this number.
-fn redeem(leases: &mut Leases, token: u32, step_number: u32) -> Option<u32>
+fn redeem(leases: &mut Leases, token: u32, step_number: u32) -> Option<MasterKey>
     requires { IsNewLessee leases.old step_number }
     ensures lessees { IsNewLessee leases.new step_number }
     ensures agreed { (v : MasterSet) → AreAgreed leases.old v → AreAgreed leases.new v }
@@ -169,7 +175,8 @@ fn redeem(leases: &mut Leases, token: u32, step_number: u32) -> Option<u32>
 }
 
 /// Revokes before the step of this number.
-fn revoke(leases: &mut Leases, masters: &mut Masters, master: u32, step_number: u32)
+fn revoke(leases: &mut Leases, masters: &mut Masters, master: MasterKey, step_number: u32)
+    requires there { is_there masters.old.masters master ≡ true }
     requires before { IsBefore masters.old step_number }
     requires lessees { IsNewLessee leases.old step_number }
     requires agreed { AreAgreed leases.old masters.old }
@@ -181,7 +188,8 @@ fn revoke(leases: &mut Leases, masters: &mut Masters, master: u32, step_number: 
 }
 
 /// The same of all below a master.
-fn revoke_below(leases: &mut Leases, masters: &mut Masters, master: u32, step_number: u32)
+fn revoke_below(leases: &mut Leases, masters: &mut Masters, master: MasterKey, step_number: u32)
+    requires there { is_there masters.old.masters master ≡ true }
     requires before { IsBefore masters.old step_number }
     requires lessees { IsNewLessee leases.old step_number }
     requires agreed { AreAgreed leases.old masters.old }
@@ -192,10 +200,13 @@ fn revoke_below(leases: &mut Leases, masters: &mut Masters, master: u32, step_nu
     leases.revoke_below(masters, master);
 }
 
-fn has(leases: &Leases, lessee: u32, ids: &[u32]) -> bool {
-    let mut is_so = leases.objects_of(lessee).ids() == ids;
+fn has(leases: &Leases, masters: &Masters, lessee: u32, ids: &[u32]) -> bool {
+    let Some(row) = masters.master(lessee) else {
+        return ids.is_empty();
+    };
+    let mut is_so = leases.objects_of(row.key).ids() == ids;
     for object in 0..10u32 {
-        is_so = is_so && leases.holds(lessee, object) == ids.contains(&object);
+        is_so = is_so && leases.holds(row.key, object) == ids.contains(&object);
     }
     is_so
 }
@@ -203,11 +214,21 @@ fn has(leases: &Leases, lessee: u32, ids: &[u32]) -> bool {
 fn lends(leases: &Leases, masters: &Masters, master: u32, ids: &[u32]) -> bool
     requires { AreAgreed leases.now masters.now }
 {
+    let Some(key) = key_of(masters, master) else {
+        return ids.is_empty();
+    };
     let mut is_so = true;
     for object in 0..10u32 {
-        is_so = is_so && leases.leased_out(masters, master, object) == ids.contains(&object);
+        is_so = is_so && leases.leased_out(masters, key, object) == ids.contains(&object);
     }
     is_so
+}
+
+fn has_lessees(leases: &Leases, masters: &Masters, master: u32, ids: &[u32]) -> bool {
+    let Some(key) = key_of(masters, master) else {
+        return ids.is_empty();
+    };
+    leases.list(masters, key).ids() == ids
 }
 
 fn told_grant(leases: &Leases, place: usize) -> Told {
@@ -222,11 +243,11 @@ fn told_of(leases: &Leases, masters: &Masters, ask: Ask) -> Told
     requires { AreAgreed leases.now masters.now }
 {
     match ask {
-        Ask::Has(lessee, ids) => Told::Whether(has(leases, lessee, ids)),
+        Ask::Has(lessee, ids) => Told::Whether(has(leases, masters, lessee, ids)),
         Ask::Lends(master, ids) => Told::Whether(lends(leases, masters, master, ids)),
-        Ask::AreLessees(master, ids) => Told::Whether(leases.list(masters, master).ids() == ids),
+        Ask::AreLessees(master, ids) => Told::Whether(has_lessees(leases, masters, master, ids)),
         Ask::LastGiven => Told::of(leases.last_given()),
-        Ask::OfToken(token) => Told::of(leases.token_master(token)),
+        Ask::OfToken(token) => Told::of(step_of(masters, leases.token_master(token))),
         Ask::TokenOf(lessee) => Told::of(leases.token_of(lessee)),
         Ask::IsThere(master) => Told::Whether(masters.master(master).is_some()),
         Ask::NthGrant(place) => told_grant(leases, place),
@@ -244,13 +265,20 @@ fn asked(leases: &mut Leases, masters: &mut Masters, ask: Ask, step_number: u32)
     ensures agreed { AreAgreed leases.new masters.new }
 {
     match ask {
-        Ask::Redeem(token) => Told::of(redeem(leases, token, step_number)),
+        Ask::Redeem(token) => {
+            let lessee = redeem(leases, token, step_number);
+            Told::of(step_of(masters, lessee))
+        }
         Ask::Revoke(master) => {
-            revoke(leases, masters, master, step_number);
+            if let Some(key) = key_of(masters, master) {
+                revoke(leases, masters, key, step_number);
+            }
             Told::Done
         }
         Ask::RevokeBelow(master) => {
-            revoke_below(leases, masters, master, step_number);
+            if let Some(key) = key_of(masters, master) {
+                revoke_below(leases, masters, key, step_number);
+            }
             Told::Done
         }
         _ => told_of(leases, masters, ask),
@@ -415,6 +443,29 @@ fn leases_end(rt: HostRuntime) -> Result<(), Fail> {
     check_new(&rt, rt.alloc(), 4, &OWN_TOKEN_STAYS)
 }
 
+/// Closes a client that is a master, and gives the key of its master, which stays until its release.
+fn closed(leases: &Leases, masters: &mut Masters, client: u32) -> Option<MasterKey>
+    requires { AreAgreed leases.now masters.old }
+    ensures agreed { IfSome result (λ key. AreAgreed leases.now masters.new) }
+    ensures there { IfSome result (λ key. is_there masters.new.masters key ≡ true) }
+{
+    let _ = leases;
+    masters.laws();
+    masters.on_close(client)
+}
+
+/// Whether the masters are those of these steps.
+fn are_left(masters: &Masters, steps: &[u32]) -> bool {
+    let mut are_so = masters.nth_master(steps.len()).is_none();
+    for (place, step) in steps.iter().enumerate() {
+        are_so = are_so
+            && masters
+                .nth_master(place)
+                .is_some_and(|row| row.step_number == *step);
+    }
+    are_so
+}
+
 /// The rules of leases in their order, where one lease may be there.
 const RULES: [(Ask, Told); 9] = [
     (Ask::Lease(1, &[]), Told::Denied(Rule::LeaseShape)),
@@ -454,4 +505,60 @@ fn leases_are_made(rt: HostRuntime) -> Result<(), Fail> {
     check_new(&rt, rt.alloc(), 1, &RULES)?;
     check_new(&rt, rt.alloc(), 2, &GIVEN_AGAIN)?;
     check_new(&rt, rt.alloc(), 2, &PLANE_COMES_ALONG)
+}
+
+/// A lessee that client 3 redeems, and one that no client does: a revocation releases the second alone.
+fn check_revocations(rt: &impl Abort, leases: &mut Leases, masters: &mut Masters, modes: &Modes)
+    requires before { IsBefore masters.old 2 }
+    requires lessees { IsNewLessee leases.old 2 }
+    requires agreed { AreAgreed leases.old masters.old }
+    ensures agreed { AreAgreed leases.new masters.new }
+{
+    let first = made(leases, masters, modes, Ask::Lease(1, OUTPUT), 2);
+    assert_eq!(rt; first, Told::Two(1, 1));
+    assert_eq!(rt; asked(leases, masters, Ask::Redeem(1), 3), Told::Number(2));
+    assert_eq!(rt; made(leases, masters, modes, Ask::Enter(2), 3), Told::Done);
+    let second = made(leases, masters, modes, Ask::Lease(1, &[1, 3, 7]), 4);
+    assert_eq!(rt; second, Told::Two(2, 2));
+    assert!(rt; are_left(masters, &[1, 2, 4]));
+    let _below = asked(leases, masters, Ask::RevokeBelow(1), 5);
+    assert!(rt; are_left(masters, &[1, 2]));
+    let _own = asked(leases, masters, Ask::Revoke(1), 5);
+    assert!(rt; are_left(masters, &[1, 2]));
+}
+
+/// The clients of the lessee and of the owner close. Their masters stay until their own releases, whatever is revoked.
+fn check_closings(rt: &impl Abort, leases: &mut Leases, masters: &mut Masters)
+    requires { AreAgreed leases.old masters.old }
+{
+    let Some(lessee) = closed(leases, masters, 3) else {
+        return;
+    };
+    assert!(rt; are_left(masters, &[1, 2]));
+    leases.revoke_below(masters, lessee);
+    let Some(owner) = closed(leases, masters, 1) else {
+        return;
+    };
+    leases.revoke(masters, owner);
+    assert!(rt; are_left(masters, &[1, 2]));
+    if masters.of_key(owner).is_some() {
+        masters.release(owner);
+    }
+    assert!(rt; are_left(masters, &[1, 2]));
+    if masters.of_key(lessee).is_some() {
+        masters.release(lessee);
+    }
+    assert!(rt; are_left(masters, &[]));
+}
+
+/// What a revocation releases, and what stays until its own release: the masters that are left after each.
+#[test]
+fn revocations_release_by_their_tokens(rt: HostRuntime) -> Result<(), Fail> {
+    let topology = test_topology().ok_or("no topology")?;
+    let mut masters = test_masters(rt.alloc())?;
+    let modes = Modes::new(rt.alloc(), topology, 4);
+    let mut leases = Leases::new(rt.alloc(), 4);
+    check_revocations(&rt, &mut leases, &mut masters, &modes);
+    check_closings(&rt, &mut leases, &mut masters);
+    Ok(())
 }

@@ -26,7 +26,6 @@ pub(crate) enum Ask {
     /// A master gets a lessee.
     Lend(u32, u32),
     Release(u32),
-    ReleaseUnder(u32),
     DeviceMaster,
     IsCurrent(u32),
     MasterOf(u32),
@@ -77,7 +76,7 @@ fn is_new_client(masters: &Masters, client: u32) -> bool
 
 /// The key of a master that is there.
 #[tactic(auto, using(crate::proofs::Keyed::there_keyed))]
-fn key_of(masters: &Masters, step_number: u32) -> Option<MasterKey>
+pub(crate) fn key_of(masters: &Masters, step_number: u32) -> Option<MasterKey>
     ensures { IfSome result (λ key. is_there masters.now.masters key ≡ true) }
 {
     match masters.master(step_number) {
@@ -256,14 +255,6 @@ fn released(masters: &mut Masters, master: u32) -> Told
     Told::Done
 }
 
-fn released_under(masters: &mut Masters, top: u32) -> Told
-    requires { masters.old.last_magic ≡ 4 }
-    ensures { masters.new.last_magic ≡ 4 }
-{
-    masters.release_under(top);
-    Told::Done
-}
-
 fn lessor_of(masters: &Masters, master: u32) -> Told {
     let Some(key) = key_of(masters, master) else {
         return Told::Unasked;
@@ -275,7 +266,10 @@ fn lessee_of(masters: &Masters, owner: u32, id: u32) -> Told {
     let Some(key) = key_of(masters, owner) else {
         return Told::Unasked;
     };
-    told_master(masters, masters.lessee(key, id))
+    let Some(lessee) = masters.lessee(key, id) else {
+        return Told::Nothing;
+    };
+    told_master(masters, masters.of_key(lessee))
 }
 
 /// Asks what changes nothing.
@@ -314,7 +308,6 @@ pub(crate) fn asked(masters: &mut Masters, ask: Ask) -> Told
         Ask::Close(client) => closed(masters, client),
         Ask::Lend(lessor, step_number) => lent(masters, lessor, step_number),
         Ask::Release(master) => released(masters, master),
-        Ask::ReleaseUnder(top) => released_under(masters, top),
         _ => told_of(masters, ask),
     }
 }

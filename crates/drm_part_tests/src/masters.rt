@@ -340,15 +340,16 @@ const OWNER_GOES: [Case; 5] = [
     (Ask::NthMaster(0), Told::Nothing),
 ];
 
-/// A release reaches all below.
-const ALL_BELOW: [Case; 8] = [
+/// An owner goes with its last lessee.
+const LAST_LESSEE_RELEASED: [Case; 9] = [
     (Ask::LastLessee, Told::Number(4)),
     (Ask::Open(1), Told::Whether(true)),
     (Ask::Lend(1, 2), Told::Lent(2, 1)),
     (Ask::Depth(2), Told::Number(1)),
     (Ask::Depth(1), Told::Number(0)),
     (Ask::Close(1), Told::Number(1)),
-    (Ask::ReleaseUnder(1), Told::Done),
+    (Ask::Release(1), Told::Done),
+    (Ask::Release(2), Told::Done),
     (Ask::NthMaster(0), Told::Nothing),
 ];
 
@@ -357,7 +358,7 @@ fn masters_are_released(rt: HostRuntime) {
     check_new(&rt, rt.alloc(), &LESSEE_RELEASED);
     check_new(&rt, rt.alloc(), &OWNER_STAYS);
     check_new(&rt, rt.alloc(), &OWNER_GOES);
-    check_new(&rt, rt.alloc(), &ALL_BELOW);
+    check_new(&rt, rt.alloc(), &LAST_LESSEE_RELEASED);
 }
 
 /// An authenticated client that is no master.

@@ -10,6 +10,7 @@ use log::Log;
 use std::alloc::Global;
 use std::io::{ErrorKind, Read, Write};
 use std::net::{Net, Shutdown};
+use std::os::fd::OwnedFd;
 use std::os::unix::net::{UnixListener, UnixStream};
 use std::process::Abort;
 use std::sync::Wait;
@@ -444,8 +445,11 @@ fn connections_are_served(rt: HostRuntime) -> Result<(), Fail> {
 fn tells_of_a_connection_that_is_not_accepted(rt: HostRuntime) -> Result<(), Fail> {
     let alloc: Global = rt.alloc();
     let places = choose_places(&rt, alloc)?;
-    let sockets = bind(&rt, &places)?;
-    sockets.render.set_nonblocking(true)?;
+    let mut sockets = bind(&rt, &places)?;
+    // no listener, and what has something to read
+    let (stream, _ended) = UnixStream::pair(&rt)?;
+    stream.shutdown(Shutdown::Both)?;
+    sockets.render = UnixListener::from(OwnedFd::from(stream));
     let served = serve(&rt, alloc, sockets, [0, 1, 0]);
     remove(&rt, &places)?;
     match served {

@@ -1,6 +1,7 @@
 -- What the last gift of a handle and the last publishing under a key say of a history: what is told of it, and chains.
-use Rattle.std.proofs.Common.{◌≡◌, ℕ, Bool, true, false, cond, List, [], ◌∷◌, ◌++◌, Option, None, Some, refl, sym, ◌∙◌, ap, subst, arith}
+use Rattle.std.proofs.Common.{◌≡◌, ℕ, Bool, true, false, cond, List, [], ◌∷◌, ◌++◌, Option, None, Some, IfNone, IfSome, is_none, refl, sym, ◌∙◌, ap, subst, arith}
 use Rattle.std.proofs.lemmas.List.{append_assoc}
+use Rattle.std.proofs.lemmas.Bool.{false≢true}
 use Rattle.drm_history.specs.History.{AnsweredEvent, next_number}
 use Rattle.drm_history.specs.Steps.{Key, is_key, Source, Creation, Transfer, Giving, Publishing, given, takes, published}
 use Rattle.drm_history.specs.Holds.{WasGiven, WasPublished}
@@ -9,7 +10,8 @@ use Rattle.drm_history.proofs.Runs.{agrees}
 use Rattle.drm_history.proofs.Told.{Kept, has_is_told, told, Held, Published, gift, gift_in, holder_under, holder_in, Holder, from_source, from_holder, none_some, given_now, given_before, published_now, published_before}
 use Rattle.drm_history.proofs.Chained.{link_within, published_within}
 use Rattle.drm_rights.specs.Steps.{key_of}
-use Rattle.drm_rights.specs.Chains.{HasNone, IsExplained, IsOfDevice, LeadsTo, link_of, links_of}
+use Rattle.drm_rights.specs.Chains.{EndsChain, Explains, HasNone, IsExplained, IsOfDevice, LeadsTo, link_of, links_of}
+use Rattle.drm_rights.specs.declared.chains.ChainEnd.{ChainEnd}
 use Rattle.drm_rights.specs.declared.chains.Link.{Link}
 use Rattle.drm_rights.specs.declared.chains.Origin.TheVariants.{Made, Published}
 use Rattle.drm_rights.specs.declared.steps.Key.{Key as HandleKey}
@@ -99,11 +101,6 @@ explained_is_chain history o [] k = k
 explained_is_chain history o (link ∷ []) k = (k.0, k.1, k.2, k.3)
 explained_is_chain history o (link ∷ before ∷ links) k = (k.0, k.1, key_of k.2, k.3, k.4, k.5, k.6, explained_is_chain k.1 o (before ∷ links) k.8)
 
--- the links lead to the client's handle, and are explained
-abbrev pub Explains : List AnsweredEvent → ℕ → ℕ → ℕ → List Link → Type 0
-Explains history c h o [] = ⊥
-Explains history c h o (link ∷ links) = (link.client ≡ c) × (link.handle ≡ h) × IsExplained history o (link ∷ links)
-
 pub leads_to : (history : List AnsweredEvent) (c h o : ℕ) (links : List Link) → Explains history c h o links → LeadsTo history c h o (links_of links)
 leads_to history c h o [] k = k
 leads_to history c h o (link ∷ links) k = (k.0, k.1, explained_is_chain history o (link ∷ links) k.2)
@@ -137,13 +134,8 @@ transfer_is_explained history past older key c h d k o step sharing rest link it
       chain,
     )
 
--- a chain up to an earlier moment is the rest of one to the handle, behind these links
-abbrev pub LeadsOn : List AnsweredEvent → List AnsweredEvent → ℕ → ℕ → ℕ → ℕ → List Link → Type 0
-LeadsOn history earlier c h d k links =
-    (o : ℕ) (link : Link) (rest : List Link) → link.client ≡ d → link.handle ≡ k → IsExplained earlier o (link ∷ rest) → Explains history c h o (links ++ link ∷ rest)
-
 -- the step of this number gives the handle, and made its object
-pub leads_to_made : (history earlier past : List AnsweredEvent) (c h d k step : ℕ) (links items : List Link) → LeadsOn history earlier c h d k links →
+pub leads_to_made : (history earlier past : List AnsweredEvent) (c h d k step : ℕ) (links items : List Link) → EndsChain history earlier c h d k links →
     last_gift earlier d k ≡ Some (record { source = Creation; past = past }) → next_number past ≡ step → items ≡ links ++ record { step = step; client = d; handle = k; origin = Made } ∷ [] →
     (o : ℕ) × Explains history c h o items
 leads_to_made history earlier past c h d k step links items leads its_gift number same =
@@ -151,9 +143,9 @@ leads_to_made history earlier past c h d k step links items leads its_gift numbe
     (next_number past, subst (Explains history c h (next_number past)) (sym same) (leads (next_number past) made [] refl refl (made_is_explained earlier past d k step its_gift number)))
 
 -- the step of this number gives the handle, for which the client of the next link published it
-pub leads_to_transfer : (history earlier past older : List AnsweredEvent) (key : HandleKey) (c h d k e j step sharing : ℕ) (links items : List Link) → LeadsOn history earlier c h d k links →
+pub leads_to_transfer : (history earlier past older : List AnsweredEvent) (key : HandleKey) (c h d k e j step sharing : ℕ) (links items : List Link) → EndsChain history earlier c h d k links →
     last_gift earlier d k ≡ Some (record { source = Transfer (key_of key); past = past }) → last_sharing past (key_of key) ≡ Some (record { client = e; handle = j; past = older }) →
-    next_number past ≡ step → next_number older ≡ sharing → items ≡ links ++ record { step = step; client = d; handle = k; origin = Published key sharing } ∷ [] → LeadsOn history older c h e j items
+    next_number past ≡ step → next_number older ≡ sharing → items ≡ links ++ record { step = step; client = d; handle = k; origin = Published key sharing } ∷ [] → EndsChain history older c h e j items
 leads_to_transfer history earlier past older key c h d k e j step sharing links items leads its_gift its_sharing number older_number same = λ o next rest client handle chain.
     let given : Link = record { step = step; client = d; handle = k; origin = Published key sharing } in
     let all : links ++ given ∷ next ∷ rest ≡ items ++ next ∷ rest = sym (append_assoc links (given ∷ []) (next ∷ rest)) ∙ ap (λ xs. xs ++ next ∷ rest) (sym same) in
@@ -164,3 +156,12 @@ pub has_none : (history : List AnsweredEvent) (c h : ℕ) → told history (Held
 has_none history c h none of_device = λ o has.
     let kept : Kept history = subst Kept (sym of_device.1) (agrees of_device.0).facts.held.kept in
     none_some o (sym none ∙ has_is_told o history c h kept has)
+
+-- of an end of a chain that leaves nothing out
+none_left : {A : Type 0} {P : Type 0} (left : Option A) → IfNone left P → is_none left ≡ true → P
+none_left None h none = h
+none_left (Some x) h none = absurd (false≢true none)
+
+pub nothing_left : (P : ChainEnd → Type 0) (found : Option ChainEnd) (end : ChainEnd) → found ≡ Some end → IfSome found (λ (e : ChainEnd). IfNone e.left (P e)) → IfSome found (λ (e : ChainEnd). is_none e.left ≡ true) → P end
+nothing_left P None end is whole all = none_some end is
+nothing_left P (Some found) end is whole all = subst P (same_Some found end is) (none_left found.left whole all)

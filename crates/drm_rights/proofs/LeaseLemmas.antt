@@ -14,10 +14,10 @@ use Rattle.drm_lists.proofs.Numbers.{less-differ, flipped}
 use Rattle.drm_history.specs.History.{AnsweredEvent, next_number}
 use Rattle.drm_authority.specs.Effects as told
 use Rattle.drm_authority.specs.Effects.{effect}
-use Rattle.drm_authority.specs.MasterState.{master_state, is_master_in, master_in, caller_master_in, lease_in, leased_by}
+use Rattle.drm_authority.specs.MasterState.{master_state, master_in, caller_master_in, lease_in, leased_by}
 use Rattle.drm_authority.specs.Lessees.{lessor_by, lessor_in, top_in, is_under_in, lessee_by, lessee_in, ended_by, is_under_any, ends, has_ended}
 use Rattle.drm_authority.specs.Shown.{is_universal_in}
-use Rattle.drm_authority.proofs.Falls.{UpTo, none_up, some_up, later_up, if_up, master_up, lessee_born, under_still}
+use Rattle.drm_authority.proofs.Falls.{UpTo, master_up, lessee_born, under_still}
 use Rattle.drm_rights.specs.Leases.{lease_at, lease_of_token, lease_of_id, if_older, lessor_noted, master_of_lease, is_ended_by, new_lease, leases_in, end_with, ends_in, ended_at, LeasesRise, EndsRise}
 use Rattle.drm_rights.specs.declared.notes.Lease.{Lease}
 use Rattle.drm_rights.specs.declared.notes.End.{End}

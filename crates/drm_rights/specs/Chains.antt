@@ -1,5 +1,5 @@
 -- The links that code finds, and that they are a chain.
-use Rattle.std.specs.Prelude.{◌≡◌, ℕ, ◌<◌, List, [], ◌∷◌, map}
+use Rattle.std.specs.Prelude.{◌≡◌, ℕ, ◌<◌, List, [], ◌∷◌, ◌++◌, map}
 use Rattle.drm_model.specs.Run.{DeviceValue}
 use Rattle.drm_history.specs.History.{AnsweredEvent, next_number}
 use Rattle.drm_history.specs.History as told
@@ -31,6 +31,16 @@ IsExplained history o (link ∷ []) = (past : List AnsweredEvent) × WasGiven hi
 IsExplained history o (link ∷ before ∷ links) =
     (past older : List AnsweredEvent) × (key : Key) × WasGiven history link.client link.handle (Transfer (key_of key)) past × (link.step ≡ next_number past)
     × WasPublished past (key_of key) before.client before.handle older × (before.step < link.step) × (link.origin ≡ Published key (next_number older)) × IsExplained older o (before ∷ links)
+
+-- the links lead to the client's handle, and are explained
+abbrev pub Explains : List AnsweredEvent → ℕ → ℕ → ℕ → List Link → Type 0
+Explains history c h o [] = ⊥
+Explains history c h o (link ∷ links) = (link.client ≡ c) × (link.handle ≡ h) × IsExplained history o (link ∷ links)
+
+-- whatever chain leads to the handle `k` of `d` up to an earlier moment, it is the rest of one to the client's handle, behind these links
+abbrev pub EndsChain : List AnsweredEvent → List AnsweredEvent → ℕ → ℕ → ℕ → ℕ → List Link → Type 0
+EndsChain history earlier c h d k links =
+    (o : ℕ) (link : Link) (rest : List Link) → link.client ≡ d → link.handle ≡ k → IsExplained earlier o (link ∷ rest) → Explains history c h o (links ++ link ∷ rest)
 
 -- the history is that of a device
 abbrev pub IsOfDevice : List AnsweredEvent → Type 0

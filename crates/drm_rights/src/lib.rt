@@ -13,7 +13,7 @@ mod searches;
 mod steps;
 mod trail;
 
-pub use chains::{Link, Origin};
+pub use chains::{ChainEnd, HandleThen, Link, Marks, Origin};
 pub use effects::Effect;
 pub use handles::{Held, handles_of};
 pub use ledger::Ledger;

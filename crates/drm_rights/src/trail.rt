@@ -1,10 +1,10 @@
 //! The steps of a history, with an index of what they published.
 
 ghost use Rattle.std.specs.Prelude.{◌≡◌, ◌++◌, ◌∷◌, ℕ, [], take, IfOk, IfSome, IfNone};
-ghost use Rattle.drm_rights.specs.Chains.{HasNone, IsExplained, IsOfDevice, LeadsTo, links_of};
+ghost use Rattle.drm_rights.specs.Chains.{EndsChain, Explains, HasNone, IsExplained, IsOfDevice, LeadsTo, links_of};
 ghost use Rattle.drm_rights.specs.Steps.{history_of};
 
-use crate::chains::{Link, chain_in};
+use crate::chains::{ChainEnd, Link, Marks, chain_end_in, chain_in};
 use crate::notes::with_item;
 use crate::searches::{Publication, Touch, publication_of, touch_of};
 use crate::steps::Step;
@@ -87,6 +87,32 @@ impl Trail {
             count,
             client,
             handle,
+        )
+    }
+
+    /// Returns what `chain_of` does, without the links that the marks leave out. A chain without its first links is still found in time
+    /// that only grows with the others, so that the chains of all handles of a history are found in the time of its steps.
+    pub fn chain_end_of(
+        &self,
+        alloc: Global,
+        count: usize,
+        client: u64,
+        handle: u64,
+        marks: Marks<'_>,
+    ) -> Result<Option<ChainEnd>, AllocError>
+        ensures whole { IfOk result (λ found. IfSome found (λ end. IfNone end.left ((o : ℕ) × Explains (history_of (take count self.now)) client handle o end.links.items))) }
+        ensures front { IfOk result (λ found. IfSome found (λ end. IfSome end.left (λ left. EndsChain (history_of (take count self.now)) (history_of (take left.count self.now)) client handle left.client left.handle end.links.items))) }
+        ensures none { IfOk result (λ found. IfNone found (IsOfDevice (history_of (take count self.now)) → HasNone (history_of (take count self.now)) client handle)) }
+    {
+        chain_end_in(
+            alloc,
+            &self.steps,
+            &self.publications,
+            &self.touches,
+            count,
+            client,
+            handle,
+            marks,
         )
     }
 }

@@ -8,7 +8,7 @@ use Rattle.drm_table.specs.declared.rules.Rule.{Rule}
 use Rattle.drm_model.specs.Rows.{Rows}
 use Rattle.drm_model.specs.Reply.{answer_of, reply_by, reply}
 use Rattle.drm_model.specs.Verdict.{verdict}
-use Rattle.drm_model.specs.Run.{Step}
+use Rattle.drm_model.specs.Run.{DeviceValue, Step}
 use Rattle.drm_turns.specs.Turns.{Answered}
 use Rattle.drm_frames.specs.Answers.{CallResult}
 use Rattle.drm_frames.specs.declared.hello.Hello.{Hello}
@@ -30,11 +30,11 @@ Step-opening w (Ask client call) result v h = tt
 Step-opening w (Close client) result v h = tt
 
 -- the same of a call that may find no ticket for its turn
-pub Answered-opening : (event : Event) (result : CallResult) → Answered event result → AnswersOpening event result
-Answered-opening (Open opening) (Ok answer) h = Step-opening _ (Open opening) (Ok answer) _ h.steps.step
-Answered-opening (Open opening) (Err apart) h = tt
-Answered-opening (Ask client call) result h = tt
-Answered-opening (Close client) result h = tt
+pub Answered-opening : (device : DeviceValue) (event : Event) (result : CallResult) → Answered device event result → AnswersOpening event result
+Answered-opening device (Open opening) (Ok answer) h = Step-opening _ (Open opening) (Ok answer) _ h.steps.step
+Answered-opening device (Open opening) (Err apart) h = tt
+Answered-opening device (Ask client call) result h = tt
+Answered-opening device (Close client) result h = tt
 
 -- the opening that a hello asks for is that of its frame
 pub opening-said : (class : Class) (frame : FrameValue) (hello : Option Hello) (found : Option Opening) → hello ≡ hello_in frame → found ≡ opening_by class hello → found ≡ opening_in class frame

@@ -5,8 +5,9 @@ use Rattle.std.proofs.lemmas.List.{append-nil}
 use Rattle.drm_table.specs.declared.apart.Apart.TheVariants.{JournalFull, NoMemory, Worn}
 use Rattle.drm_table.specs.declared.events.Event.{Event}
 use Rattle.drm_turns.specs.declared.history.Entry.{Entry}
-use Rattle.drm_turns.specs.History.{StartsWith}
+use Rattle.drm_turns.specs.History.{StartsWith, device_at}
 use Rattle.drm_turns.specs.Participants.{ParticipantView, entries_of}
+use Rattle.drm_model.specs.Run.{DeviceValue}
 use Rattle.drm_turns.specs.Turns.{Answered}
 use Rattle.drm_turns.proofs.Taken.{starts_on}
 use Rattle.drm_frames.specs.Answers.{CallResult}
@@ -19,9 +20,9 @@ use Rattle.drm_sessions.specs.Serving.{Serves, calls_made}
 use Rattle.drm_sessions.specs.Shared.{TakesTurn, ServesShared, entries_by, journaled_by}
 use Rattle.drm_sessions.proofs.Mapping.{Runs-same}
 
-Runs-turns : (old new : ParticipantView) (log : List RequestReply) → Runs TakesTurn old log new → AllByRecursion (λ call. Answered call.event call.outcome) log
+Runs-turns : (old new : ParticipantView) (log : List RequestReply) → Runs TakesTurn old log new → AllByRecursion (λ call. (device : DeviceValue) × Answered device call.event call.outcome) log
 Runs-turns old new [] r = tt
-Runs-turns old new (call ∷ log) r = (r.1.turn, Runs-turns r.0 new log r.2)
+Runs-turns old new (call ∷ log) r = ((device_at r.0.origin r.0.seen, r.1.turn), Runs-turns r.0 new log r.2)
 
 -- ---- what was seen
 

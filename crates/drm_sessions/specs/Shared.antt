@@ -2,8 +2,9 @@
 use Rattle.std.specs.Prelude.{◌≡◌, ℕ, ◌+◌, IfOk, IfErr, Ok, Err, List, [], ◌∷◌, ◌++◌, length}
 use Rattle.std.specs.List.{AllByRecursion, flat_map}
 use Rattle.drm_table.specs.declared.events.Event.{Event}
+use Rattle.drm_model.specs.Run.{DeviceValue}
 use Rattle.drm_turns.specs.declared.history.Entry.{Entry}
-use Rattle.drm_turns.specs.History.{StartsWith, entry}
+use Rattle.drm_turns.specs.History.{StartsWith, device_at, entry}
 use Rattle.drm_turns.specs.Participants.{Commits, Aborts, Extends, Same, ParticipantView, Unchanged, entries_of}
 use Rattle.drm_turns.specs.Turns.{Answered}
 use Rattle.drm_frames.specs.Answers.{CallResult}
@@ -21,7 +22,7 @@ pub record TakesTurn (old : ParticipantView) (event : Event) (result : CallResul
   pub unchanged : Unchanged old new
   pub ok : IfOk result (λ answer. Commits old event answer new)
   pub err : IfErr result (λ apart. Aborts old event apart new)
-  pub turn : Answered event result
+  pub turn : Answered (device_at new.origin new.seen) event result
   pub journaled : new.journaled ≡ old.journaled + entries_of result
 
 -- the entry of a call that was noted, by the participant of this number
@@ -37,7 +38,7 @@ entries_by number log = flat_map (λ call. journaled_by number call.event call.o
 -- entries are those that it had and those of the session, one for each of its steps.
 pub record ServesShared (class : Class) (old new : ParticipantView) (in0 in1 : SourceTrace) (out0 out1 : SinkTrace) (session : Session) : Type 0 where
   pub serves : Serves TakesTurn class old new in0 in1 out0 out1 session
-  pub turns : AllByRecursion (λ call. Answered call.event call.outcome) (serves.answered ++ serves.closing)
+  pub turns : AllByRecursion (λ call. (device : DeviceValue) × Answered device call.event call.outcome) (serves.answered ++ serves.closing)
   pub same : Same old new
   pub merged : new.merged ≡ old.merged
   pub unchanged : Unchanged old new

@@ -23,4 +23,4 @@ agreed_yet v l c are agreed =
   where
     agreed_again : (below : ℕ → Bool) (xs : List Lending) → AllByRecursion (λ (x : Lending). not (below x.lessee) ≡ true) xs → (members : List Member) (ms : List Master) → AllByRecursion (IsAgreed members ms) xs →
         AllByRecursion (IsAgreed members (filter (λ (y : Master). masters.is_living members (released below ms) y.step_number) (released below ms))) xs
-    agreed_again below xs out members ms h = subst (AllByRecursion (IsAgreed members (filter (λ (y : Master). masters.is_living members (released below ms) y.step_number) (released below ms)))) (filter_all (λ (x : Lending). not (below x.lessee)) xs out) (agreed_released below members ms xs h)
+    agreed_again below xs out members ms h = subst (AllByRecursion (IsAgreed members (filter (λ (y : Master). masters.is_living members (released below ms) y.step_number) (released below ms)))) (filter_all (λ (x : Lending). not (below x.lessee)) xs out) (agreed_released below below (λ n e. e) members ms xs h)

@@ -8,7 +8,7 @@ use Rattle.drm_lists.specs.Orders.{SameRows}
 use Rattle.drm_lists.specs.Chains as chains
 use Rattle.drm_lists.proofs.Chains.{itself}
 use Rattle.drm_lists.proofs.Lists.{all_each, all_weaker, all_both, all_append, all_filter, all_mapped, filter-map, filter_all}
-use Rattle.drm_lists.proofs.Found.{find-map, find_none, is_some-find}
+use Rattle.drm_lists.proofs.Found.{find-map, find_none, is_some-find, is_some-map}
 use Rattle.drm_lists.proofs.Numbers.{less-differ}
 use Rattle.drm_lists.proofs.Orders.{same-filter}
 use Rattle.drm_lists.proofs.Rising.{found, find_where, any_found, each_is_there}
@@ -19,7 +19,7 @@ use Rattle.drm_masters.specs.Masters.{is_step_number, is_lessee}
 use Rattle.drm_masters.specs.Calls.{kept_as}
 use Rattle.drm_leases.specs.declared.rows.Grant.{Grant}
 use Rattle.drm_leases.specs.Tokens.{LeaseToken}
-use Rattle.drm_leases.specs.Leases.{LeaseSet, Lending, is_token_of, token_of}
+use Rattle.drm_leases.specs.Leases.{LeaseSet, Lending, is_token_of, has_token, token_of}
 use Rattle.drm_model.specs.Rows.{MasterRow, GrantRow}
 use Rattle.drm_state.specs.Parts.{master_row_of, grant_row_of, released, ended}
 use Rattle.drm_state.specs.Invariants.{AreOfLessees, AreKeptBy}
@@ -154,3 +154,41 @@ module _ (members : List Member) (tokens : List LeaseToken) (ms : List Master) (
 
   pub kept_swept : AreKeptBy tokens left
   kept_swept = all_filter (λ (x : Master). x.kept ≡ is_some (token_of tokens x.step_number)) (λ (x : Master). lives x.step_number) ms kept
+
+-- ---- a revocation releases those whose tokens it takes, and of the others none is kept
+
+kept_is : (tokens : List LeaseToken) (m : ℕ) → is_some (token_of tokens m) ≡ has_token tokens m
+kept_is tokens m = is_some-map (λ (row : LeaseToken). row.token) (find (is_token_of m) tokens) ∙ is_some-find (is_token_of m) tokens
+
+unkept : (x : Master) → x.kept ≡ false → kept_as false x ≡ x
+unkept x e = λ i. record x { kept = sym e i }
+
+-- one with a token is released by both, one without is not kept
+one_released : (tokens : List LeaseToken) (below f : ℕ → Bool) (x : Master) → x.kept ≡ is_some (token_of tokens x.step_number) → f x.step_number ≡ (below x.step_number && has_token tokens x.step_number) → (if f x.step_number then kept_as false x else x) ≡ (if below x.step_number then kept_as false x else x)
+one_released tokens below f x kept is = ap (λ b. if b then kept_as false x else x) is ∙ by_token (has_token tokens x.step_number) refl
+  where
+    by_token : (b : Bool) → has_token tokens x.step_number ≡ b → (if below x.step_number && has_token tokens x.step_number then kept_as false x else x) ≡ (if below x.step_number then kept_as false x else x)
+    by_token true e = ap (λ b. if below x.step_number && b then kept_as false x else x) e ∙ (elim (below x.step_number) as (λ b. (if b && true then kept_as false x else x) ≡ (if b then kept_as false x else x)) [ true ↦ refl | false ↦ refl ])
+    by_token false e =
+        ap (λ b. if below x.step_number && b then kept_as false x else x) e
+        ∙ (elim (below x.step_number) as (λ b. (if b && false then kept_as false x else x) ≡ (if b then kept_as false x else x)) [ true ↦ sym (unkept x (kept ∙ kept_is tokens x.step_number ∙ e)) | false ↦ refl ])
+
+pub opened_released : (tokens : List LeaseToken) (below : ℕ → Bool) → (ms : List Master) → AreKeptBy tokens ms → released (λ m. below m && has_token tokens m) ms ≡ released below ms
+opened_released tokens below [] h = refl
+opened_released tokens below (x ∷ xs) h = λ i. one_released tokens below (λ m. below m && has_token tokens m) x h.0 refl i ∷ opened_released tokens below xs h.1 i
+
+-- the own master of a client that closes is kept until it is released too
+pub closed_released : (tokens : List LeaseToken) (below f : ℕ → Bool) (own : ℕ) → ((m : ℕ) → (m == own) ≡ false → f m ≡ (below m && has_token tokens m)) → f own ≡ true → below own ≡ true → (ms : List Master) → AreKeptBy tokens ms →
+    released f (map (λ (x : Master). if is_step_number own x then kept_as true x else x) ms) ≡ released below (map (λ (x : Master). if is_step_number own x then kept_as true x else x) ms)
+closed_released tokens below f own others its under [] h = refl
+closed_released tokens below f own others its under (x ∷ xs) h = λ i. one i ∷ closed_released tokens below f own others its under xs h.1 i
+  where
+    change : (ℕ → Bool) → Master → Master
+    change g y = if g y.step_number then kept_as false y else y
+
+    one : change f (if is_step_number own x then kept_as true x else x) ≡ change below (if is_step_number own x then kept_as true x else x)
+    one =
+        (elim (x.step_number == own) as (λ b. (x.step_number == own) ≡ b → change f (if b then kept_as true x else x) ≡ change below (if b then kept_as true x else x)) [
+          | true ↦ λ e. let same = eqb-true x.step_number own e in λ i. if (ap f same ∙ its ∙ sym (ap below same ∙ under)) i then kept_as false (kept_as true x) else kept_as true x
+          | false ↦ λ e. one_released tokens below f x h.0 (others x.step_number e)
+        ]) refl

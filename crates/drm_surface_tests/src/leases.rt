@@ -3,7 +3,7 @@
 use drm_leases::{Grant, LeaseFault, Leased, Leases};
 use drm_masters::{MasterKey, Masters};
 use drm_modes::Modes;
-use drm_table::Rule;
+use drm_table::{Rule, ShownList};
 use std::alloc::Global;
 
 /// The calls.
@@ -18,6 +18,14 @@ pub fn calls() {
         &[u32],
         u32,
     ) -> Result<Leased, LeaseFault> = Leases::create;
+    let _holds: fn(&Leases, MasterKey, u32) -> bool = Leases::holds;
+    let _leased_out: fn(&Leases, &Masters, MasterKey, u32) -> bool = Leases::leased_out;
+    let _revoke: fn(&mut Leases, &mut Masters, MasterKey) = Leases::revoke;
+    let _revoke_below: fn(&mut Leases, &mut Masters, MasterKey) = Leases::revoke_below;
+    let _list: fn(&Leases, &Masters, MasterKey) -> ShownList = Leases::list;
+    let _objects_of: fn(&Leases, MasterKey) -> ShownList = Leases::objects_of;
+    let _token_master: fn(&Leases, u32) -> Option<MasterKey> = Leases::token_master;
+    let _redeem: fn(&mut Leases, u32) -> Option<MasterKey> = Leases::redeem;
     let _last_given: fn(&Leases) -> Option<u32> = Leases::last_given;
     let _nth: fn(&Leases, u32, usize) -> Option<Grant> = Leases::nth;
 }

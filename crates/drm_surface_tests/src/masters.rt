@@ -18,6 +18,7 @@ pub fn changes() {
     let _on_close: fn(&mut Masters, u32) -> Option<MasterKey> = Masters::on_close;
     let _make_lessee: fn(&mut Masters, MasterKey, u32) -> Result<(MasterKey, u32), LesseeFault> =
         Masters::make_lessee;
+    let _lessee: fn(&Masters, MasterKey, u32) -> Option<MasterKey> = Masters::lessee;
     let _release: fn(&mut Masters, MasterKey) = Masters::release;
 }
 

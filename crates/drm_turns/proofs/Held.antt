@@ -76,9 +76,9 @@ unfolding Step
 step_ok w event answer v s = (s.0, s.1)
 
 pub turn_of : (old new : DeviceValue) (event : Event) (result : Result Answer Apart) → Step (rows_of old) event result (rows_of new) → OnOk result (new ≡ journaled_in old event) → OnErr result (new ≡ old)
-    → are_in_range new.limits ≡ true → FoundRoom (start_of new) new.journal → Turn event result
-turn_of old new event (Ok answer) step ok err in_range found_room = record { before = old; after = new; steps = record { step = step; history = ok }; in_range = in_range; found_room = found_room }
-turn_of old new event (Err apart) step ok err in_range found_room = record { before = old; after = new; steps = record { step = step; history = err }; in_range = in_range; found_room = found_room }
+    → are_in_range new.limits ≡ true → FoundRoom (start_of new) new.journal → Turn new event result
+turn_of old new event (Ok answer) step ok err in_range found_room = record { before = old; steps = record { step = step; history = ok }; in_range = in_range; found_room = found_room }
+turn_of old new event (Err apart) step ok err in_range found_room = record { before = old; steps = record { step = step; history = err }; in_range = in_range; found_room = found_room }
 
 pub refuses : (old new : DeviceValue) (event : Event) (result : Result Answer Apart) (v w : View) → old ≡ device_at v.origin v.seen → Step (rows_of old) event result (rows_of new) → OnErr result (new ≡ old) → OnErr result (w ≡ v)
     → IfErr result (λ apart. (w ≡ v) × Step (rows_after v.origin v.seen) event (Err apart) (rows_after v.origin v.seen))
@@ -88,11 +88,11 @@ refuses old new event (Err apart) v w at step same is = (
   subst (λ (d : DeviceValue). Step (rows_of d) event (Err apart) (rows_of d)) at (subst (λ (d : DeviceValue). Step (rows_of old) event (Err apart) (rows_of d)) same step),
 )
 
-pub answered : (event : Event) (result : Result Answer Apart) → Turn event result → Answered event result
-answered event (Ok answer) turn = turn
-answered event (Err JournalFull) turn = turn
-answered event (Err NoMemory) turn = turn
-answered event (Err Worn) turn = tt
+pub answered : (device : DeviceValue) (event : Event) (result : Result Answer Apart) → Turn device event result → Answered device event result
+answered device event (Ok answer) turn = turn
+answered device event (Err JournalFull) turn = turn
+answered device event (Err NoMemory) turn = turn
+answered device event (Err Worn) turn = tt
 
 -- ---- what a call answers, where its participant had the view v, u in its turn, and w after it
 
@@ -128,12 +128,12 @@ commits (Ok answer) event s t u w between h seen mine number saw ours few = (
 -- ---- what a call counts
 
 -- a turn has a ticket
-pub turn_tickets : (event : Event) (result : Result Answer Apart) → Turn event result → tickets_of result ≡ 1
+pub turn_tickets : (device : DeviceValue) (event : Event) (result : Result Answer Apart) → Turn device event result → tickets_of result ≡ 1
 unfolding Step
-turn_tickets event (Ok answer) turn = refl
-turn_tickets event (Err JournalFull) turn = refl
-turn_tickets event (Err NoMemory) turn = refl
-turn_tickets event (Err Worn) turn = absurd turn.steps.step
+turn_tickets device event (Ok answer) turn = refl
+turn_tickets device event (Err JournalFull) turn = refl
+turn_tickets device event (Err NoMemory) turn = refl
+turn_tickets device event (Err Worn) turn = absurd turn.steps.step
 
 pub turn_entries : (result : Result Answer Apart) (event : Event) (u w : View) → IfOk result (λ answer. w ≡ counted u (entry u.number event answer))
     → IfErr result (λ apart. (w ≡ u) × Step (rows_after u.origin u.seen) event (Err apart) (rows_after u.origin u.seen)) → w.journaled ≡ u.journaled + entries_of result
@@ -141,5 +141,5 @@ turn_entries (Ok answer) event u w ok err = ap (λ (x : View). x.journaled) ok
 turn_entries (Err apart) event u w ok err = let same = ap (λ (x : View). x.journaled) err.0 in omega arith
 
 -- what had its turn found a ticket
-pub not_worn : (event : Event) (result : Result Answer Apart) → Turn event result → result ≡ Err Worn → ⊥
-not_worn event result turn worn = let one = turn_tickets event result turn in let none : tickets_of result ≡ 0 = ap tickets_of worn in omega arith
+pub not_worn : (device : DeviceValue) (event : Event) (result : Result Answer Apart) → Turn device event result → result ≡ Err Worn → ⊥
+not_worn device event result turn worn = let one = turn_tickets device event result turn in let none : tickets_of result ≡ 0 = ap tickets_of worn in omega arith

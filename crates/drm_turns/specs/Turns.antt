@@ -17,18 +17,17 @@ pub record DeviceSteps (old : DeviceValue) (event : Event) (result : Result Answ
   pub step : Step (rows_of old) event result (rows_of new)
   pub history : new ≡ history_after old event result
 
--- The device that has its turn answered the event, and is left as the step left it: its limits are in their ranges, and
--- each event of its journal found room.
-pub record Turn (event : Event) (result : Result Answer Apart) : Type 0 where
+-- The device answered the event in a turn, which left it so: its limits are in their ranges, and each event of its journal
+-- found room.
+pub record Turn (after : DeviceValue) (event : Event) (result : Result Answer Apart) : Type 0 where
   pub before : DeviceValue
-  pub after : DeviceValue
   pub steps : DeviceSteps before event result after
   pub in_range : are_in_range after.limits ≡ true
   pub found_room : FoundRoom (start_of after) after.journal
 
--- What a call answers: what its turn gives, or that there is no ticket for a turn.
-abbrev pub Answered : Event → Result Answer Apart → Type 0
-Answered event (Err Worn) = ⊤
-Answered event (Err JournalFull) = Turn event (Err JournalFull)
-Answered event (Err NoMemory) = Turn event (Err NoMemory)
-Answered event (Ok answer) = Turn event (Ok answer)
+-- What a call answers: what the device gave in a turn that left it so, or that there is no ticket for a turn.
+abbrev pub Answered : DeviceValue → Event → Result Answer Apart → Type 0
+Answered after event (Err Worn) = ⊤
+Answered after event (Err JournalFull) = Turn after event (Err JournalFull)
+Answered after event (Err NoMemory) = Turn after event (Err NoMemory)
+Answered after event (Ok answer) = Turn after event (Ok answer)

@@ -255,7 +255,7 @@ impl SharedDevice {
         ensures err { IfErr outcome.new (λ apart. (place.new.me.0 ≡ place.old.me.0)
             × Step (rows_after place.old.me.0.origin place.old.me.0.seen) event (Err apart) (rows_after place.old.me.0.origin place.old.me.0.seen)) }
         ensures device { place.new.me.1 ≡ (0, Some (device_at place.new.me.0.origin place.new.me.0.seen)) ∷ [] }
-        ensures turn { Turn event outcome.new }
+        ensures turn { Turn (device_at place.new.me.0.origin place.new.me.0.seen) event outcome.new }
         ensures few { FitsOneFrame outcome.new }
     {
         let shared = &self.table.shared;
@@ -338,8 +338,8 @@ impl SharedDevice {
 
     /// Answers one event, in the participant's turn. It may wait for the turns before it.
     ///
-    /// The device answers from its rows, those of its journal, and notes what it answers; its limits are in their ranges,
-    /// and each event of its journal found room. What is answered ends the history that the participant has seen then; resources
+    /// The device answers from its rows, those of its journal, and notes what it answers: its journal is then the history that the
+    /// participant has seen. Its limits are in their ranges, and each event of its journal found room. What is answered ends the history that the participant has seen then; resources
     /// have 251 ids at most together. What stands apart, a full journal (own) and want of memory, leaves the device as it was
     /// and adds no entry. Without a ticket for the turn the device isn't asked; the first participant, where none is out of it, lacks one
     /// only where it drew all 2^64 - 1, with those that it took in.
@@ -360,7 +360,7 @@ impl SharedDevice {
         ensures unchanged { Unchanged participant.old participant.new }
         ensures ok { IfOk result (λ answer. Commits participant.old event answer participant.new) }
         ensures err { IfErr result (λ apart. Aborts participant.old event apart participant.new) }
-        ensures turn { Answered event result }
+        ensures turn { Answered (device_at participant.new.origin participant.new.seen) event result }
         ensures few { FitsOneFrame result }
         ensures counts { (participant.new.drawn ≡ participant.old.drawn + tickets_of result)
             × (participant.new.journaled ≡ participant.old.journaled + entries_of result) }

@@ -23,14 +23,6 @@ fn values(rt: HostRuntime) {
         panic!(rt; "refused")
     };
     assert!(rt; masters.make_lessee(owner.key, 4) == Err(LesseeFault::Full));
-    let mut masters = Masters::new(alloc, 4, 4);
-    let Ok(_first) = masters.on_open(1, 1) else {
-        panic!(rt; "refused")
-    };
-    let Some(key) = masters.master_of(1) else {
-        panic!(rt; "refused")
-    };
-    assert!(rt; matches!(masters.master(1), Some(row) if row.key == key));
     if masters.member(1).is_some() {
         assert!(rt; masters.magic(1) == Ok(1));
     }
@@ -47,22 +39,33 @@ fn values(rt: HostRuntime) {
         magic,
     };
     assert!(rt; masters.nth_member(0) == Some(member));
+    assert!(rt; matches!(masters.nth(1, 0), Some(MasterRow::Client(row)) if row.client == 1));
 }
 
 #[test]
-fn values_from_master_row(rt: HostRuntime) {
+fn values_from_master(rt: HostRuntime) {
     let alloc = rt.alloc();
-    let mut masters = Masters::new(alloc, 4, 4);
+    let mut masters = Masters::new(alloc, 4, 0);
     let Ok(_first) = masters.on_open(1, 1) else {
         panic!(rt; "refused")
     };
-    let Some(key) = masters.master_of(1) else {
+    assert!(rt; masters.member(1).is_none() || masters.magic(1) != Err(NoMemory));
+    assert!(rt; masters.member(1).is_none() || masters.set(1, false, 2) == Ok(SetDone::Already));
+    let Ok(_second) = masters.on_open(2, 2) else {
         panic!(rt; "refused")
     };
+    let denied = Err(SetFault::Denied(Rule::MasterPerm));
+    assert!(rt; masters.member(2).is_none() || masters.set(2, false, 3) == denied);
+    let Some(owner) = masters.master(1) else {
+        panic!(rt; "refused")
+    };
+    assert!(rt; masters.make_lessee(owner.key, 4) == Err(LesseeFault::Full));
     if masters.member(1).is_some() {
         assert!(rt; masters.magic(1) == Ok(1));
     }
-    assert!(rt; matches!(masters.nth(1, 0), Some(MasterRow::Client(row)) if row.client == 1));
+    let Some(key) = masters.master_of(1) else {
+        panic!(rt; "refused")
+    };
     let master = Master {
         key,
         step_number: 1,
@@ -84,6 +87,9 @@ fn masters(rt: HostRuntime) {
     assert!(rt; matches!(masters.member(1), Some(row) if row.is_master && row.master == 1));
     assert!(rt; masters.master_of(1).is_some() && masters.master_of(2).is_none());
     assert!(rt; matches!(masters.master(1), Some(row) if row.lessor.is_none() && !row.kept));
+    if let Some(row) = masters.master(1) {
+        assert!(rt; masters.of_key(row.key) == Some(row));
+    }
     assert!(rt; masters.depth(1) == 0);
     let Some(row) = masters.master(1) else {
         panic!(rt; "refused")
@@ -110,13 +116,10 @@ fn masters(rt: HostRuntime) {
     if masters.member(1).is_some() {
         assert!(rt; masters.set(1, false, 9) == Ok(SetDone::Already));
     }
-    if masters.member(1).is_some() {
-        assert!(rt; masters.drop_master(1, false) == Ok(()));
-    }
 }
 
 #[test]
-fn masters_from_magic(rt: HostRuntime) {
+fn masters_from_drop_master(rt: HostRuntime) {
     let alloc = rt.alloc();
     let mut masters = Masters::new(alloc, 4, 4);
     let Ok(_first) = masters.on_open(1, 1) else {
@@ -174,18 +177,31 @@ fn masters_from_lessee(rt: HostRuntime) {
     let Some(owner) = masters.master(1) else {
         panic!(rt; "refused")
     };
-    assert!(rt; matches!(masters.lessee(owner.key, id), Some(row) if row.key == lessee));
+    assert!(rt; masters.lessee(owner.key, id) == Some(lessee));
     assert!(rt; masters.last_lessee() == 4);
     assert!(rt; masters.free_lessee(1) == Some(2));
     if let Some(row) = masters.master(2) {
         masters.release(row.key);
     }
     assert!(rt; masters.master(2).is_none());
-    masters.release_under(1);
-    assert!(rt; masters.master(1).is_some());
-    masters.release_below(1);
-    assert!(rt; masters.master(1).is_some());
     assert!(rt; matches!(masters.nth_member(0), Some(row) if row.client == 1));
     assert!(rt; matches!(masters.nth_master(0), Some(row) if row.step_number == 1));
     assert!(rt; masters.nth(2, 0).is_some() && masters.nth(3, 0).is_none());
+}
+
+#[test]
+fn master_key_rows(rt: HostRuntime) {
+    let alloc = rt.alloc();
+    let mut masters = Masters::new(alloc, 4, 4);
+    let Ok(_first) = masters.on_open(1, 1) else {
+        panic!(rt; "refused")
+    };
+    let Some(key) = masters.master_of(1) else {
+        panic!(rt; "refused")
+    };
+    assert!(rt; matches!(masters.master(1), Some(row) if row.key == key));
+    let Some(row) = masters.master(1) else {
+        panic!(rt; "refused")
+    };
+    assert!(rt; row.key.number() == key.number());
 }

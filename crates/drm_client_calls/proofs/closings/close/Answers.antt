@@ -23,7 +23,7 @@ use Rattle.drm_state.specs.Refinement.{RefinesAnswer, Represents}
 use Rattle.drm_state.proofs.Counting.{named_trans}
 use Rattle.drm_state.proofs.Frames.{some_framed}
 use Rattle.drm_state.proofs.Leaving.{names_stay, leaves_trans}
-use Rattle.drm_state.proofs.Represented.{objects_counted, names_held, masters_so, leases_agree}
+use Rattle.drm_state.proofs.Represented.{objects_counted, names_held, masters_so, kept_have_tokens, leases_agree}
 use Rattle.drm_state.proofs.Lookups.{client_row_is, no_client}
 use Rattle.drm_state.proofs.Refinements.{denied, carried}
 use Rattle.drm_state.proofs.Sweeps.{client_gone, client_gone_invariants, without_its, keys_without, references_without, some_pass}
@@ -113,6 +113,9 @@ gone_invariants c = client_gone_invariants c.args.state.now c.args.client c.clos
 
 pub close_master-requires-clause-are : goal.close_master-requires-clause-are
 close_master-requires-clause-are c = masters_so c.args.state.now c.requires
+
+pub close_master-requires-clause-kept : goal.close_master-requires-clause-kept
+close_master-requires-clause-kept c = kept_have_tokens c.args.state.now c.requires
 
 pub close_master-requires-clause-agreed : goal.close_master-requires-clause-agreed
 close_master-requires-clause-agreed c = leases_agree c.args.state.now c.requires

@@ -13,8 +13,8 @@ use Rattle.drm_leases.specs.declared.faults.LeaseFault.{LeaseFault}
 use Rattle.drm_leases.specs.declared.rows.Leased.{Leased}
 use Rattle.drm_leases.specs.Leases.{LeaseSet, AreLeases}
 use Rattle.drm_leases.specs.Agreed.{AreAgreed}
-use Rattle.drm_leases.specs.Calls.{Created, listed_objects}
-use Rattle.drm_leases.proofs.Newest.{newest_last, with_last_lease, newest_unused as newest_lessee}
+use Rattle.drm_leases.specs.Calls.{Created, with_lease, listed_objects}
+use Rattle.drm_leases.proofs.Newest.{newest_last, with_last_lease}
 use Rattle.drm_leases.specs.Rules.{leased}
 use Rattle.drm_model.specs.Magics.{caller_master}
 use Rattle.drm_model.specs.Leases as model
@@ -48,9 +48,6 @@ came {r = r} {result = result} {given = given} {ids = ids} {on = on} s x step l 
 pub create-requires-clause-new_step_number : goal.create-requires-clause-new_step_number
 create-requires-clause-new_step_number c = newest_unused c.args.state.now.masters.masters c.args.step_number c.requires.precondition.later.masters
 
-pub create-requires-clause-new_lessee : goal.create-requires-clause-new_lessee
-create-requires-clause-new_lessee c = newest_lessee c.args.state.now.leases c.args.step_number c.requires.precondition.later.leases
-
 -- the client's master is older
 pub create-requires-clause-later : goal.create-requires-clause-later
 create-requires-clause-later c = member_older c.args.state.now.masters (masters_so c.args.state.now c.requires.precondition.invariants) c.args.step_number c.requires.precondition.later.masters c.args.caller.client
@@ -69,11 +66,11 @@ returns-in-Ok-clause-invariants c =
     let by = came s x step c.create.new.self c.create.new.masters (sym c.requires.caller.member) c.in-Ok.is c.ids.ensures.ids refl c.create.ensures.created in
     let later = c.requires.precondition.later in
     let masters_are_now = by.4.2 ∙ newest_master s.masters (lessee by.4.0 step x.master made.id) later.masters in
-    let leases_are_now = by.3 ∙ newest_last made.token step x.master objects s.leases later.leases in
+    let leases_are_now = by.3 ∙ (λ i. with_lease made.token (by.4.3 i) step x.master objects s.leases) ∙ newest_last made.token by.4.0 step x.master objects s.leases later.leases in
     subst (λ (l : LeaseSet). MeetsInvariants (record s { masters = c.create.new.masters; leases = l })) (sym leases_are_now)
-    (subst (λ (v : MasterSet). MeetsInvariants (record s { masters = v; leases = with_last_lease made.token step x.master objects s.leases })) (sym masters_are_now)
+    (subst (λ (v : MasterSet). MeetsInvariants (record s { masters = v; leases = with_last_lease made.token by.4.0 step x.master objects s.leases })) (sym masters_are_now)
     (leased_invariants s by.4.0 step x.master made.id made.token objects (leases_so s c.requires.precondition.invariants).tokens_rise later.masters later.leases c.requires.precondition.invariants (subst AreMasters masters_are_now c.laws.ensures) (subst AreLeases leases_are_now c.laws-in-Ok.ensures)
-    (subst (AreAgreed (with_last_lease made.token step x.master objects s.leases)) masters_are_now (subst (λ (l : LeaseSet). AreAgreed l c.create.new.masters) leases_are_now c.create.ensures.agreed))))
+    (subst (AreAgreed (with_last_lease made.token by.4.0 step x.master objects s.leases)) masters_are_now (subst (λ (l : LeaseSet). AreAgreed l c.create.new.masters) leases_are_now c.create.ensures.agreed))))
 
 pub returns-in-Ok-clause-refines : goal.returns-in-Ok-clause-refines
 unfolding RefinesCall meaning changed answer_of
@@ -99,8 +96,8 @@ returns-in-Ok-clause-refines c = λ w r admitted.
     let new = record s { masters = c.create.new.masters; leases = c.create.new.self } in
     carried_on new w (Ask client (CreateLease ids)) (Lease made.id made.token) (returns-in-Ok-clause-invariants c) none (λ i. Lease (sym id_is i) (sym token_is i))
     (subst (Represents new) (sym (λ i. leased_rows w (own i) (r.step_number_is i) (id_is i) (token_is i) all))
-    (subst (λ (l : LeaseSet). Represents (record s { masters = c.create.new.masters; leases = l }) (leased_rows w x.master step made.id made.token all)) (sym (by.3 ∙ newest_last made.token step x.master objects s.leases c.requires.precondition.later.leases))
-    (subst (λ (v : MasterSet). Represents (record s { masters = v; leases = with_last_lease made.token step x.master objects s.leases }) (leased_rows w x.master step made.id made.token all)) (sym (by.4.2 ∙ newest_master s.masters (lessee by.4.0 step x.master made.id) c.requires.precondition.later.masters))
+    (subst (λ (l : LeaseSet). Represents (record s { masters = c.create.new.masters; leases = l }) (leased_rows w x.master step made.id made.token all)) (sym (by.3 ∙ (λ i. with_lease made.token (by.4.3 i) step x.master objects s.leases) ∙ newest_last made.token by.4.0 step x.master objects s.leases c.requires.precondition.later.leases))
+    (subst (λ (v : MasterSet). Represents (record s { masters = v; leases = with_last_lease made.token by.4.0 step x.master objects s.leases }) (leased_rows w x.master step made.id made.token all)) (sym (by.4.2 ∙ newest_master s.masters (lessee by.4.0 step x.master made.id) c.requires.precondition.later.masters))
     (leased_represents s by.4.0 step x.master made.id made.token objects (leases_so s t).tokens_rise c.requires.precondition.later.masters c.requires.precondition.later.leases w h all same))))
 
 pub returns-in-Err-Denied-clause-refines : goal.returns-in-Err-Denied-clause-refines

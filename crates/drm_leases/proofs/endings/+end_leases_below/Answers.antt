@@ -1,16 +1,12 @@
-use Rattle.std.proofs.Common.{◌≡◌, ◌==◌, true, not, filter, refl, sym, ap, ◌∙◌, arith}
+use Rattle.std.proofs.Common.{◌≡◌, true, refl, sym, ◌∙◌, arith}
 use Rattle.drm_lists.proofs.Lists.{all_each, filter_all}
-use Rattle.drm_masters.specs.Masters.{lessees_of, is_below}
+use Rattle.drm_masters.specs.Masters.{lessees_of}
 use Rattle.drm_leases.specs.declared.rows.Lease.{Lease}
-use Rattle.drm_leases.specs.Tokens.{LeaseToken, TokenRows}
 use Rattle.drm_leases.proofs.Below.{its_lessee, one_ended, all_taken, position_within}
 use Rattle.drm_leases.proofs.endings.+end_leases_below.Goals as goal
 
 pub loop-lessee-init : goal.loop-lessee-init
-loop-lessee-init t c = (
-  sym (filter_all (λ (x : Lease). true) c.args.granted.now.rows (all_each (λ (x : Lease). true ≡ true) (λ x. refl) c.args.granted.now.rows)),
-  ap (λ rows. let now : TokenRows = record c.args.tokens.now { rows = rows } in now) (sym (filter_all (λ (x : LeaseToken). true) c.args.tokens.now.rows (all_each (λ (x : LeaseToken). true ≡ true) (λ x. refl) c.args.tokens.now.rows))),
-)
+loop-lessee-init t c = sym (filter_all (λ (x : Lease). true) c.args.granted.now.rows (all_each (λ (x : Lease). true ≡ true) (λ x. refl) c.args.granted.now.rows))
 
 pub end_leases_below-requires : goal.end_leases_below-requires
 end_leases_below-requires t c =
@@ -29,23 +25,8 @@ loop-lessee-smaller t c =
 
 pub loop-lessee-preserved : goal.loop-lessee-preserved
 loop-lessee-preserved t c =
-    let at = sym c.nth_lessee.ensures ∙ c.in-Some.is in (
-      c.end_leases_below.ensures.leases
-          ∙ one_ended (λ (x : Lease). x.lessee) c.args.masters.now c.args.top c.loop-lessee.position c.in-Some.lessee at c.args.granted.now.rows c.loop-lessee.granted.rows c.remove.new.self.rows c.loop-lessee.invariant.0 c.remove.ensures,
-      c.end_leases_below.ensures.tokens
-          ∙ (λ i. let now : TokenRows = record (c.forget.ensures i) { rows = filter (λ (x : LeaseToken). not (is_below c.args.masters.now.masters c.in-Some.lessee x.master)) (c.forget.ensures i).rows } in now)
-          ∙ (λ i. let now : TokenRows = record (c.loop-lessee.invariant.1 i) {
-            rows = filter (λ (x : LeaseToken). not (is_below c.args.masters.now.masters c.in-Some.lessee x.master)) (filter (λ (x : LeaseToken). not (x.master == c.in-Some.lessee)) (c.loop-lessee.invariant.1 i).rows);
-          } in now)
-          ∙ ap (λ rows. let now : TokenRows = record c.args.tokens.now { rows = rows } in now)
-          (one_ended (λ (x : LeaseToken). x.master) c.args.masters.now c.args.top c.loop-lessee.position c.in-Some.lessee at c.args.tokens.now.rows _ _ refl refl),
-    )
+    let at = sym c.nth_lessee.ensures ∙ c.in-Some.is in
+    c.end_leases_below.ensures ∙ one_ended (λ (x : Lease). x.lessee) c.args.masters.now c.args.top c.loop-lessee.position c.in-Some.lessee at c.args.granted.now.rows c.loop-lessee.granted.rows c.remove.new.self.rows c.loop-lessee.invariant c.remove.ensures
 
-pub returns-clause-leases : goal.returns-clause-leases
-returns-clause-leases t c = all_taken c.args.masters.now c.laws.ensures (λ (x : Lease). x.lessee) c.args.top c.loop-lessee.position (sym c.nth_lessee.ensures ∙ c.in_default.is) c.args.granted.now.rows c.loop-lessee.granted.rows c.loop-lessee.invariant.0
-
-pub returns-clause-tokens : goal.returns-clause-tokens
-returns-clause-tokens t c =
-    c.loop-lessee.invariant.1
-    ∙ ap (λ rows. let now : TokenRows = record c.args.tokens.now { rows = rows } in now)
-    (all_taken c.args.masters.now c.laws.ensures (λ (x : LeaseToken). x.master) c.args.top c.loop-lessee.position (sym c.nth_lessee.ensures ∙ c.in_default.is) c.args.tokens.now.rows _ refl)
+pub returns : goal.returns
+returns t c = all_taken c.args.masters.now c.laws.ensures (λ (x : Lease). x.lessee) c.args.top c.loop-lessee.position (sym c.nth_lessee.ensures ∙ c.in_default.is) c.args.granted.now.rows c.loop-lessee.granted.rows c.loop-lessee.invariant

@@ -3,16 +3,12 @@ use Rattle.drm_masters.specs.Masters.{member_of}
 use Rattle.drm_masters.specs.declared.rows.Member.{Member}
 use Rattle.drm_masters.proofs.Newest.{newest_unused, member_older}
 use Rattle.drm_leases.specs.Calls.{IsNewLessee, Created}
-use Rattle.drm_leases.proofs.Newest.{newest_unused as newest_lessee}
 use Rattle.drm_part_tests.specs.Older.{IsBefore}
 use Rattle.drm_part_tests.proofs.Older.{created_before, created_lessees, of_some}
 use Rattle.drm_part_tests.proofs.leases.lease.Goals as goal
 
 pub create-requires-clause-new_step_number : goal.create-requires-clause-new_step_number
 create-requires-clause-new_step_number c = newest_unused c.args.masters.now.masters c.args.step_number c.requires.before.step_numbers
-
-pub create-requires-clause-new_lessee : goal.create-requires-clause-new_lessee
-create-requires-clause-new_lessee c = newest_lessee c.args.leases.now c.args.step_number c.requires.lessees
 
 pub create-requires-clause-later : goal.create-requires-clause-later
 create-requires-clause-later c = member_older c.args.masters.now c.member.ensures.are c.args.step_number c.requires.before.step_numbers c.args.client

@@ -5,6 +5,6 @@ use Rattle.drm_leases.proofs.leases.Leases.list.Given as goal
 
 abbrev pub invariant-loop-id : goal.invariant-loop-id
 invariant-loop-id l = record {
-  told : l.list ++ filter (has_lease l.self.grants l.masters.masters l.master) (numbers_from l.id (l.last + 1 - l.id)) ≡ lessee_ids l.self.grants l.masters.masters l.masters.last_lessee l.master;
+  told : l.list ++ filter (has_lease l.self.grants l.masters.masters l.lessor.step_number) (numbers_from l.id (l.last + 1 - l.id)) ≡ lessee_ids l.self.grants l.masters.masters l.masters.last_lessee l.lessor.step_number;
   short : length l.list + 1 ≤ l.id;
 }

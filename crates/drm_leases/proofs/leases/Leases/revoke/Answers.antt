@@ -1,34 +1,51 @@
-use Rattle.std.proofs.Common.{◌≡◌, ap, sym, subst, ◌∙◌}
+use Rattle.std.proofs.Common.{◌≡◌, ◌&&◌, ap, sym, subst, ◌∙◌}
 use Rattle.drm_lists.specs.Chains.{is_under}
-use Rattle.drm_masters.specs.Masters.{MasterSet, lessor_of}
+use Rattle.drm_masters.specs.Masters.{MasterSet, lessor_of, step_number_at, swept}
+use Rattle.drm_masters.specs.Calls.{released}
 use Rattle.drm_leases.specs.Fields.{set_of}
-use Rattle.drm_leases.specs.Leases.{LeaseSet, AreLeases}
-use Rattle.drm_leases.specs.Agreed.{AreAgreed}
-use Rattle.drm_leases.specs.Calls.{ended}
-use Rattle.drm_leases.proofs.Agreeing.{agreed_released}
-use Rattle.drm_leases.proofs.Ending.{without_are, left}
-use Rattle.drm_leases.proofs.Sound.{still}
+use Rattle.drm_leases.specs.Leases.{LeaseSet, AreLeases, has_token}
+use Rattle.drm_leases.specs.Agreed.{AreAgreed, AreHeld}
+use Rattle.drm_leases.specs.Calls.{ended, is_opened_under}
+use Rattle.drm_leases.proofs.Agreeing.{agreed_released, tokens_held}
+use Rattle.drm_leases.proofs.Denied.{some_none}
+use Rattle.drm_leases.proofs.Ending.{left}
+use Rattle.drm_leases.proofs.Keyed.{number_found}
+use Rattle.drm_leases.proofs.Sound.{without_are, still}
 use Rattle.drm_leases.proofs.leases.Leases.revoke.Goals as goal
+
+pub unreachable-requires : goal.unreachable-requires
+unreachable-requires c = some_none _ c.requires.there (sym c.of_key.ensures ∙ c.in_default.is)
+
+pub release_open-requires : goal.release_open-requires
+release_open-requires c = record { held = subst (λ (a : LeaseSet). AreHeld c.args.masters.now a.tokens) (sym c.self.view_is) (tokens_held c.args.self.now c.args.masters.now (subst AreLeases c.self.view_is c.self.invariant) c.requires.agreed) }
 
 pub returns-clause-leases : goal.returns-clause-leases
 returns-clause-leases c =
     let masters = c.args.masters.now.masters in
-    left (is_under (lessor_of masters) c.args.master) c.self.inside _ _ c.end_leases.ensures.tokens c.end_leases.ensures.leases ∙ ap (ended masters c.args.master) c.self.view_is
+    let number = number_found masters c.args.master c.in-Some.top (sym c.of_key.ensures ∙ c.in-Some.is) in
+    left (is_under (lessor_of masters) c.in-Some.top.step_number) c.self.inside _ _ c.release_open.ensures.tokens c.end_leases.ensures ∙ ap (ended masters c.in-Some.top.step_number) c.self.view_is ∙ ap (λ n. ended masters n c.args.self.now) (sym number)
+
+pub returns-clause-masters : goal.returns-clause-masters
+returns-clause-masters c =
+    let v = c.args.masters.now in
+    let number = number_found v.masters c.args.master c.in-Some.top (sym c.of_key.ensures ∙ c.in-Some.is) in
+    c.release_open.ensures.masters ∙ ap (λ (a : LeaseSet). swept (released (is_opened_under a.tokens v.masters c.in-Some.top.step_number) v)) c.self.view_is ∙ ap (λ n. swept (released (is_opened_under c.args.self.now.tokens v.masters n) v)) (sym number)
 
 pub invariant_of-self : goal.invariant_of-self
 invariant_of-self c =
     let masters = c.args.masters.now.masters in
     let l = c.args.self.now in
     let are : AreLeases l = subst AreLeases c.self.view_is c.self.invariant in
-    still _ (ended masters c.args.master l) (left (is_under (lessor_of masters) c.args.master) c.self.inside _ _ c.end_leases.ensures.tokens c.end_leases.ensures.leases ∙ ap (ended masters c.args.master) c.self.view_is) (without_are (is_under (lessor_of masters) c.args.master) l are)
+    still _ (ended masters (step_number_at masters c.args.master) l) (returns-clause-leases c) (without_are l are (is_under (lessor_of masters) (step_number_at masters c.args.master)))
 
 pub returns-clause-agreed : goal.returns-clause-agreed
 returns-clause-agreed c =
     let v = c.args.masters.now in
     let masters = v.masters in
     let l = c.args.self.now in
-    let leases : LeaseSet = set_of (record c.self.inside { tokens = c.end_leases.new.tokens; granted = c.end_leases.new.granted }) in
-    let now : leases ≡ ended masters c.args.master l = returns-clause-leases c in
-    subst (λ (a : LeaseSet). AreAgreed a c.release_under.new.self) (sym now)
-    (subst (λ (w : MasterSet). AreAgreed (ended masters c.args.master l) w) (sym c.release_under.ensures)
-    (agreed_released (is_under (lessor_of masters) c.args.master) v.members masters l.lendings c.requires))
+    let top = step_number_at masters c.args.master in
+    let leases : LeaseSet = set_of (record c.self.inside { tokens = c.release_open.new.tokens; granted = c.end_leases.new.granted }) in
+    let now : leases ≡ ended masters top l = returns-clause-leases c in
+    subst (λ (a : LeaseSet). AreAgreed a c.release_open.new.masters) (sym now)
+    (subst (λ (w : MasterSet). AreAgreed (ended masters top l) w) (sym (returns-clause-masters c))
+    (agreed_released (is_under (lessor_of masters) top) (is_opened_under l.tokens masters top) (λ n e. ap (λ b. b && has_token l.tokens n) e) v.members masters l.lendings c.requires.agreed))

@@ -18,4 +18,4 @@ returns-clause-answers g c =
     subst (λ (s : ParticipantView). TakesTurn s c.args.event c.call.result c.call.new.participant) c.self.view_is turn
 
 pub returns-clause-opening : goal.returns-clause-opening
-returns-clause-opening g c = Answered-opening _ _ c.call.ensures.turn
+returns-clause-opening g c = Answered-opening _ _ _ c.call.ensures.turn

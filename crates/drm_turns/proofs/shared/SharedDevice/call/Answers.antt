@@ -1,10 +1,12 @@
 use Rattle.std.proofs.Common.{◌≡◌, ◌+◌, ◌-◌, ◌<◌, ◌^◌, ℕ, List, ◌∷◌, ◌++◌, sym, ◌∙◌, ap, subst}
 use Rattle.drm_turns.specs.declared.history.Entry.{Entry}
 use Rattle.drm_turns.specs.declared.history.View.{View}
-use Rattle.drm_turns.specs.History.{AllDiffer, IsLegal, StartsWith, calls_by}
+use Rattle.drm_model.specs.Run.{DeviceValue}
+use Rattle.drm_turns.specs.History.{AllDiffer, IsLegal, StartsWith, calls_by, device_at}
 use Rattle.drm_turns.specs.Rule.{Sat}
 use Rattle.drm_turns.specs.Views.{Grows, IsOwn, serving, waiting}
 use Rattle.drm_turns.specs.Plays.{Reads}
+use Rattle.drm_turns.specs.Turns.{Turn}
 use Rattle.drm_turns.specs.Participants.{ParticipantView, entries_of}
 use Rattle.drm_turns.specs.ParticipantFields.{participant_view_of}
 use Rattle.drm_turns.proofs.Held.{commits, answered, aborts, not_worn, turn_entries, turn_tickets, turned}
@@ -95,14 +97,20 @@ returns-clause-err g c =
     (found g c)
 
 pub returns-clause-turn : goal.returns-clause-turn
-returns-clause-turn g c = answered c.args.event c.step_in_turn.new.outcome c.step_in_turn.ensures.turn
+returns-clause-turn g c =
+    let p = c.pass.ensures.passed in
+    let origin = ap (λ (m : Sat). m.0.origin) p in
+    let seen = ap (λ (m : Sat). m.0.seen) p in
+    let turn =
+    subst (λ (z : DeviceValue × List Entry). Turn (device_at z.0 z.1) c.args.event c.step_in_turn.new.outcome) (λ i. (sym origin i, sym seen i)) c.step_in_turn.ensures.turn in
+    answered (device_at (after g c).origin (after g c).seen) c.args.event c.step_in_turn.new.outcome turn
 
 pub returns-clause-counts : goal.returns-clause-counts
 returns-clause-counts g c =
     let v = c.participant.inside.place.me.0 in
     let t = whole g c in
     let p = c.pass.ensures.passed in
-    let one = turn_tickets c.args.event c.step_in_turn.new.outcome c.step_in_turn.ensures.turn in
+    let one = turn_tickets _ c.args.event c.step_in_turn.new.outcome c.step_in_turn.ensures.turn in
     let drew = ap (λ (m : Sat). m.0.drawn) p ∙ (t.9 ∙ ap (λ (s : ParticipantView). s.drawn + 1) c.participant.view_is) in
     let more = turn_entries c.step_in_turn.new.outcome c.args.event c.wait_turn.new.place.me.0 c.step_in_turn.new.place.me.0 c.step_in_turn.ensures.ok c.step_in_turn.ensures.err in
     let had = ap (λ (u : View). u.journaled) (its_turn g c).2 ∙ ap (λ (s : ParticipantView). s.journaled) c.participant.view_is in (
@@ -111,4 +119,4 @@ returns-clause-counts g c =
     )
 
 pub returns-clause-worn : goal.returns-clause-worn
-returns-clause-worn g c worn = absurd (not_worn c.args.event c.step_in_turn.new.outcome c.step_in_turn.ensures.turn worn)
+returns-clause-worn g c worn = absurd (not_worn _ c.args.event c.step_in_turn.new.outcome c.step_in_turn.ensures.turn worn)

@@ -8,6 +8,7 @@ use Rattle.drm_model.specs.Reply.{reply}
 use Rattle.drm_model.specs.Run.{DeviceValue, no_room, journaled_in, rows_of}
 use Rattle.drm_turns.specs.Rule.{Slot, Sat}
 use Rattle.drm_turns.specs.Views.{counted}
+use Rattle.drm_turns.specs.Turns.{Turn}
 use Rattle.drm_turns.specs.History.{device_at, entry, rows_after}
 use Rattle.drm_turns.proofs.Held.{after_put, events-length, grows_by, grows_not, held_is, noting_at, refuses, step_ok, turn_of}
 use Rattle.drm_turns.proofs.shared.SharedDevice.step_in_turn.Goals as goal
@@ -128,7 +129,31 @@ returns-clause-grows c =
     ]
 
 pub returns-clause-turn : goal.returns-clause-turn
-returns-clause-turn c = turn_of c.deref_mut.result.now c.step_at.new.self c.args.event c.step_at.new.outcome c.step_at.ensures.step c.step_at.ensures.ok c.step_at.ensures.err c.step_at.ensures.in_range c.step_at.ensures.found_room
+returns-clause-turn c =
+    let v = c.args.place.now.me.0 in
+    let e = c.exchange.ensures.3 in
+    let found = held_is c.args.place.now.me.1 c.exchange.result (Some (device_at v.origin v.seen)) c.exchange.ensures.2 c.requires.device in
+    let full = sym c.unwrap.ensures ∙ found in
+    let opened = c.into_box-device.ensures in
+    let lies = c.deref_mut.ensures.value in
+    let device : c.deref_mut.result.now ≡ device_at v.origin v.seen = cc in
+    let put : c.exchange-2.new.seat.me.0 ≡ c.match-outcome.place.me.0 = ap (λ (m : Sat). m.0) c.exchange-2.ensures.3 in
+    let left : c.step_at.new.self ≡ device_at c.exchange-2.new.seat.me.0.origin c.exchange-2.new.seat.me.0.seen =
+    elim c.match-outcome.branch [
+      | in-Ok w ↦
+          let is = rw w.in-Ok.is at c.step_at.ensures.ok in
+          let counts = w.count.ensures.counted in
+          let me : c.match-outcome.place.me ≡ (counted v (entry v.number c.args.event w.in-Ok.answer), c.exchange.new.seat.me.1) =
+          placed w.place-is ∙ (counts ∙ (λ i. let u : View = (e i).0 in (counted u (entry u.number (c.of-journaled.ensures i) w.in-Ok.answer), c.exchange.new.seat.me.1))) in
+          is ∙ (ap (λ d. journaled_in d c.args.event) device ∙ (noting_at v.origin v.seen (entry v.number c.args.event w.in-Ok.answer) ∙ ap (λ (u : View). device_at u.origin u.seen) (sym (put ∙ ap (λ (m : Sat). m.0) me))))
+      | in-Err w ↦
+          let is = rw w.in-Err.is at c.step_at.ensures.err in
+          let me : c.match-outcome.place.me ≡ c.exchange.new.seat.me = placed w.place-is in
+          is ∙ (device ∙ ap (λ (u : View). device_at u.origin u.seen) (sym (put ∙ ap (λ (m : Sat). m.0) (me ∙ e))))
+    ] in
+    let turn =
+    turn_of c.deref_mut.result.now c.step_at.new.self c.args.event c.step_at.new.outcome c.step_at.ensures.step c.step_at.ensures.ok c.step_at.ensures.err c.step_at.ensures.in_range c.step_at.ensures.found_room in
+    subst (λ (d : DeviceValue). Turn d c.args.event c.step_at.new.outcome) left turn
 
 pub returns-clause-err : goal.returns-clause-err
 returns-clause-err c =

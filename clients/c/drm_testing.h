@@ -1,0 +1,275 @@
+/* A server for a test, for C99 and C++11 or later, on Linux. It needs POSIX: include it before all
+ * other headers, or define _POSIX_C_SOURCE as 200809L.
+ *
+ *     struct zirkoshe_server server;
+ *     struct zirkoshe_client client;
+ *
+ *     if (zirkoshe_server_start(&server, NULL) != 0)
+ *         return 1;
+ *     if (zirkoshe_open(&client, server.card, ZIRKOSHE_TIMEOUT) == 0)
+ *         zirkoshe_close(&client);
+ *     return zirkoshe_server_end(&server) == 0 ? 0 : 1;
+ *
+ * A server has its own empty device and its sockets in a fresh folder. The program is the one that
+ * the options name, that of DRM_SERVER_PROGRAM, or `drm_server` of the path. Its standard error is
+ * the test's.
+ */
+#ifndef ZIRKOSHE_DRM_TESTING_H
+#define ZIRKOSHE_DRM_TESTING_H
+
+#ifndef _POSIX_C_SOURCE
+#define _POSIX_C_SOURCE 200809L
+#endif
+
+#include <signal.h>
+#include <stdio.h>
+#include <stdlib.h>
+#include <sys/stat.h>
+#include <sys/types.h>
+#include <sys/wait.h>
+
+#include "drm_client.h"
+
+/* How long a server may take to start and to end, in milliseconds. */
+#define ZIRKOSHE_SERVER_TIMEOUT 60000
+/* The flag of a listening socket in /proc/net/unix. */
+#define ZIRKOSHE_LISTENS 0x10000UL
+#define ZIRKOSHE_MOST_WORDS 24
+
+/* The options of a server. A pointer may be NULL. */
+struct zirkoshe_server_options {
+    const char *program;
+    const char *topology; /* a file */
+    const char *limits;   /* the eight numbers of a script's limits line */
+    const char *journal;  /* the file for the requests and answers, which is written at the end */
+    unsigned cards;       /* how many connections each socket accepts in total, 0 to 64 */
+    unsigned renders;
+    unsigned roots;
+};
+
+/* The options by default, as an initializer: 16 connections on each socket. */
+/* clang-format off */
+#define ZIRKOSHE_SERVER_DEFAULTS {NULL, NULL, NULL, NULL, 16, 16, 16}
+/* clang-format on */
+
+/* A running server, and the paths of its sockets. */
+struct zirkoshe_server {
+    char folder[80];
+    char card[100], render[100], root[100];
+    pid_t process; /* -1 if it has ended */
+    int input;     /* the server ends at the end of its standard input */
+};
+
+/* The words of a command line. */
+struct zirkoshe_words {
+    const char *word[ZIRKOSHE_MOST_WORDS];
+    char count[3][12]; /* the texts of numbers */
+    size_t length;
+};
+
+static inline void zirkoshe_add_option(struct zirkoshe_words *words, const char *name,
+                                       const char *value)
+{
+    if (value != NULL) {
+        words->word[words->length++] = name;
+        words->word[words->length++] = value;
+    }
+}
+
+/* The command line of a server. */
+static inline void zirkoshe_server_command(struct zirkoshe_words *words,
+                                           const struct zirkoshe_server *server,
+                                           const struct zirkoshe_server_options *options)
+{
+    const char *program = options->program;
+
+    memset(words, 0, sizeof *words);
+    if (program == NULL || program[0] == '\0')
+        program = getenv("DRM_SERVER_PROGRAM");
+    words->word[0] = program == NULL || program[0] == '\0' ? "drm_server" : program;
+    words->word[1] = "serve";
+    words->word[2] = "--until-input-ends";
+    words->length = 3;
+    snprintf(words->count[0], sizeof words->count[0], "%u", options->cards);
+    snprintf(words->count[1], sizeof words->count[1], "%u", options->renders);
+    snprintf(words->count[2], sizeof words->count[2], "%u", options->roots);
+    zirkoshe_add_option(words, "--card", server->card);
+    zirkoshe_add_option(words, "--cards", words->count[0]);
+    zirkoshe_add_option(words, "--render", server->render);
+    zirkoshe_add_option(words, "--renders", words->count[1]);
+    zirkoshe_add_option(words, "--root", server->root);
+    zirkoshe_add_option(words, "--roots", words->count[2]);
+    zirkoshe_add_option(words, "--topology", options->topology);
+    zirkoshe_add_option(words, "--limits", options->limits);
+    zirkoshe_add_option(words, "--journal", options->journal);
+}
+
+/* Creates the folder, which no other user can read, and the paths of the sockets; 0 or a negative
+ * errno. */
+static inline int zirkoshe_server_folder(struct zirkoshe_server *server)
+{
+    const char *parent = getenv("TMPDIR");
+    const size_t most = sizeof server->folder;
+    int length = snprintf(server->folder, most, "%s/drm-server-XXXXXX",
+                          parent == NULL || parent[0] == '\0' ? "/tmp" : parent);
+
+    if (length < 0 || ZIRKOSHE_CAST(size_t, length) >= most)
+        return -ENAMETOOLONG;
+    if (mkdtemp(server->folder) == NULL)
+        return -errno;
+    snprintf(server->card, sizeof server->card, "%s/card", server->folder);
+    snprintf(server->render, sizeof server->render, "%s/render", server->folder);
+    snprintf(server->root, sizeof server->root, "%s/root", server->folder);
+    return 0;
+}
+
+static inline void zirkoshe_server_clean(const struct zirkoshe_server *server)
+{
+    unlink(server->card);
+    unlink(server->render);
+    unlink(server->root);
+    rmdir(server->folder);
+}
+
+/* Whether a socket at this path listens. Its file exists a moment before. */
+static inline bool zirkoshe_is_listening(const char *path)
+{
+    FILE *table = fopen("/proc/net/unix", "r");
+    char line[512], found[256];
+    bool is_listening = false;
+
+    while (table != NULL && !is_listening && fgets(line, sizeof line, table) != NULL) {
+        unsigned long flags = 0;
+
+        if (sscanf(line, "%*s %*s %*s %lx %*s %*s %*s %255[^\n]", &flags, found) == 2)
+            is_listening = (flags & ZIRKOSHE_LISTENS) != 0 && strcmp(found, path) == 0;
+    }
+    if (table != NULL)
+        fclose(table);
+    return is_listening;
+}
+
+/* Starts the program with a pipe as its standard input; 0 or a negative errno. */
+static inline int zirkoshe_server_spawn(struct zirkoshe_server *server,
+                                        const struct zirkoshe_words *words)
+{
+    int ends[2];
+
+    if (pipe(ends) != 0)
+        return -errno;
+    fcntl(ends[1], F_SETFD, FD_CLOEXEC);
+    server->process = fork();
+    if (server->process == 0) {
+        char *argument[ZIRKOSHE_MOST_WORDS + 1];
+        int quiet = open("/dev/null", O_WRONLY);
+
+        memcpy(argument, words->word, sizeof words->word);
+        argument[words->length] = NULL;
+        setsid(); /* what a terminal sends reaches the test alone */
+        dup2(ends[0], STDIN_FILENO);
+        dup2(quiet, STDOUT_FILENO);
+        close(ends[0]);
+        close(ends[1]);
+        execvp(argument[0], argument);
+        _exit(127);
+    }
+    close(ends[0]);
+    server->input = ends[1];
+    if (server->process > 0)
+        return 0;
+    close(ends[1]);
+    return -EAGAIN;
+}
+
+/* Waits until the server has ended, and kills it if that takes too long; its status, or -ETIMEDOUT.
+ */
+static inline int zirkoshe_server_wait(struct zirkoshe_server *server)
+{
+    int64_t until = zirkoshe_now() + ZIRKOSHE_SERVER_TIMEOUT;
+    int status = 0;
+
+    while (waitpid(server->process, &status, WNOHANG) == 0) {
+        if (zirkoshe_now() < until) {
+            poll(NULL, 0, 1);
+            continue;
+        }
+        kill(server->process, SIGKILL);
+        waitpid(server->process, &status, 0);
+        status = -ETIMEDOUT;
+        break;
+    }
+    server->process = -1;
+    return status;
+}
+
+/* Ends the server, and removes its folder; 0, -ECHILD if its status wasn't 0, or -ETIMEDOUT if it
+ * had to be killed. A second time it does nothing. */
+static inline int zirkoshe_server_end(struct zirkoshe_server *server)
+{
+    int status;
+
+    if (server->process < 0)
+        return 0;
+    close(server->input);
+    status = zirkoshe_server_wait(server);
+    zirkoshe_server_clean(server);
+    return status == -ETIMEDOUT || status == 0 ? status : -ECHILD;
+}
+
+/* Whether the server listens on each socket that accepts connections. */
+static inline bool zirkoshe_server_listens(const struct zirkoshe_server *server,
+                                           const struct zirkoshe_server_options *options)
+{
+    return (options->cards == 0 || zirkoshe_is_listening(server->card))
+           && (options->renders == 0 || zirkoshe_is_listening(server->render))
+           && (options->roots == 0 || zirkoshe_is_listening(server->root));
+}
+
+/* Waits until the server listens, and uses up none of its connections; 0 or a negative errno. */
+static inline int zirkoshe_server_await(struct zirkoshe_server *server,
+                                        const struct zirkoshe_server_options *options)
+{
+    int64_t until = zirkoshe_now() + ZIRKOSHE_SERVER_TIMEOUT;
+    siginfo_t ended;
+
+    while (!zirkoshe_server_listens(server, options)) {
+        memset(&ended, 0, sizeof ended);
+        waitid(P_PID, ZIRKOSHE_CAST(id_t, server->process), &ended, WEXITED | WNOHANG | WNOWAIT);
+        if (ended.si_signo != 0)
+            return -ECHILD;
+        if (zirkoshe_now() > until)
+            return -ETIMEDOUT;
+        poll(NULL, 0, 5);
+    }
+    return 0;
+}
+
+/* Starts a server with these options, or those by default if they are NULL, and waits until it
+ * listens; 0, -ECHILD if the program doesn't run, or another negative errno. If it fails, there is
+ * nothing to end. */
+static inline int zirkoshe_server_start(struct zirkoshe_server *server,
+                                        const struct zirkoshe_server_options *options)
+{
+    const struct zirkoshe_server_options defaults = ZIRKOSHE_SERVER_DEFAULTS;
+    const struct zirkoshe_server_options *chosen = options == NULL ? &defaults : options;
+    struct zirkoshe_words words;
+    int failed;
+
+    memset(server, 0, sizeof *server);
+    server->process = -1;
+    failed = zirkoshe_server_folder(server);
+    if (failed)
+        return failed;
+    zirkoshe_server_command(&words, server, chosen);
+    failed = zirkoshe_server_spawn(server, &words);
+    if (failed) {
+        zirkoshe_server_clean(server);
+        return failed;
+    }
+    failed = zirkoshe_server_await(server, chosen);
+    if (failed)
+        zirkoshe_server_end(server);
+    return failed;
+}
+
+#endif

@@ -1,0 +1,245 @@
+"""Reads the audit of a server over its root socket, and prints it.
+
+    python3 -m zirkoshe.audit SOCKET [--json | --dot | --svg]
+
+It prints tables, JSON, or a graph in DOT or SVG: the clients, the masters and lessees,
+the buffers with their names, tokens and framebuffers, what each CRTC and plane shows,
+and which client may set it.
+
+An audit is read page by page, 16 rows of one kind at a time, and each page is a step of
+the server's journal. Another client may make a step between two pages, so the rows of a
+busy server need not be those of one moment. The audit has its own client, which is
+among the rows. If the device has no master, that client becomes its master.
+"""
+
+import argparse
+import json
+import sys
+from typing import Any, Dict, List, Optional, Sequence, Tuple, Type
+
+from .client import DEFAULT_TIMEOUT, Client, PathLike
+from .constants import MOST_ROWS, ClientCap, ClientFlag, Rule
+from .graph import dot, graph_of, svg
+from .protocol import ClientError, ProtocolError, Refusal
+from .rows import (
+    KINDS,
+    Audit,
+    ClientRow,
+    DeviceRow,
+    FramebufferRow,
+    GrantRow,
+    HoldRow,
+    MasterRow,
+    NameRow,
+    ObjectRow,
+    ShownRow,
+    TokenRow,
+    flag_words,
+)
+
+__all__ = [
+    "KINDS",
+    "Audit",
+    "ClientRow",
+    "DeviceRow",
+    "FramebufferRow",
+    "GrantRow",
+    "HoldRow",
+    "MasterRow",
+    "NameRow",
+    "ObjectRow",
+    "ShownRow",
+    "TokenRow",
+    "audit_by",
+    "dot",
+    "formed",
+    "graph_of",
+    "main",
+    "plain",
+    "read_audit",
+    "reason_of",
+    "svg",
+    "tables",
+]
+
+# each page is a step, and a journal has no more
+MOST_PAGES = 100_000
+
+
+def read_kind(client: Client, number: int, row_type: Type[Any]) -> List[Any]:
+    """Returns all rows of one kind, page by page."""
+    rows: List[Any] = []
+    for _ in range(MOST_PAGES):
+        page = client.audit(number, len(rows))
+        rows += [row_type(*row[: len(row_type._fields)]) for row in page]
+        if len(page) < MOST_ROWS:
+            return rows
+    raise ProtocolError(f"there is no end of the rows of kind {number}")
+
+
+def audit_by(client: Client) -> Audit:
+    """Returns the audit of a root client.
+
+    The audit lists all planes: a client with universal planes off turns them on for a
+    moment, which is two more steps.
+    """
+    kinds = {
+        name: read_kind(client, number, row_type)
+        for number, (name, row_type) in enumerate(KINDS, 1)
+    }
+    resources = client.getresources()
+    hidden = any(
+        row.client == client.opened.client
+        and row.flags & ClientFlag.UNIVERSAL_PLANES_OFF
+        for row in kinds["clients"]
+    )
+    if hidden:
+        client.set_client_cap(ClientCap.UNIVERSAL_PLANES, 1)
+    planes = client.getplaneresources()
+    if hidden:
+        client.set_client_cap(ClientCap.UNIVERSAL_PLANES, 0)
+    found = [
+        *((number, "CRTC") for number in resources.crtcs),
+        *((number, "plane") for number in planes),
+        *((number, "connector") for number in resources.connectors),
+    ]
+    return Audit(
+        auditor=client.opened.client, mode_objects=dict(sorted(found)), **kinds
+    )
+
+
+def read_audit(path: PathLike, timeout: float = DEFAULT_TIMEOUT) -> Audit:
+    """Returns the audit of the server with this root socket.
+
+    It opens with version 1 of the hello, by which a client sees all planes.
+    """
+    with Client(path, timeout=timeout, version=1) as client:
+        return audit_by(client)
+
+
+def plain(audit: Audit) -> Dict[str, Any]:
+    """Returns the audit in types that JSON has."""
+    found: Dict[str, Any] = {"auditor": audit.auditor}
+    for name, _ in KINDS:
+        found[name] = [row._asdict() for row in getattr(audit, name)]
+    for row, shown in zip(audit.clients, found["clients"]):
+        shown["flags"] = flag_words(row.flags)
+        shown["may_set"] = audit.may_set(row)
+    found["device"] = found["device"][0] if found["device"] else None
+    found["mode_objects"] = [
+        {"id": number, "kind": kind} for number, kind in audit.mode_objects.items()
+    ]
+    return found
+
+
+def table(name: str, heads: Tuple[str, ...], rows: Sequence[Tuple[str, ...]]) -> str:
+    """Returns lines under a name, each column as wide as its widest word."""
+    widths = [max(map(len, column)) for column in zip(heads, *rows)]
+    lines = [
+        "  " + "  ".join(word.ljust(width) for word, width in zip(row, widths)).rstrip()
+        for row in (heads, *rows)
+    ]
+    return "\n".join([name, *(lines if rows else ["  none"])])
+
+
+def listed(numbers: List[int]) -> str:
+    """Returns a list of numbers, or - if it is empty."""
+    return ", ".join(map(str, numbers)) or "-"
+
+
+def tables(audit: Audit) -> str:
+    """Returns all kinds as tables, with - for 0."""
+    clients = [
+        (
+            *map(str, (row.client, row.master or "-", row.magic or "-")),
+            listed(audit.may_set(row)),
+            ", ".join(flag_words(row.flags))
+            + (" (this audit)" if row.client == audit.auditor else ""),
+        )
+        for row in audit.clients
+    ]
+    parts = [
+        table("clients", ("client", "master", "magic", "may set", "flags"), clients)
+    ]
+    for name, row_type in KINDS[1:]:
+        heads = tuple(field.replace("_", " ") for field in row_type._fields)
+        parts.append(
+            table(
+                name,
+                heads,
+                [
+                    tuple(str(value or "-") for value in row)
+                    for row in getattr(audit, name)
+                ],
+            )
+        )
+    outputs = [(str(number), kind) for number, kind in audit.mode_objects.items()]
+    return "\n\n".join([*parts, table("mode objects", ("id", "kind"), outputs)])
+
+
+def parse(arguments: Optional[Sequence[str]]) -> argparse.Namespace:
+    """Reads the command line."""
+    first, _, rest = (__doc__ or "").partition("\n\n")
+    parser = argparse.ArgumentParser(
+        prog="drm-audit",
+        description=first,
+        epilog=rest.partition("\n\n")[2]
+        + "\nExit status: 0; 1 if there is no audit; 2 for a wrong command line.",
+    )
+    parser.add_argument("path", metavar="SOCKET", help="the server's root socket")
+    forms = parser.add_mutually_exclusive_group()
+    for form, what in (
+        ("json", "as JSON"),
+        ("dot", "as a graph for Graphviz"),
+        ("svg", "as a picture"),
+    ):
+        forms.add_argument(
+            f"--{form}",
+            dest="form",
+            action="store_const",
+            const=form,
+            help=f"print it {what}",
+        )
+    parser.add_argument(
+        "--timeout",
+        type=float,
+        default=DEFAULT_TIMEOUT,
+        metavar="SECONDS",
+        help="the time limit of the opening and of each call (%(default)g)",
+    )
+    return parser.parse_args(arguments)
+
+
+def formed(audit: Audit, form: Optional[str]) -> str:
+    """Returns the audit in a form: json, dot or svg, and otherwise tables."""
+    if form == "json":
+        return json.dumps(plain(audit), indent=2)
+    if form == "dot":
+        return dot(graph_of(audit))
+    return svg(graph_of(audit)) if form == "svg" else tables(audit)
+
+
+def main(arguments: Optional[Sequence[str]] = None) -> int:
+    """Runs the command line, and returns the exit status."""
+    parsed = parse(arguments)
+    try:
+        audit = read_audit(parsed.path, parsed.timeout)
+        print(formed(audit, parsed.form), flush=True)
+    except KeyboardInterrupt:
+        return 130
+    except Refusal as refusal:
+        print(f"drm-audit: {refusal}{reason_of(refusal)}", file=sys.stderr)
+        return 1
+    except (ClientError, ValueError, OSError) as error:
+        print(f"drm-audit: {error}", file=sys.stderr)
+        return 1
+    return 0
+
+
+def reason_of(refusal: Refusal) -> str:
+    """Returns what to do about a refusal, as the rest of a sentence."""
+    return ": use the root socket" if refusal.number == Rule.ROOT_ONLY else ""
+
+
+if __name__ == "__main__":
+    sys.exit(main())

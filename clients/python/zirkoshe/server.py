@@ -1,0 +1,256 @@
+"""A server for a test, on Linux.
+
+    from zirkoshe import Client
+    from zirkoshe.server import Server
+
+    with Server() as server:
+        with Client(server.card) as client:
+            ...
+    print(server.listing)
+
+`Server` starts `drm_server serve` on sockets in a fresh folder, and waits until it
+listens. At the end of `with` it ends the server: all connections end, `listing` has
+what the device still held, and the folder is removed. Each server starts with an empty
+device, so clients, tokens and ids have the same numbers in each test.
+
+The program is the parameter `program`, that of DRM_SERVER_PROGRAM, the one that
+`drm_server` of this checkout or archive would run, or that of a `drm_server` on the
+path.
+"""
+
+import os
+import pathlib
+import shutil
+import subprocess
+import tempfile
+import time
+from types import TracebackType
+from typing import IO, Dict, Iterable, List, Optional, Type
+
+from .client import PathLike
+
+CLASSES = ("card", "render", "root")
+
+#: How many connections a socket accepts by default.
+COUNT = 16
+START_SECONDS = 60.0
+#: A server writes its journal at its end, if it has one.
+STOP_SECONDS = 60.0
+#: The greatest length of a socket's path.
+MOST_PATH = 107
+#: The flag of a listening socket in /proc/net/unix.
+LISTENS = 0x10000
+
+
+class ServerError(Exception):
+    """The server cannot be found, does not start, or does not end normally."""
+
+
+def find_program() -> str:
+    """Returns the program of the server."""
+    named = os.environ.get("DRM_SERVER_PROGRAM")
+    if named:
+        return named
+    own = pathlib.Path(__file__).resolve().parents[3] / "drm_server"
+    script = str(own) if own.is_file() else shutil.which("drm_server")
+    if script is None:
+        raise ServerError(
+            "there is no server: set DRM_SERVER_PROGRAM to bin/drm_server_main of an "
+            "archive, or have drm_server on the path"
+        )
+    asked = subprocess.run(
+        [script, "--program"],
+        stdin=subprocess.DEVNULL,
+        stdout=subprocess.PIPE,
+        check=False,
+    )
+    if asked.returncode != 0:
+        raise ServerError(f"{script} --program gave status {asked.returncode}")
+    return os.fsdecode(asked.stdout.rstrip(b"\n"))
+
+
+class Server:
+    """A running server. The paths of its sockets are `card`, `render` and `root`.
+
+    `cards`, `renders` and `roots` are how many connections each socket accepts in
+    total, 0 to 64. `topology` is a file, and `limits` the eight numbers of a script's
+    limits line. With `journal` the server writes the requests and answers to that file
+    at its end, as a script for `drm_server check` and `drm_server explain`.
+    """
+
+    def __init__(
+        self,
+        *,
+        program: Optional[PathLike] = None,
+        cards: int = COUNT,
+        renders: int = COUNT,
+        roots: int = COUNT,
+        topology: Optional[PathLike] = None,
+        limits: Optional[str] = None,
+        journal: Optional[PathLike] = None,
+    ) -> None:
+        self.listing = ""
+        self.status: Optional[int] = None
+        self.folder = tempfile.mkdtemp(prefix="drm-server-")
+        self._log: Optional[IO[bytes]] = None
+        self._process: "Optional[subprocess.Popen[bytes]]" = None
+        self.card, self.render, self.root = map(self._path, CLASSES)
+        counts = dict(zip(CLASSES, (cards, renders, roots)))
+        named = {"topology": topology, "limits": limits, "journal": journal}
+        options = {name: value for name, value in named.items() if value is not None}
+        try:
+            self._start(program, counts, options)
+            self._wait_until_it_listens(
+                self._path(name) for name, count in counts.items() if count > 0
+            )
+        except BaseException:
+            self._kill()
+            self._clean()
+            raise
+
+    def __repr__(self) -> str:
+        process = self._process
+        state = "ended" if process is None else f"process {process.pid}"
+        return f"<{type(self).__name__} in {self.folder}, {state}>"
+
+    def __enter__(self) -> "Server":
+        return self
+
+    def __exit__(
+        self,
+        kind: Optional[Type[BaseException]],
+        error: Optional[BaseException],
+        trace: Optional[TracebackType],
+    ) -> None:
+        try:
+            self.end()
+        except ServerError:
+            # the test's own failure says more
+            if kind is None:
+                raise
+
+    @property
+    def pid(self) -> Optional[int]:
+        """The number of the server's process, or None after its end."""
+        return None if self._process is None else self._process.pid
+
+    @property
+    def environment(self) -> Dict[str, str]:
+        """The paths as variables for a program under test, as of tools/with-server.
+
+        They are DRM_SERVER_CARD, DRM_SERVER_RENDER and DRM_SERVER_ROOT.
+        """
+        return {f"DRM_SERVER_{name.upper()}": self._path(name) for name in CLASSES}
+
+    def end(self) -> str:
+        """Ends the server, and returns its listing. A second time it does nothing.
+
+        Raises `ServerError` if the status was not 0, or if the server had to be killed.
+        """
+        if self._process is None:
+            return self.listing
+        process, self._process = self._process, None
+        try:
+            output = self._output_of(process)
+            self.listing = output.decode()
+            self.status = process.returncode
+            if process.returncode != 0:
+                raise ServerError(
+                    f"the server ended with status {process.returncode}{self._logged()}"
+                )
+            return self.listing
+        finally:
+            self._clean()
+
+    def _output_of(self, process: "subprocess.Popen[bytes]") -> bytes:
+        """Waits for the end of the server, and returns what it printed."""
+        try:
+            output, _ = process.communicate(b"", STOP_SECONDS)
+            return output
+        except subprocess.TimeoutExpired:
+            process.kill()
+            process.communicate()
+            raise ServerError(
+                f"the server didn't end within {STOP_SECONDS:g} seconds, and was killed"
+                f"{self._logged()}"
+            ) from None
+
+    def _path(self, name: str) -> str:
+        return os.path.join(self.folder, name)
+
+    def _start(
+        self,
+        program: Optional[PathLike],
+        counts: Dict[str, int],
+        options: Dict[str, PathLike],
+    ) -> None:
+        if len(os.fsencode(self.render)) > MOST_PATH:
+            raise ServerError(
+                f"{self.folder} is too long a path for sockets: set TMPDIR to a "
+                "shorter one"
+            )
+        command = [os.fspath(program) if program is not None else find_program()]
+        command += ["serve", "--until-input-ends"]
+        for name, count in counts.items():
+            command += [f"--{name}", self._path(name), f"--{name}s", str(count)]
+        for name, value in options.items():
+            command += [f"--{name}", os.fspath(value)]
+        self._log = open(self._path("log"), "w+b")
+        try:
+            # in its own session, so that a terminal's Ctrl-C reaches the test alone
+            self._process = subprocess.Popen(
+                command,
+                stdin=subprocess.PIPE,
+                stdout=subprocess.PIPE,
+                stderr=self._log,
+                start_new_session=True,
+            )
+        except OSError as error:
+            raise ServerError(f"the server can't be run: {error}") from error
+
+    def _wait_until_it_listens(self, paths: Iterable[str]) -> None:
+        """Waits for the server, and uses up none of its connections."""
+        assert self._process is not None
+        expected = set(map(os.fsencode, paths))
+        until = time.monotonic() + START_SECONDS
+        while not expected.issubset(listening()):
+            if self._process.poll() is not None:
+                raise ServerError(
+                    "the server ended before it listened, with status "
+                    f"{self._process.returncode}{self._logged()}"
+                )
+            if time.monotonic() > until:
+                raise ServerError(
+                    f"the server didn't listen within {START_SECONDS:g} seconds"
+                    f"{self._logged()}"
+                )
+            time.sleep(0.005)
+
+    def _logged(self) -> str:
+        """Returns the server's standard error, as the rest of a sentence."""
+        if self._log is None:
+            return ""
+        self._log.seek(0)
+        logged = self._log.read().decode(errors="replace").strip()
+        return f": {logged}" if logged else ""
+
+    def _kill(self) -> None:
+        if self._process is not None:
+            process, self._process = self._process, None
+            process.kill()
+            process.communicate()
+
+    def _clean(self) -> None:
+        if self._log is not None:
+            self._log.close()
+        shutil.rmtree(self.folder, ignore_errors=True)
+
+
+def listening() -> List[bytes]:
+    """Returns the paths of the Unix sockets that listen for connections.
+
+    The file of a socket exists a moment before the socket listens.
+    """
+    with open("/proc/net/unix", "rb") as table:
+        rows = [line.rstrip(b"\n").split(None, 7) for line in table]
+    return [row[7] for row in rows[1:] if len(row) == 8 and int(row[3], 16) & LISTENS]

@@ -1,0 +1,94 @@
+//! Links of chains that a row has already.
+
+use crate::rows::FrontRow;
+use drm_rights::{ChainEnd, Link, Marks};
+use std::alloc::{AllocError, Global};
+
+/// How many of the last links of a chain its row has in any case.
+const KEPT: usize = 4;
+
+/// The row that has the link of a step, and the object that the step gave.
+#[derive(Clone, Copy)]
+struct Place {
+    client: u64,
+    handle: u64,
+    object: u64,
+}
+
+/// Which steps are links of a row already, and of which, for each step.
+#[derive(Drop)]
+pub(crate) struct Fronts {
+    marks: Vec<bool>,
+    places: Vec<Option<Place>>,
+}
+
+/// The place of a step among all, by its number.
+fn place_of(step: u64) -> usize {
+    usize::try_from(step.saturating_sub(1)).unwrap_or(usize::MAX)
+}
+
+impl Fronts {
+    /// No row has any of so many steps.
+    pub(crate) fn new(alloc: Global, steps: usize) -> Result<Fronts, AllocError> {
+        let mut marks = Vec::new(alloc);
+        marks.resize(steps, false)?;
+        let mut places = Vec::new(alloc);
+        places.resize(steps, None)?;
+        Ok(Fronts { marks, places })
+    }
+
+    /// Which links a further row leaves out.
+    pub(crate) fn marks(&self) -> Marks<'_> {
+        Marks {
+            steps: self.marks.as_slice(),
+            kept: KEPT,
+        }
+    }
+
+    fn at(&self, step: u64) -> Option<Place> {
+        *self.places.get(place_of(step))?
+    }
+
+    /// The object of a chain: of its first link, or of the step of an earlier row.
+    pub(crate) fn object_of(&self, end: &ChainEnd) -> Option<u64> {
+        match &end.left {
+            Some(left) => Some(self.at(left.step)?.object),
+            None => Some(end.links.last()?.step),
+        }
+    }
+
+    /// The row that has the first links of a chain, if they are left out.
+    pub(crate) fn front_of(&self, end: &ChainEnd) -> Option<FrontRow> {
+        let left = end.left.as_ref()?;
+        let place = self.at(left.step)?;
+        Some(FrontRow {
+            client: place.client,
+            handle: place.handle,
+            step: left.step,
+        })
+    }
+
+    fn mark(&mut self, link: &Link, place: Place) {
+        let at = place_of(link.step);
+        if let Some(slot) = self.places.get_mut(at) {
+            if slot.is_none() {
+                *slot = Some(place);
+            }
+        }
+        if let Some(mark) = self.marks.get_mut(at) {
+            *mark = true;
+        }
+    }
+
+    /// Notes the links that the row of a handle has.
+    pub(crate) fn note(&mut self, client: u64, handle: u64, object: u64, links: &[Link]) {
+        let place = Place {
+            client,
+            handle,
+            object,
+        };
+        for link in links {
+            self.mark(link, place);
+        }
+    }
+}

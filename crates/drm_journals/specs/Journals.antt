@@ -1,0 +1,69 @@
+-- The script of a journal (own).
+use Rattle.std.specs.Prelude.{◌≡◌, ℕ, ◌==◌, ◌<◌, Bool, true, false, List, [], ◌∷◌, ◌++◌, None, Some, Result, codes, map, position}
+use Rattle.drm_table.specs.declared.answers.Answer.{Answer}
+use Rattle.drm_table.specs.declared.apart.Apart.{Apart}
+use Rattle.drm_table.specs.declared.events.Event.{Event}
+use Rattle.drm_table.specs.declared.events.Event.TheVariants as events
+use Rattle.drm_table.specs.declared.limits.Limits.{Limits}
+use Rattle.drm_model.specs.Run.{DeviceValue}
+use Rattle.drm_runs.specs.Lines.{ended}
+use Rattle.drm_runs.specs.Script.{StepsOn, bound, event_of, label_bound, unbound}
+use Rattle.drm_checks.specs.Updates.{with_answer}
+use Rattle.drm_journals.specs.Lines.{command_at, command_text, limits_text, written_event}
+
+-- The line of limits, and then a line for each event, in order: of a command that asks for it by a label, with the answer
+-- that the device gives there, where both fit into 255 bytes. A label names the client of the last accepted opening by it. The last
+-- two are the device and the labels behind the lines.
+pub data Lines (limits : Limits) (first : DeviceValue) : List Event → List ℕ → DeviceValue → List ℕ → Type 0 where
+  limited : Lines limits first [] (ended (limits_text limits)) first unbound
+  answered : {events : List Event} {text : List ℕ} {device after : DeviceValue} {labels : List ℕ} (next : Event) (place : ℕ) (result : Result Answer Apart)
+      → Lines limits first events text device labels → place < 26 → event_of labels (command_at place next) ≡ next → StepsOn device next result after
+      → Lines limits first (events ++ next ∷ []) (text ++ ended (with_answer (command_text (command_at place next)) (Some result))) after (bound labels (label_bound (command_at place next)) result)
+
+abbrev pub finds : ℕ → ℕ → Bool
+finds client label = label == client
+
+-- No label is left for an event: none was never bound, or none names the client.
+abbrev pub HasNoLabel : List ℕ → Event → Type 0
+HasNoLabel labels (events.Open opening) = position (finds 0) labels ≡ None
+HasNoLabel labels (events.Close client) = position (finds client) labels ≡ None
+HasNoLabel labels (events.Ask client call) = position (finds client) labels ≡ None
+
+-- the comment that stands in place of the events left out
+abbrev pub labels_used : List ℕ
+labels_used = codes "# more clients are open here than there are labels, and what follows is left out"
+
+-- All events have their lines.
+pub record IsWhole (limits : Limits) (first : DeviceValue) (events : List Event) (text : List ℕ) : Type 0 where
+  pub device : DeviceValue
+  pub labels : List ℕ
+  pub lines : Lines limits first (map written_event events) text device labels
+
+-- The events up to one for which there is no label have their lines, and a comment says that the others are left out.
+pub record IsCut (limits : Limits) (first : DeviceValue) (events : List Event) (text : List ℕ) : Type 0 where
+  pub front : List Event
+  pub next : Event
+  pub others : List Event
+  pub lines_text : List ℕ
+  pub device : DeviceValue
+  pub labels : List ℕ
+  pub parts : events ≡ front ++ next ∷ others
+  pub lines : Lines limits first (map written_event front) lines_text device labels
+  pub unnamed : HasNoLabel labels next
+  pub text_is : text ≡ lines_text ++ ended labels_used
+
+-- The text is the script of the events.
+abbrev pub IsScriptOf : Limits → DeviceValue → List Event → List ℕ → Bool → Type 0
+IsScriptOf limits first events text true = IsWhole limits first events text
+IsScriptOf limits first events text false = IsCut limits first events text
+
+-- Whichever lines there were, one more stands behind them.
+abbrev pub AddsLine : Event → List ℕ → DeviceValue → List ℕ → List ℕ → DeviceValue → List ℕ → Type 0
+AddsLine event text device labels text' device' labels' =
+    (limits : Limits) (first : DeviceValue) (events : List Event) → Lines limits first events text device labels
+    → Lines limits first (events ++ event ∷ []) text' device' labels'
+
+-- The same, if there is a label for the event; else the comment ends the text.
+abbrev pub Advances : Event → List ℕ → DeviceValue → List ℕ → List ℕ → DeviceValue → List ℕ → Bool → Type 0
+Advances event text device labels text' device' labels' true = AddsLine (written_event event) text device labels text' device' labels'
+Advances event text device labels text' device' labels' false = HasNoLabel labels event × (text' ≡ text ++ ended labels_used)

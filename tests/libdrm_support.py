@@ -1,0 +1,65 @@
+"""What the tests of clients/libdrm share: the library, programs that are compiled against libdrm, and their server."""
+import contextlib
+import os
+import pathlib
+import sys
+import time
+
+sys.dont_write_bytecode = True
+from support import (  # noqa: E402
+    BUILT, CLASSES, CLIENTS, REPOSITORY, SECONDS, connect, expect, run, server, want_libdrm)
+
+LIBRARY = CLIENTS / "libdrm"
+COMPILER = ["cc", "-std=gnu11", "-Wall", "-Wextra", "-Wpedantic", "-Werror", "-O2", "-pthread"]
+
+
+def compiled(source):
+    """A program of the tests or of the examples, compiled once against libdrm."""
+    words = want_libdrm()
+    program = pathlib.Path(BUILT.name, pathlib.Path(source).stem)
+    if not program.exists():
+        ran = run(*COMPILER, "-I", CLIENTS / "c", "-o", program, REPOSITORY / source, *words)
+        expect("what cc says", (ran.returncode, ran.stdout + ran.stderr), (0, ""))
+    return program
+
+
+def library():
+    """The library, built where that is still to be done."""
+    want_libdrm()
+    ran = run(LIBRARY / "build")
+    expect("what the build says", (ran.returncode, ran.stderr), (0, ""))
+    return ran.stdout.strip()
+
+
+def environment(folder, **variables):
+    """The environment of a program that finds the server in this folder behind libdrm."""
+    sockets = {f"DRM_SERVER_{name.upper()}": str(folder / name) for name in CLASSES}
+    return {**os.environ, "LD_PRELOAD": library(), **sockets, **variables}
+
+
+def wait_until(holds):
+    """Waits until something holds, and fails the test where it doesn't in time."""
+    until = time.monotonic() + SECONDS
+    while not holds():
+        if time.monotonic() > until:
+            raise AssertionError("it took too long")
+        time.sleep(0.01)
+
+
+@contextlib.contextmanager
+def served(folder, cards=64, renders=8, roots=8):
+    """A server in this folder, once it listens."""
+    with server(folder, cards, renders, roots) as started:
+        wait_until(lambda: all((folder / name).exists() for name in CLASSES))
+        connect(folder / "root").close()
+        yield started
+
+
+def said(folder, *command, **options):
+    """What a program prints that ends well, beside a server of its own."""
+    given = environment(folder)
+    with served(folder):
+        ran = run(*command, env=given, **options)
+    expect("error output", ran.stderr, "")
+    expect("status", ran.returncode, 0)
+    return ran.stdout
