@@ -1,4 +1,7 @@
 mod Flat
+mod Chains
+mod OrderFacts
+mod InOrder
 mod Changes
 mod RecordFacts
 mod Calls

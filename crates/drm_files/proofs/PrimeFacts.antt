@@ -1,5 +1,5 @@
 -- The least export order of one client's handles, and how a walk over those for an object finds it.
-use Rattle.std.proofs.Common.{◌≡◌, ℕ, ◌≤◌, ◌&&◌, ◌||◌, ◌==◌, Bool, true, false, cond, if◌then◌else◌, List, [], ◌∷◌, ◌++◌, map, filter, IfSome, Option, Some, None, option_map, option_and_then, refl, sym, ap, subst, ◌∙◌, arith, eq-eqb, nat_cmp}
+use Rattle.std.proofs.Common.{◌≡◌, ℕ, ◌≤◌, ◌&&◌, ◌||◌, ◌==◌, Bool, true, false, cond, if◌then◌else◌, List, [], ◌∷◌, map, filter, Option, Some, None, option_map, option_and_then, refl, sym, ap, subst, ◌∙◌, arith, eq-eqb, nat_cmp}
 use Rattle.std.specs.List.{filter_map, cons_option, list_any, AllByRecursion}
 use Rattle.std.specs.Option.{option_map_or}
 use Rattle.std.specs.Ordering.{eq_by_cmp}
@@ -9,7 +9,7 @@ use Rattle.std.specs.FinMap.Entries.{find}
 use Rattle.std.proofs.lemmas.Bool.{false≢true, eqb-true, and_parts, and_from}
 use Rattle.std.proofs.lemmas.Bool.Decides.{nat_tests}
 use Rattle.std.proofs.lemmas.Option.{same_Some, none-some}
-use Rattle.drm_lists.proofs.Lists.{some_passing, all_weaker, all_append, all_of_map}
+use Rattle.drm_lists.proofs.Lists.{some_passing, all_of_map}
 use Rattle.drm_index_array.specs.Least.{least_of}
 use Rattle.drm_index_array.proofs.Least.{least_of_is}
 use Rattle.drm_index_array.proofs.Keyed.{all_rows}
@@ -19,70 +19,17 @@ use Rattle.drm_files.specs.declared.primes.Prime.{Prime}
 use Rattle.drm_files.specs.declared.rows.FileHandle.{FileHandle}
 use Rattle.drm_files.specs.Files.{hold, of_client, is_handle_of, has_export_order, export_orders_of, handles_at, prime_handle}
 use Rattle.drm_files.specs.Records.{rows_in, holds_in, lists_of}
-use Rattle.drm_files.specs.Primes.{is_for, is_at, export_orders_in, handles_in, least_prime, prime_of, prime_at, is_before, lesser_prime, IsFirst, IsLeastIn}
+use Rattle.drm_files.specs.Primes.{is_for, is_at, export_orders_in, handles_in, least_prime, prime_of, prime_at, is_before}
+use Rattle.drm_files.specs.ExportOrders.{IsNext}
+use Rattle.drm_files.proofs.OrderFacts.{named}
 use Rattle.drm_files.proofs.Changes.{rows_of_client}
 
--- what a walk over handles keeps
-
-handle_is : (object h : ℕ) (o : Option Held) (y : Prime) → option_and_then (λ held. prime_of object (h, held)) o ≡ Some y → y.handle ≡ h
-handle_is object h None y e = absurd (none-some y e)
-handle_is object h (Some held) y e = by_test (held.object == object) held.export_order e
-  where
-    by_test : (t : Bool) (p : Option ℕ) → (if t then option_map (λ export_order. record { export_order = export_order; handle = h }) p else None) ≡ Some y → y.handle ≡ h
-    by_test true None e = absurd (none-some y e)
-    by_test true (Some export_order) e = sym (ap (λ o. handle_or o) e)
-      where
-        handle_or : Option Prime → ℕ
-        handle_or None = 0
-        handle_or (Some z) = z.handle
-    by_test false p e = absurd (none-some y e)
-
-not_after : (y x : Prime) → is_before y x ≡ true → IsFirst y x
-not_after y x is = ((grind (arith, nat_tests)), λ same. grind (arith, nat_tests))
+-- no export order is lesser, nor a handle at that order
+abbrev IsFirst : Prime → Prime → Type 0
+IsFirst x y = (x.export_order ≤ y.export_order) × (x.export_order ≡ y.export_order → x.handle ≤ y.handle)
 
 not_before : (y x : Prime) → is_before y x ≡ false → IsFirst x y
 not_before y x is = ((grind (arith, nat_tests)), λ same. grind (arith, nat_tests))
-
-first_trans : (x y z : Prime) → IsFirst x y → IsFirst y z → IsFirst x z
-first_trans x y z a b = (
-  omega (arith, a.0, b.0),
-  λ same.
-      let xy : x.export_order ≡ y.export_order = omega (arith, a.0, b.0, same) in
-      let yz : y.export_order ≡ z.export_order = omega (arith, a.0, b.0, same) in
-      omega (arith, a.1 xy, b.1 yz),
-)
-
-module _ (slots : fin.FinMap nat_cmp Held) (object : ℕ) where
-  -- one more handle
-  pub one_more : (handles : List ℕ) (r : Option Prime) (h : ℕ) → IsLeastIn slots object handles r → IsLeastIn slots object (handles ++ h ∷ []) (lesser_prime r (prime_at slots object h))
-  one_more handles r h is = by r (prime_at slots object h) refl is
-    where
-      last : (P : ℕ → Type 0) → AllByRecursion P handles → P h → AllByRecursion P (handles ++ h ∷ [])
-      last P all p = all_append P handles (h ∷ []) all (p, tt)
-
-      by : (r o : Option Prime) → prime_at slots object h ≡ o → IsLeastIn slots object handles r → IsLeastIn slots object (handles ++ h ∷ []) (lesser_prime r o)
-      by None None at is = last (λ k. prime_at slots object k ≡ None) is at
-      by None (Some y) at is = (
-        ap (prime_at slots object) (handle_is object h (fin.get slots h) y at) ∙ at,
-        last (λ k. IfSome (prime_at slots object k) (λ z. IsFirst y z))
-            (all_weaker (λ k. prime_at slots object k ≡ None) (λ k. IfSome (prime_at slots object k) (λ z. IsFirst y z)) (λ k none. subst (λ o. IfSome o (λ z. IsFirst y z)) (sym none) tt) handles is)
-            (subst (λ o. IfSome o (λ z. IsFirst y z)) (sym at) (omega arith, λ e. omega arith)),
-      )
-      by (Some x) None at is = (is.0, last (λ k. IfSome (prime_at slots object k) (λ z. IsFirst x z)) is.1 (subst (λ o. IfSome o (λ z. IsFirst x z)) (sym at) tt))
-      by (Some x) (Some y) at is =
-          elim (is_before y x) as (λ t. is_before y x ≡ t → IsLeastIn slots object (handles ++ h ∷ []) (if t then Some y else Some x)) [
-            | true ↦ λ before. (
-              ap (prime_at slots object) (handle_is object h (fin.get slots h) y at) ∙ at,
-              last (λ k. IfSome (prime_at slots object k) (λ z. IsFirst y z))
-                  (all_weaker (λ k. IfSome (prime_at slots object k) (λ z. IsFirst x z)) (λ k. IfSome (prime_at slots object k) (λ z. IsFirst y z)) (λ k first. further (prime_at slots object k) first (not_after y x before)) handles is.1)
-                  (subst (λ o. IfSome o (λ z. IsFirst y z)) (sym at) (omega arith, λ e. omega arith)),
-            )
-            | false ↦ λ behind. (is.0, last (λ k. IfSome (prime_at slots object k) (λ z. IsFirst x z)) is.1 (subst (λ o. IfSome o (λ z. IsFirst x z)) (sym at) (not_before y x behind)))
-          ] refl
-        where
-          further : (o : Option Prime) → IfSome o (λ z. IsFirst x z) → IsFirst y x → IfSome o (λ z. IsFirst y z)
-          further None first is = tt
-          further (Some z) first is = first_trans y x z is first
 
 -- what the entries of a table have
 
@@ -133,18 +80,12 @@ placed_at : (k : ℕ) (p : Option ℕ) → option_map_or (λ x. x == k) p false 
 placed_at k None e = absurd (false≢true e)
 placed_at k (Some x) e = ap Some (eqb-true x k e)
 
-module _ (m : fin.FinMap nat_cmp Held) (object : ℕ) (handles : List ℕ) (filed : (h : ℕ) → list_any (λ x. x == h) handles ≡ option_map_or (λ (x : Held). x.object == object) (fin.get m h) false) where
+module _ (m : fin.FinMap nat_cmp Held) (object : ℕ) where
   abbrev es : List (ℕ × Held)
   es = fin.entries m
 
   there : AllByRecursion (λ e. fin.get m e.0 ≡ Some e.1) es
   there = all_of_map (λ (e : ℕ × Held). fin.get m e.0 ≡ Some e.1) (λ e. e) es (all_rows nat_cmp nat_cmp_total (λ e. e) (λ (e : ℕ × Held). fin.get m e.0 ≡ Some e.1) es (fin.entries_sorted m) (λ h x found. fin.get-entries m h ∙ found))
-
-  -- what holds of each handle holds of that of an entry for the object
-  of_entry : (P : ℕ → Type 0) → AllByRecursion P handles → (h : ℕ) (x : Held) → fin.get m h ≡ Some x → (x.object == object) ≡ true → P h
-  of_entry P all h x at mine =
-      let some = some_passing (λ n. n == h) P handles all (filed h ∙ ap (λ o. option_map_or (λ (y : Held). y.object == object) o false) at ∙ mine) in
-      subst P (eqb-true some.0 h some.1) some.2
 
   prime_is_at : (h k : ℕ) (x : Held) → fin.get m h ≡ Some x → (x.object == object) ≡ true → x.export_order ≡ Some k → prime_at m object h ≡ Some (record { export_order = k; handle = h })
   prime_is_at h k x at mine export_order =
@@ -164,7 +105,7 @@ module _ (m : fin.FinMap nat_cmp Held) (object : ℕ) (handles : List ℕ) (file
       by_test true e = (refl, by_export_order y.export_order e)
       by_test false e = absurd (none-some x e)
 
-  no_export_orders : AllByRecursion (λ h. prime_at m object h ≡ None) handles → (fs : List (ℕ × Held)) → AllByRecursion (λ e. fin.get m e.0 ≡ Some e.1) fs → export_orders_in object fs ≡ []
+  no_export_orders : IsNext is_before (prime_at m object) None None → (fs : List (ℕ × Held)) → AllByRecursion (λ e. fin.get m e.0 ≡ Some e.1) fs → export_orders_in object fs ≡ []
   no_export_orders none [] at = refl
   no_export_orders none (e ∷ fs) at =
       let others = filter (is_for object) fs in
@@ -178,12 +119,21 @@ module _ (m : fin.FinMap nat_cmp Held) (object : ℕ) (handles : List ℕ) (file
       without : (p : Option ℕ) → e.1.export_order ≡ p → is_for object e ≡ true → e.1.export_order ≡ None
       without None is mine = is
       without (Some k) is mine =
-          absurd (none-some (record { export_order = k; handle = e.0 }) (sym (of_entry (λ h. prime_at m object h ≡ None) none e.0 e.1 at.0 mine) ∙ prime_is_at e.0 k e.1 at.0 mine is))
+          absurd (false≢true (sym (none e.0 (record { export_order = k; handle = e.0 }) (prime_is_at e.0 k e.1 at.0 mine is))))
 
-  pub least_is : (r : Option Prime) → IsLeastIn m object handles r → r ≡ least_prime object es
-  least_is None none = ap (λ export_orders. option_and_then (λ export_order. option_map (λ handle. record { export_order = export_order; handle = handle }) (least_of (handles_in object export_order es))) (least_of export_orders)) (sym (no_export_orders none es there))
-  least_is (Some x) is =
-      let held = placed x (fin.get m x.handle) is.0 in
+  found_first : (k h : ℕ) → least_of (export_orders_in object es) ≡ Some k → least_of (handles_in object k es) ≡ Some h → least_prime object es ≡ Some (record { export_order = k; handle = h })
+  found_first k h first least =
+      ap (option_and_then (λ export_order. option_map {U = Prime} (λ handle. record { export_order = export_order; handle = handle }) (least_of (handles_in object export_order es)))) first
+      ∙ ap (option_map {U = Prime} (λ handle. record { export_order = k; handle = handle })) least
+
+  -- the first of the primes has the least export order
+  pub least_is : (r : Option ℕ) → IsNext is_before (prime_at m object) None r → r ≡ option_map (λ (x : Prime). x.handle) (least_prime object es)
+  least_is None none =
+      ap (λ export_orders. option_map (λ (x : Prime). x.handle) (option_and_then (λ export_order. option_map (λ handle. record { export_order = export_order; handle = handle }) (least_of (handles_in object export_order es))) (least_of export_orders))) (sym (no_export_orders none es there))
+  least_is (Some h) is =
+      let x = is.prime in
+      let name : x.handle ≡ h = named m object h x is.there in
+      let held = placed x (fin.get m x.handle) (ap (prime_at m object) name ∙ is.there) in
       let entry = sym (fin.get-entries m x.handle) ∙ held.1 in
       let mine = held.2 in
       let here : is_at x.export_order (x.handle, held.0) ≡ true = ap (λ p. option_map_or (λ q. q == x.export_order) p false) held.3 ∙ eq-eqb x.export_order x.export_order refl in
@@ -192,8 +142,7 @@ module _ (m : fin.FinMap nat_cmp Held) (object : ℕ) (handles : List ℕ) (file
         at_most = λ k among.
             let e = some_passing (λ e. is_for object e && is_at k e) (λ e. fin.get m e.0 ≡ Some e.1) es there (sym (any_export_order object k es) ∙ among) in
             let tests = and_parts _ _ e.1 in
-            let prime = prime_is_at e.0.0 k e.0.1 e.2 tests.0 (placed_at k e.0.1.export_order tests.1) in
-            (subst (λ o. IfSome o (λ z. IsFirst x z)) prime (of_entry (λ h. IfSome (prime_at m object h) (λ z. IsFirst x z)) is.1 e.0.0 e.0.1 e.2 tests.0)).0;
+            (first_is e.0.0 k e.0.1 e.2 tests.0 (placed_at k e.0.1.export_order tests.1)).0;
       }) in
       let handle = least_of_is (handles_in object x.export_order es) x.handle (record {
         among = any_handle object x.export_order x.handle es ∙ any_entry (λ e. (is_for object e && is_at x.export_order e) && (e.0 == x.handle)) x.handle held.0 es entry (and_from _ _ (and_from _ _ mine here) (eq-eqb x.handle x.handle refl));
@@ -201,19 +150,13 @@ module _ (m : fin.FinMap nat_cmp Held) (object : ℕ) (handles : List ℕ) (file
             let e = some_passing (λ e. (is_for object e && is_at x.export_order e) && (e.0 == k)) (λ e. fin.get m e.0 ≡ Some e.1) es there (sym (any_handle object x.export_order k es) ∙ among) in
             let last = and_parts _ _ e.1 in
             let tests = and_parts _ _ last.0 in
-            let prime = prime_is_at e.0.0 x.export_order e.0.1 e.2 tests.0 (placed_at x.export_order e.0.1.export_order tests.1) in
-            let least = (subst (λ o. IfSome o (λ z. IsFirst x z)) prime (of_entry (λ h. IfSome (prime_at m object h) (λ z. IsFirst x z)) is.1 e.0.0 e.0.1 e.2 tests.0)).1 refl in
+            let least = (first_is e.0.0 x.export_order e.0.1 e.2 tests.0 (placed_at x.export_order e.0.1.export_order tests.1)).1 refl in
             subst (λ n. x.handle ≤ n) (eqb-true e.0.0 k last.1) least;
       }) in
-      ap (option_map (λ h. record { export_order = x.export_order; handle = h })) (sym handle) ∙ ap (option_and_then (λ export_order. option_map (λ handle. record { export_order = export_order; handle = handle }) (least_of (handles_in object export_order es)))) (sym export_order)
-
-  -- no handle is for the object
-  pub least_none : ((h : ℕ) → list_any (λ x. x == h) handles ≡ false) → None ≡ least_prime object es
-  least_none none = least_is None (every handles none)
+      ap Some (sym name) ∙ ap (option_map (λ (z : Prime). z.handle)) (sym (found_first x.export_order x.handle export_order handle))
     where
-      every : (hs : List ℕ) → ((h : ℕ) → list_any (λ x. x == h) hs ≡ false) → AllByRecursion (λ h. prime_at m object h ≡ None) hs
-      every [] none = tt
-      every (h ∷ hs) none = absurd (false≢true (sym (none h) ∙ ap (λ b. b || list_any (λ x. x == h) hs) (eq-eqb h h refl)))
+      first_is : (h k : ℕ) (x : Held) → fin.get m h ≡ Some x → (x.object == object) ≡ true → x.export_order ≡ Some k → IsFirst is.prime (record { export_order = k; handle = h })
+      first_is h k x at its placed = not_before (record { export_order = k; handle = h }) is.prime (is.first h (record { export_order = k; handle = h }) (prime_is_at h k x at its placed) refl)
 
 -- the lists of a client's handles are those of its table
 

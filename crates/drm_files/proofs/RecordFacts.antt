@@ -9,15 +9,15 @@ use Rattle.std.proofs.lemmas.Bool.{cases_eq, false≢true}
 use Rattle.std.proofs.lemmas.Bool.Decides.{nat_tests}
 use Rattle.drm_index_array.specs.Least.{least}
 use Rattle.drm_index_array.proofs.Least.{least-same}
-use Rattle.drm_index_array.proofs.MarkedLemmas.{get-insert, get-remove, insert_same}
+use Rattle.drm_index_array.proofs.MarkedLemmas.{get-insert, get-remove, insert_same, same_by_gets}
 use Rattle.drm_id_alloc.specs.Table.{Table, is_free, least_free, with_entry, without_entry}
-use Rattle.drm_id_alloc.specs.Groups.{Groups, GroupMap, has, AreSame, IsAdded, IsTaken, AreGroupsOf}
-use Rattle.drm_id_alloc.proofs.GroupLemmas.{grouped_same, grouped_more, grouped_fewer, grouped_kept}
 use Rattle.drm_files.specs.declared.files.FileRecord.{FileRecord}
 use Rattle.drm_files.specs.declared.files.Held.{Held}
+use Rattle.drm_files.specs.declared.orders.ExportOrders.{ExportOrders}
+use Rattle.drm_files.specs.ExportOrders.{AreInOrder}
 use Rattle.drm_files.specs.declared.rows.FileHandle.{FileHandle}
 use Rattle.drm_files.specs.Files.{client, hold, handle_before, client_before, is_open_client, is_handle, is_among, handles_of, free_handle, left_by, empty_files, AreFiles, IsHandleOf, InOrder}
-use Rattle.drm_files.specs.Records.{rows_in, holds_in, clients_in, lists_of, pairs_of, IsTable, IsFiled, AreRecords}
+use Rattle.drm_files.specs.Records.{rows_in, holds_in, clients_in, lists_of, pairs_of, IsTable, AreRecords}
 use Rattle.drm_index_array.proofs.Keyed.{all_rows, rows_in_order}
 use Rattle.drm_files.proofs.Flat.{key_pair_cmp, export_order_total, row_of, flat, rows_flat, sorted_flat, held, find_held, eqb_other}
 use Rattle.drm_files.proofs.Changes.{client_of, hold_order, find_client, find_hold, held_here, rows_of_client}
@@ -123,6 +123,28 @@ IsTable-add last t s k v is low high f l slots = record {
   high = λ h there. elim (cases_eq h k) [ inl same ↦ omega (arith, same, high) | inr apart ↦ is.high h (there_before t.slots k v h apart (sym (ap (λ m. fin.contains_key m h) slots) ∙ there)) ];
 }
 
+pub entry_there : (t : Table Held) (h : ℕ) (x : Held) → fin.get (with_entry t h x).slots h ≡ Some x
+entry_there t h x = get-insert t.slots h x h ∙ ap (λ b. cond b (Some x) (fin.get t.slots h)) (same_number h)
+  where
+    same_number : (k : ℕ) → eqb k k ≡ true
+    same_number k = grind (arith, nat_tests)
+
+-- a second value behind a handle
+pub entry_twice : (t : Table Held) (h : ℕ) (x y : Held) → with_entry (with_entry t h x) h y ≡ with_entry t h y
+entry_twice t h x y = λ i. record t { slots = same i }
+  where
+    each : (q : ℕ) → fin.get (fin.insert (fin.insert t.slots h x) h y) q ≡ fin.get (fin.insert t.slots h y) q
+    each q =
+        get-insert (fin.insert t.slots h x) h y q
+        ∙ elim (eqb q h) as (λ b. eqb q h ≡ b → cond b (Some y) (fin.get (fin.insert t.slots h x) q) ≡ cond b (Some y) (fin.get t.slots q)) [
+          | true ↦ λ e. refl
+          | false ↦ λ e. get-insert t.slots h x q ∙ ap (λ b. cond b (Some x) (fin.get t.slots q)) e
+        ] refl
+        ∙ sym (get-insert t.slots h y q)
+
+    same : fin.insert (fin.insert t.slots h x) h y ≡ fin.insert t.slots h y
+    same = same_by_gets _ _ each
+
 pub IsTable-drop : (last : ℕ) (t s : Table Held) (k : ℕ) → IsTable last t → s.first ≡ t.first → s.last ≡ t.last → s.slots ≡ fin.remove t.slots k → IsTable last s
 IsTable-drop last t s k is f l slots = record {
   first_is = f ∙ is.first_is;
@@ -139,18 +161,18 @@ IsTable-drop last t s k is f l slots = record {
     before h there = inside (eqb h k) (fin.get t.slots h) (sym (ap is_some (get-remove t.slots k h)) ∙ there)
 
 module _ (limit last : ℕ) (m : fin.FinMap nat_cmp FileRecord) (are : AreRecords limit last m) (c : ℕ) where
-  pub AreRecords-insert : (s : FileRecord) → IsTable last s.handles → IsFiled s → AreRecords limit last (fin.insert m c s)
-  AreRecords-insert s is filed = record {
+  pub AreRecords-insert : (s : FileRecord) → IsTable last s.handles → AreInOrder s.handles.slots s.orders → AreRecords limit last (fin.insert m c s)
+  AreRecords-insert s is order = record {
     limit_high = are.limit_high;
     last_low = are.last_low;
     last_high = are.last_high;
     tables = λ k r found. (each k r (eqb k c) (sym (get-insert m c s k) ∙ found)).0;
-    filed = λ k r found. (each k r (eqb k c) (sym (get-insert m c s k) ∙ found)).1;
+    in_order = λ k r found. (each k r (eqb k c) (sym (get-insert m c s k) ∙ found)).1;
   }
     where
-      each : (k : ℕ) (r : FileRecord) (b : Bool) → cond b (Some s) (fin.get m k) ≡ Some r → IsTable last r.handles × IsFiled r
-      each k r true found = subst (λ (t : FileRecord). IsTable last t.handles × IsFiled t) (ap (λ x. unwrap_or x s) found) (is, filed)
-      each k r false found = (are.tables k r found, are.filed k r found)
+      each : (k : ℕ) (r : FileRecord) (b : Bool) → cond b (Some s) (fin.get m k) ≡ Some r → IsTable last r.handles × AreInOrder r.handles.slots r.orders
+      each k r true found = subst (λ (t : FileRecord). IsTable last t.handles × AreInOrder t.handles.slots t.orders) (ap (λ x. unwrap_or x s) found) (is, order)
+      each k r false found = (are.tables k r found, are.in_order k r found)
 
   pub AreRecords-remove : AreRecords limit last (fin.remove m c)
   AreRecords-remove = record {
@@ -158,7 +180,7 @@ module _ (limit last : ℕ) (m : fin.FinMap nat_cmp FileRecord) (are : AreRecord
     last_low = are.last_low;
     last_high = are.last_high;
     tables = λ k r found. are.tables k r (each k r (eqb k c) (sym (get-remove m c k) ∙ found));
-    filed = λ k r found. are.filed k r (each k r (eqb k c) (sym (get-remove m c k) ∙ found));
+    in_order = λ k r found. are.in_order k r (each k r (eqb k c) (sym (get-remove m c k) ∙ found));
   }
     where
       each : (k : ℕ) (r : FileRecord) (b : Bool) → cond b None (fin.get m k) ≡ Some r → fin.get m k ≡ Some r
@@ -168,9 +190,9 @@ module _ (limit last : ℕ) (m : fin.FinMap nat_cmp FileRecord) (are : AreRecord
 abbrev pub with_table : FileRecord → Table Held → FileRecord
 with_table r t = record r { handles = t }
 
--- the handles by their objects, too
-abbrev pub with_both : FileRecord → Table Held → GroupMap → FileRecord
-with_both r t by_object = record { flags = r.flags; handles = t; by_object = by_object }
+-- the export orders, too
+abbrev pub with_both : FileRecord → Table Held → ExportOrders → FileRecord
+with_both r t orders = record { flags = r.flags; handles = t; orders = orders }
 
 module _ (limit last : ℕ) (m : fin.FinMap nat_cmp FileRecord) (c : ℕ) (r : FileRecord) (t : Table Held) (found : fin.get m c ≡ Some r) where
   -- a table that is written back as it was
@@ -180,37 +202,19 @@ module _ (limit last : ℕ) (m : fin.FinMap nat_cmp FileRecord) (c : ℕ) (r : F
   pub are-unchanged : AreRecords limit last m → t ≡ r.handles → AreRecords limit last (fin.insert m c (with_table r t))
   are-unchanged are same = subst (AreRecords limit last) (sym (unchanged same)) are
 
-  module _ (are : AreRecords limit last m) (new : GroupMap) where
-    abbrev old_groups : Groups
-    old_groups = has r.by_object
-
-    abbrev new_groups : Groups
-    new_groups = has new
-
-    -- the table is as it was, and so is what is filed
-    pub are-kept : t ≡ r.handles → AreSame old_groups new_groups → AreRecords limit last (fin.insert m c (with_both r t new))
-    are-kept same filed =
-        AreRecords-insert limit last m are c (with_both r t new) (subst (IsTable last) (sym same) (are.tables c r found))
-        (grouped_same (λ (x : Held). x.object) t.slots old_groups new_groups (subst (λ (u : Table Held). AreGroupsOf (λ (x : Held). x.object) u.slots old_groups) (sym same) (are.filed c r found)) filed)
-
-    pub are-added : (h : ℕ) (x : Held) → r.handles.first ≤ h → h ≤ r.handles.last → fin.get r.handles.slots h ≡ None → t ≡ with_entry r.handles h x → IsAdded old_groups x.object h new_groups → AreRecords limit last (fin.insert m c (with_both r t new))
-    are-added h x low high fresh is added =
-        let table = are.tables c r found in
-        AreRecords-insert limit last m are c (with_both r t new) (IsTable-add last r.handles t h x table (omega (arith, low, table.first_is)) (omega (arith, high, table.last_is)) (ap (λ u. u.first) is) (ap (λ u. u.last) is) (ap (λ u. u.slots) is))
-        (subst (λ (u : Table Held). AreGroupsOf (λ (x : Held). x.object) u.slots new_groups) (sym is) (grouped_more (λ (x : Held). x.object) r.handles.slots old_groups new_groups (are.filed c r found) h x x.object fresh refl added))
-
-    pub are-dropped : (h : ℕ) (x : Held) → fin.get r.handles.slots h ≡ Some x → t ≡ without_entry r.handles h → IsTaken old_groups x.object h new_groups → AreRecords limit last (fin.insert m c (with_both r t new))
-    are-dropped h x there is taken =
-        AreRecords-insert limit last m are c (with_both r t new) (IsTable-drop last r.handles t h (are.tables c r found) (ap (λ u. u.first) is) (ap (λ u. u.last) is) (ap (λ u. u.slots) is))
-        (subst (λ (u : Table Held). AreGroupsOf (λ (x : Held). x.object) u.slots new_groups) (sym is) (grouped_fewer (λ (x : Held). x.object) r.handles.slots old_groups new_groups (are.filed c r found) h x x.object there refl taken))
-
-  -- another value behind a handle, of the same object
-  pub are-replaced : AreRecords limit last m → (h : ℕ) (x y : Held) → r.handles.first ≤ h → h ≤ r.handles.last → fin.get r.handles.slots h ≡ Some x → y.object ≡ x.object → t ≡ with_entry r.handles h y → AreRecords limit last (fin.insert m c (with_table r t))
-  are-replaced are h x y low high there same is =
+  -- a record with a handle more, or another value behind one
+  pub are-put : AreRecords limit last m → (s : FileRecord) (h : ℕ) (x : Held) → r.handles.first ≤ h → h ≤ r.handles.last → s.handles ≡ with_entry r.handles h x → AreInOrder s.handles.slots s.orders → AreRecords limit last (fin.insert m c s)
+  are-put are s h x low high is order =
       let table = are.tables c r found in
-      let groups = has r.by_object in
-      AreRecords-insert limit last m are c (with_table r t) (IsTable-add last r.handles t h y table (omega (arith, low, table.first_is)) (omega (arith, high, table.last_is)) (ap (λ u. u.first) is) (ap (λ u. u.last) is) (ap (λ u. u.slots) is))
-      (subst (λ (u : Table Held). AreGroupsOf (λ (x : Held). x.object) u.slots groups) (sym is) (grouped_kept (λ (x : Held). x.object) r.handles.slots groups groups (are.filed c r found) h x y there same))
+      AreRecords-insert limit last m are c s (IsTable-add last r.handles s.handles h x table (omega (arith, low, table.first_is)) (omega (arith, high, table.last_is)) (ap (λ u. u.first) is) (ap (λ u. u.last) is) (ap (λ u. u.slots) is)) order
+
+  module _ (are : AreRecords limit last m) (new : ExportOrders) (order : AreInOrder t.slots new) where
+    -- the table is as it was
+    pub are-kept : t ≡ r.handles → AreRecords limit last (fin.insert m c (with_both r t new))
+    are-kept same = AreRecords-insert limit last m are c (with_both r t new) (subst (IsTable last) (sym same) (are.tables c r found)) order
+
+    pub are-dropped : (h : ℕ) → t ≡ without_entry r.handles h → AreRecords limit last (fin.insert m c (with_both r t new))
+    are-dropped h is = AreRecords-insert limit last m are c (with_both r t new) (IsTable-drop last r.handles t h (are.tables c r found) (ap (λ u. u.first) is) (ap (λ u. u.last) is) (ap (λ u. u.slots) is)) order
 
 pub AreRecords-empty : (limit last : ℕ) (m : fin.FinMap nat_cmp FileRecord) → m ≡ fin.empty → limit ≤ 4294967295 → 1 ≤ last → last ≤ 4294967295 → AreRecords limit last m
 AreRecords-empty limit last m none limit_high low high = record {
@@ -218,7 +222,7 @@ AreRecords-empty limit last m none limit_high low high = record {
   last_low = low;
   last_high = high;
   tables = λ k r found. absurd (none-some r (sym (ap (λ n. fin.get n k) none ∙ fin.get-empty nat_cmp k) ∙ found));
-  filed = λ k r found. absurd (none-some r (sym (ap (λ n. fin.get n k) none ∙ fin.get-empty nat_cmp k) ∙ found));
+  in_order = λ k r found. absurd (none-some r (sym (ap (λ n. fin.get n k) none ∙ fin.get-empty nat_cmp k) ∙ found));
 }
 
 no_entries : fin.entries (fin.empty {K = ℕ} {X = FileRecord} {R = nat_cmp}) ≡ []

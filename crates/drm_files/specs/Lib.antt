@@ -2,3 +2,4 @@ pub mod Files
 pub mod Records
 pub mod FileFault
 pub mod Primes
+pub mod ExportOrders

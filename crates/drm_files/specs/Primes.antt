@@ -1,6 +1,6 @@
 -- The PRIME handles of one client, by the entries of its table.
-use Rattle.std.specs.Prelude.{◌≡◌, ℕ, ◌==◌, ◌≤◌, ◌&&◌, ◌||◌, Bool, false, if◌then◌else◌, nat_lt, List, filter, map as list_map, Option, Some, None, IfSome, option_map}
-use Rattle.std.specs.List.{filter_map, AllByRecursion}
+use Rattle.std.specs.Prelude.{ℕ, ◌==◌, ◌&&◌, ◌||◌, Bool, false, if◌then◌else◌, nat_lt, List, filter, map as list_map, Option, None, option_map}
+use Rattle.std.specs.List.{filter_map}
 use Rattle.std.specs.Ordering.{nat_cmp}
 use Rattle.std.specs.FinMap as map
 use Rattle.std.specs.Option.{option_map_or, option_and_then}
@@ -36,19 +36,3 @@ prime_at slots object h = option_and_then (λ held. prime_of object (h, held)) (
 
 abbrev pub is_before : Prime → Prime → Bool
 is_before y x = nat_lt y.export_order x.export_order || ((y.export_order == x.export_order) && nat_lt y.handle x.handle)
-
--- the one with the lesser export order, and at a tie that with the lesser handle
-abbrev pub lesser_prime : Option Prime → Option Prime → Option Prime
-lesser_prime None second = second
-lesser_prime (Some x) None = Some x
-lesser_prime (Some x) (Some y) = if is_before y x then Some y else Some x
-
--- no export order is lesser, nor a handle at that order
-abbrev pub IsFirst : Prime → Prime → Type 0
-IsFirst x y = (x.export_order ≤ y.export_order) × (x.export_order ≡ y.export_order → x.handle ≤ y.handle)
-
--- the least among these handles
-abbrev pub IsLeastIn : map.FinMap nat_cmp Held → ℕ → List ℕ → Option Prime → Type 0
-IsLeastIn slots object handles None = AllByRecursion (λ h. prime_at slots object h ≡ None) handles
-IsLeastIn slots object handles (Some x) =
-    (prime_at slots object x.handle ≡ Some x) × AllByRecursion (λ h. IfSome (prime_at slots object h) (λ y. IsFirst x y)) handles

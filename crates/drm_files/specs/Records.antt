@@ -3,8 +3,8 @@ use Rattle.std.specs.Prelude.{◌≡◌, ℕ, ◌≤◌, List, map as list_map, 
 use Rattle.std.specs.Ordering.{nat_cmp}
 use Rattle.std.specs.FinMap as map
 use Rattle.drm_id_alloc.specs.Table.{Table}
-use Rattle.drm_id_alloc.specs.Groups.{has, AreGroupsOf}
 use Rattle.drm_files.specs.Files.{FileLists, client, hold}
+use Rattle.drm_files.specs.ExportOrders.{AreInOrder}
 use Rattle.drm_files.specs.declared.rows.FileClient.{FileClient}
 use Rattle.drm_files.specs.declared.rows.FileHandle.{FileHandle}
 use Rattle.drm_files.specs.declared.files.FileRecord.{FileRecord}
@@ -39,14 +39,10 @@ pub record IsTable (last_handle : ℕ) (table : Table Held) : Type 0 where
   pub low : (h : ℕ) → IsTrue (map.contains_key table.slots h) → 1 ≤ h
   pub high : (h : ℕ) → IsTrue (map.contains_key table.slots h) → h ≤ last_handle
 
--- a client's handles are found by their objects
-abbrev pub IsFiled : FileRecord → Type 0
-IsFiled row = AreGroupsOf (λ (x : Held). x.object) row.handles.slots (has row.by_object)
-
--- each client's table is of that kind, and filed; and the limits are numbers of 32 bits
+-- each client's table is of that kind, and its export orders are in order; and the limits are numbers of 32 bits
 pub record AreRecords (limit last_handle : ℕ) (records : map.FinMap nat_cmp FileRecord) : Type 0 where
   pub limit_high : limit ≤ 4294967295
   pub last_low : 1 ≤ last_handle
   pub last_high : last_handle ≤ 4294967295
   pub tables : (c : ℕ) (row : FileRecord) → map.get records c ≡ Some row → IsTable last_handle row.handles
-  pub filed : (c : ℕ) (row : FileRecord) → map.get records c ≡ Some row → IsFiled row
+  pub in_order : (c : ℕ) (row : FileRecord) → map.get records c ≡ Some row → AreInOrder row.handles.slots row.orders

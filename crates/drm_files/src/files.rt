@@ -3,12 +3,17 @@
 ghost use Rattle.std.specs.Prelude.{◌≡◌, ◌≤◌, ◌<◌, ◌↔◌, true, false, nat_le, length, find, is_some, OnOk, OnErr, IfOk, IfErr, IfNone, Some, None, option_map};
 ghost use Rattle.drm_files.specs.Files.{AreFiles, empty_files, is_client, is_handle, is_open_client, free_handle, with_client, without_client, left_by, with_handle_row, without_handle_row, with_authenticated, with_universal, new_flags, hold};
 ghost use Rattle.drm_files.specs.FileFault.{IsFull};
+ghost use Rattle.std.specs.FinMap.{get};
+ghost use Rattle.drm_id_alloc.specs.Table.{with_entry};
+ghost use Rattle.drm_files.specs.ExportOrders.{AreInOrder};
 
 use crate::faults::FileFault;
+use crate::orders::ExportOrders;
+use crate::primes::Prime;
 use crate::rest::FileRest;
 use crate::rows::FileFlags;
 use drm_gem::ObjectKey;
-use drm_id_alloc::{AddFault, Groups, IdTable};
+use drm_id_alloc::{AddFault, IdTable};
 use drm_index_array::IndexArray;
 use std::alloc::Global;
 use std::marker::Model;
@@ -25,8 +30,31 @@ pub(crate) struct Held {
 pub(crate) struct FileRecord {
     pub(crate) flags: FileFlags,
     pub(crate) handles: IdTable<Held>,
-    // the handles, by the numbers of their objects' keys
-    pub(crate) by_object: Groups,
+    pub(crate) orders: ExportOrders,
+}
+
+impl FileRecord {
+    // Gives a handle that has no export order one. It takes no memory.
+    pub(crate) fn give_order(&mut self, handle: u32, object: ObjectKey, export_order: u32)
+        requires in_order { AreInOrder self.old.handles.slots self.old.orders }
+        requires unplaced { get self.old.handles.slots handle ≡ Some (record { object = object; export_order = None }) }
+        ensures handles { self.new.handles ≡ with_entry self.old.handles handle (record { object = object; export_order = Some export_order }) }
+        ensures in_order { AreInOrder self.new.handles.slots self.new.orders }
+        ensures flags { self.new.flags ≡ self.old.flags }
+    {
+        let prime = Prime {
+            export_order,
+            handle,
+        };
+        self.orders.place(&self.handles, object, prime);
+        let placed = Held {
+            object,
+            export_order: Some(export_order),
+        };
+        let Ok(_unplaced) = self.handles.replace(handle, placed) else {
+            unreachable!();
+        };
+    }
 }
 
 /// The open clients with their flags, and the handles of each. Contracts see flat lists: the
@@ -117,7 +145,7 @@ impl Files {
                 universal,
             },
             handles: IdTable::new(self.alloc, 1, self.last_handle),
-            by_object: Groups::new(self.alloc),
+            orders: ExportOrders::new(self.alloc),
         };
         if let Err(_fault) = self.clients.insert(client, record) {
             return Err(FileFault::NoMemory);
@@ -207,17 +235,21 @@ impl Files {
         let Some(record) = self.clients.get_mut(client) else {
             unreachable!();
         };
-        let handle = match record.handles.add(Held {
+        let unplaced = Held {
             object,
-            export_order,
-        }) {
+            export_order: None,
+        };
+        let handle = match record.handles.add(unplaced) {
             Ok(handle) => handle,
             Err(AddFault::Full(_)) => return Err(FileFault::Full),
             Err(AddFault::NoMemory(_)) => return Err(FileFault::NoMemory),
         };
-        if let Err(_fault) = record.by_object.note(object.number(), handle) {
+        if let Err(_fault) = record.orders.make_room(object, handle) {
             let _held = record.handles.remove(handle);
             return Err(FileFault::NoMemory);
+        }
+        if let Some(export_order) = export_order {
+            record.give_order(handle, object, export_order);
         }
         Ok(handle)
     }
@@ -254,8 +286,11 @@ impl Files {
             unreachable!();
         };
         let held = record.handles.remove(handle)?;
-        record.by_object.forget(held.object.number(), handle);
-        Some(held.object)
+        let object = held.object;
+        record
+            .orders
+            .forget(object, handle, held.export_order.is_some());
+        Some(object)
     }
 
     /// What a client may do, if it is open.

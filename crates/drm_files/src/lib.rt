@@ -4,6 +4,7 @@
 mod faults;
 mod files;
 mod lists;
+mod orders;
 mod primes;
 mod rest;
 mod rows;

@@ -1,25 +1,24 @@
 //! PRIME handles: those that an export or an import gave an export order (drm-mm, PRIME; the order is this crate's own).
 
 ghost use Rattle.std.specs.Prelude.{◌≡◌, true, is_some, find};
-ghost use Rattle.drm_id_alloc.specs.Groups.{numbers_of};
 ghost use Rattle.drm_files.specs.Files.{AreFiles, is_open_client, is_handle, prime_handle, with_export_order};
-ghost use Rattle.drm_files.specs.Primes.{IsLeastIn, prime_at, prime_of, is_before, lesser_prime};
+ghost use Rattle.drm_files.specs.Primes.{prime_at, prime_of, is_before};
 
 use crate::files::{Files, Held};
 use drm_gem::ObjectKey;
-use drm_id_alloc::{Groups, IdTable};
+use drm_id_alloc::IdTable;
 
 // A handle that has an export order.
 #[derive(Clone, Copy)]
-struct Prime {
-    export_order: u32,
-    handle: u32,
+pub(crate) struct Prime {
+    pub(crate) export_order: u32,
+    pub(crate) handle: u32,
 }
 
 impl Files {
-    /// The handle of an open client for an object with the least export order, and at a tie the least handle (drm-mm,
-    /// PRIME): the one that a further import of the object gives. There is none where no handle of the client for
-    /// the object has an export order. It passes over no handle for another object, and takes no memory.
+    /// Returns the handle of an open client for an object that has the lowest export order, at a tie the lowest handle (drm-mm,
+    /// PRIME). A further import of the object returns this handle. Returns `None` if no handle of the client for the object has
+    /// an export order. Looks at no other handle. Does not allocate.
     ///
     /// ```rust
     /// let object = ObjectKey::from_number(7);
@@ -33,12 +32,11 @@ impl Files {
         let Some(record) = self.clients.get(client) else {
             unreachable!();
         };
-        let least = least_prime(&record.handles, &record.by_object, object)?;
-        Some(least.handle)
+        record.orders.first(object)
     }
 
-    /// Gives a handle of an open client an export order (drm-mm, PRIME), unless it has one already: that one stays, and
-    /// then nothing changes. It takes no memory.
+    /// Gives a handle of an open client an export order (drm-mm, PRIME). If the handle has one already, nothing changes. Looks at
+    /// the client's handles for the object whose export order is greater, and at no other. Does not allocate.
     ///
     /// ```rust
     /// let Ok(handle) = files.add_handle(1, object, None) else { return };
@@ -56,33 +54,16 @@ impl Files {
         let Some(held) = record.handles.get(handle) else {
             unreachable!();
         };
-        let placed = Held {
-            object: held.object,
-            export_order: held.export_order.or(Some(export_order)),
-        };
-        let Ok(_replaced) = record.handles.replace(handle, placed) else {
-            unreachable!();
-        };
+        if held.export_order.is_some() {
+            return;
+        }
+        let object = held.object;
+        record.give_order(handle, object, export_order);
     }
-}
-
-// Of the handles for an object the one with the least export order, and at a tie the least handle.
-fn least_prime(table: &IdTable<Held>, by_object: &Groups, object: ObjectKey) -> Option<Prime>
-    ensures { IsLeastIn table.now.slots object (numbers_of by_object.now object) result }
-{
-    let number = object.number();
-    let mut least = None;
-    for position in 0..by_object.len(number) {
-        let Some(handle) = by_object.nth(number, position) else {
-            unreachable!()
-        };
-        least = lesser_prime(least, prime_at(table, handle, object));
-    }
-    least
 }
 
 // The handle and its export order, if it is for the object and has one.
-fn prime_at(table: &IdTable<Held>, handle: u32, object: ObjectKey) -> Option<Prime>
+pub(crate) fn prime_at(table: &IdTable<Held>, handle: u32, object: ObjectKey) -> Option<Prime>
     ensures { result ≡ prime_at table.now.slots object handle }
 {
     let held = table.get(handle)?;
@@ -103,20 +84,8 @@ fn prime_of(handle: u32, held: Held, object: ObjectKey) -> Option<Prime>
     })
 }
 
-// The one with the lesser export order, and at a tie that with the lesser handle.
-fn lesser_prime(first: Option<Prime>, second: Option<Prime>) -> Option<Prime>
-    ensures { result ≡ lesser_prime first second }
-{
-    let Some(one) = first else {
-        return second;
-    };
-    let Some(other) = second else {
-        return first;
-    };
-    if is_before(other, one) { second } else { first }
-}
-
-fn is_before(other: Prime, one: Prime) -> bool
+// Whether a handle was given its export order first, or is the lesser of two that have one.
+pub(crate) fn is_before(other: Prime, one: Prime) -> bool
     ensures { result ≡ is_before other one }
 {
     other.export_order < one.export_order

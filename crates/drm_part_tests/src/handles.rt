@@ -302,6 +302,36 @@ const PLACES_STAY: [Case; 10] = [
     ((1, Ask::HasNthHold(2)), Told::Whether(false)),
 ];
 
+/// Export orders that come in no order, a tie among them, and handles that leave at the front, in the middle and at the end.
+const PLACES_IN_ANY_ORDER: [Case; 26] = [
+    ((1, CARD), Told::Done),
+    ((1, Ask::Add(5, None)), Told::Number(1)),
+    ((1, Ask::Add(5, None)), Told::Number(2)),
+    ((1, Ask::Add(5, None)), Told::Number(3)),
+    ((1, Ask::Add(5, None)), Told::Number(4)),
+    ((1, Ask::Add(5, None)), Told::Number(5)),
+    ((1, Ask::Add(6, Some(1))), Told::Number(6)),
+    ((1, Ask::ExportOrder(3, 6)), Told::Done),
+    ((1, Ask::Prime(5)), Told::Number(3)),
+    ((1, Ask::ExportOrder(1, 8)), Told::Done),
+    ((1, Ask::ExportOrder(4, 2)), Told::Done),
+    ((1, Ask::ExportOrder(2, 6)), Told::Done),
+    ((1, Ask::ExportOrder(5, 7)), Told::Done),
+    ((1, Ask::Prime(5)), Told::Number(4)),
+    ((1, Ask::Drop(4)), Told::Number(5)),
+    ((1, Ask::Prime(5)), Told::Number(2)),
+    ((1, Ask::Drop(5)), Told::Number(5)),
+    ((1, Ask::Drop(2)), Told::Number(5)),
+    ((1, Ask::Prime(5)), Told::Number(3)),
+    ((1, Ask::Add(5, None)), Told::Number(2)),
+    ((1, Ask::Drop(3)), Told::Number(5)),
+    ((1, Ask::Prime(5)), Told::Number(1)),
+    ((1, Ask::Drop(1)), Told::Number(5)),
+    ((1, Ask::Prime(5)), Told::Nothing),
+    ((1, Ask::ExportOrder(2, 9)), Told::Done),
+    ((1, Ask::Prime(5)), Told::Number(2)),
+];
+
 /// So many clients, of so many handles each, may be there.
 fn check_files(rt: &impl Abort, alloc: Global, clients: u32, handles: u32, cases: &[Case])
     requires { 1 ≤ handles }
@@ -323,4 +353,5 @@ fn clients_have_their_flags(rt: HostRuntime) {
 fn least_place_is_prime(rt: HostRuntime) {
     check_files(&rt, rt.alloc(), 2, 9, &PRIME_HANDLES);
     check_files(&rt, rt.alloc(), 1, 2, &PLACES_STAY);
+    check_files(&rt, rt.alloc(), 1, 6, &PLACES_IN_ANY_ORDER);
 }

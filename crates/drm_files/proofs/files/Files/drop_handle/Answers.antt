@@ -1,6 +1,7 @@
 use Rattle.std.proofs.Common.{refl, ap, sym, ◌∙◌, option_map, option_and_then}
 use Rattle.std.specs.FinMap as fin
 use Rattle.drm_files.specs.Files.{FileLists, without_handle_row}
+use Rattle.drm_files.specs.ExportOrders.{AreInOrder}
 use Rattle.drm_files.specs.Records.{lists_of}
 use Rattle.drm_files.proofs.Calls.{dropped, object_is}
 use Rattle.drm_files.proofs.RecordFacts.{nobody, unchanged, are-unchanged, are-dropped, with_table, with_both}
@@ -42,7 +43,11 @@ returns-in_err-held-clause-none c =
 pub invariant_of-self-2 : goal.invariant_of-self-2
 invariant_of-self-2 c =
     let inside = c.self.inside in
-    are-dropped inside.open_limit inside.last_handle inside.clients.items c.args.client c.in-Some.record.now c.remove.new.self (sym c.in-Some.ensures.value) c.self.invariant c.forget.new.self c.args.handle c.in_ok-held.held (sym c.in_ok-held.ensures.value) c.in_ok-held.ensures.after (rw c.number.ensures at c.forget.ensures)
+    let r = c.in-Some.record.now in
+    let found = sym c.in-Some.ensures.value in
+    let order = c.self.invariant.in_order c.args.client r found in
+    let left : AreInOrder c.remove.new.self.slots c.forget.new.self = rw (ap (λ t. t.slots) c.in_ok-held.ensures.after) (c.forget.ensures r.handles.slots c.in_ok-held.held order (sym c.in_ok-held.ensures.value) refl (sym c.is_some.ensures)) in
+    are-dropped inside.open_limit inside.last_handle inside.clients.items c.args.client r c.remove.new.self found c.self.invariant c.forget.new.self left c.args.handle c.in_ok-held.ensures.after
 
 pub returns-clause-object : goal.returns-clause-object
 returns-clause-object c =

@@ -1,7 +1,4 @@
 use Rattle.std.proofs.Common.{ap, ◌∙◌, arith}
-use Rattle.drm_id_alloc.specs.Groups.{has}
-use Rattle.drm_id_alloc.proofs.GroupLemmas.{grouped_empty}
-use Rattle.drm_files.specs.declared.files.Held.{Held}
 use Rattle.drm_files.specs.Files.{FileLists, with_client, new_flags}
 use Rattle.drm_files.specs.Records.{lists_of}
 use Rattle.drm_files.proofs.Calls.{opened, length_clients}
@@ -24,7 +21,7 @@ pub invariant_of-self-2 : goal.invariant_of-self-2
 invariant_of-self-2 c =
     let inside = c.self.inside in
     rw c.in_default.ensures.ok (AreRecords-insert inside.open_limit inside.last_handle inside.clients.items c.self.invariant c.args.client _ (IsTable-empty inside.last_handle _ (ap (λ t. t.first) c.new.ensures) (ap (λ t. t.last) c.new.ensures) (ap (λ t. t.slots) c.new.ensures))
-    (grouped_empty (λ (x : Held). x.object) c.new.result.slots (has c.new-2.result) (ap (λ t. t.slots) c.new.ensures) c.new-2.ensures))
+    (c.new-2.ensures c.new.result.slots (ap (λ t. t.slots) c.new.ensures)))
 
 pub returns-clause-ok : goal.returns-clause-ok
 returns-clause-ok c =

@@ -1,0 +1,510 @@
+-- How the export orders of a client's handles stay in order.
+use Rattle.std.proofs.Common.{◌≡◌, ℕ, ◌≤◌, ◌==◌, ◌&&◌, Bool, true, false, cond, if◌then◌else◌, eqb, Option, Some, None, is_some, option_map, option_and_then, option_copied, Bor, refl, sym, ap, subst, ◌∙◌, arith, nat_cmp}
+use Rattle.std.specs.FinMap as fin
+use Rattle.std.proofs.lemmas.Bool.{false≢true, eqb-true}
+use Rattle.std.proofs.lemmas.Bool.Decides.{nat_tests}
+use Rattle.std.proofs.lemmas.Option.{same_Some, none-some}
+use Rattle.drm_index_array.proofs.MarkedLemmas.{get-insert, get-remove}
+use Rattle.drm_index_array.specs.Indexed.{Indexed, empty_array}
+use Rattle.drm_files.specs.declared.files.Held.{Held}
+use Rattle.drm_files.specs.declared.orders.ExportOrders.{ExportOrders}
+use Rattle.drm_files.specs.declared.orders.Neighbours.{Neighbours}
+use Rattle.drm_files.specs.declared.primes.Prime.{Prime}
+use Rattle.drm_files.specs.Primes.{prime_of, prime_at, is_before}
+use Rattle.drm_files.specs.ExportOrders.{Primes, is_after, IsPlace, IsNext, AreNext, AreInOrder, AreJoined, next_of, previous_of, has_room, is_same_place, choose, with_handle}
+use Rattle.drm_files.proofs.Chains.{IsOrder, by_bool, both, next_to, come_between, leave}
+use Rattle.drm_files.proofs.OrderFacts.{first_order, last_order, named, for_object, unplaced_is, primes_kept, primes_more, primes_of_others, primes_fewer}
+
+-- the next ones of the same primes
+next_same : (before : Prime → Prime → Bool) (old new : Primes) (were are : Option ℕ → Option ℕ) → AreNext before old were → ((k : ℕ) → new k ≡ old k) → ((r : Option ℕ) (s : Option Prime) → IsPlace old r s → are r ≡ were r) → AreNext before new are
+next_same before old new were are next same places =
+    subst (λ (primes : Primes). AreNext before primes are) (λ i k. sym (same k) i) (λ r s here. subst (λ m. IsNext before old s m) (sym (places r s here)) (next r s here))
+
+module _ (slots : fin.FinMap nat_cmp Held) (orders : ExportOrders) (order : AreInOrder slots orders) (object h : ℕ) where
+  -- the places of an object that the handle is for have room
+  room_there : (x : Held) → fin.get slots h ≡ Some x → x.object ≡ object → (r : Option ℕ) (s : Option Prime) → IsPlace (prime_at slots object) r s → has_room orders object r ≡ true
+  room_there x there for None None here = ap (fin.contains_key orders.ends.items) (sym for) ∙ order.ended h x there
+  room_there x there for None (Some v) here = absurd here
+  room_there x there for (Some k) None here = absurd here
+  room_there x there for (Some k) (Some v) here = order.linked k ∙ ap is_some (for_object slots object k v here).1
+
+  same_test : (n : ℕ) → (n == n) ≡ true
+  same_test n = grind (arith, nat_tests)
+
+  other_test : (n m : ℕ) → (n ≡ m → ⊥) → (n == m) ≡ false
+  other_test n m apart = grind (arith, nat_tests)
+
+  -- a place is itself, and no other one of its object
+  itself : (r : Option ℕ) → is_same_place object r object r ≡ true
+  itself None = same_test object
+  itself (Some k) = same_test k
+
+  another : (r q : Option ℕ) → (r ≡ q → ⊥) → is_same_place object q object r ≡ false
+  another None None apart = absurd (apart refl)
+  another None (Some l) apart = refl
+  another (Some k) None apart = refl
+  another (Some k) (Some l) apart = other_test k l (λ same. apart (ap Some same))
+
+  -- the places of two objects are apart
+  of_another : (q : Option ℕ) (p : Option Prime) → IsPlace (prime_at slots object) q p → (d : ℕ) → (d ≡ object → ⊥) → (r : Option ℕ) (s : Option Prime) → IsPlace (prime_at slots d) r s → is_same_place object q d r ≡ false
+  of_another None None at d apart None None here = other_test d object apart
+  of_another None None at d apart None (Some v) here = absurd here
+  of_another None (Some w) at d apart r s here = absurd at
+  of_another (Some l) None at d apart r s here = absurd at
+  of_another (Some l) (Some w) at d apart None s here = refl
+  of_another None None at d apart (Some k) s here = refl
+  of_another (Some l) (Some w) at d apart (Some k) None here = absurd here
+  of_another (Some l) (Some w) at d apart (Some k) (Some v) here =
+      let mine = for_object slots object l w at in
+      let its = for_object slots d k v here in
+      other_test k l (λ same. apart (sym its.2 ∙ ap (λ (x : Held). x.object) (same_Some its.0 mine.0 (sym its.1 ∙ ap (fin.get slots) same ∙ mine.1)) ∙ mine.2))
+
+  choose_true : {X : Type 0} (b : Bool) (x y : X) → b ≡ true → choose b x y ≡ x
+  choose_true b x y e = ap (λ t. choose t x y) e
+
+  choose_false : {X : Type 0} (a b : Bool) (x y : X) → b ≡ false → choose (a && b) x y ≡ y
+  choose_false true b x y e = ap (λ t. choose t x y) e
+  choose_false false b x y e = refl
+
+  and_true : (a b : Bool) → a ≡ true → b ≡ true → (a && b) ≡ true
+  and_true true b p q = q
+  and_true false b p q = absurd (false≢true p)
+
+-- a fact of an object and of all others
+by_object : (object d : ℕ) (P : ℕ → Type 0) → P object → ((d ≡ object → ⊥) → P d) → P d
+by_object object d P mine others = by_bool (eqb d object) (λ same. subst P (sym (eqb-true d object same)) mine) (λ isnt. others (λ same. both (eqb d object) (same_number d object same) isnt))
+  where
+    same_number : (k l : ℕ) → k ≡ l → eqb k l ≡ true
+    same_number k l same = grind (arith, nat_tests)
+
+-- the place of a next one
+place_of : (before : Prime → Prime → Bool) (primes : Primes) (x : Option Prime) (q : Option ℕ) → IsNext before primes x q → (p : Option Prime) × IsPlace primes q p
+place_of before primes x None next = (None, tt)
+place_of before primes x (Some l) next = (Some next.prime, next.there)
+
+-- places are those of primes
+not_absent : (primes : Primes) (h : ℕ) → primes h ≡ None → (r : Option ℕ) (s : Option Prime) → IsPlace primes r s → r ≡ Some h → ⊥
+not_absent primes h none None s here same = none-some h same
+not_absent primes h none (Some k) None here same = elim here [ ]
+not_absent primes h none (Some k) (Some v) here same = none-some v (sym none ∙ ap primes (sym (same_Some k h same)) ∙ here)
+
+-- a handle that has no export order is at no place
+apart_from : (primes : Primes) (h object d : ℕ) → primes h ≡ None → (r : Option ℕ) (s : Option Prime) → IsPlace primes r s → is_same_place object (Some h) d r ≡ false
+apart_from primes h object d none None s here = refl
+apart_from primes h object d none (Some k) None here = elim here [ ]
+apart_from primes h object d none (Some k) (Some v) here = other_number k h (λ same. none-some v (sym none ∙ ap primes (sym same) ∙ here))
+  where
+    other_number : (n m : ℕ) → (n ≡ m → ⊥) → (n == m) ≡ false
+    other_number n m apart = grind (arith, nat_tests)
+
+module _ (slots : fin.FinMap nat_cmp Held) (old : ExportOrders) (order : AreInOrder slots old) (object h export_order : ℕ) (unplaced : fin.get slots h ≡ Some (record { object = object; export_order = None })) (q n : Option ℕ) (n_is : n ≡ next_of old object q) (mid new : ExportOrders) (first : AreJoined old object q (Some h) mid) (second : AreJoined mid object (Some h) n new) where
+  abbrev x : Prime
+  x = record { export_order = export_order; handle = h }
+
+  abbrev primes : Primes
+  primes = prime_at slots object
+
+  no_prime : (d : ℕ) → prime_at slots d h ≡ None
+  no_prime d = ap (option_and_then (λ held. prime_of d (h, held))) unplaced ∙ unplaced_is d h (record { object = object; export_order = None }) refl
+
+  abbrev slots_after : fin.FinMap nat_cmp Held
+  slots_after = with_handle slots object h (Some export_order)
+
+  get_after : (k : ℕ) → fin.get slots_after k ≡ cond (eqb k h) (Some (record { object = object; export_order = Some export_order })) (fin.get slots k)
+  get_after k = get-insert slots h (record { object = object; export_order = Some export_order }) k
+
+  there_after : (k : ℕ) → fin.contains_key slots_after k ≡ fin.contains_key slots k
+  there_after k =
+      ap is_some (get_after k)
+      ∙ by_bool (eqb k h)
+      (λ same. ap (λ b. is_some (cond b (Some (record { object = object; export_order = Some export_order })) (fin.get slots k))) same ∙ sym (ap is_some (ap (fin.get slots) (eqb-true k h same) ∙ unplaced)))
+      (λ isnt. ap (λ b. is_some (cond b (Some (record { object = object; export_order = Some export_order })) (fin.get slots k))) isnt)
+
+  room : (d : ℕ) (at : Option ℕ) → has_room new d at ≡ has_room old d at
+  room d at = second.room d at ∙ first.room d at
+
+  has_places : (r : Option ℕ) (s : Option Prime) → IsPlace primes r s → has_room old object r ≡ true
+  has_places = room_there slots old order object h (record { object = object; export_order = None }) unplaced refl
+
+  h_has_room : has_room old object (Some h) ≡ true
+  h_has_room = order.linked h ∙ ap is_some unplaced
+
+  module _ (last : IsNext is_after primes (Some x) q) where
+    abbrev left : (p : Option Prime) × IsPlace primes q p
+    left = place_of is_after primes (Some x) q last
+
+    following : IsNext is_before primes (Some x) n
+    following = next_to is_before first_order primes (named slots object) x h refl (no_prime object) q left.0 left.1 last n (subst (λ m. IsNext is_before primes left.0 m) (sym n_is) (order.next object q left.0 left.1))
+
+    abbrev right : (p : Option Prime) × IsPlace primes n p
+    right = place_of is_before primes (Some x) n following
+
+    next_ones : AreNext is_before (prime_at slots_after object) (next_of new object)
+    next_ones =
+        come_between is_before first_order primes (named slots object) x h refl q left.0 left.1 last n following (next_of old object) (next_of new object) (order.next object) (no_prime object) (prime_at slots_after object) (primes_more slots object h export_order)
+        (second.next_is object q
+        ∙ choose_false slots old order object h (has_room mid object q) (is_same_place object (Some h) object q) n (next_of mid object q) (apart_from primes h object object (no_prime object) q left.0 left.1)
+        ∙ first.next_is object q
+        ∙ choose_true slots old order object h (has_room old object q && is_same_place object q object q) (Some h) (next_of old object q) (and_true slots old order object h (has_room old object q) _ (has_places q left.0 left.1) (itself slots old order object h q)))
+        (second.next_is object (Some h)
+        ∙ choose_true slots old order object h (has_room mid object (Some h) && is_same_place object (Some h) object (Some h)) n (next_of mid object (Some h)) (and_true slots old order object h (has_room mid object (Some h)) _ (first.room object (Some h) ∙ h_has_room) (itself slots old order object h (Some h))))
+        (λ r s here apart.
+        second.next_is object r
+        ∙ choose_false slots old order object h (has_room mid object r) (is_same_place object (Some h) object r) n (next_of mid object r) (apart_from primes h object object (no_prime object) r s here)
+        ∙ first.next_is object r
+        ∙ choose_false slots old order object h (has_room old object r) (is_same_place object q object r) (Some h) (next_of old object r) (another slots old order object h r q apart))
+
+    previous_ones : AreNext is_after (prime_at slots_after object) (previous_of new object)
+    previous_ones =
+        come_between is_after last_order primes (named slots object) x h refl n right.0 right.1 following q last (previous_of old object) (previous_of new object) (order.previous object) (no_prime object) (prime_at slots_after object) (primes_more slots object h export_order)
+        (second.previous_is object n
+        ∙ choose_true slots old order object h (has_room mid object n && is_same_place object n object n) (Some h) (previous_of mid object n) (and_true slots old order object h (has_room mid object n) _ (first.room object n ∙ has_places n right.0 right.1) (itself slots old order object h n)))
+        (second.previous_is object (Some h)
+        ∙ choose_false slots old order object h (has_room mid object (Some h)) (is_same_place object n object (Some h)) (Some h) (previous_of mid object (Some h)) (another slots old order object h (Some h) n (λ same. not_absent primes h (no_prime object) n right.0 right.1 (sym same)))
+        ∙ first.previous_is object (Some h)
+        ∙ choose_true slots old order object h (has_room old object (Some h) && is_same_place object (Some h) object (Some h)) q (previous_of old object (Some h)) (and_true slots old order object h (has_room old object (Some h)) _ h_has_room (itself slots old order object h (Some h))))
+        (λ r s here apart.
+        second.previous_is object r
+        ∙ choose_false slots old order object h (has_room mid object r) (is_same_place object n object r) (Some h) (previous_of mid object r) (another slots old order object h r n apart)
+        ∙ first.previous_is object r
+        ∙ choose_false slots old order object h (has_room old object r) (is_same_place object (Some h) object r) q (previous_of old object r) (apart_from primes h object object (no_prime object) r s here))
+
+    module _ (d : ℕ) (other : d ≡ object → ⊥) where
+      next_others : AreNext is_before (prime_at slots_after d) (next_of new d)
+      next_others = next_same is_before (prime_at slots d) (prime_at slots_after d) (next_of old d) (next_of new d) (order.next d) (λ k. primes_of_others slots object h export_order d k other (no_prime d))
+          (λ r s here.
+          second.next_is d r
+          ∙ choose_false slots old order object h (has_room mid d r) (is_same_place object (Some h) d r) n (next_of mid d r) (apart_from (prime_at slots d) h object d (no_prime d) r s here)
+          ∙ first.next_is d r
+          ∙ choose_false slots old order object h (has_room old d r) (is_same_place object q d r) (Some h) (next_of old d r) (of_another slots old order object h q left.0 left.1 d other r s here))
+
+      previous_others : AreNext is_after (prime_at slots_after d) (previous_of new d)
+      previous_others = next_same is_after (prime_at slots d) (prime_at slots_after d) (previous_of old d) (previous_of new d) (order.previous d) (λ k. primes_of_others slots object h export_order d k other (no_prime d))
+          (λ r s here.
+          second.previous_is d r
+          ∙ choose_false slots old order object h (has_room mid d r) (is_same_place object n d r) (Some h) (previous_of mid d r) (of_another slots old order object h n right.0 right.1 d other r s here)
+          ∙ first.previous_is d r
+          ∙ choose_false slots old order object h (has_room old d r) (is_same_place object (Some h) d r) q (previous_of old d r) (apart_from (prime_at slots d) h object d (no_prime d) r s here))
+
+    -- a handle that is given an export order has its place
+    pub placed_in_order : AreInOrder slots_after new
+    placed_in_order = record {
+      fit = λ k there. order.fit k (sym (there_after k) ∙ there);
+      linked = λ k. room object (Some k) ∙ order.linked k ∙ sym (there_after k);
+      ended = λ k y there. room y.object None ∙ ended k y there;
+      next = λ d. by_object object d (λ e. AreNext is_before (prime_at slots_after e) (next_of new e)) next_ones (next_others d);
+      previous = λ d. by_object object d (λ e. AreNext is_after (prime_at slots_after e) (previous_of new e)) previous_ones (previous_others d);
+    }
+      where
+        ended : (k : ℕ) (y : Held) → fin.get slots_after k ≡ Some y → has_room old y.object None ≡ true
+        ended k y there =
+            by_bool (eqb k h)
+            (λ same. ap (fin.contains_key old.ends.items) (ap (λ (z : Held). z.object) (same_Some y (record { object = object; export_order = Some export_order }) (sym there ∙ get_after k ∙ ap (λ b. cond b (Some (record { object = object; export_order = Some export_order })) (fin.get slots k)) same))) ∙ order.ended h (record { object = object; export_order = None }) unplaced)
+            (λ isnt. order.ended k y (sym (ap (λ b. cond b (Some (record { object = object; export_order = Some export_order })) (fin.get slots k)) isnt) ∙ sym (get_after k) ∙ there))
+
+module _ (slots : fin.FinMap nat_cmp Held) (old : ExportOrders) (order : AreInOrder slots old) (object h : ℕ) (held : Held) (there : fin.get slots h ≡ Some held) (for : held.object ≡ object) (new : ExportOrders) where
+  abbrev fewer : fin.FinMap nat_cmp Held
+  fewer = fin.remove slots h
+
+  get_fewer : (k : ℕ) → fin.get fewer k ≡ cond (eqb k h) None (fin.get slots k)
+  get_fewer k = get-remove slots h k
+
+  was_there : (k : ℕ) (y : Held) → fin.get fewer k ≡ Some y → fin.get slots k ≡ Some y
+  was_there k y left =
+      by_bool (eqb k h)
+      (λ same. absurd (none-some y (sym (ap (λ b. cond b None (fin.get slots k)) same) ∙ sym (get_fewer k) ∙ left)))
+      (λ isnt. sym (ap (λ b. cond b None (fin.get slots k)) isnt) ∙ sym (get_fewer k) ∙ left)
+
+  -- what is left of the rooms is what is left of the handles
+  rooms_fewer : (mid : ExportOrders) → ((k : ℕ) → fin.contains_key mid.links.items k ≡ fin.contains_key old.links.items k) → ((k : ℕ) → fin.get new.links.items k ≡ cond (eqb k h) None (fin.get mid.links.items k)) → (k : ℕ) → fin.contains_key new.links.items k ≡ fin.contains_key fewer k
+  rooms_fewer mid rooms links k =
+      ap is_some (links k)
+      ∙ by_bool (eqb k h)
+      (λ same. ap (λ b. is_some (cond b None (fin.get mid.links.items k))) same ∙ sym (ap is_some (get_fewer k) ∙ ap (λ b. is_some (cond b None (fin.get slots k))) same))
+      (λ isnt. ap (λ b. is_some (cond b None (fin.get mid.links.items k))) isnt ∙ rooms k ∙ order.linked k ∙ sym (ap is_some (get_fewer k) ∙ ap (λ b. is_some (cond b None (fin.get slots k))) isnt))
+
+  fit_fewer : (k : ℕ) → fin.contains_key fewer k ≡ true → k ≤ 4294967295
+  fit_fewer k left =
+      by_bool (eqb k h)
+      (λ same. both (is_some (fin.get fewer k)) left (ap is_some (get_fewer k) ∙ ap (λ b. is_some (cond b None (fin.get slots k))) same))
+      (λ isnt. order.fit k (sym (ap is_some (get_fewer k) ∙ ap (λ b. is_some (cond b None (fin.get slots k))) isnt) ∙ left))
+
+  -- one that has no export order is at no place
+  pub forgotten_unplaced : held.export_order ≡ None → ((k : ℕ) → fin.get new.links.items k ≡ cond (eqb k h) None (fin.get old.links.items k)) → new.ends ≡ old.ends → AreInOrder fewer new
+  forgotten_unplaced none links ends = record {
+    fit = fit_fewer;
+    linked = rooms_fewer old (λ k. refl) links;
+    ended = λ k y left. ap (λ e. fin.contains_key e.items y.object) ends ∙ order.ended k y (was_there k y left);
+    next = λ d. next_same is_before (prime_at slots d) (prime_at fewer d) (next_of old d) (next_of new d) (order.next d) (kept d) (next_kept d);
+    previous = λ d. next_same is_after (prime_at slots d) (prime_at fewer d) (previous_of old d) (previous_of new d) (order.previous d) (kept d) (previous_kept d);
+  }
+    where
+      no_prime_here : (d : ℕ) → prime_at slots d h ≡ None
+      no_prime_here d = ap (option_and_then (λ x. prime_of d (h, x))) there ∙ unplaced_is d h held none
+
+      kept : (d k : ℕ) → prime_at fewer d k ≡ prime_at slots d k
+      kept d k =
+          primes_fewer slots object h d k
+          ∙ by_bool (eqb k h)
+          (λ same. ap (λ b. cond b None (prime_at slots d k)) same ∙ sym (ap (prime_at slots d) (eqb-true k h same) ∙ no_prime_here d))
+          (λ isnt. ap (λ b. cond b None (prime_at slots d k)) isnt)
+
+      next_kept : (d : ℕ) (r : Option ℕ) (s : Option Prime) → IsPlace (prime_at slots d) r s → next_of new d r ≡ next_of old d r
+      next_kept d None s here = ap (λ e. option_and_then (λ (x : Neighbours). x.next) (fin.get e.items d)) ends
+      next_kept d (Some k) s here =
+          ap (option_and_then (λ (x : Neighbours). x.next)) (links k ∙ by_bool (eqb k h) (λ same. absurd (not_absent (prime_at slots d) h (no_prime_here d) (Some k) s here (ap Some (eqb-true k h same)))) (λ isnt. ap (λ b. cond b None (fin.get old.links.items k)) isnt))
+
+      previous_kept : (d : ℕ) (r : Option ℕ) (s : Option Prime) → IsPlace (prime_at slots d) r s → previous_of new d r ≡ previous_of old d r
+      previous_kept d None s here = ap (λ e. option_and_then (λ (x : Neighbours). x.previous) (fin.get e.items d)) ends
+      previous_kept d (Some k) s here =
+          ap (option_and_then (λ (x : Neighbours). x.previous)) (links k ∙ by_bool (eqb k h) (λ same. absurd (not_absent (prime_at slots d) h (no_prime_here d) (Some k) s here (ap Some (eqb-true k h same)))) (λ isnt. ap (λ b. cond b None (fin.get old.links.items k)) isnt))
+
+  -- one that has leaves its place
+  module _ (export_order : ℕ) (placed : held.export_order ≡ Some export_order) (q n : Option ℕ) (q_is : q ≡ previous_of old object (Some h)) (n_is : n ≡ next_of old object (Some h)) (mid : ExportOrders) (joined : AreJoined old object q n mid) (links : (k : ℕ) → fin.get new.links.items k ≡ cond (eqb k h) None (fin.get mid.links.items k)) (ends : new.ends ≡ mid.ends) where
+    abbrev it : Prime
+    it = record { export_order = export_order; handle = h }
+
+    it_is_there : prime_at slots object h ≡ Some it
+    it_is_there =
+        ap (option_and_then (λ x. prime_of object (h, x))) there
+        ∙ ap (λ t. if t then option_map {U = Prime} (λ p. record { export_order = p; handle = h }) held.export_order else None) (ap (λ o. o == object) for ∙ same_test slots old order object h object)
+        ∙ ap (option_map {U = Prime} (λ p. record { export_order = p; handle = h })) placed
+
+    last_before : IsNext is_after (prime_at slots object) (Some it) q
+    last_before = subst (λ m. IsNext is_after (prime_at slots object) (Some it) m) (sym q_is) (order.previous object (Some h) (Some it) it_is_there)
+
+    next_after : IsNext is_before (prime_at slots object) (Some it) n
+    next_after = subst (λ m. IsNext is_before (prime_at slots object) (Some it) m) (sym n_is) (order.next object (Some h) (Some it) it_is_there)
+
+    abbrev before_it : (p : Option Prime) × IsPlace (prime_at slots object) q p
+    before_it = place_of is_after (prime_at slots object) (Some it) q last_before
+
+    abbrev after_it : (p : Option Prime) × IsPlace (prime_at slots object) n p
+    after_it = place_of is_before (prime_at slots object) (Some it) n next_after
+
+    has_place : (r : Option ℕ) (s : Option Prime) → IsPlace (prime_at slots object) r s → has_room old object r ≡ true
+    has_place = room_there slots old order object h held there for
+
+    -- away from the handle, the new neighbours are those after the joining
+    next_new : (d : ℕ) (r : Option ℕ) → (r ≡ Some h → ⊥) → next_of new d r ≡ next_of mid d r
+    next_new d None apart = ap (λ e. option_and_then (λ (x : Neighbours). x.next) (fin.get e.items d)) ends
+    next_new d (Some k) apart = ap (option_and_then (λ (x : Neighbours). x.next)) (links k ∙ by_bool (eqb k h) (λ same. absurd (apart (ap Some (eqb-true k h same)))) (λ isnt. ap (λ b. cond b None (fin.get mid.links.items k)) isnt))
+
+    previous_new : (d : ℕ) (r : Option ℕ) → (r ≡ Some h → ⊥) → previous_of new d r ≡ previous_of mid d r
+    previous_new d None apart = ap (λ e. option_and_then (λ (x : Neighbours). x.previous) (fin.get e.items d)) ends
+    previous_new d (Some k) apart = ap (option_and_then (λ (x : Neighbours). x.previous)) (links k ∙ by_bool (eqb k h) (λ same. absurd (apart (ap Some (eqb-true k h same)))) (λ isnt. ap (λ b. cond b None (fin.get mid.links.items k)) isnt))
+
+    -- the neighbours are others than the handle
+    not_itself : (before : Prime → Prime → Bool) → IsOrder before → (m : Option ℕ) → IsNext before (prime_at slots object) (Some it) m → m ≡ Some h → ⊥
+    not_itself before is None next same = none-some h same
+    not_itself before is (Some k) next same = both (before it it) (ap (before it) (same_Some it next.prime (sym it_is_there ∙ ap (prime_at slots object) (sym (same_Some k h same)) ∙ next.there)) ∙ next.past) (is.irreflexive it)
+
+    next_ones_left : AreNext is_before (prime_at fewer object) (next_of new object)
+    next_ones_left =
+        leave is_before first_order (prime_at slots object) (named slots object) it h refl q before_it.0 before_it.1 last_before n next_after (next_of old object) (next_of new object) (order.next object) it_is_there (prime_at fewer object) (primes_fewer slots object h object)
+        (next_new object q (not_itself is_after last_order q last_before)
+        ∙ joined.next_is object q
+        ∙ choose_true slots old order object h (has_room old object q && is_same_place object q object q) n (next_of old object q) (and_true slots old order object h (has_room old object q) _ (has_place q before_it.0 before_it.1) (itself slots old order object h q)))
+        (λ r s here apart not_h. next_new object r not_h ∙ joined.next_is object r ∙ choose_false slots old order object h (has_room old object r) (is_same_place object q object r) n (next_of old object r) (another slots old order object h r q apart))
+
+    previous_ones_left : AreNext is_after (prime_at fewer object) (previous_of new object)
+    previous_ones_left =
+        leave is_after last_order (prime_at slots object) (named slots object) it h refl n after_it.0 after_it.1 next_after q last_before (previous_of old object) (previous_of new object) (order.previous object) it_is_there (prime_at fewer object) (primes_fewer slots object h object)
+        (previous_new object n (not_itself is_before first_order n next_after)
+        ∙ joined.previous_is object n
+        ∙ choose_true slots old order object h (has_room old object n && is_same_place object n object n) q (previous_of old object n) (and_true slots old order object h (has_room old object n) _ (has_place n after_it.0 after_it.1) (itself slots old order object h n)))
+        (λ r s here apart not_h. previous_new object r not_h ∙ joined.previous_is object r ∙ choose_false slots old order object h (has_room old object r) (is_same_place object n object r) q (previous_of old object r) (another slots old order object h r n apart))
+
+    module _ (d : ℕ) (other : d ≡ object → ⊥) where
+      not_for : (r : Option ℕ) (s : Option Prime) → IsPlace (prime_at slots d) r s → r ≡ Some h → ⊥
+      not_for None s here same = none-some h same
+      not_for (Some k) None here same = elim here [ ]
+      not_for (Some k) (Some v) here same =
+          let its = for_object slots d k v here in
+          other (sym its.2 ∙ ap (λ (x : Held). x.object) (same_Some its.0 held (sym its.1 ∙ ap (fin.get slots) (same_Some k h same) ∙ there)) ∙ for)
+
+      kept_others : (k : ℕ) → prime_at fewer d k ≡ prime_at slots d k
+      kept_others k =
+          primes_fewer slots object h d k
+          ∙ by_bool (eqb k h) (λ same. ap (λ b. cond b None (prime_at slots d k)) same ∙ none_at k (eqb-true k h same) (prime_at slots d k) refl) (λ isnt. ap (λ b. cond b None (prime_at slots d k)) isnt)
+        where
+          none_at : (k : ℕ) → k ≡ h → (o : Option Prime) → prime_at slots d k ≡ o → None ≡ o
+          none_at k same None is = refl
+          none_at k same (Some v) is = absurd (not_for (Some k) (Some v) is (ap Some same))
+
+      next_others_left : AreNext is_before (prime_at fewer d) (next_of new d)
+      next_others_left = next_same is_before (prime_at slots d) (prime_at fewer d) (next_of old d) (next_of new d) (order.next d) kept_others
+          (λ r s here. next_new d r (not_for r s here) ∙ joined.next_is d r ∙ choose_false slots old order object h (has_room old d r) (is_same_place object q d r) n (next_of old d r) (of_another slots old order object h q before_it.0 before_it.1 d other r s here))
+
+      previous_others_left : AreNext is_after (prime_at fewer d) (previous_of new d)
+      previous_others_left = next_same is_after (prime_at slots d) (prime_at fewer d) (previous_of old d) (previous_of new d) (order.previous d) kept_others
+          (λ r s here. previous_new d r (not_for r s here) ∙ joined.previous_is d r ∙ choose_false slots old order object h (has_room old d r) (is_same_place object n d r) q (previous_of old d r) (of_another slots old order object h n after_it.0 after_it.1 d other r s here))
+
+    pub forgotten_placed : AreInOrder fewer new
+    forgotten_placed = record {
+      fit = fit_fewer;
+      linked = rooms_fewer mid (λ k. joined.room object (Some k)) links;
+      ended = λ k y left_there. ap (λ e. fin.contains_key e.items y.object) ends ∙ joined.room y.object None ∙ order.ended k y (was_there k y left_there);
+      next = λ d. by_object object d (λ e. AreNext is_before (prime_at fewer e) (next_of new e)) next_ones_left (next_others_left d);
+      previous = λ d. by_object object d (λ e. AreNext is_after (prime_at fewer e) (previous_of new e)) previous_ones_left (previous_others_left d);
+    }
+
+pub some_of : (o : Option ℕ) → is_some o ≡ true → (n : ℕ) × (o ≡ Some n)
+some_of None there = absurd (false≢true there)
+some_of (Some n) there = (n, refl)
+
+pub none_of : (o : Option ℕ) → is_some o ≡ false → o ≡ None
+none_of None absent = refl
+none_of (Some n) absent = absurd (false≢true (sym absent))
+
+-- rooms that are made
+
+abbrev pub alone : Neighbours
+alone = record { next = None; previous = None }
+
+-- an object that has no room may be given it, and those that have it keep it
+abbrev pub IsRoomier : fin.FinMap nat_cmp Neighbours → fin.FinMap nat_cmp Neighbours → Type 0
+IsRoomier old new = (d : ℕ) → (fin.get old d ≡ None → (fin.get new d ≡ None → ⊥) → fin.get new d ≡ Some alone) × ((x : Neighbours) → fin.get old d ≡ Some x → fin.get new d ≡ Some x)
+
+pub as_roomy : (m : fin.FinMap nat_cmp Neighbours) → IsRoomier m m
+as_roomy m d = (λ none there. absurd (there none), λ x is. is)
+
+pub with_room : (m : fin.FinMap nat_cmp Neighbours) (object : ℕ) → fin.get m object ≡ None → IsRoomier m (fin.insert m object alone)
+with_room m object absent d = (
+  λ none there. get-insert m object alone d ∙ by_bool (eqb d object) (λ same. ap (λ b. cond b (Some alone) (fin.get m d)) same) (λ isnt. absurd (there (get-insert m object alone d ∙ ap (λ b. cond b (Some alone) (fin.get m d)) isnt ∙ none))),
+  λ x is. get-insert m object alone d ∙ by_bool (eqb d object) (λ same. absurd (none-some x (sym absent ∙ ap (fin.get m) (sym (eqb-true d object same)) ∙ is))) (λ isnt. ap (λ b. cond b (Some alone) (fin.get m d)) isnt ∙ is),
+)
+
+pub copied_there : (o : Option (Bor Neighbours)) → is_some (option_copied o) ≡ is_some o
+copied_there None = refl
+copied_there (Some x) = refl
+
+-- the object has room now, and all else is kept
+pub record HasRoomNow (old new : ExportOrders) (object : ℕ) : Type 0 where
+  pub links : new.links ≡ old.links
+  pub ends : IsRoomier old.ends.items new.ends.items
+  pub mine : fin.contains_key new.ends.items object ≡ true
+
+pub first_room : (old new : ExportOrders) (object : ℕ) (ends : Indexed Neighbours) → new ≡ record { links = old.links; ends = ends } → ends.items ≡ fin.insert old.ends.items object alone → fin.get old.ends.items object ≡ None → HasRoomNow old new object
+first_room old new object ends is inserted absent = record {
+  links = ap (λ (o : ExportOrders). o.links) is;
+  ends = subst (λ m. IsRoomier old.ends.items m) (sym items) (with_room old.ends.items object absent);
+  mine = ap is_some (ap (λ m. fin.get m object) items ∙ get-insert old.ends.items object alone object ∙ ap (λ b. cond b (Some alone) (fin.get old.ends.items object)) (same_number object));
+}
+  where
+    items : new.ends.items ≡ fin.insert old.ends.items object alone
+    items = ap (λ (o : ExportOrders). o.ends.items) is ∙ inserted
+
+    same_number : (k : ℕ) → eqb k k ≡ true
+    same_number k = grind (arith, nat_tests)
+
+pub own_room : (old new : ExportOrders) (object : ℕ) → new ≡ old → fin.contains_key old.ends.items object ≡ true → HasRoomNow old new object
+own_room old new object is there = record {
+  links = ap (λ (o : ExportOrders). o.links) is;
+  ends = subst (λ (o : ExportOrders). IsRoomier old.ends.items o.ends.items) (sym is) (as_roomy old.ends.items);
+  mine = ap (λ (o : ExportOrders). fin.contains_key o.ends.items object) is ∙ there;
+}
+
+module _ (slots : fin.FinMap nat_cmp Held) (old new : ExportOrders) (order : AreInOrder slots old) (ends : IsRoomier old.ends.items new.ends.items) where
+  next_end : (d : ℕ) → next_of new d None ≡ next_of old d None
+  next_end d = by (fin.get old.ends.items d) (fin.get new.ends.items d) refl refl
+    where
+      by : (a b : Option Neighbours) → fin.get old.ends.items d ≡ a → fin.get new.ends.items d ≡ b → next_of new d None ≡ next_of old d None
+      by (Some x) b was is = ap (option_and_then (λ (y : Neighbours). y.next)) ((ends d).1 x was ∙ sym was)
+      by None None was is = ap (option_and_then (λ (y : Neighbours). y.next)) (is ∙ sym was)
+      by None (Some y) was is = ap (option_and_then (λ (y : Neighbours). y.next)) ((ends d).0 was (λ none. none-some y (sym none ∙ is))) ∙ sym (ap (option_and_then (λ (y : Neighbours). y.next)) was)
+
+  previous_end : (d : ℕ) → previous_of new d None ≡ previous_of old d None
+  previous_end d = by (fin.get old.ends.items d) (fin.get new.ends.items d) refl refl
+    where
+      by : (a b : Option Neighbours) → fin.get old.ends.items d ≡ a → fin.get new.ends.items d ≡ b → previous_of new d None ≡ previous_of old d None
+      by (Some x) b was is = ap (option_and_then (λ (y : Neighbours). y.previous)) ((ends d).1 x was ∙ sym was)
+      by None None was is = ap (option_and_then (λ (y : Neighbours). y.previous)) (is ∙ sym was)
+      by None (Some y) was is = ap (option_and_then (λ (y : Neighbours). y.previous)) ((ends d).0 was (λ none. none-some y (sym none ∙ is))) ∙ sym (ap (option_and_then (λ (y : Neighbours). y.previous)) was)
+
+  still_ended : (d : ℕ) → fin.contains_key old.ends.items d ≡ true → fin.contains_key new.ends.items d ≡ true
+  still_ended d there = by (fin.get old.ends.items d) refl there
+    where
+      by : (a : Option Neighbours) → fin.get old.ends.items d ≡ a → is_some a ≡ true → fin.contains_key new.ends.items d ≡ true
+      by None was there = absurd (false≢true there)
+      by (Some x) was there = ap is_some ((ends d).1 x was)
+
+  -- an object has room, and no handle more
+  pub roomier : new.links ≡ old.links → AreInOrder slots new
+  roomier links = record {
+    fit = order.fit;
+    linked = λ k. ap (λ l. fin.contains_key l.items k) links ∙ order.linked k;
+    ended = λ k y there. still_ended y.object (order.ended k y there);
+    next = λ d. next_same is_before (prime_at slots d) (prime_at slots d) (next_of old d) (next_of new d) (order.next d) (λ k. refl) (next_kept d);
+    previous = λ d. next_same is_after (prime_at slots d) (prime_at slots d) (previous_of old d) (previous_of new d) (order.previous d) (λ k. refl) (previous_kept d);
+  }
+    where
+      next_kept : (d : ℕ) (r : Option ℕ) (s : Option Prime) → IsPlace (prime_at slots d) r s → next_of new d r ≡ next_of old d r
+      next_kept d None s here = next_end d
+      next_kept d (Some k) s here = ap (λ l. option_and_then (λ (x : Neighbours). x.next) (fin.get l.items k)) links
+
+      previous_kept : (d : ℕ) (r : Option ℕ) (s : Option Prime) → IsPlace (prime_at slots d) r s → previous_of new d r ≡ previous_of old d r
+      previous_kept d None s here = previous_end d
+      previous_kept d (Some k) s here = ap (λ l. option_and_then (λ (x : Neighbours). x.previous) (fin.get l.items k)) links
+
+  -- a new handle of the object has room, too
+  module _ (object h : ℕ) (absent : fin.get slots h ≡ None) (few : h ≤ 4294967295) (links : (k : ℕ) → fin.get new.links.items k ≡ cond (eqb k h) (Some alone) (fin.get old.links.items k)) (mine : fin.contains_key new.ends.items object ≡ true) where
+    abbrev more_slots : fin.FinMap nat_cmp Held
+    more_slots = with_handle slots object h None
+
+    get_more : (k : ℕ) → fin.get more_slots k ≡ cond (eqb k h) (Some (record { object = object; export_order = None })) (fin.get slots k)
+    get_more k = get-insert slots h (record { object = object; export_order = None }) k
+
+    no_prime_yet : (d : ℕ) → prime_at slots d h ≡ None
+    no_prime_yet d = ap (option_and_then (λ x. prime_of d (h, x))) absent
+
+    link_kept : (d k : ℕ) (s : Option Prime) → IsPlace (prime_at slots d) (Some k) s → fin.get new.links.items k ≡ fin.get old.links.items k
+    link_kept d k s here =
+        links k ∙ by_bool (eqb k h) (λ same. absurd (not_absent (prime_at slots d) h (no_prime_yet d) (Some k) s here (ap Some (eqb-true k h same)))) (λ isnt. ap (λ b. cond b (Some alone) (fin.get old.links.items k)) isnt)
+
+    next_room : (d : ℕ) (r : Option ℕ) (s : Option Prime) → IsPlace (prime_at slots d) r s → next_of new d r ≡ next_of old d r
+    next_room d None s here = next_end d
+    next_room d (Some k) s here = ap (option_and_then (λ (x : Neighbours). x.next)) (link_kept d k s here)
+
+    previous_room : (d : ℕ) (r : Option ℕ) (s : Option Prime) → IsPlace (prime_at slots d) r s → previous_of new d r ≡ previous_of old d r
+    previous_room d None s here = previous_end d
+    previous_room d (Some k) s here = ap (option_and_then (λ (x : Neighbours). x.previous)) (link_kept d k s here)
+
+    pub room_made : AreInOrder more_slots new
+    room_made = record {
+      fit = λ k there. by_bool (eqb k h) (λ same. subst (λ j. j ≤ 4294967295) (sym (eqb-true k h same)) few) (λ isnt. order.fit k (sym (ap is_some (get_more k) ∙ ap (λ b. is_some (cond b (Some (record { object = object; export_order = None })) (fin.get slots k))) isnt) ∙ there));
+      linked = λ k. ap is_some (links k) ∙ same_rooms k ∙ sym (ap is_some (get_more k));
+      ended = λ k y there. by_bool (eqb k h)
+          (λ same. ap (fin.contains_key new.ends.items) (ap (λ (z : Held). z.object) (same_Some y (record { object = object; export_order = None }) (sym there ∙ get_more k ∙ ap (λ b. cond b (Some (record { object = object; export_order = None })) (fin.get slots k)) same))) ∙ mine)
+          (λ isnt. still_ended y.object (order.ended k y (sym (ap (λ b. cond b (Some (record { object = object; export_order = None })) (fin.get slots k)) isnt) ∙ sym (get_more k) ∙ there)));
+      next = λ d. next_same is_before (prime_at slots d) (prime_at more_slots d) (next_of old d) (next_of new d) (order.next d) (primes_kept slots object h no_prime_yet d) (next_room d);
+      previous = λ d. next_same is_after (prime_at slots d) (prime_at more_slots d) (previous_of old d) (previous_of new d) (order.previous d) (primes_kept slots object h no_prime_yet d) (previous_room d);
+    }
+      where
+        same_rooms : (k : ℕ) → is_some (cond (eqb k h) (Some alone) (fin.get old.links.items k)) ≡ is_some (cond (eqb k h) (Some (record { object = object; export_order = None })) (fin.get slots k))
+        same_rooms k = elim (eqb k h) as (λ b. is_some (cond b (Some alone) (fin.get old.links.items k)) ≡ is_some (cond b (Some (record { object = object; export_order = None })) (fin.get slots k))) [ true ↦ refl | false ↦ order.linked k ]
+
+-- no handle
+pub none_in_order : (orders : ExportOrders) → orders.links ≡ empty_array → orders.ends ≡ empty_array → (slots : fin.FinMap nat_cmp Held) → slots ≡ fin.empty → AreInOrder slots orders
+none_in_order orders links ends slots none = record {
+  fit = λ k there. absurd (false≢true (sym (ap is_some (absent k)) ∙ there));
+  linked = λ k. ap is_some (ap (λ l. fin.get l.items k) links ∙ fin.get-empty nat_cmp k) ∙ sym (ap is_some (absent k));
+  ended = λ k y there. absurd (none-some y (sym (absent k) ∙ there));
+  next = λ d r s here. nowhere is_before d (next_of orders d) (ap (option_and_then (λ (x : Neighbours). x.next)) (no_end d)) r s here;
+  previous = λ d r s here. nowhere is_after d (previous_of orders d) (ap (option_and_then (λ (x : Neighbours). x.previous)) (no_end d)) r s here;
+}
+  where
+    absent : (k : ℕ) → fin.get slots k ≡ None
+    absent k = ap (λ m. fin.get m k) none ∙ fin.get-empty nat_cmp k
+
+    no_end : (d : ℕ) → fin.get orders.ends.items d ≡ None
+    no_end d = ap (λ e. fin.get e.items d) ends ∙ fin.get-empty nat_cmp d
+
+    no_prime : (d k : ℕ) → prime_at slots d k ≡ None
+    no_prime d k = ap (option_and_then (λ x. prime_of d (k, x))) (absent k)
+
+    nowhere : (before : Prime → Prime → Bool) (d : ℕ) (next : Option ℕ → Option ℕ) → next None ≡ None → AreNext before (prime_at slots d) next
+    nowhere before d next start None None here = subst (λ m. IsNext before (prime_at slots d) None m) (sym start) (λ k y there. absurd (none-some y (sym (no_prime d k) ∙ there)))
+    nowhere before d next start None (Some v) here = elim here [ ]
+    nowhere before d next start (Some k) None here = elim here [ ]
+    nowhere before d next start (Some k) (Some v) here = absurd (none-some v (sym (no_prime d k) ∙ here))
