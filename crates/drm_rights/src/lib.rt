@@ -9,6 +9,7 @@ mod effects;
 mod handles;
 mod ledger;
 mod notes;
+mod objects;
 mod searches;
 mod steps;
 mod trail;

@@ -1,10 +1,12 @@
 //! The steps of a history, and what one says of handles.
 
-ghost use Rattle.std.specs.Prelude.{◌≡◌, ◌-◌, ◌&&◌, nat_le, length, slice_get, IfSome, Some};
+ghost use Rattle.std.specs.Prelude.{◌≡◌, ℕ, ◌-◌, ◌&&◌, nat_le, length, slice_get, IfSome, Some};
 ghost use Rattle.std.specs.Option.{is_some, option_map};
 ghost use Rattle.drm_table.specs.declared.events.Event.TheVariants.{Ask};
 ghost use Rattle.drm_history.specs.Steps as told;
+ghost use Rattle.drm_model.specs.Rows.{is_option};
 ghost use Rattle.drm_rights.specs.Answers as answers;
+ghost use Rattle.drm_rights.specs.Handles.{is_taken};
 ghost use Rattle.drm_rights.specs.Steps.{givings_of, key_of, publishings_of, source_of};
 
 use drm_table::{Answer, Call, Event};
@@ -55,6 +57,14 @@ pub struct Publishing {
     pub key: Key,
     pub client: u64,
     pub handle: u64,
+}
+
+/// Which of a client's handles a step takes.
+#[derive(Clone, Copy, PartialEq, Eq, Debug)]
+pub(crate) enum Taken {
+    Nothing,
+    One(u64),
+    All,
 }
 
 /// The handle that a buffer's answer tells.
@@ -199,9 +209,20 @@ pub(crate) fn closed_by(call: &Call) -> Option<u64>
     }
 }
 
+/// Which handles a call takes that is done.
+fn taken_by(call: &Call) -> Taken
+    ensures { (h : ℕ) → is_taken h result ≡ is_option h (answers.closed_by call.now) }
+{
+    match closed_by(call) {
+        Some(handle) => Taken::One(handle),
+        None => Taken::Nothing,
+    }
+}
+
 impl Step {
-    ghost use Rattle.std.specs.Prelude.{◌≡◌, ℕ, false};
+    ghost use Rattle.std.specs.Prelude.{◌≡◌, ℕ};
     ghost use Rattle.drm_history.specs.Steps.{given, published, takes};
+    ghost use Rattle.drm_rights.specs.Handles.{is_taken};
     ghost use Rattle.drm_rights.specs.Steps.{entry_of, givings_of, publishings_of};
 
     /// The handle that the step gives.
@@ -228,31 +249,38 @@ impl Step {
         }
     }
 
-    /// Whether the step takes some handle of the client.
+    /// Which handles of the client the step takes.
     #[tactic(auto, unfolding(drm_history::specs::Steps::takes))]
-    pub(crate) fn takes_from(&self, client: u64) -> bool
-        ensures { result ≡ false → (h : ℕ) → takes (entry_of self.now) client h ≡ false }
+    pub(crate) fn taken_from(&self, client: u64) -> Taken
+        ensures { (h : ℕ) → is_taken h result ≡ takes (entry_of self.now) client h }
     {
         match &self.event {
-            Event::Open(_) => false,
-            Event::Ask(caller, call) => u64::from(*caller) == client && closed_by(call).is_some(),
-            Event::Close(closed) => u64::from(*closed) == client,
+            Event::Open(_) => Taken::Nothing,
+            Event::Ask(caller, call) => {
+                if is_done(&self.answer) && u64::from(*caller) == client {
+                    taken_by(call)
+                } else {
+                    Taken::Nothing
+                }
+            }
+            Event::Close(closed) => {
+                if is_closed(&self.answer) && u64::from(*closed) == client {
+                    Taken::All
+                } else {
+                    Taken::Nothing
+                }
+            }
         }
     }
 
     /// Whether the step takes the client's handle.
-    #[tactic(auto, unfolding(drm_history::specs::Steps::takes))]
     pub fn takes(&self, client: u64, handle: u64) -> bool
         ensures { result ≡ takes (entry_of self.now) client handle }
     {
-        match &self.event {
-            Event::Open(_) => false,
-            Event::Ask(caller, call) => {
-                is_done(&self.answer)
-                    && u64::from(*caller) == client
-                    && closed_by(call) == Some(handle)
-            }
-            Event::Close(closed) => is_closed(&self.answer) && u64::from(*closed) == client,
+        match self.taken_from(client) {
+            Taken::Nothing => false,
+            Taken::One(taken) => taken == handle,
+            Taken::All => true,
         }
     }
 }

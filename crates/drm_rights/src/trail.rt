@@ -1,35 +1,41 @@
 //! The steps of a history, with an index of what they published.
 
 ghost use Rattle.std.specs.Prelude.{◌≡◌, ◌++◌, ◌∷◌, ℕ, [], take, IfOk, IfSome, IfNone};
+ghost use Rattle.drm_history.specs.Holds.{Has};
 ghost use Rattle.drm_rights.specs.Chains.{EndsChain, Explains, HasNone, IsExplained, IsOfDevice, LeadsTo, links_of};
-ghost use Rattle.drm_rights.specs.Steps.{history_of};
+ghost use Rattle.drm_rights.specs.Objects as objects;
+ghost use Rattle.drm_rights.specs.Steps.{history_of, source_of};
 
 use crate::chains::{ChainEnd, Link, Marks, chain_end_in, chain_in};
 use crate::notes::with_item;
+use crate::objects::{object_given, object_held};
 use crate::searches::{Publication, Touch, publication_of, touch_of};
-use crate::steps::Step;
+use crate::steps::{Giving, Step};
 use std::alloc::{AllocError, Global};
 use std::marker::Model;
 
-/// The steps of a history, the oldest first, and which of them published, gave or took a handle, so that a chain is found without the steps between.
-/// Contracts see the steps.
+/// The steps of a history, the oldest first, and which of them published, gave or took a handle, so that a chain is found without the
+/// steps between; and the object of each handle that one gave. Contracts see the steps.
 #[derive(Drop)]
 pub struct Trail {
     steps: Vec<Step>,
     publications: Vec<Publication>,
     touches: Vec<Touch>,
+    /// For each step, the object of the handle that it gave.
+    objects: Vec<Option<u64>>,
 }
 
 impl Model for Trail {
     ghost use Rattle.std.specs.Prelude.{List};
     ghost use Rattle.drm_rights.specs.declared.steps.Step.{Step};
+    ghost use Rattle.drm_rights.specs.Objects.{AreObjects};
     ghost use Rattle.drm_rights.specs.Searches.{AreNoted, AreTouched};
 
     ghost Value = { List Step };
 
     ghost view = { λ t. t.steps.items };
 
-    ghost invariant = { λ t. AreNoted t.steps.items t.publications.items × AreTouched t.steps.items t.touches.items };
+    ghost invariant = { λ t. AreNoted t.steps.items t.publications.items × AreTouched t.steps.items t.touches.items × AreObjects t.steps.items t.objects.items };
 }
 
 impl Trail {
@@ -41,6 +47,7 @@ impl Trail {
             steps: Vec::new(alloc),
             publications: Vec::new(alloc),
             touches: Vec::new(alloc),
+            objects: Vec::new(alloc),
         }
     }
 
@@ -51,11 +58,42 @@ impl Trail {
         let past = self.steps.len();
         let publication = publication_of(step.published(), past);
         let touch = touch_of(&step, past);
+        let object = self.object_by(step.given());
         Ok(Trail {
             steps: with_item(self.steps, Some(step))?,
             publications: with_item(self.publications, publication)?,
             touches: with_item(self.touches, touch)?,
+            objects: with_item(self.objects, Some(object))?,
         })
+    }
+
+    /// The object of the handle that the next step gives, if it does.
+    fn object_by(&self, given: Option<Giving>) -> Option<u64>
+        ensures { IfSome given (λ giving. result ≡ objects.object_given (history_of self.now) (source_of giving.source)) }
+    {
+        object_given(
+            &self.steps,
+            &self.publications,
+            &self.touches,
+            &self.objects,
+            given?.source,
+        )
+    }
+
+    /// Returns the object of a client's handle after the first `count` steps, by the number of the step that created it. It returns
+    /// `None` if the client has no such handle then. Does not allocate.
+    pub fn object_of(&self, count: usize, client: u64, handle: u64) -> Option<u64>
+        ensures object { IfSome result (Has (history_of (take count self.now)) client handle) }
+        ensures none { IfNone result (IsOfDevice (history_of (take count self.now)) → HasNone (history_of (take count self.now)) client handle) }
+    {
+        object_held(
+            &self.steps,
+            &self.touches,
+            &self.objects,
+            count,
+            client,
+            handle,
+        )
     }
 
     /// The steps, the oldest first.
