@@ -7,7 +7,7 @@ mod RisingLemmas
 mod LendingLemmas
 mod LedgerLemmas
 mod HandleLemmas
-mod ObjectLemmas
+pub mod ObjectLemmas
 mod LeaseClientLemmas
 mod TrailLemmas
 mod TouchLemmas

@@ -1,16 +1,18 @@
 -- The objects of handles, step by step.
-use Rattle.std.proofs.Common.{◌≡◌, ℕ, ◌+◌, ◌==◌, ◌&&◌, nat_lt, Bool, true, false, cond, List, [], ◌∷◌, ◌++◌, Option, None, Some, IfNone, IfSome, get_or, length, option_map, take, refl, sym, ◌∙◌, ap, subst, arith}
+use Rattle.std.proofs.Common.{◌≡◌, ℕ, ◌+◌, ◌==◌, ◌&&◌, nat_lt, Bool, true, false, cond, List, [], ◌∷◌, ◌++◌, Option, None, Some, IfNone, IfSome, get_or, length, option_map, take, refl, sym, ◌∙◌, ap, subst, arith, eq-eqb}
 use Rattle.std.specs.Prelude.{slice_get}
 use Rattle.std.proofs.lemmas.Bool.Decides.{nat_tests}
 use Rattle.std.proofs.lemmas.List.{take_all, take-append-le, length-append}
 use Rattle.std.proofs.lemmas.Option.{get_or_from_slice_get, same_Some, slice_get-get_or, slice_get_within}
 use Rattle.std.proofs.Math.ListN.{get_or-append}
 use Rattle.std.proofs.Math.Seq.{get_or-append_seam}
-use Rattle.drm_history.specs.History.{AnsweredEvent}
+use Rattle.drm_history.specs.History.{AnsweredEvent, next_number}
 use Rattle.drm_history.specs.Steps.{Key, Source, Creation, Transfer, Giving, given, takes}
 use Rattle.drm_history.specs.Holds.{Has}
-use Rattle.drm_history.proofs.Told.{none_some, told_is_so, Held}
+use Rattle.drm_history.proofs.Told.{has_is_told, Held, Kept, none_some, told_is_so}
+use Rattle.drm_history.proofs.Runs.{agrees}
 use Rattle.drm_rights.specs.Chains.{HasNone, IsOfDevice}
+use Rattle.drm_rights.specs.Handles.{is_given_at}
 use Rattle.drm_rights.specs.Objects.{AreObjects, object_given, object_held, object_under}
 use Rattle.drm_rights.specs.Searches.{AreNoted, Gift, gift_or, last_gift, last_sharing, publication_in, sharing_by, source_for}
 use Rattle.drm_rights.specs.Steps.{entry_of, followed_by, givings_of, history_of, source_of}
@@ -57,6 +59,21 @@ held_is_had history c h (Some o) e = told_is_so history (Held c h) o (sym e)
 pub held_is_none : (history : List AnsweredEvent) (c h : ℕ) (found : Option ℕ) → found ≡ object_held history c h → IfNone found (IsOfDevice history → HasNone history c h)
 held_is_none history c h None e = has_none history c h (sym e)
 held_is_none history c h (Some o) e = tt
+
+kept : (history : List AnsweredEvent) → IsOfDevice history → Kept history
+kept history of_device = subst Kept (sym of_device.1) (agrees of_device.0).facts.held.kept
+
+-- a handle is of one object
+pub had_once : (history : List AnsweredEvent) (c h o p : ℕ) → IsOfDevice history → Has history c h o → Has history c h p → o ≡ p
+had_once history c h o p of_device one other = same_Some o p (sym (has_is_told o history c h (kept history of_device) one) ∙ has_is_told p history c h (kept history of_device) other)
+
+-- some step gave it, and no later one took it
+pub had_is_given : (history : List AnsweredEvent) (c h o : ℕ) → IsOfDevice history → Has history c h o → (s : ℕ) × (is_given_at (last_gift history c h) s ≡ true)
+had_is_given history c h o of_device has = of (last_gift history c h) (sym (told-last_gift history c h) ∙ has_is_told o history c h (kept history of_device) has)
+  where
+    of : (gift : Option Gift) → told_from_gift gift ≡ Some o → (s : ℕ) × (is_given_at gift s ≡ true)
+    of None e = none_some o e
+    of (Some g) e = (next_number g.past, eq-eqb (next_number g.past) (next_number g.past) refl)
 
 -- ---- one step more
 
