@@ -1,3 +1,4 @@
 pub mod ClosingLemmas
 pub mod WithinLemmas
 pub mod OpeningLemmas
+mod HoldLemmas

@@ -1,5 +1,6 @@
 -- Rows of an explanation.
-use Rattle.std.specs.Prelude.{◌≡◌, ℕ, ◌==◌, Bool, true, not, ◌&&◌, ◌||◌, List, [], ◌∷◌, ◌++◌, filter, Option, None, Some, IfSome, MatchOption, if◌then◌else◌}
+use Rattle.std.specs.Prelude.{◌≡◌, ℕ, ◌<◌, ◌==◌, Bool, true, not, ◌&&◌, ◌||◌, List, [], ◌∷◌, ◌++◌, filter, Option, None, Some, IfSome, MatchOption, if◌then◌else◌}
+use Rattle.std.specs.List.{AllByRecursion, list_any}
 use Rattle.std.specs.List.Sorted.{IsNonDecreasing}
 use Rattle.std.specs.Option.{is_some, option_map}
 use Rattle.drm_table.specs.declared.answers.Answer.{Answer}
@@ -9,13 +10,16 @@ use Rattle.drm_table.specs.declared.events.Event.TheVariants.{Open}
 use Rattle.drm_model.specs.Rows.{is_option}
 use Rattle.drm_modes.specs.Topology.{Topology, crtc_ids, plane_ids, is_primary_or_cursor}
 use Rattle.drm_history.specs.History.{AnsweredEvent}
+use Rattle.drm_history.specs.Holds.{Has}
 use Rattle.drm_lists.specs.Numbers.{is_among}
+use Rattle.drm_lists.specs.Orders.{InOrder}
 use Rattle.drm_authority.specs.Lessees.{top_in, lessor_in, has_ended}
 use Rattle.drm_authority.specs.Closings.{closes, has_closed}
 use Rattle.drm_authority.specs.Effects.{effect}
 use Rattle.drm_authority.specs.Magics.{is_root_in, known}
 use Rattle.drm_authority.specs.MasterState.{is_master_in, master_in}
 use Rattle.drm_authority.specs.Shown.{is_universal_in}
+use Rattle.drm_rights.specs.Chains.{IsOfDevice}
 use Rattle.drm_rights.specs.Leases.{lent_in}
 use Rattle.drm_rights.specs.Ledgers.{authentication_of, authentications_in, capabilities_in, capability_of, is_current_in, controls_in, lease_client_in, master_state_of, standings_in}
 use Rattle.drm_rights.specs.Passing.{first_step_after}
@@ -25,6 +29,7 @@ use Rattle.drm_explanations.specs.declared.rows.Authenticated.{Authenticated}
 use Rattle.drm_explanations.specs.declared.rows.AuthenticatedBy.{AuthenticatedBy}
 use Rattle.drm_explanations.specs.declared.rows.AuthenticatedBy.TheVariants.{Root, Master, AuthMagic}
 use Rattle.drm_explanations.specs.declared.rows.ClientRow.{ClientRow}
+use Rattle.drm_explanations.specs.declared.rows.HandleRow.{HandleRow}
 use Rattle.drm_explanations.specs.declared.rows.LeaseRow.{LeaseRow}
 use Rattle.drm_explanations.specs.declared.rows.StandingRow.{StandingRow}
 
@@ -69,8 +74,20 @@ pub record TellsStanding (history : List AnsweredEvent) (c : ℕ) (row : Standin
   pub owner : row.owner ≡ option_map (top_in history) (master_in history c)
   pub current : row.current ≡ is_current_in history c
 
+-- whether there is a row of a handle, with its object
+abbrev pub is_shown : List HandleRow → ℕ → ℕ → Bool
+is_shown rows h o = list_any (λ (row : HandleRow). (row.handle == h) && (row.object == o)) rows
+
+-- The rows of a client's handles: in rising order, each of a handle that the client has, with its object; and if the history is that
+-- of a device, each handle that the client has is shown.
+pub record TellsHolds (history : List AnsweredEvent) (c : ℕ) (rows : List HandleRow) : Type 0 where
+  pub rising : InOrder (λ (x y : HandleRow). x.handle < y.handle) rows
+  pub had : AllByRecursion (λ (row : HandleRow). Has history c row.handle row.object) rows
+  pub each : IsOfDevice history → (h o : ℕ) → Has history c h o → is_shown rows h o ≡ true
+
 -- The row of an open client reports what the history says. It is reported to be authenticated exactly if it is, with the reason and
--- the step, to have universal planes on or off and a standing exactly if a step has said so, and to be able to set what it may set.
+-- the step, to have universal planes on or off and a standing exactly if a step has said so, to be able to set what it may set, and to
+-- hold what it holds.
 pub record TellsOpen (t : Topology) (history : List AnsweredEvent) (row : ClientRow) : Type 0 where
   pub is_authenticated : is_some row.authenticated ≡ known history row.client
   pub has_universal_planes : is_some row.universal_planes ≡ is_some (capability_of (capabilities_in history) row.client)
@@ -79,6 +96,7 @@ pub record TellsOpen (t : Topology) (history : List AnsweredEvent) (row : Client
   pub universal_planes : IfSome row.universal_planes (λ told. told.on ≡ is_universal_in history row.client)
   pub standing : IfSome row.standing (TellsStanding history row.client)
   pub may_set : row.may_set.items ≡ settable t history row.client
+  pub holds : TellsHolds history row.client row.holds.items
 
 -- nothing but who the client was
 pub record TellsNothing (row : ClientRow) : Type 0 where

@@ -109,7 +109,7 @@ fn client_row(
         universal_planes: universal_row(ledger, client),
         standing: standing_row(ledger, client),
         may_set: settable(alloc, ledger, topology, client)?,
-        holds: holds_of(alloc, ledger, fronts, client)?,
+        holds: holds_of(alloc, ledger.trail(), fronts, client)?,
         ..row
     })
 }

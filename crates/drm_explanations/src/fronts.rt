@@ -7,12 +7,11 @@ use std::alloc::{AllocError, Global};
 /// How many of the last links of a chain its row has in any case.
 const KEPT: usize = 4;
 
-/// The row that has the link of a step, and the object that the step gave.
+/// The row that has the link of a step.
 #[derive(Clone, Copy)]
 struct Place {
     client: u64,
     handle: u64,
-    object: u64,
 }
 
 /// Which steps are links of a row already, and of which, for each step.
@@ -49,14 +48,6 @@ impl Fronts {
         *self.places.get(place_of(step))?
     }
 
-    /// The object of a chain: of its first link, or of the step of an earlier row.
-    pub(crate) fn object_of(&self, end: &ChainEnd) -> Option<u64> {
-        match &end.left {
-            Some(left) => Some(self.at(left.step)?.object),
-            None => Some(end.links.last()?.step),
-        }
-    }
-
     /// The row that has the first links of a chain, if they are left out.
     pub(crate) fn front_of(&self, end: &ChainEnd) -> Option<FrontRow> {
         let left = end.left.as_ref()?;
@@ -81,12 +72,8 @@ impl Fronts {
     }
 
     /// Notes the links that the row of a handle has.
-    pub(crate) fn note(&mut self, client: u64, handle: u64, object: u64, links: &[Link]) {
-        let place = Place {
-            client,
-            handle,
-            object,
-        };
+    pub(crate) fn note(&mut self, client: u64, handle: u64, links: &[Link]) {
+        let place = Place { client, handle };
         for link in links {
             self.mark(link, place);
         }

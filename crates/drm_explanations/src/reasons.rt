@@ -1,6 +1,6 @@
 //! Why a client is what it is, and has the handles that it has.
 
-ghost use Rattle.std.specs.Prelude.{◌≡◌, true, IfSome};
+ghost use Rattle.std.specs.Prelude.{◌≡◌, true, IfOk, IfSome};
 ghost use Rattle.std.specs.Option.{is_some};
 ghost use Rattle.drm_authority.specs.Magics.{known};
 ghost use Rattle.drm_rights.specs.Ledgers.{capabilities_in, capability_of, master_state_of, standings_in};
@@ -17,7 +17,7 @@ use crate::rows::{
     Authenticated, AuthenticatedBy, HandleRow, LinkRow, PublishedBy, PublishedRow, StandingRow,
     UniversalRow,
 };
-use drm_rights::{ChainEnd, Effect, Key, Ledger, Link, Origin, Step, handles_of};
+use drm_rights::{Effect, Held, Key, Ledger, Link, Origin, Step, Trail, handles_of};
 use std::alloc::{AllocError, Global};
 
 /// Whether a step is a client's closing, carried out.
@@ -140,46 +140,50 @@ fn count_to(number: u64) -> usize {
     usize::try_from(number).unwrap_or(usize::MAX)
 }
 
-/// The row of a client's handle, by the end of its chain, whose links are noted.
+/// Returns the row of a handle of a client, and notes the links of its chain.
 fn hold_row(
     alloc: Global,
-    steps: &[Step],
+    trail: &Trail,
     fronts: &mut Fronts,
     client: u64,
-    handle: u64,
-    end: &ChainEnd,
-) -> Result<Option<HandleRow>, AllocError> {
-    let Some(object) = fronts.object_of(end) else {
-        return Ok(None);
-    };
-    let front = fronts.front_of(end);
-    let links = end.links.as_slice();
-    fronts.note(client, handle, object, links);
-    Ok(Some(HandleRow {
+    held: Held,
+    object: u64,
+) -> Result<HandleRow, AllocError>
+    ensures handle { IfOk result (λ row. row.handle ≡ held.handle) }
+    ensures object { IfOk result (λ row. row.object ≡ object) }
+{
+    let Held { handle, step } = held;
+    let mut row = HandleRow {
         handle,
         object,
-        front,
-        chain: chain_rows(alloc, steps, links)?,
-    }))
+        front: None,
+        chain: Vec::new(alloc),
+    };
+    let end = trail.chain_end_of(alloc, count_to(step), client, handle, fronts.marks())?;
+    if let Some(end) = end {
+        let links = end.links.as_slice();
+        row.front = fronts.front_of(&end);
+        row.chain = chain_rows(alloc, trail.steps(), links)?;
+        fronts.note(client, handle, links);
+    }
+    Ok(row)
 }
 
-/// The client's handles, each with its chain, which ends in the step that gave it.
+/// Returns a row for each handle of a client, in rising order, with its object and the end of its chain.
 pub(crate) fn holds_of(
     alloc: Global,
-    ledger: &Ledger,
+    trail: &Trail,
     fronts: &mut Fronts,
     client: u64,
-) -> Result<Vec<HandleRow>, AllocError> {
-    let steps = ledger.steps();
-    let trail = ledger.trail();
+) -> Result<Vec<HandleRow>, AllocError>
+    ensures { IfOk result (λ told. rows.TellsHolds (history_of trail.now) client told.items) }
+{
+    let steps = trail.steps();
+    let held = handles_of(alloc, steps, client)?;
     let mut rows = Vec::new(alloc);
-    for held in &handles_of(alloc, steps, client)? {
-        let past = count_to(held.step);
-        let handle = held.handle;
-        if let Some(end) = trail.chain_end_of(alloc, past, client, handle, fronts.marks())? {
-            if let Some(row) = hold_row(alloc, steps, fronts, client, handle, &end)? {
-                rows.push(row)?;
-            }
+    for one in &held {
+        if let Some(object) = trail.object_of(steps.len(), client, one.handle) {
+            rows.push(hold_row(alloc, trail, fronts, client, *one, object)?)?;
         }
     }
     Ok(rows)
