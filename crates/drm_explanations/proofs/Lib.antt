@@ -2,3 +2,4 @@ pub mod ClosingLemmas
 pub mod WithinLemmas
 pub mod OpeningLemmas
 mod HoldLemmas
+mod LeaseRowLemmas

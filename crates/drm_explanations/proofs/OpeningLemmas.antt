@@ -19,7 +19,7 @@ opened_more : (only : Option ℕ) (steps : List Step) (n : ℕ) (step : Step) �
 unfolding clients_in
 opened_more only steps n step within is = ap (clients_in only) (history-more steps n step within is)
 
-map_append : {X Y : Type 0} (f : X → Y) (xs ys : List X) → map f (xs ++ ys) ≡ map f xs ++ map f ys
+pub map_append : {X Y : Type 0} (f : X → Y) (xs ys : List X) → map f (xs ++ ys) ≡ map f xs ++ map f ys
 map_append f [] ys = refl
 map_append f (x ∷ xs) ys = ap (λ l. f x ∷ l) (map_append f xs ys)
 

@@ -1,11 +1,12 @@
 -- What a history notes is noted of its steps, so that each step that is reported is found.
-use Rattle.std.proofs.Common.{◌≡◌, ℕ, ◌+◌, ◌<◌, ◌≤◌, ◌==◌, Bool, true, false, cond, ◌&&◌, ◌||◌, List, [], ◌∷◌, ◌++◌, length, Option, None, Some, option_to_list, reverse, refl, sym, ◌∙◌, ap, subst, arith}
+use Rattle.std.proofs.Common.{◌≡◌, ℕ, ◌+◌, ◌<◌, ◌≤◌, ◌==◌, Bool, true, false, cond, ◌&&◌, ◌||◌, List, [], ◌∷◌, ◌++◌, get_or, length, Option, None, Some, option_to_list, reverse, refl, sym, ◌∙◌, ap, subst, arith}
 use Rattle.std.specs.Prelude.{IfSome, nat_le}
 use Rattle.std.specs.List.{AllByRecursion, list_any}
-use Rattle.std.specs.Option.{is_some}
+use Rattle.std.specs.Option.{is_some, option_map, option_or}
 use Rattle.std.proofs.lemmas.Bool.{eqb-true}
 use Rattle.std.proofs.lemmas.Bool.Decides.{nat_tests}
 use Rattle.std.proofs.lemmas.List.{reverse-append}
+use Rattle.std.proofs.lemmas.List.Elements.{All-from_recursion, All-get_or}
 use Rattle.drm_lists.proofs.Found.{all_found, is_some-find}
 use Rattle.drm_lists.proofs.Lists.{all_append}
 use Rattle.drm_history.specs.History.{AnsweredEvent, next_number}
@@ -15,12 +16,17 @@ use Rattle.drm_model.specs.Rows.{is_option}
 use Rattle.drm_authority.specs.Magics.{is_named_by, is_named_in, is_root_by, is_root_in, magic_in}
 use Rattle.drm_authority.specs.MasterState as standings
 use Rattle.drm_authority.specs.MasterState.{caller_master_in, lease_in}
+use Rattle.drm_authority.specs.Lessees.{ends}
+use Rattle.drm_rights.specs.Leases.{ended_at, leases_in, new_lease}
 use Rattle.drm_rights.specs.Ledgers.{authenticated_by, authentication_of, authentications_in, capabilities_in, capability_of, is_named_noted, master_state_of, new_authentication, new_capability, new_master_state, noted, opened, standings_in}
 use Rattle.drm_rights.specs.Steps.{entry_of, followed_by, history_of}
 use Rattle.drm_rights.specs.declared.steps.Step.{Step}
 use Rattle.drm_rights.specs.declared.notes.Authentication.{Authentication}
 use Rattle.drm_rights.specs.declared.notes.Capability.{Capability}
+use Rattle.drm_rights.specs.declared.notes.Lease.{Lease}
 use Rattle.drm_rights.specs.declared.notes.MasterState.{MasterState}
+use Rattle.drm_explanations.specs.Rows.{is_step}
+use Rattle.drm_explanations.specs.declared.rows.At.{At}
 
 -- a number is that of one of so many steps
 abbrev pub IsStep : ℕ → ℕ → Type 0
@@ -194,3 +200,39 @@ not_missing steps history n e h lost =
     let found = in_range (length steps) n (h.0, (let within = h.1 in omega (arith, size, within))) in
     let no : false ≡ true = lost ∙ found in
     cc
+
+-- ---- leases
+
+new_leased : (e : told.Effect) (past : List AnsweredEvent) → IfSome (new_lease e past) (λ (l : Lease). l.master ≡ next_number past)
+new_leased (told.Leases c ids lessee token) past = refl
+new_leased _ past = tt
+
+pub leases_within : (history : List AnsweredEvent) → AllSteps (λ (l : Lease). l.master) (length history) (leases_in history)
+unfolding leases_in
+leases_within [] = tt
+leases_within (step ∷ past) =
+    let here = one_more (λ (l : Lease). l.master) past (leases_in past) (new_lease (effect step) past) (leases_within past) (new_leased (effect step) past) in
+    subst (λ k. AllSteps (λ (l : Lease). l.master) k (leases_in past ++ option_to_list (new_lease (effect step) past))) (omega arith) here
+
+end_or : (past : List AnsweredEvent) (older : Option ℕ) (b : Bool) → IfSome older (IsStep (length past)) → IfSome (option_or older (cond b (Some (next_number past)) None)) (IsStep (length past + 1))
+end_or past (Some n) b h = (h.0, (let within = h.1 in omega (arith, within)))
+end_or past None true h = (omega arith, omega arith)
+end_or past None false h = tt
+
+pub end_within : (history : List AnsweredEvent) (m : ℕ) → IfSome (ended_at history m) (IsStep (length history))
+unfolding ended_at
+end_within [] m = tt
+end_within (step ∷ past) m = subst (λ k. IfSome (option_or (ended_at past m) (cond (ends step past m) (Some (next_number past)) None)) (IsStep k)) (omega arith) (end_or past (ended_at past m) (ends step past m) (end_within past m))
+
+-- the number of a step that is reported, or isn't there
+pub step_found : (steps : List Step) (history : List AnsweredEvent) (n : ℕ) (b : Bool) → history_of steps ≡ history → b ≡ (nat_le 1 n && nat_le n (length steps)) → is_step history n ≡ b
+step_found steps history n b e found = sym (found ∙ ap (λ k. nat_le 1 n && nat_le n k) (steps_of steps history e))
+
+pub lease_is_step : (history : List AnsweredEvent) (n : ℕ) (d : Lease) → n < length (leases_in history) → is_step history (get_or (leases_in history) n d).master ≡ true
+lease_is_step history n d within = in_range (length history) (get_or (leases_in history) n d).master (All-get_or (λ (l : Lease). IsStep (length history) l.master) (leases_in history) n d within (All-from_recursion (λ (l : Lease). IsStep (length history) l.master) (leases_in history) (leases_within history)))
+
+-- a step that is there is reported by its number
+pub step_reported : (steps : List Step) (history : List AnsweredEvent) (n : ℕ) (found : Option At) → history_of steps ≡ history → IsStep (length history) n → IfSome found (λ (told : At). told.step ≡ n)
+    → is_some found ≡ (nat_le 1 n && nat_le n (length steps)) → option_map (λ (told : At). told.step) found ≡ Some n
+step_reported steps history n None e h is numbers = absurd (not_missing steps history n e h numbers)
+step_reported steps history n (Some told) e h is numbers = ap Some is

@@ -1,5 +1,5 @@
 -- Rows of an explanation.
-use Rattle.std.specs.Prelude.{◌≡◌, ℕ, ◌<◌, ◌==◌, Bool, true, not, ◌&&◌, ◌||◌, List, [], ◌∷◌, ◌++◌, filter, Option, None, Some, IfSome, MatchOption, if◌then◌else◌}
+use Rattle.std.specs.Prelude.{◌≡◌, ℕ, ◌<◌, ◌==◌, Bool, true, not, ◌&&◌, ◌||◌, nat_le, length, List, [], ◌∷◌, ◌++◌, filter, Option, None, Some, IfSome, MatchOption, if◌then◌else◌}
 use Rattle.std.specs.List.{AllByRecursion, list_any}
 use Rattle.std.specs.List.Sorted.{IsNonDecreasing}
 use Rattle.std.specs.Option.{is_some, option_map}
@@ -20,11 +20,13 @@ use Rattle.drm_authority.specs.Magics.{is_root_in, known}
 use Rattle.drm_authority.specs.MasterState.{is_master_in, master_in}
 use Rattle.drm_authority.specs.Shown.{is_universal_in}
 use Rattle.drm_rights.specs.Chains.{IsOfDevice}
-use Rattle.drm_rights.specs.Leases.{lent_in}
+use Rattle.drm_rights.specs.Leases.{ended_at, lent_in}
 use Rattle.drm_rights.specs.Ledgers.{authentication_of, authentications_in, capabilities_in, capability_of, is_current_in, controls_in, lease_client_in, master_state_of, standings_in}
 use Rattle.drm_rights.specs.Passing.{first_step_after}
 use Rattle.drm_rights.specs.declared.notes.Authentication.{Authentication}
+use Rattle.drm_rights.specs.declared.notes.Lease.{Lease}
 use Rattle.drm_rights.specs.declared.notes.MasterState.{MasterState}
+use Rattle.drm_explanations.specs.declared.rows.At.{At}
 use Rattle.drm_explanations.specs.declared.rows.Authenticated.{Authenticated}
 use Rattle.drm_explanations.specs.declared.rows.AuthenticatedBy.{AuthenticatedBy}
 use Rattle.drm_explanations.specs.declared.rows.AuthenticatedBy.TheVariants.{Root, Master, AuthMagic}
@@ -136,11 +138,24 @@ pub record TellsClient (t : Topology) (history : List AnsweredEvent) (row : Clie
   pub closed : row.closed ≡ closed_step history row.client
   pub rest : MatchOption row.closed (TellsOpen t history row) (λ step. (has_closed history row.client ≡ true) × TellsNothing row)
 
--- The row of a lease reports what the history says: whose lessee it is, what its step lent it, in rising order, which client
--- redeemed it, and that it has ended if it is reported to have.
+-- whether the history has the step of a number
+abbrev pub is_step : List AnsweredEvent → ℕ → Bool
+is_step history n = nat_le 1 n && nat_le n (length history)
+
+-- a lease's lessee, which is named by the step that made it, the lessee's id, and the token
+abbrev pub names_of : Lease → ℕ × ℕ × ℕ
+names_of lease = (lease.master, lease.id, lease.token)
+
+abbrev pub names_of_row : LeaseRow → ℕ × ℕ × ℕ
+names_of_row row = (row.master, row.lessee_id, row.token)
+
+-- The row of a lease reports what the history says: which step made it, whose lessee it is, what its step lent it, in rising order,
+-- which client redeemed it, and the step that ended it if it has ended.
 pub record TellsLease (t : Topology) (history : List AnsweredEvent) (row : LeaseRow) : Type 0 where
   pub lessor : row.lessor ≡ lessor_in history row.master
   pub mode_objects : (x : ℕ) → is_among row.mode_objects.items x ≡ lent_in t history row.master x
   pub rising : IsNonDecreasing row.mode_objects.items
   pub redeemed_by : row.redeemed_by ≡ lease_client_in history row.master
   pub ended : IfSome row.ended (λ _. has_ended history row.master ≡ true)
+  pub leased : row.leased.step ≡ row.master
+  pub ended_by : option_map (λ (told : At). told.step) row.ended ≡ ended_at history row.master

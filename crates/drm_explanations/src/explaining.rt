@@ -2,6 +2,7 @@
 
 ghost use Rattle.std.specs.Prelude.{◌≡◌, IfOk, All, map};
 ghost use Rattle.drm_authority.specs.MasterState.{owner_in};
+ghost use Rattle.drm_rights.specs.Leases.{leases_in};
 ghost use Rattle.drm_explanations.specs.Rows as rows;
 
 use crate::clients::client_rows;
@@ -26,6 +27,7 @@ pub fn explain(
     ensures clients { IfOk result (λ told. All (rows.TellsClient topology.now ledger.now) told.clients.items) }
     ensures openings { IfOk result (λ told. map (λ row. row.client) told.clients.items ≡ rows.clients_in only ledger.now) }
     ensures leases { IfOk result (λ told. All (rows.TellsLease topology.now ledger.now) told.leases.items) }
+    ensures leased { IfOk result (λ told. map rows.names_of_row told.leases.items ≡ map rows.names_of (leases_in ledger.now)) }
 {
     let steps = ledger.steps();
     Ok(Explanation {

@@ -1,6 +1,9 @@
 //! Rows of leases.
 
-ghost use Rattle.std.specs.Prelude.{IfOk, IfSome, All};
+ghost use Rattle.std.specs.Prelude.{◌≡◌, true, IfOk, IfSome, All, None, Some, map, if◌then◌else◌};
+ghost use Rattle.std.specs.Option.{option_map};
+ghost use Rattle.drm_authority.specs.Lessees.{has_ended};
+ghost use Rattle.drm_rights.specs.Leases.{ended_at, leases_in};
 ghost use Rattle.drm_explanations.specs.Rows as rows;
 
 use crate::names::at;
@@ -9,6 +12,15 @@ use drm_modes::Topology;
 use drm_rights::{Lease, Ledger};
 use std::alloc::{AllocError, Global};
 
+/// Returns the step that ended a lease; none where it has not ended.
+fn ended_row(ledger: &Ledger, master: u64) -> Option<At>
+    ensures step { option_map (λ told. told.step) result ≡ ended_at ledger.now master }
+    ensures ended { IfSome result (λ _. has_ended ledger.now master ≡ true) }
+{
+    let step = ledger.ended(master)?;
+    at(ledger.steps(), step)
+}
+
 /// The row of a lease; none where no step made it.
 fn row_of(
     alloc: Global,
@@ -16,13 +28,12 @@ fn row_of(
     topology: &Topology,
     lease: &Lease,
 ) -> Result<Option<LeaseRow>, AllocError>
-    ensures { IfOk result (λ row. IfSome row (rows.TellsLease topology.now ledger.now)) }
+    ensures tells { IfOk result (λ row. IfSome row (rows.TellsLease topology.now ledger.now)) }
+    ensures names { IfOk result (λ row. option_map rows.names_of_row row ≡ (if rows.is_step ledger.now lease.now.master then Some (rows.names_of lease.now) else None)) }
 {
-    let steps = ledger.steps();
-    let Some(leased) = at(steps, lease.master) else {
+    let Some(leased) = at(ledger.steps(), lease.master) else {
         return Ok(None);
     };
-    let ended: Option<At> = ledger.ended(lease.master).and_then(|step| at(steps, step));
     Ok(Some(LeaseRow {
         master: lease.master,
         lessee_id: lease.id,
@@ -31,7 +42,7 @@ fn row_of(
         token: lease.token,
         mode_objects: ledger.leased(alloc, topology, lease.master)?,
         redeemed_by: ledger.lease_client(lease.master),
-        ended,
+        ended: ended_row(ledger, lease.master),
     }))
 }
 
@@ -41,7 +52,8 @@ pub(crate) fn lease_rows(
     ledger: &Ledger,
     topology: &Topology,
 ) -> Result<Vec<LeaseRow>, AllocError>
-    ensures { IfOk result (λ told. All (rows.TellsLease topology.now ledger.now) told.items) }
+    ensures tells { IfOk result (λ told. All (rows.TellsLease topology.now ledger.now) told.items) }
+    ensures names { IfOk result (λ told. map rows.names_of_row told.items ≡ map rows.names_of (leases_in ledger.now)) }
 {
     let mut rows = Vec::new(alloc);
     for lease in ledger.leases() {
