@@ -1,2 +1,3 @@
 pub mod Leases
+pub mod Reports
 pub mod Withdrawals

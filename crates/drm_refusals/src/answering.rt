@@ -1,5 +1,15 @@
 //! Explaining the answer of a line.
 
+ghost use Rattle.std.specs.Prelude.{◌≡◌, IfOk, None, Some, is_none};
+ghost use Rattle.std.specs.Option.{option_map};
+ghost use Rattle.drm_model.specs.Run.{DeviceValue, journaled_in, rows_of};
+ghost use Rattle.drm_model.specs.Verdict.{verdict};
+ghost use Rattle.drm_table.specs.Rules.{apart_number, rule_number};
+ghost use Rattle.drm_table.specs.declared.events.Event.{Event};
+ghost use Rattle.drm_table.specs.declared.rules.Rule.{Rule};
+ghost use Rattle.drm_history.specs.History as past;
+ghost use Rattle.drm_refusals.specs.Reports as reports;
+
 use crate::denials::reasons;
 use crate::remedies::{remedy, remedy_apart};
 use crate::room::full_journal;
@@ -44,7 +54,13 @@ fn apart_row(
     scene: Scene<'_>,
     line: Line,
     apart: Apart,
-) -> Result<AnswerRow, AllocError> {
+) -> Result<AnswerRow, AllocError>
+    ensures rule { IfOk result (λ row. row.rule ≡ Some (apart_number apart)) }
+    ensures step { IfOk result (λ row. row.asked ≡ None) }
+    ensures carried_out { IfOk result (λ row. row.is_carried_out ≡ is_none row.rule) }
+    ensures line { IfOk result (λ row. row.line ≡ line.number) }
+    ensures answer { IfOk result (λ row. row.answer ≡ line.answer) }
+{
     let mut text = String::new(alloc);
     if apart == Apart::JournalFull {
         full_journal(scene, &mut text)?;
@@ -67,7 +83,13 @@ fn step_row(
     scene: Scene<'_>,
     line: Line,
     step: &Step,
-) -> Result<AnswerRow, AllocError> {
+) -> Result<AnswerRow, AllocError>
+    ensures rule { IfOk result (λ row. row.rule ≡ option_map rule_number (reports.denied_by step.now.answer)) }
+    ensures step { IfOk result (λ row. option_map (λ told. told.step) row.asked ≡ reports.last_number scene.entry.ledger.now) }
+    ensures carried_out { IfOk result (λ row. row.is_carried_out ≡ is_none row.rule) }
+    ensures line { IfOk result (λ row. row.line ≡ line.number) }
+    ensures answer { IfOk result (λ row. row.answer ≡ line.answer) }
+{
     let steps = scene.ledger.steps();
     let label = caller_of(step).and_then(|client| Name::of(scene.labels, client).label());
     let mut row = AnswerRow {
@@ -91,9 +113,12 @@ fn step_row(
     Ok(row)
 }
 
-/// Why a line was answered as it was: of a denial which rule failed, the facts of the history that made it so, and what would have
-/// let it pass. The line is the last step that the ledger noted, or stands apart behind all of them. Where memory is refused there
-/// is no row.
+/// Returns why a line was answered as it was. Of a denial it returns the rule that failed, the facts of the history that made it fail, and
+/// what would have let it pass. The line is the last step of the ledger, or a fault after all of them (`line.apart`).
+///
+/// # Errors
+///
+/// `AllocError` if memory is refused. There is no row then.
 pub fn explain_answer(
     alloc: Global,
     ledger: &Ledger,
@@ -101,7 +126,14 @@ pub fn explain_answer(
     labels: &Labels,
     limits: Limits,
     line: Line,
-) -> Result<AnswerRow, AllocError> {
+) -> Result<AnswerRow, AllocError>
+    ensures rule { IfOk result (λ row. row.rule ≡ reports.rule_reported line.apart ledger.now) }
+    ensures denial { IfOk result (λ row. (h : DeviceValue) (event : Event) (rule : Rule) → line.apart ≡ None → ledger.now ≡ past.history_of (journaled_in h event) → verdict (rows_of h) event ≡ Some rule → row.rule ≡ Some (rule_number rule)) }
+    ensures step { IfOk result (λ row. option_map (λ told. told.step) row.asked ≡ reports.step_reported line.apart ledger.now) }
+    ensures carried_out { IfOk result (λ row. row.is_carried_out ≡ is_none row.rule) }
+    ensures line { IfOk result (λ row. row.line ≡ line.number) }
+    ensures answer { IfOk result (λ row. row.answer ≡ line.answer) }
+{
     let only = ledger
         .steps()
         .last()
@@ -115,10 +147,12 @@ pub fn explain_answer(
         labels,
         limits,
     };
-    match (line.apart, ledger.steps().last()) {
-        (None, Some(step)) => step_row(alloc, scene, line, step),
-        (Some(apart), _) => apart_row(alloc, scene, line, apart),
-        (None, None) => apart_row(alloc, scene, line, Apart::NoMemory),
+    match line.apart {
+        Some(apart) => apart_row(alloc, scene, line, apart),
+        None => match ledger.steps().last() {
+            Some(step) => step_row(alloc, scene, line, step),
+            None => apart_row(alloc, scene, line, Apart::NoMemory),
+        },
     }
 }
 

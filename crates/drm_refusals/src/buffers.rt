@@ -77,20 +77,6 @@ pub(crate) fn no_handle(
     held_line(alloc, scene, client, text)
 }
 
-/// The object that a client's handle was of after the first steps, so many, by the step that made it.
-pub(crate) fn object_of(
-    alloc: Global,
-    trail: &Trail,
-    count: usize,
-    client: u64,
-    handle: u64,
-) -> Result<Option<u64>, AllocError> {
-    let Some(links) = trail.chain_of(alloc, count, client, handle)? else {
-        return Ok(None);
-    };
-    Ok(links.last().map(|link| link.step))
-}
-
 /// Whether a step gave back a handle of an object, which stood behind so many others.
 fn gives_back(
     alloc: Global,
@@ -102,14 +88,13 @@ fn gives_back(
     match (&step.event, &step.answer) {
         (Event::Ask(client, Call::GemClose { handle }), Answer::Done)
         | (Event::Ask(client, Call::DestroyDumb { handle }), Answer::Done) => {
-            let of = object_of(alloc, trail, before, u64::from(*client), u64::from(*handle))?;
+            let of = trail.object_of(before, u64::from(*client), u64::from(*handle));
             Ok(of == Some(object))
         }
         (Event::Close(client), Answer::Closed) => {
             let client = u64::from(*client);
             for held in &handles_of(alloc, first_steps(trail.steps(), before), client)? {
-                let past = usize::try_from(held.step).unwrap_or(before);
-                if object_of(alloc, trail, past, client, held.handle)? == Some(object) {
+                if trail.object_of(before, client, held.handle) == Some(object) {
                     return Ok(true);
                 }
             }
@@ -144,7 +129,7 @@ pub(crate) fn no_name(
         return writeln!(text, "no buffer has name {name}: no step gave one that");
     };
     let trail = scene.ledger.trail();
-    let Some(object) = object_of(alloc, trail, named.past, named.client, named.handle)? else {
+    let Some(object) = trail.object_of(named.past, named.client, named.handle) else {
         return Ok(());
     };
     let by = scene.name(named.client);

@@ -190,7 +190,7 @@ fn by_call(
         Rule::NoMagic => no_magic(scene, client, call, text),
         Rule::NoModeObject => no_mode_object(alloc, scene, client, call, text),
         Rule::NoFb => framebuffer_of(scene, call, text),
-        Rule::BadSize => bad_size(alloc, scene, client, call, text),
+        Rule::BadSize => bad_size(scene, client, call, text),
         Rule::BadRoute => bad_route(scene, call, text),
         Rule::BadCap => bad_cap(call, text),
         Rule::Full => full(alloc, scene, client, call, text),

@@ -1,10 +1,9 @@
 //! Numbers that are out of their ranges.
 
-use crate::buffers::object_of;
 use crate::scene::Scene;
 use drm_rights::step_at;
 use drm_table::{Answer, Call};
-use std::alloc::{AllocError, Global};
+use std::alloc::AllocError;
 
 /// The greatest size of a buffer in bytes, width and height in pixels, and bits of a pixel.
 const MOST_BYTES: u64 = 68_719_476_736;
@@ -28,30 +27,19 @@ fn shape(width: u32, height: u32, bpp: u32, text: &mut String) -> Result<(), All
 }
 
 /// The bytes of the buffer that a client's handle is of.
-fn size_of(
-    alloc: Global,
-    scene: Scene<'_>,
-    client: u64,
-    handle: u32,
-) -> Result<Option<u64>, AllocError> {
+fn size_of(scene: Scene<'_>, client: u64, handle: u32) -> Option<u64> {
     let steps = scene.ledger.steps();
     let trail = scene.ledger.trail();
-    let Some(object) = object_of(alloc, trail, steps.len(), client, u64::from(handle))? else {
-        return Ok(None);
-    };
-    let Some(made) = step_at(steps, object) else {
-        return Ok(None);
-    };
-    match &made.answer {
-        Answer::Buffer { size, .. } => Ok(Some(*size)),
-        Answer::Dumb { size, .. } => Ok(Some(*size)),
-        _ => Ok(None),
+    let object = trail.object_of(steps.len(), client, u64::from(handle))?;
+    match &step_at(steps, object)?.answer {
+        Answer::Buffer { size, .. } => Some(*size),
+        Answer::Dumb { size, .. } => Some(*size),
+        _ => None,
     }
 }
 
 /// Puts where a framebuffer's lines don't fit its pixels, or its buffer.
 fn lines_fit(
-    alloc: Global,
     scene: Scene<'_>,
     client: u64,
     call: &Call,
@@ -75,7 +63,7 @@ fn lines_fit(
         )?;
     }
     let wanted = u64::from(*pitch).saturating_mul(u64::from(*height));
-    match size_of(alloc, scene, client, *handle)? {
+    match size_of(scene, client, *handle) {
         Some(size) if wanted > size => {
             writeln!(
                 text,
@@ -88,7 +76,6 @@ fn lines_fit(
 
 /// Puts which numbers of a call are out of their ranges.
 pub(crate) fn bad_size(
-    alloc: Global,
     scene: Scene<'_>,
     client: u64,
     call: &Call,
@@ -106,7 +93,7 @@ pub(crate) fn bad_size(
             ..
         } => {
             shape(*width, *height, *bpp, text)?;
-            lines_fit(alloc, scene, client, call, text)
+            lines_fit(scene, client, call, text)
         }
         _ => Ok(()),
     }
