@@ -11,6 +11,8 @@ mod asking;
 #[cfg(test)]
 mod examples;
 #[cfg(test)]
+mod first_at_fault;
+#[cfg(test)]
 mod frames;
 #[cfg(test)]
 mod handles;

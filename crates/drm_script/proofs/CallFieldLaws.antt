@@ -1,7 +1,8 @@
 -- Fields are read from just the words that spell them.
 use Rattle.std.proofs.Common.{◌≡◌, ℕ, suc, ◌≤◌, lit≤, List, [], ◌∷◌, ◌++◌, All, length, refl, sym, ap, subst, ◌∙◌, arith, Some, None, Bool, true, false, cond}
-use Rattle.std.specs.Prelude.{map, nat_le, replicate}
+use Rattle.std.specs.Prelude.{map, min, replicate}
 use Rattle.std.proofs.lemmas.Bool.Decides.{nat_tests}
+use Rattle.std.proofs.Math.Nat.{min-le_right, min-eq_left}
 use Rattle.std.proofs.lemmas.List.{append-nil, length-map, length-replicate}
 use Rattle.drm_table.specs.declared.fields.Width.{Width}
 use Rattle.drm_table.specs.declared.fields.Width.TheVariants as widths
@@ -10,7 +11,7 @@ use Rattle.drm_table.specs.declared.fields.Field.TheVariants as fields
 use Rattle.drm_table.specs.Fields.{Layout, FitsField, FitsLayout, IsShort, width_of, read_each}
 use Rattle.drm_table.specs.Fields.Layout.{numbers, ids}
 use Rattle.drm_table.proofs.Readers.{each-by, none-fit, all-fit}
-use Rattle.drm_script.specs.Fields.{Words, field_at, numbers_at, few_words, fields_at}
+use Rattle.drm_script.specs.Fields.{Words, field_at, numbers_at, id_count, fields_at}
 use Rattle.drm_script.specs.Grammar.{Part, Spells, SpellEach, field_part}
 use Rattle.drm_script.proofs.FieldLaws.{some_same, bind_some, end_bind, number_bind, number_at_some, number32_at_some}
 
@@ -74,21 +75,17 @@ numbers_were vs ws fs e =
     subst (λ (xs : List Field). AreSpelled vs ws xs) (some_same a.step.0 fs z.1)
     (record { spells = subst (λ (x : Words). SpellEach (map field_part a.step.0) x) words were.spells; widths = were.widths; fits = were.fits })
 
-few_case : (b : Bool) (n count : ℕ) → nat_le n 32 ≡ b → cond b (Some n) None ≡ Some count → (n ≤ 32) × (n ≡ count)
-few_case true n count t e = (grind (arith, nat_tests), some_same n count e)
-few_case false n count t e = absurd (cc)
-
 pub fields_were : (layout : Layout) (ws : Words) (fs : List Field) → IsShort layout → fields_at layout ws ≡ Some fs → SpellEach (map field_part fs) ws × FitsLayout layout fs
 unfolding fields_at
 fields_were (numbers vs) ws fs few e =
     let are = numbers_were vs ws fs e in
     (are.spells, record { widths = are.widths; few = omega (arith, length-map fs width_of, ap length are.widths); each = are.fits })
 fields_were ids ws fs few e =
-    let a = bind_some (few_words ws) _ fs e in
-    let count = few_case (nat_le (length ws) 32) (length ws) a.step refl a.made in
-    let are = numbers_were (replicate a.step widths.U32) ws fs a.goes_on in
-    let len : length fs ≡ a.step = sym (length-map fs width_of) ∙ ap length are.widths ∙ length-replicate a.step widths.U32 in
-    (are.spells, record { widths = are.widths ∙ ap (λ (n : ℕ). replicate n widths.U32) (sym len); few = omega (arith, count.0, count.1, len); each = are.fits })
+    let count : ℕ = id_count ws in
+    let are = numbers_were (replicate count widths.U32) ws fs e in
+    let len : length fs ≡ count = sym (length-map fs width_of) ∙ ap length are.widths ∙ length-replicate count widths.U32 in
+    let most : count ≤ 32 = min-le_right (length ws) 32 in
+    (are.spells, record { widths = are.widths ∙ ap (λ (n : ℕ). replicate n widths.U32) (sym len); few = omega (arith, most, len); each = are.fits })
 
 -- ---- what is spelled is read
 
@@ -119,5 +116,5 @@ fields_read (numbers vs) fs ws h s = ap (λ (us : List Width). numbers_at us ws)
 fields_read ids fs ws h s =
     let few = h.few in
     let len : length ws ≡ length fs = length_spelled (map field_part fs) ws s ∙ length-map fs field_part in
-    let most : nat_le (length fs) 32 ≡ true = grind (arith, nat_tests) in
-    rw (len, most, ← h.widths) (numbers_read fs ws s)
+    let count : id_count ws ≡ length fs = ap (λ (n : ℕ). min n 32) len ∙ min-eq_left few in
+    rw (count, ← h.widths) (numbers_read fs ws s)

@@ -1,5 +1,5 @@
 -- The fields of a line, read one after another from its words. Each reader has what it read, and the words that are left.
-use Rattle.std.specs.Prelude.{ℕ, ◌-◌, ◌^◌, List, [], ◌∷◌, ◌&&◌, nat_lt, nat_le, if◌then◌else◌, Option, Some, None, option_and_then, length, replicate}
+use Rattle.std.specs.Prelude.{ℕ, ◌-◌, ◌^◌, List, [], ◌∷◌, ◌&&◌, min, nat_lt, nat_le, if◌then◌else◌, Option, Some, None, option_and_then, length, replicate}
 use Rattle.drm_table.specs.declared.fields.Width.{Width}
 use Rattle.drm_table.specs.declared.fields.Width.TheVariants as widths
 use Rattle.drm_table.specs.declared.fields.Field.{Field}
@@ -59,16 +59,14 @@ numbers_at vs ws = do
   end ← end_at read.1
   Some read.0
 
--- so many words, if there are 32 at most
-abbrev pub few_words : Words → Option ℕ
-few_words ws = if nat_le (length ws) 32 then Some (length ws) else None
+-- as many ids as there are words, 32 at most
+abbrev pub id_count : Words → ℕ
+id_count ws = min (length ws) 32
 
--- the fields of a layout, and no word behind them: ids stand without a count
+-- the fields of a layout, and no word behind them: ids stand without a count, and each word is one
 unfoldable pub fields_at : Layout → Words → Option (List Field)
 fields_at (numbers ws) words = numbers_at ws words
-fields_at ids words = do
-  count ← few_words words
-  numbers_at (replicate count widths.U32) words
+fields_at ids words = numbers_at (replicate (id_count words) widths.U32) words
 
 -- the place in the alphabet of a letter from a to z, from 0
 unfoldable pub place_of : ℕ → Option ℕ

@@ -7,9 +7,9 @@ ghost use Rattle.drm_script.specs.Words.{words_of};
 
 use crate::fields::fields_of;
 use crate::malformations::{Fault, Wanted};
-use crate::numbers::u16_word;
+use crate::numbers::{u16_word, u32_word};
 use crate::words::{end_of, word_of};
-use drm_table::{Call, CallKind, row};
+use drm_table::{AuditKind, Call, CallKind, row};
 
 /// The word of a call by its bare number.
 const RAW: &[u8] = b"raw";
@@ -34,6 +34,21 @@ fn raw(text: &[u8]) -> Result<Call, Fault<'_>>
     Ok(raw_of(number))
 }
 
+/// The fault of the fields of a call. The kind of an audit is in front of the others, so where it is a number, and that of no kind, its word is
+/// the first that doesn't fit.
+fn field_fault<'a>(kind: CallKind, text: &'a [u8], fault: Fault<'a>) -> Fault<'a> {
+    if kind != CallKind::Audit {
+        return fault;
+    }
+    let Ok((number, _)) = u32_word(text) else {
+        return fault;
+    };
+    if AuditKind::of_number(number).is_some() {
+        return fault;
+    }
+    Fault::unfit(text, Wanted::AuditKind)
+}
+
 /// `WORD FIELDS` from the word on, and apart from that the word and the fields. Where the fields are read, the kind of an audit alone is
 /// still to be found.
 #[tactic(auto, unfolding(crate::specs::Calls::row_call_at))]
@@ -43,7 +58,10 @@ fn row_call<'a>(whole: &'a [u8], word: &[u8], text: &'a [u8]) -> Result<Call, Fa
     let Some(kind) = CallKind::of_word(word) else {
         return Err(Fault::unfit(whole, Wanted::Call));
     };
-    let fields = fields_of(kind.layout(), text)?;
+    let fields = match fields_of(kind.layout(), text) {
+        Ok(fields) => fields,
+        Err(fault) => return Err(field_fault(kind, text, fault)),
+    };
     let Some(call) = kind.call(fields.as_slice()) else {
         return Err(Fault::unfit(text, Wanted::AuditKind));
     };

@@ -4,7 +4,7 @@ ghost use Rattle.std.specs.Prelude.{◌≡◌, ◌≤◌, length};
 ghost use Rattle.std.specs.Option.{option_map};
 ghost use Rattle.std.specs.Result.{result_ok};
 ghost use Rattle.drm_table.specs.Fields.{IsShort, layout_of};
-ghost use Rattle.drm_script.specs.Fields.{field_at, few_words, fields_at, numbers_at};
+ghost use Rattle.drm_script.specs.Fields.{field_at, fields_at, id_count, numbers_at};
 ghost use Rattle.drm_script.specs.Words.{words_of};
 
 use crate::malformations::Fault;
@@ -46,19 +46,18 @@ fn numbers_of<'a>(widths: &[Width], text: &'a [u8]) -> Result<Fields, Fault<'a>>
     Ok(fields)
 }
 
-/// How many words there are, if as many as a call has ids at most.
-fn few_words(text: &[u8]) -> Result<usize, Fault<'_>>
-    ensures { result_ok result ≡ few_words (words_of text.now) }
+/// How many ids the words of a text can be: as many as there are words, and as many as a call has at most.
+fn id_count(text: &[u8]) -> usize
+    ensures { result ≡ id_count (words_of text.now) }
 {
     let mut rest = text;
     for count in 0..Layout::MOST_IDS {
         let Some((_, behind)) = next_word(rest) else {
-            return Ok(count);
+            return count;
         };
         rest = behind;
     }
-    end_of(rest)?;
-    Ok(Layout::MOST_IDS)
+    Layout::MOST_IDS
 }
 
 /// The fields of a layout that the words spell, where no word is behind them.
@@ -70,7 +69,7 @@ pub(crate) fn fields_of(layout: Layout, text: &[u8]) -> Result<Fields, Fault<'_>
     match layout {
         Layout::Numbers(widths) => numbers_of(widths, text),
         Layout::Ids => {
-            let count = few_words(text)?;
+            let count = id_count(text);
             numbers_of(Width::of_ids(count), text)
         }
     }
