@@ -1,5 +1,6 @@
 -- Jobs that were served through participants of a participant that was itself split off.
-use Rattle.std.proofs.Common.{◌≡◌, ◌+◌, ℕ, List, [], ◌∷◌, ◌++◌, Result, Ok, Err, ap, sym, ◌∙◌, arith}
+use Rattle.std.proofs.Common.{◌≡◌, ◌+◌, ◌-◌, ◌<◌, ℕ, Bool, true, false, cond, eqb, ◌&&◌, List, [], ◌∷◌, ◌++◌, Result, Ok, Err, refl, ap, sym, ◌∙◌, arith}
+use Rattle.std.proofs.lemmas.Bool.Decides.{nat_tests}
 use Rattle.std.specs.Prelude.{IfOk, OnErr, OnOk}
 use Rattle.drm_turns.specs.Participants.{ParticipantView, with_outstanding}
 use Rattle.drm_turns.specs.Views.{outstanding_after}
@@ -35,6 +36,18 @@ on_err (Err e) step h = step h
 pub on_ok : {D E : Type 0} {P Q : Type 0} (r : Result D E) → (P → Q) → OnOk r P → OnOk r Q
 on_ok (Ok d) step h = step h
 on_ok (Err e) step h = tt
+
+kept_case : (b none : Bool) (outstanding : ℕ) → none ≡ false → cond (b && none) (outstanding - 1) outstanding ≡ outstanding
+kept_case true true outstanding e = absurd (cc)
+kept_case true false outstanding e = refl
+kept_case false none outstanding e = refl
+
+-- one more is out of a participant that one was split off, where that is given back without all of its own
+pub one_more_outstanding : (participant lent own : ParticipantView) (outstanding few : ℕ) → lent ≡ with_outstanding participant (participant.outstanding + 1)
+    → outstanding ≡ outstanding_after lent.number lent.outstanding own.parent own.outstanding → few < own.outstanding → outstanding ≡ participant.outstanding + 1
+one_more_outstanding participant lent own outstanding few same now some =
+    let others : eqb own.outstanding 0 ≡ false = grind (arith, nat_tests) in
+    now ∙ (kept_case (eqb own.parent lent.number) (eqb own.outstanding 0) lent.outstanding others ∙ ap (λ (s : ParticipantView). s.outstanding) same)
 
 -- as many are out of a participant that one was split off, where that is given back with all of its own
 pub as_many_outstanding : (participant lent child own : ParticipantView) (outstanding : ℕ) → lent ≡ with_outstanding participant (participant.outstanding + 1) → child.parent ≡ participant.number → child.outstanding ≡ 0 → own.parent ≡ child.parent

@@ -1,11 +1,11 @@
 //! Many sessions at once.
 
-ghost use Rattle.std.specs.Prelude.{◌≡◌, ◌≢◌, ℕ, ◌+◌, ◌-◌, ◌≤◌, [], ◌∷◌, ◌++◌, All, Err, IfOk, OnErr, OnOk, vec_len};
+ghost use Rattle.std.specs.Prelude.{◌≡◌, ◌≢◌, ℕ, ◌+◌, ◌-◌, ◌<◌, ◌≤◌, [], ◌∷◌, ◌++◌, All, Err, IfOk, OnErr, OnOk, vec_len};
 ghost use Rattle.std.specs.List.{AllByRecursion};
 ghost use Rattle.std.specs.Vec.{vec_capacity};
 ghost use Rattle.drm_turns.specs.History.{AllDiffer};
 ghost use Rattle.drm_turns.specs.Participants.{HasSeen, HasTakenIn, IsChild, IsSplitOff, Extends, Same, numbers_of, with_outstanding};
-ghost use Rattle.drm_sessions.specs.declared.many.ManyFault.TheVariants.{NoMemory};
+ghost use Rattle.drm_sessions.specs.declared.many.ManyFault.TheVariants.{NoMemory, NoThread};
 ghost use Rattle.drm_sessions.specs.Serving.{all_steps};
 ghost use Rattle.drm_sessions.specs.Jobs.{HasTurns, IsServed, IsServedBeside, participants_of, sessions_of};
 ghost use Rattle.drm_sessions.specs.Matched.{Matched};
@@ -32,7 +32,8 @@ use std::thread::{Scope, Threads};
 pub enum ManyFault {
     /// There was no memory for the list of threads, or of sessions. No job was started.
     NoMemory,
-    /// A thread couldn't be made. The jobs before it were served, and their sessions are lost.
+    /// A thread couldn't be made. The jobs before it were served, and their sessions are lost. One more is out of the lent participant than
+    /// before.
     NoThread,
 }
 
@@ -65,6 +66,7 @@ fn start_all<
     ensures own { own.new ≡ with_outstanding own.old own.new.outstanding }
     ensures outstanding { IfOk result (λ handles. own.new.outstanding ≡ own.old.outstanding + vec_len handles) }
     ensures memory { result ≢ Err NoMemory }
+    ensures thread { result ≡ Err NoThread → own.old.outstanding < own.new.outstanding }
 {
     let mut handles = handles;
     for job in jobs {
@@ -138,6 +140,7 @@ fn serve_in_scope<
     ensures parent { own.new.parent ≡ own.old.parent }
     ensures outstanding { OnOk result (own.new.outstanding ≡ own.old.outstanding) }
     ensures unstarted { result ≡ Err NoMemory → own.new.outstanding ≡ own.old.outstanding }
+    ensures thread { result ≡ Err NoThread → own.old.outstanding < own.new.outstanding }
     ensures fault { OnErr result (own.new.merged ≡ []) }
     ensures journaled { IfOk result (λ sessions. own.new.journaled ≡ own.old.journaled + all_steps (sessions_of sessions.items)) }
     ensures unjournaled { OnErr result (own.new.journaled ≡ own.old.journaled) }
@@ -155,8 +158,8 @@ fn serve_in_scope<
 /// told, and the entries of its number there are those of its session. The numbers of the jobs' participants differ, and stand
 /// behind the number of one that took them in. On a fault the threads that were started are waited for, and their steps of
 /// the device stand. What the lent participant made itself is as it was, and without a fault no more are out of it. Where memory was
-/// wanting no job was started: no job's participant was taken in, and none is out. The participant and those that it took in made as many
-/// entries more as the jobs' sessions have steps, and without sessions none.
+/// wanting no job was started: no job's participant was taken in, and none is out. Where a thread couldn't be made, one more is out. The
+/// participant and those that it took in made as many entries more as the jobs' sessions have steps, and without sessions none.
 ///
 /// ```rust
 /// let jobs: Vec<Job<NoGate, FromRead<&[u8]>, ToWrite<Vec<u8>>>> = Vec::new(alloc);
@@ -188,6 +191,7 @@ pub fn serve_many<
     ensures parent { participant.new.parent ≡ participant.old.parent }
     ensures outstanding { OnOk result (participant.new.outstanding ≡ participant.old.outstanding) }
     ensures unstarted { result ≡ Err NoMemory → participant.new.outstanding ≡ participant.old.outstanding }
+    ensures started { result ≡ Err NoThread → participant.new.outstanding ≡ participant.old.outstanding + 1 }
     ensures journaled { IfOk result (λ sessions. participant.new.journaled ≡ participant.old.journaled + all_steps (sessions_of sessions.items)) }
     ensures unjournaled { OnErr result (participant.new.journaled ≡ participant.old.journaled) }
 {
@@ -206,6 +210,7 @@ pub fn serve_many<
                 × (result.0.parent ≡ own.parent)
                 × OnOk result.1 (result.0.outstanding ≡ own.outstanding)
                 × (result.1 ≡ Err NoMemory → result.0.outstanding ≡ own.outstanding)
+                × (result.1 ≡ Err NoThread → own.outstanding < result.0.outstanding)
                 × OnErr result.1 (result.0.merged ≡ [])
                 × IfOk result.1 (λ sessions. result.0.journaled ≡ own.journaled + all_steps (sessions_of sessions.items))
                 × OnErr result.1 (result.0.journaled ≡ own.journaled) }

@@ -1,12 +1,12 @@
-use Rattle.std.proofs.Common.{rules, ◌≡◌, [], ◌∷◌, ◌++◌, List, ap, ◌∙◌, ℕ, ◌+◌, arith}
+use Rattle.std.proofs.Common.{rules, ◌≡◌, [], ◌∷◌, ◌++◌, List, ap, ◌∙◌, ℕ, ◌+◌, ◌<◌, arith}
 use Rattle.std.specs.Prelude.{Err, IfOk, OnErr, OnOk}
 use Rattle.drm_turns.specs.Participants.{HasTakenIn, ParticipantView}
 use Rattle.drm_turns.proofs.Taken.{all-seen-more}
-use Rattle.drm_sessions.specs.declared.many.ManyFault.TheVariants.{NoMemory}
+use Rattle.drm_sessions.specs.declared.many.ManyFault.TheVariants.{NoMemory, NoThread}
 use Rattle.drm_sessions.specs.Serving.{all_steps}
 use Rattle.drm_sessions.specs.Jobs.{IsServedBeside, participants_of, sessions_of}
 use Rattle.drm_sessions.specs.Matched.{Matched}
-use Rattle.drm_sessions.proofs.Joining.{as_many_outstanding, if_ok, on_err, on_ok, served-beside-again}
+use Rattle.drm_sessions.proofs.Joining.{as_many_outstanding, one_more_outstanding, if_ok, on_err, on_ok, served-beside-again}
 use Rattle.drm_sessions.proofs.Matching.{Matched-map}
 use Rattle.drm_sessions.proofs.many.serve_many.Goals as goal
 
@@ -50,6 +50,12 @@ returns-clause-unstarted g c none =
     let parent : own.parent ≡ c.split-own.result.parent = search rules in
     let whole : c.scoped-own.result.1 ≡ Err NoMemory → own.outstanding ≡ c.split-own.result.outstanding = search rules in
     as_many_outstanding c.args.participant.now c.split-own.new.participant c.split-own.result own _ split.same split.parent split.none_outstanding parent c.join.ensures.outstanding (whole none)
+
+pub returns-clause-started : goal.returns-clause-started
+returns-clause-started g c lacked =
+    let own : ParticipantView = c.scoped-own.result.0 in
+    let some : c.scoped-own.result.1 ≡ Err NoThread → c.split-own.result.outstanding < own.outstanding = search rules in
+    one_more_outstanding c.args.participant.now c.split-own.new.participant own _ c.split-own.result.outstanding c.split-own.ensures.same c.join.ensures.outstanding (some lacked)
 
 pub returns-clause-journaled : goal.returns-clause-journaled
 returns-clause-journaled g c =
