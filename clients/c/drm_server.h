@@ -9,66 +9,66 @@
 
 /* The rules that deny. */
 enum zirkoshe_rule_number {
-    /* No row has the number. */
+    /* No call has the number. */
     ZIRKOSHE_RULE_UNKNOWN = 1,
-    /* The fields aren't those of the row. */
+    /* The fields do not match the layout of the call. */
     ZIRKOSHE_RULE_LAYOUT = 2,
-    /* The client isn't open. */
+    /* The client is not open. */
     ZIRKOSHE_RULE_NO_CLIENT = 3,
-    /* The row wants root, and the caller isn't. */
+    /* The call requires root, and the caller is not root. */
     ZIRKOSHE_RULE_ROOT_ONLY = 11,
-    /* The row wants an authenticated or a render client. */
+    /* The call requires an authenticated or a render client. */
     ZIRKOSHE_RULE_AUTH = 12,
-    /* The row wants a current caller. */
+    /* The call requires a caller that is current. */
     ZIRKOSHE_RULE_MASTER = 13,
-    /* The row isn't for render clients. */
+    /* Render clients may not make the call. */
     ZIRKOSHE_RULE_RENDER_ALLOW = 14,
-    /* The caller doesn't hold the handle. */
+    /* The caller does not hold the handle. */
     ZIRKOSHE_RULE_NO_HANDLE = 21,
-    /* The caller doesn't hold the handle that it closes. */
+    /* The caller does not hold the handle to close. */
     ZIRKOSHE_RULE_NO_HANDLE_TO_CLOSE = 22,
     /* No object has the name. */
     ZIRKOSHE_RULE_NO_NAME = 23,
-    /* No open PRIME token has the number, or it is another's to close. */
+    /* No open PRIME token has the number, or another client exported the token to close. */
     ZIRKOSHE_RULE_NO_TOKEN = 24,
-    /* The caller's master has no such magic, or it is spent. */
+    /* The caller's master has no such magic, or the magic was used. */
     ZIRKOSHE_RULE_NO_MAGIC = 25,
-    /* The caller was never a master and isn't root. */
+    /* The caller was never a master and is not root. */
     ZIRKOSHE_RULE_MASTER_PERM = 26,
     /* The device has a master. */
     ZIRKOSHE_RULE_MASTER_BUSY = 27,
-    /* The caller isn't current. */
+    /* The caller is not current. */
     ZIRKOSHE_RULE_NOT_CURRENT = 28,
     /* The caller's master is a lessee. */
     ZIRKOSHE_RULE_IS_LESSEE = 29,
-    /* There is no such mode object, or the caller doesn't see it. */
+    /* The mode object does not exist, or the caller does not see it. */
     ZIRKOSHE_RULE_NO_MODE_OBJECT = 30,
-    /* An encoder or a framebuffer can't be leased. */
+    /* Encoders and framebuffers cannot be leased. */
     ZIRKOSHE_RULE_NOT_LEASABLE = 31,
-    /* An id stands twice in a lease. */
+    /* An id occurs twice in the lease. */
     ZIRKOSHE_RULE_REPEATED = 32,
-    /* A lease lacks a CRTC, a connector or a plane. */
+    /* The lease has no CRTC, no connector or no plane. */
     ZIRKOSHE_RULE_LEASE_SHAPE = 33,
-    /* A direct lessee has it already. */
+    /* A direct lessee already has the object. */
     ZIRKOSHE_RULE_LEASED_OUT = 34,
-    /* A lessee of depth 8 makes no lease. */
+    /* A lessee at depth 8 cannot create a lease. */
     ZIRKOSHE_RULE_SUB_LEASE = 35,
     /* No lessee of the owner has the id. */
     ZIRKOSHE_RULE_NO_LESSEE = 36,
-    /* The lessee is another master's. */
+    /* The lessee belongs to another master. */
     ZIRKOSHE_RULE_NOT_YOUR_LESSEE = 37,
-    /* There is no such framebuffer, or it isn't the caller's to remove. */
+    /* The framebuffer does not exist, or the caller may not remove it. */
     ZIRKOSHE_RULE_NO_FB = 38,
     /* The shape or size is out of range. */
     ZIRKOSHE_RULE_BAD_SIZE = 39,
-    /* The connector or plane can't be driven by the CRTC, or one of framebuffer and connector is
-     * missing. */
+    /* The CRTC cannot drive the connector or plane, or only one of framebuffer and connector is
+     * given. */
     ZIRKOSHE_RULE_BAD_ROUTE = 40,
-    /* There is no such capability. */
+    /* The capability does not exist. */
     ZIRKOSHE_RULE_BAD_CAP = 41,
     /* No open lease token has the number. */
     ZIRKOSHE_RULE_NO_LEASE_TOKEN = 42,
-    /* The limit of what would be made is reached. */
+    /* The limit of what the call would create is reached. */
     ZIRKOSHE_RULE_FULL = 43,
 };
 

@@ -72,66 +72,67 @@ LIMITS: Dict[str, int] = {
 class Rule(enum.IntEnum):
     """The rules that deny: `denial.rule == Rule.LEASED_OUT`."""
 
-    #: No row has the number.
+    #: No call has the number.
     UNKNOWN = 1
-    #: The fields aren't those of the row.
+    #: The fields do not match the layout of the call.
     LAYOUT = 2
-    #: The client isn't open.
+    #: The client is not open.
     NO_CLIENT = 3
-    #: The row wants root, and the caller isn't.
+    #: The call requires root, and the caller is not root.
     ROOT_ONLY = 11
-    #: The row wants an authenticated or a render client.
+    #: The call requires an authenticated or a render client.
     AUTH = 12
-    #: The row wants a current caller.
+    #: The call requires a caller that is current.
     MASTER = 13
-    #: The row isn't for render clients.
+    #: Render clients may not make the call.
     RENDER_ALLOW = 14
-    #: The caller doesn't hold the handle.
+    #: The caller does not hold the handle.
     NO_HANDLE = 21
-    #: The caller doesn't hold the handle that it closes.
+    #: The caller does not hold the handle to close.
     NO_HANDLE_TO_CLOSE = 22
     #: No object has the name.
     NO_NAME = 23
-    #: No open PRIME token has the number, or it is another's to close.
+    #: No open PRIME token has the number, or another client exported the token to
+    #: close.
     NO_TOKEN = 24
-    #: The caller's master has no such magic, or it is spent.
+    #: The caller's master has no such magic, or the magic was used.
     NO_MAGIC = 25
-    #: The caller was never a master and isn't root.
+    #: The caller was never a master and is not root.
     MASTER_PERM = 26
     #: The device has a master.
     MASTER_BUSY = 27
-    #: The caller isn't current.
+    #: The caller is not current.
     NOT_CURRENT = 28
     #: The caller's master is a lessee.
     IS_LESSEE = 29
-    #: There is no such mode object, or the caller doesn't see it.
+    #: The mode object does not exist, or the caller does not see it.
     NO_MODE_OBJECT = 30
-    #: An encoder or a framebuffer can't be leased.
+    #: Encoders and framebuffers cannot be leased.
     NOT_LEASABLE = 31
-    #: An id stands twice in a lease.
+    #: An id occurs twice in the lease.
     REPEATED = 32
-    #: A lease lacks a CRTC, a connector or a plane.
+    #: The lease has no CRTC, no connector or no plane.
     LEASE_SHAPE = 33
-    #: A direct lessee has it already.
+    #: A direct lessee already has the object.
     LEASED_OUT = 34
-    #: A lessee of depth 8 makes no lease.
+    #: A lessee at depth 8 cannot create a lease.
     SUB_LEASE = 35
     #: No lessee of the owner has the id.
     NO_LESSEE = 36
-    #: The lessee is another master's.
+    #: The lessee belongs to another master.
     NOT_YOUR_LESSEE = 37
-    #: There is no such framebuffer, or it isn't the caller's to remove.
+    #: The framebuffer does not exist, or the caller may not remove it.
     NO_FB = 38
     #: The shape or size is out of range.
     BAD_SIZE = 39
-    #: The connector or plane can't be driven by the CRTC, or one of framebuffer and
-    #: connector is missing.
+    #: The CRTC cannot drive the connector or plane, or only one of framebuffer and
+    #: connector is given.
     BAD_ROUTE = 40
-    #: There is no such capability.
+    #: The capability does not exist.
     BAD_CAP = 41
     #: No open lease token has the number.
     NO_LEASE_TOKEN = 42
-    #: The limit of what would be made is reached.
+    #: The limit of what the call would create is reached.
     FULL = 43
 
 

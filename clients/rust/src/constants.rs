@@ -13,66 +13,66 @@ pub(super) const MOST_ROWS: u32 = 16;
 #[non_exhaustive]
 #[repr(u32)]
 pub enum Rule {
-    /// No row has the number.
+    /// No call has the number.
     Unknown = 1,
-    /// The fields aren't those of the row.
+    /// The fields do not match the layout of the call.
     Layout = 2,
-    /// The client isn't open.
+    /// The client is not open.
     NoClient = 3,
-    /// The row wants root, and the caller isn't.
+    /// The call requires root, and the caller is not root.
     RootOnly = 11,
-    /// The row wants an authenticated or a render client.
+    /// The call requires an authenticated or a render client.
     Auth = 12,
-    /// The row wants a current caller.
+    /// The call requires a caller that is current.
     Master = 13,
-    /// The row isn't for render clients.
+    /// Render clients may not make the call.
     RenderAllow = 14,
-    /// The caller doesn't hold the handle.
+    /// The caller does not hold the handle.
     NoHandle = 21,
-    /// The caller doesn't hold the handle that it closes.
+    /// The caller does not hold the handle to close.
     NoHandleToClose = 22,
     /// No object has the name.
     NoName = 23,
-    /// No open PRIME token has the number, or it is another's to close.
+    /// No open PRIME token has the number, or another client exported the token to close.
     NoToken = 24,
-    /// The caller's master has no such magic, or it is spent.
+    /// The caller's master has no such magic, or the magic was used.
     NoMagic = 25,
-    /// The caller was never a master and isn't root.
+    /// The caller was never a master and is not root.
     MasterPerm = 26,
     /// The device has a master.
     MasterBusy = 27,
-    /// The caller isn't current.
+    /// The caller is not current.
     NotCurrent = 28,
     /// The caller's master is a lessee.
     IsLessee = 29,
-    /// There is no such mode object, or the caller doesn't see it.
+    /// The mode object does not exist, or the caller does not see it.
     NoModeObject = 30,
-    /// An encoder or a framebuffer can't be leased.
+    /// Encoders and framebuffers cannot be leased.
     NotLeasable = 31,
-    /// An id stands twice in a lease.
+    /// An id occurs twice in the lease.
     Repeated = 32,
-    /// A lease lacks a CRTC, a connector or a plane.
+    /// The lease has no CRTC, no connector or no plane.
     LeaseShape = 33,
-    /// A direct lessee has it already.
+    /// A direct lessee already has the object.
     LeasedOut = 34,
-    /// A lessee of depth 8 makes no lease.
+    /// A lessee at depth 8 cannot create a lease.
     SubLease = 35,
     /// No lessee of the owner has the id.
     NoLessee = 36,
-    /// The lessee is another master's.
+    /// The lessee belongs to another master.
     NotYourLessee = 37,
-    /// There is no such framebuffer, or it isn't the caller's to remove.
+    /// The framebuffer does not exist, or the caller may not remove it.
     NoFb = 38,
     /// The shape or size is out of range.
     BadSize = 39,
-    /// The connector or plane can't be driven by the CRTC, or one of framebuffer and connector is
-    /// missing.
+    /// The CRTC cannot drive the connector or plane, or only one of framebuffer and connector is
+    /// given.
     BadRoute = 40,
-    /// There is no such capability.
+    /// The capability does not exist.
     BadCap = 41,
     /// No open lease token has the number.
     NoLeaseToken = 42,
-    /// The limit of what would be made is reached.
+    /// The limit of what the call would create is reached.
     Full = 43,
 }
 
