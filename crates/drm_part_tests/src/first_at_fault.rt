@@ -2,6 +2,7 @@
 
 use crate::malformed_lines::is_malformed;
 use drm_script::{Malformation, Wanted};
+use std::process::Abort;
 
 const NO_FIRST_WORD: Malformation = Malformation::Unfit(Wanted::FirstWord);
 
@@ -23,9 +24,19 @@ const OUT_OF_RANGE: Malformation = Malformation::LimitRange;
 
 const TOO_MANY: Malformation = Malformation::TooManyWords;
 
-/// Lines with the column of the first word that doesn't fit, that word, and the reason. Each word of each line is wrong once, with
-/// others behind it that are wrong too.
-const FIRST_AT_FAULT: [(&[u8], usize, &[u8], Malformation); 148] = [
+/// A line, the column of the first word that doesn't fit, that word, and the reason. Each word of a line is wrong once, with others
+/// behind it that are wrong too.
+type Case = (&'static [u8], usize, &'static [u8], Malformation);
+
+/// Compares what is told of each line.
+fn check_each(rt: &impl Abort, cases: &[Case]) {
+    for (place, (line, column, word, cause)) in cases.iter().enumerate() {
+        assert!(rt; is_malformed(line, *column, word, *cause), "line {place}");
+    }
+}
+
+/// Labels, openings and calls.
+const FRONTS: [Case; 29] = [
     (b"fly flies x", 1, b"fly", NO_FIRST_WORD),
     (b"aa flies x", 1, b"aa", NO_FIRST_WORD),
     (b"-> flies", 1, b"->", NO_FIRST_WORD),
@@ -55,6 +66,15 @@ const FIRST_AT_FAULT: [(&[u8], usize, &[u8], Malformation); 148] = [
     (b"a raw 65536 x", 7, b"65536", NO_U16),
     (b"a raw -1 x", 7, b"-1", NO_U16),
     (b"a raw 1 x y", 9, b"x", TOO_MANY),
+];
+
+#[test]
+fn first_at_fault_of_front(rt: HostRuntime) {
+    check_each(&rt, &FRONTS);
+}
+
+/// Fields of the calls.
+const FIELDS: [Case; 35] = [
     (b"a version x y", 11, b"x", TOO_MANY),
     (b"a get_magic x y", 13, b"x", TOO_MANY),
     (b"a gem_close 4294967296 y", 13, b"4294967296", NO_U32),
@@ -115,6 +135,15 @@ const FIRST_AT_FAULT: [(&[u8], usize, &[u8], Malformation); 148] = [
     (b"a getresources x y", 16, b"x", TOO_MANY),
     (b"a getcrtc 4294967296 y", 11, b"4294967296", NO_U32),
     (b"a getcrtc 1 x y", 13, b"x", TOO_MANY),
+];
+
+#[test]
+fn first_at_fault_of_fields(rt: HostRuntime) {
+    check_each(&rt, &FIELDS);
+}
+
+/// Fields of the other calls.
+const MORE_FIELDS: [Case; 35] = [
     (b"a setcrtc 4294967296 x x y", 11, b"4294967296", NO_U32),
     (b"a setcrtc 1 4294967296 x y", 13, b"4294967296", NO_U32),
     (b"a setcrtc 1 1 4294967296 y", 15, b"4294967296", NO_U32),
@@ -150,6 +179,15 @@ const FIRST_AT_FAULT: [(&[u8], usize, &[u8], Malformation); 148] = [
     (b"a get_lease x y", 13, b"x", TOO_MANY),
     (b"a revoke_lease 4294967296 y", 16, b"4294967296", NO_U32),
     (b"a revoke_lease 1 x y", 18, b"x", TOO_MANY),
+];
+
+#[test]
+fn first_at_fault_of_more_fields(rt: HostRuntime) {
+    check_each(&rt, &MORE_FIELDS);
+}
+
+/// Kinds of audits, and ids of leases.
+const KINDS_AND_IDS: [Case; 16] = [
     (b"a audit 11 x", 9, b"11", NO_AUDIT_KIND),
     (b"a audit 0 x y", 9, b"0", NO_AUDIT_KIND),
     (b"a audit 11", 9, b"11", NO_AUDIT_KIND),
@@ -196,6 +234,15 @@ const FIRST_AT_FAULT: [(&[u8], usize, &[u8], Malformation); 148] = [
     ),
     (b"a create_lease x y", 16, b"x", NO_U32),
     (b"a create_lease 1 x 2 y", 18, b"x", NO_U32),
+];
+
+#[test]
+fn first_at_fault_of_kinds_and_ids(rt: HostRuntime) {
+    check_each(&rt, &KINDS_AND_IDS);
+}
+
+/// Limits.
+const LIMITS: [Case; 33] = [
     (b"limits 0 x x x x x x x y", 8, b"0", OUT_OF_RANGE),
     (b"limits 1025 0 0 0 0 0 0 0", 8, b"1025", OUT_OF_RANGE),
     (
@@ -272,8 +319,6 @@ const FIRST_AT_FAULT: [(&[u8], usize, &[u8], Malformation); 148] = [
 ];
 
 #[test]
-fn first_word_that_does_not_fit_is_at_fault(rt: HostRuntime) {
-    for (place, (line, column, word, cause)) in FIRST_AT_FAULT.iter().enumerate() {
-        assert!(rt; is_malformed(line, *column, word, *cause), "line {place}");
-    }
+fn first_at_fault_of_limits(rt: HostRuntime) {
+    check_each(&rt, &LIMITS);
 }
