@@ -34,8 +34,8 @@ fn raw(text: &[u8]) -> Result<Call, Fault<'_>>
     Ok(raw_of(number))
 }
 
-/// The fault of the fields of a call. The kind of an audit is in front of the others, so where it is a number, and that of no kind, its word is
-/// the first that doesn't fit.
+/// The fault of the fields of a call. The kind of an audit is in front of the others: where it is a number, and that of no kind, its
+/// word is the first that doesn't fit.
 fn field_fault<'a>(kind: CallKind, text: &'a [u8], fault: Fault<'a>) -> Fault<'a> {
     if kind != CallKind::Audit {
         return fault;
