@@ -5,6 +5,8 @@ use Rattle.std.proofs.Crossing.{Vec-send}
 use Rattle.drm_turns.proofs.Crossing.{participant_send}
 use Rattle.drm_sessions.proofs.end.Session.TheSendSync as session
 use Rattle.drm_sessions.specs.contracts.through.Served as served
+use Rattle.drm_listeners.proofs.serve_faults.ServeFault.TheSendSync as fault
+use Rattle.drm_listeners.specs.contracts.connections.Failed as failed
 use Rattle.drm_listeners.specs.contracts.connections.ServedListener as listener
 
 pub served_send : IsSend served.the_row
@@ -12,3 +14,6 @@ served_send = recorded_send _ _ _ served.the_type.to_one (struct_send (shape ser
 
 pub listener_send : IsSend listener.the_row
 listener_send = recorded_send _ _ _ listener.the_type.to_one (struct_send (shape listener.the_type) (Vec-send _ session.the_send, (participant_send, tt)))
+
+pub failed_send : IsSend failed.the_row
+failed_send = recorded_send _ _ _ failed.the_type.to_one (struct_send (shape failed.the_type) (fault.the_field_send, (participant_send, tt)))

@@ -40,6 +40,10 @@ pub if_ok : {D E : Type 0} {P Q : D → Type 0} (r : Result D E) → ((d : D) �
 if_ok (Ok d) step h = step d h
 if_ok (Err e) step h = tt
 
+pub if_ok_three : {D E : Type 0} (P Q R : D → Type 0) (r : Result D E) → IfOk r P → IfOk r Q → IfOk r R → IfOk r (λ d. P d × Q d × R d)
+if_ok_three P Q R (Ok d) p q r = (p, q, r)
+if_ok_three P Q R (Err e) p q r = tt
+
 pub on_ok : {D E : Type 0} {P Q : Type 0} (r : Result D E) → (P → Q) → OnOk r P → OnOk r Q
 on_ok (Ok d) step h = step h
 on_ok (Err e) step h = tt

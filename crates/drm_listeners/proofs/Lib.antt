@@ -1,3 +1,4 @@
 pub mod Matching
 pub mod Gathering
 pub mod Crossing
+pub mod Keeping

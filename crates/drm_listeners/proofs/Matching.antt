@@ -1,8 +1,8 @@
 -- Lists that are matched member by member.
-use Rattle.std.proofs.Common.{◌≡◌, List, [], ◌∷◌, ◌++◌, All, length, refl, ap, suc}
+use Rattle.std.proofs.Common.{◌≡◌, List, [], ◌∷◌, ◌++◌, All, length, refl, ap, suc, subst}
 use Rattle.std.proofs.lemmas.List.Elements.{All-nil, All-cons, All-head, All-tail}
 use Rattle.std.specs.declared.option.Option.{Option}
-use Rattle.std.specs.Prelude.{IsSomeAnd, None, Some}
+use Rattle.std.specs.Prelude.{IfNone, IfSome, IsSomeAnd, None, Some}
 use Rattle.drm_sessions.specs.Matched.{Matched}
 
 -- one more of each
@@ -34,3 +34,10 @@ some_and (Some x) step h = step x h
 pub some_both : {X : Type 0} {P Q : X → Type 0} {R : Type 0} (o : Option X) → ((x : X) → P x → Q x → R) → IsSomeAnd o P → IsSomeAnd o Q → R
 some_both None step p q = absurd p
 some_both (Some x) step p q = step x p q
+
+-- what is said of a value where there is none, and of one that is there
+pub where_none : {X : Type 0} {P : Type 0} (o : Option X) → o ≡ None → IfNone o P → P
+where_none {X} {P} o is h = subst (λ (o : Option X). IfNone o P) is h
+
+pub where_some : {X : Type 0} (P : X → Type 0) (o : Option X) (x : X) → o ≡ Some x → IfSome o P → P x
+where_some {X} P o x is h = subst (λ (o : Option X). IfSome o P) is h

@@ -2,12 +2,13 @@
 use Rattle.std.specs.Prelude.{◌≡◌, ℕ, ◌≤◌, All, List, [], Vec, length, map, Result, Ok, Err, ⊤}
 use Rattle.std.specs.Vec.{vec_capacity}
 use Rattle.atomic_table.specs.Seated.{TableId}
-use Rattle.drm_turns.specs.Participants.{HasTakenIn, Same, ParticipantView, Unchanged}
+use Rattle.drm_turns.specs.Participants.{HasTakenIn, IsChild, Same, ParticipantView, Unchanged}
 use Rattle.drm_streams.specs.Streams.{SourceTrace, SinkTrace, no_calls}
 use Rattle.drm_sessions.specs.declared.class.Class.{Class}
 use Rattle.drm_sessions.specs.declared.end.Session.{Session}
 use Rattle.drm_sessions.specs.Serving.{Costs, all_steps}
 use Rattle.drm_sessions.specs.Shared.{ServesShared}
+use Rattle.drm_listeners.specs.declared.connections.Failed.{Failed}
 use Rattle.drm_listeners.specs.declared.connections.ServedListener.{ServedListener}
 use Rattle.drm_listeners.specs.declared.serve_faults.ServeFault.{ServeFault}
 use Rattle.drm_listeners.specs.declared.serve_faults.ServeFault.TheVariants as faults
@@ -73,7 +74,24 @@ pub record IsServed (class : Class) (count : ℕ) (participant : ParticipantView
   pub taken : HasTakenIn served.participant (participants_in sittings)
   pub journaled : served.participant.journaled ≡ all_steps served.sessions.items
 
+-- A listener or a connection of this class could not be served. The participant took in each that was split off it.
+pub record IsFailed (class : Class) (participant : ParticipantView) (failed : Failed) : Type 0 where
+  pub fault : IsFaultOf class failed.fault
+  pub same : Same participant failed.participant
+  pub unchanged : Unchanged participant failed.participant
+
+-- A connection of this class could not be served. Its participant was split off this one, and none is out of it.
+pub record IsUnused (class : Class) (participant : ParticipantView) (failed : Failed) : Type 0 where
+  pub fault : IsFaultOf class failed.fault
+  pub table : failed.participant.table ≡ participant.table
+  pub child : IsChild participant failed.participant
+
 -- what came of a listener that was to accept so many connections, through a participant of its own
-abbrev pub Serves : Class → ℕ → ParticipantView → Result ServedListener ServeFault → Type 0
+abbrev pub Serves : Class → ℕ → ParticipantView → Result ServedListener Failed → Type 0
 Serves class count participant (Ok served) = IsServed class count participant served
-Serves class count participant (Err fault) = IsFaultOf class fault
+Serves class count participant (Err failed) = IsFailed class participant failed
+
+-- the participant of a listener, however it was served
+abbrev pub participant_left : Result ServedListener Failed → ParticipantView
+participant_left (Ok served) = served.participant
+participant_left (Err failed) = failed.participant

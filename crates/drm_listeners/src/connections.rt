@@ -1,6 +1,6 @@
 //! The connections of one listener, each served in a thread of its own.
 
-ghost use Rattle.std.specs.Prelude.{◌≡◌, ◌+◌, ◌-◌, ◌≤◌, [], All, List, IfOk, IfErr, IsSomeAnd, vec_len};
+ghost use Rattle.std.specs.Prelude.{◌≡◌, ◌+◌, ◌-◌, ◌≤◌, [], All, List, IfOk, IfErr, IfSome, IfNone, IsSomeAnd, vec_len};
 ghost use Rattle.std.specs.Vec.{vec_capacity};
 ghost use Rattle.arrayvec.specs.ArrayVec.{array_vec_len};
 ghost use Rattle.drm_turns.specs.Participants.{HasTakenIn, IsChild, Same, Unchanged, with_outstanding};
@@ -8,7 +8,7 @@ ghost use Rattle.drm_streams.specs.Streams.{no_calls};
 ghost use Rattle.drm_sessions.specs.Matched.{Matched};
 ghost use Rattle.drm_sessions.specs.Serving.{Costs, all_steps};
 ghost use Rattle.drm_sessions.specs.Shared.{ServesShared};
-ghost use Rattle.drm_listeners.specs.Connections.{IsFaultOf, IsFresh, IsRoomFor, IsSessionBy, Serves, SessionState, connection_turns, participants_in, sessions_in};
+ghost use Rattle.drm_listeners.specs.Connections.{IsFailed, IsFresh, IsRoomFor, IsSessionBy, IsUnused, Serves, SessionState, connection_turns, participants_in, sessions_in};
 
 use crate::accepting::{accept_next, note_beyond};
 use crate::answering::Answering;
@@ -24,6 +24,7 @@ use arrayvec::ArrayVec;
 use drm_sessions::{Class, NoGate, Served, Session, serve_through};
 use drm_streams::{FromRead, Sink, Source, ToWrite};
 use drm_turns::{Seat, SharedDevice, Sharing};
+use libc::net::{SHUT_RDWR, shutdown};
 use log::{Log, error};
 use std::os::fd::AsRawFd;
 use std::os::unix::net::{UnixListener, UnixStream};
@@ -48,6 +49,20 @@ pub(crate) struct Listener {
 pub(crate) struct ServedListener {
     pub(crate) sessions: Vec<Session>,
     pub(crate) participant: Seat,
+}
+
+/// Why a listener or a connection is not served, and its participant, which took in each that was split off it.
+#[derive(Drop)]
+pub(crate) struct Failed {
+    pub(crate) fault: ServeFault,
+    pub(crate) participant: Seat,
+}
+
+/// The threads of a listener's connections. If some are missing, the reason.
+#[derive(Drop)]
+struct Started {
+    handles: ConnectionHandles,
+    failed: Option<Failed>,
 }
 
 /// That a thread serves a connection of this class through the participant, and gives that back.
@@ -143,28 +158,32 @@ fn serve_connection<R: Wait + Log, D: Gathering>(
     served
 }
 
-// Accepts a connection, and starts the thread that serves it. Where none can be accepted, the system's reason is logged; where
-// no thread can be started, the connection is closed.
+// Accepts a connection, and starts the thread that serves it. If none can be accepted, the system's reason is logged. If no thread can be
+// started, the connection is ended: then this serves what it still carried, since only a session returns the participant.
 fn start_connection<'s, E: 's, R: Wait + Threads + Log + Sync, D: Gathering + Sync>(
     scope: &Scope<'s, E>,
     rt: &'s R,
     shared: &'s D,
     participant: Seat,
     listener: &Listener,
-) -> Result<ConnectionHandle, ServeFault>
+) -> Result<ConnectionHandle, Failed>
     requires { IsFresh (D.table shared.now) participant }
     ensures class { IfOk result (λ handle. handle.promise.class ≡ listener.now.class) }
     ensures participant { IfOk result (λ handle. handle.promise.participant.value ≡ participant) }
-    ensures fault { IfErr result (λ fault. IsFaultOf listener.now.class fault) }
+    ensures failed { IfErr result (λ failed. IsFailed listener.now.class participant failed) }
 {
     let class = listener.class;
     let stream = match accept_next(rt, shared.open(), &listener.socket, class) {
         Ok(stream) => stream,
         Err(reason) => {
             error!(rt; "{}: {reason}", class_word(class));
-            return Err(ServeFault::Accept(class));
+            return Err(Failed {
+                fault: ServeFault::Accept(class),
+                participant,
+            });
         }
     };
+    let socket = stream.as_raw_fd();
     let promise = ConnectionServed {
         class,
         participant: Snapshot::of(&participant),
@@ -174,7 +193,14 @@ fn start_connection<'s, E: 's, R: Wait + Threads + Log + Sync, D: Gathering + Sy
         move || serve_connection(rt, shared, participant, class, stream),
     ) {
         Ok(handle) => Ok(handle),
-        Err(_) => Err(ServeFault::NoThread),
+        Err(refused) => {
+            shutdown(socket, SHUT_RDWR);
+            let served = (refused.value)();
+            Err(Failed {
+                fault: ServeFault::NoThread,
+                participant: served.participant,
+            })
+        }
     }
 }
 
@@ -186,18 +212,19 @@ fn start_connections<'s, E: 's, R: Wait + Threads + Log + Sync, D: Gathering + S
     shared: &'s D,
     own: &mut Seat,
     listener: Listener,
-) -> Result<ConnectionHandles, ServeFault>
+) -> Started
     requires own { own.old.table ≡ D.table shared.now }
-    ensures count { IfOk result (λ handles. array_vec_len handles ≡ listener.count) }
-    ensures class { IfOk result (λ handles. All (λ started. IsSomeAnd started (λ handle.
-        handle.promise.class ≡ listener.class)) handles.items) }
-    ensures participants { IfOk result (λ handles. All (λ started. IsSomeAnd started (λ handle.
-        handle.promise.participant.value.table ≡ own.old.table)) handles.items) }
-    ensures children { IfOk result (λ handles. All (λ started. IsSomeAnd started (λ handle.
-        IsChild own.old handle.promise.participant.value)) handles.items) }
-    ensures fault { IfErr result (λ fault. IsFaultOf listener.class fault) }
+    ensures count { IfNone result.failed (array_vec_len result.handles ≡ listener.count) }
+    ensures few { array_vec_len result.handles ≤ listener.count }
+    ensures class { All (λ started. IsSomeAnd started (λ handle. handle.promise.class ≡ listener.class)) result.handles.items }
+    ensures participants { All (λ started. IsSomeAnd started (λ handle.
+        handle.promise.participant.value.table ≡ own.old.table)) result.handles.items }
+    ensures children { All (λ started. IsSomeAnd started (λ handle.
+        IsChild own.old handle.promise.participant.value)) result.handles.items }
+    ensures failed { IfSome result.failed (λ failed. IsUnused listener.class own.old failed) }
     ensures own { own.new ≡ with_outstanding own.old own.new.outstanding }
-    ensures outstanding { IfOk result (λ handles. own.new.outstanding ≡ own.old.outstanding + array_vec_len handles) }
+    ensures outstanding { IfNone result.failed (own.new.outstanding ≡ own.old.outstanding + array_vec_len result.handles) }
+    ensures one_more { IfSome result.failed (λ failed. own.new.outstanding ≡ own.old.outstanding + array_vec_len result.handles + 1) }
 {
     let mut handles = ConnectionHandles::new();
     let _attendance = shared
@@ -205,11 +232,21 @@ fn start_connections<'s, E: 's, R: Wait + Threads + Log + Sync, D: Gathering + S
         .attend(rt, listener.socket.as_raw_fd(), Role::Listener);
     for _ in 0..listener.count {
         let participant = shared.device().split(own);
-        let handle = start_connection(scope, rt, shared, participant, &listener)?;
-        handles.push(Some(handle));
+        match start_connection(scope, rt, shared, participant, &listener) {
+            Ok(handle) => handles.push(Some(handle)),
+            Err(failed) => {
+                return Started {
+                    handles,
+                    failed: Some(failed),
+                };
+            }
+        }
     }
     note_beyond(rt, &listener.socket, listener.class);
-    Ok(handles)
+    Started {
+        handles,
+        failed: None,
+    }
 }
 
 // Waits for the threads in their order, and takes in their participants.
@@ -259,31 +296,46 @@ fn serve_in_scope<'s, E: 's, R: Wait + Threads + Log + Sync, D: Gathering + Sync
     participant: Seat,
     listener: Listener,
     sessions: Vec<Session>,
-) -> Result<ServedListener, ServeFault>
+) -> Result<ServedListener, Failed>
     requires fresh { IsFresh (D.table shared.now) participant }
     requires room { IsRoomFor listener.count sessions }
     ensures { Serves listener.class listener.count participant result }
 {
     let mut participant = participant;
-    let handles = start_connections(scope, rt, shared, &mut participant, listener)?;
+    let Started { handles, failed } = start_connections(
+        scope,
+        rt,
+        shared,
+        &mut participant,
+        listener,
+    );
     let sessions = join_connections(rt, shared.device(), &mut participant, handles, sessions);
-    Ok(ServedListener {
-        sessions,
-        participant,
-    })
+    match failed {
+        None => Ok(ServedListener {
+            sessions,
+            participant,
+        }),
+        Some(failed) => {
+            shared.device().join(&mut participant, failed.participant);
+            Err(Failed {
+                fault: failed.fault,
+                participant,
+            })
+        }
+    }
 }
 
 /// Accepts the connections of a listener and serves each in a thread of its own, until all have ended. It may wait.
 ///
-/// The listener is closed before the sessions are waited for. On a fault the threads that were started are waited for. The sessions
-/// are told in the list that is handed in, which has room for them.
+/// The listener is closed before the sessions are waited for. On a fault the threads that were started are waited for, and their
+/// participants are taken in. The sessions are told in the list that is handed in, which has room for them.
 pub(crate) fn serve_listener<R: Wait + Threads + Log + Sync, D: Gathering + Sync>(
     rt: &R,
     shared: &D,
     participant: Seat,
     listener: Listener,
     sessions: Vec<Session>,
-) -> Result<ServedListener, ServeFault>
+) -> Result<ServedListener, Failed>
     requires fresh { IsFresh (D.table shared.now) participant }
     requires room { IsRoomFor listener.count sessions }
     ensures { Serves listener.class listener.count participant result }
@@ -291,7 +343,7 @@ pub(crate) fn serve_listener<R: Wait + Threads + Log + Sync, D: Gathering + Sync
     thread::scope(
         thread::scope_env(),
         rt,
-        move |scope| -> Result<ServedListener, ServeFault>
+        move |scope| -> Result<ServedListener, Failed>
             requires fresh { IsFresh (D.table shared.now) participant }
             requires room { IsRoomFor listener.count sessions }
             ensures { Serves listener.class listener.count participant result }

@@ -1,17 +1,19 @@
 //! Three listeners at once, each in a thread of its own.
 
-ghost use Rattle.std.specs.Prelude.{◌≡◌, ◌≢◌, Err, IfErr, IfOk};
-ghost use Rattle.drm_listeners.specs.declared.serve_faults.ServeFault.TheVariants.{NoMemory, NoThread, TurnOut};
-ghost use Rattle.drm_listeners.specs.Connections.{IsFresh, IsRoomFor, Serves};
-ghost use Rattle.drm_listeners.specs.Listeners.{AreFresh, AreRooms, AreServed};
+ghost use Rattle.std.specs.Prelude.{◌≡◌, ℕ, IfErr, IfOk};
+ghost use Rattle.drm_turns.specs.Participants.{ParticipantView};
+ghost use Rattle.drm_listeners.specs.Connections.{IsFailed, IsFresh, IsRoomFor, Serves, participant_left};
+ghost use Rattle.drm_listeners.specs.Listeners.{AreAllServed, AreFresh, AreRooms, AreServing};
 
-use crate::connections::{Listener, ServedListener, serve_listener};
+use crate::connections::{Failed, Listener, ServedListener, serve_listener};
 use crate::counts::Counts;
 use crate::hall::Gathering;
 use crate::serve_faults::ServeFault;
 use drm_sessions::{Class, Session};
 use drm_turns::Seat;
+use libc::net::{SHUT_RDWR, shutdown};
 use log::Log;
+use std::os::fd::AsRawFd;
 use std::os::unix::net::UnixListener;
 use std::snapshot::Snapshot;
 use std::sync::Wait;
@@ -26,6 +28,13 @@ pub(crate) struct ByClass<T> {
     pub(crate) root: T,
 }
 
+/// Why not all listeners were served, and the participant of each, which took in each that was split off it.
+#[derive(Drop)]
+pub(crate) struct FailedListeners {
+    pub(crate) fault: ServeFault,
+    pub(crate) participants: ByClass<Seat>,
+}
+
 /// That a thread serves a listener of this class through the participant, with so many connections.
 #[derive(Drop)]
 struct ListenerServed {
@@ -34,14 +43,25 @@ struct ListenerServed {
     participant: Snapshot<Seat>,
 }
 
-impl Promise<Result<ServedListener, ServeFault>> for ListenerServed {
+impl Promise<Result<ServedListener, Failed>> for ListenerServed {
     ghost kept_by = { λ promise served. Serves promise.class promise.count promise.participant.value served };
 }
 
 /// A thread that serves a listener.
-type ListenerHandle = PromisedHandle<Result<ServedListener, ServeFault>, ListenerServed>;
+type ListenerHandle = PromisedHandle<Result<ServedListener, Failed>, ListenerServed>;
 
-// Starts the thread that serves a listener.
+// Returns the participant of a listener, however it was served.
+fn participant_of(served: Result<ServedListener, Failed>) -> Seat
+    ensures { result ≡ participant_left served }
+{
+    match served {
+        Ok(served) => served.participant,
+        Err(failed) => failed.participant,
+    }
+}
+
+// Starts the thread that serves a listener. If no thread can be started, the listener is shut first: then serving it here accepts no
+// client, and returns the participant.
 fn start_listener<'s, E: 's, R: Wait + Threads + Log + Sync, D: Gathering + Sync>(
     scope: &Scope<'s, E>,
     rt: &'s R,
@@ -49,14 +69,15 @@ fn start_listener<'s, E: 's, R: Wait + Threads + Log + Sync, D: Gathering + Sync
     participant: Seat,
     listener: Listener,
     sessions: Vec<Session>,
-) -> Result<ListenerHandle, ServeFault>
+) -> Result<ListenerHandle, Failed>
     requires fresh { IsFresh (D.table shared.now) participant }
     requires room { IsRoomFor listener.count sessions }
     ensures class { IfOk result (λ handle. handle.promise.class ≡ listener.class) }
     ensures count { IfOk result (λ handle. handle.promise.count ≡ listener.count) }
     ensures participant { IfOk result (λ handle. handle.promise.participant.value ≡ participant) }
-    ensures fault { IfErr result (λ fault. fault ≡ NoThread) }
+    ensures failed { IfErr result (λ failed. IsFailed listener.class participant failed) }
 {
+    let socket = listener.socket.as_raw_fd();
     let promise = ListenerServed {
         class: listener.class,
         count: listener.count,
@@ -64,7 +85,7 @@ fn start_listener<'s, E: 's, R: Wait + Threads + Log + Sync, D: Gathering + Sync
     };
     let served = scope.spawn_with(
         promise,
-        move || -> Result<ServedListener, ServeFault>
+        move || -> Result<ServedListener, Failed>
             requires fresh { IsFresh (D.table shared.now) participant }
             requires room { IsRoomFor listener.count sessions }
             ensures { Serves listener.class listener.count participant result }
@@ -72,7 +93,71 @@ fn start_listener<'s, E: 's, R: Wait + Threads + Log + Sync, D: Gathering + Sync
     );
     match served {
         Ok(handle) => Ok(handle),
-        Err(_) => Err(ServeFault::NoThread),
+        Err(refused) => {
+            shutdown(socket, SHUT_RDWR);
+            let served = (refused.value)();
+            Err(Failed {
+                fault: ServeFault::NoThread,
+                participant: participant_of(served),
+            })
+        }
+    }
+}
+
+// Waits for the thread of a listener, if there is one.
+fn join_listener<R: Threads>(
+    rt: &R,
+    started: Result<ListenerHandle, Failed>,
+) -> Result<ServedListener, Failed>
+    ensures { (class : Class) (count : ℕ) (participant : ParticipantView)
+        → IfOk started (λ handle. (handle.promise.class ≡ class) × (handle.promise.count ≡ count)
+        × (handle.promise.participant.value ≡ participant))
+        → IfErr started (λ failed. IsFailed class participant failed) → Serves class count participant result }
+{
+    match started {
+        Ok(handle) => handle.join(rt),
+        Err(failed) => Err(failed),
+    }
+}
+
+// Returns the served listeners if all were served, or else the fault of the first that was not.
+fn all_served(
+    served: ByClass<Result<ServedListener, Failed>>,
+) -> Result<ByClass<ServedListener>, FailedListeners>
+    ensures { (counts : Counts) (participants : ByClass ParticipantView)
+        → AreServing counts participants served → AreAllServed counts participants result }
+{
+    let ByClass { card, render, root } = served;
+    match card {
+        Ok(card) => match render {
+            Ok(render) => match root {
+                Ok(root) => Ok(ByClass { card, render, root }),
+                Err(root) => Err(FailedListeners {
+                    fault: root.fault,
+                    participants: ByClass {
+                        card: card.participant,
+                        render: render.participant,
+                        root: root.participant,
+                    },
+                }),
+            },
+            Err(render) => Err(FailedListeners {
+                fault: render.fault,
+                participants: ByClass {
+                    card: card.participant,
+                    render: render.participant,
+                    root: participant_of(root),
+                },
+            }),
+        },
+        Err(card) => Err(FailedListeners {
+            fault: card.fault,
+            participants: ByClass {
+                card: card.participant,
+                render: participant_of(render),
+                root: participant_of(root),
+            },
+        }),
     }
 }
 
@@ -85,12 +170,10 @@ fn serve_in_scope<'s, E: 's, R: Wait + Threads + Log + Sync, D: Gathering + Sync
     sockets: ByClass<UnixListener>,
     counts: Counts,
     rooms: ByClass<Vec<Session>>,
-) -> Result<ByClass<ServedListener>, ServeFault>
+) -> Result<ByClass<ServedListener>, FailedListeners>
     requires fresh { AreFresh (D.table shared.now) participants }
     requires rooms { AreRooms counts rooms }
-    ensures served { IfOk result (λ served. AreServed counts participants served) }
-    ensures turn { result ≢ Err TurnOut }
-    ensures memory { result ≢ Err NoMemory }
+    ensures { AreAllServed counts participants result }
 {
     let card = Listener {
         socket: sockets.card,
@@ -107,21 +190,20 @@ fn serve_in_scope<'s, E: 's, R: Wait + Threads + Log + Sync, D: Gathering + Sync
         class: Class::Root,
         count: counts.roots,
     };
-    let card = start_listener(scope, rt, shared, participants.card, card, rooms.card)?;
-    let render = start_listener(scope, rt, shared, participants.render, render, rooms.render)?;
-    let root = start_listener(scope, rt, shared, participants.root, root, rooms.root)?;
-    let (card, render, root) = (card.join(rt), render.join(rt), root.join(rt));
-    Ok(ByClass {
-        card: card?,
-        render: render?,
-        root: root?,
+    let card = start_listener(scope, rt, shared, participants.card, card, rooms.card);
+    let render = start_listener(scope, rt, shared, participants.render, render, rooms.render);
+    let root = start_listener(scope, rt, shared, participants.root, root, rooms.root);
+    all_served(ByClass {
+        card: join_listener(rt, card),
+        render: join_listener(rt, render),
+        root: join_listener(rt, root),
     })
 }
 
 /// Serves so many connections of three listeners at once, until all have ended. It may wait.
 ///
-/// On a fault the threads that were started are waited for. None is for want of memory for lists: `rooms` has room for the sessions of
-/// each listener.
+/// On a fault the threads that were started are waited for, and the participant of each listener is returned. None is for want of memory
+/// for lists: `rooms` has room for the sessions of each listener.
 pub(crate) fn serve_listeners<R: Wait + Threads + Log + Sync, D: Gathering + Sync>(
     rt: &R,
     shared: &D,
@@ -129,21 +211,18 @@ pub(crate) fn serve_listeners<R: Wait + Threads + Log + Sync, D: Gathering + Syn
     sockets: ByClass<UnixListener>,
     counts: Counts,
     rooms: ByClass<Vec<Session>>,
-) -> Result<ByClass<ServedListener>, ServeFault>
+) -> Result<ByClass<ServedListener>, FailedListeners>
     requires fresh { AreFresh (D.table shared.now) participants }
     requires rooms { AreRooms counts rooms }
-    ensures served { IfOk result (λ served. AreServed counts participants served) }
-    ensures turn { result ≢ Err TurnOut }
-    ensures memory { result ≢ Err NoMemory }
+    ensures { AreAllServed counts participants result }
 {
     thread::scope(
         thread::scope_env(),
         rt,
-        move |scope| -> Result<ByClass<ServedListener>, ServeFault>
+        move |scope| -> Result<ByClass<ServedListener>, FailedListeners>
             requires fresh { AreFresh (D.table shared.now) participants }
             requires rooms { AreRooms counts rooms }
-            ensures { IfOk result (λ served. AreServed counts participants served) × (result ≢ Err TurnOut)
-                × (result ≢ Err NoMemory) }
+            ensures { AreAllServed counts participants result }
         { serve_in_scope(scope, rt, shared, participants, sockets, counts, rooms) },
     )
 }

@@ -1,6 +1,6 @@
 //! Serving the connections of three listeners.
 
-ghost use Rattle.std.specs.Prelude.{◌≡◌, ◌≢◌, ◌+◌, ◌-◌, ◌≤◌, ◌∷◌, ◌++◌, [], Err, All, IfErr, IfOk, IfSome, OnOk, length, vec_len};
+ghost use Rattle.std.specs.Prelude.{◌≡◌, ◌≢◌, ◌+◌, ◌-◌, ◌≤◌, ◌∷◌, ◌++◌, [], Err, All, IfErr, IfOk, length, vec_len};
 ghost use Rattle.std.specs.Vec.{vec_capacity};
 ghost use Rattle.drm_turns.specs.History.{AllDiffer, StartsWith};
 ghost use Rattle.drm_turns.specs.Participants.{Same};
@@ -8,7 +8,7 @@ ghost use Rattle.drm_sessions.specs.Serving.{all_steps};
 ghost use Rattle.drm_sessions.specs.declared.class.Class.TheVariants.{Card, Render, Root};
 ghost use Rattle.drm_listeners.specs.declared.serve_faults.ServeFault.TheVariants.{NoMemory, TurnOut};
 ghost use Rattle.drm_listeners.specs.Connections.{IsSessionOf};
-ghost use Rattle.drm_listeners.specs.Listeners.{AreChildren, AreRooms};
+ghost use Rattle.drm_listeners.specs.Listeners.{AreChildren, AreRooms, participants_of};
 ghost use Rattle.drm_listeners.specs.Serving.{AreSessionsOf, Continues, HaveSat, IsHistoryOf, card_sessions, connections, render_sessions, root_sessions};
 
 use crate::connections::ServedListener;
@@ -39,6 +39,28 @@ fn put_behind(sessions: &mut Vec<Session>, more: Vec<Session>)
     }
 }
 
+// Takes in the participants of the listeners.
+fn take_in(shared: &SharedDevice, participant: &mut Seat, participants: ByClass<Seat>)
+    requires own { participant.old.table ≡ shared.now }
+    requires cards { participants.card.table ≡ shared.now }
+    requires renders { participants.render.table ≡ shared.now }
+    requires roots { participants.root.table ≡ shared.now }
+    requires children { AreChildren participant.old participants }
+    ensures same { Same participant.old participant.new × StartsWith participant.new.seen participant.old.seen }
+    ensures seen { StartsWith participant.new.seen participants.card.seen × StartsWith participant.new.seen participants.render.seen
+        × StartsWith participant.new.seen participants.root.seen }
+    ensures merged { participant.new.merged ≡ ((participant.old.merged ++ participants.card.number ∷ participants.card.merged)
+        ++ participants.render.number ∷ participants.render.merged) ++ participants.root.number ∷ participants.root.merged }
+    ensures differ { AllDiffer participant.new.merged }
+    ensures outstanding { participant.new.outstanding ≡ participant.old.outstanding - 3 }
+    ensures journaled { participant.new.journaled ≡ participant.old.journaled + (participants.card.journaled + (participants.render.journaled + participants.root.journaled)) }
+{
+    let ByClass { card, render, root } = participants;
+    shared.join(participant, card);
+    shared.join(participant, render);
+    shared.join(participant, root);
+}
+
 // Takes in the participants of the listeners, and gives their sessions one behind another. It takes no memory.
 fn gather(
     shared: &SharedDevice,
@@ -50,7 +72,7 @@ fn gather(
     requires cards { served.card.participant.table ≡ shared.now }
     requires renders { served.render.participant.table ≡ shared.now }
     requires roots { served.root.participant.table ≡ shared.now }
-    requires children { AreChildren participant.old served }
+    requires children { AreChildren participant.old (participants_of served) }
     requires empty { sessions.items ≡ [] }
     requires reserved { vec_len served.card.sessions + vec_len served.render.sessions + vec_len served.root.sessions
         ≤ vec_capacity sessions }
@@ -66,9 +88,12 @@ fn gather(
     ensures journaled { participant.new.journaled ≡ participant.old.journaled + (served.card.participant.journaled + (served.render.participant.journaled + served.root.participant.journaled)) }
 {
     let ByClass { card, render, root } = served;
-    shared.join(participant, card.participant);
-    shared.join(participant, render.participant);
-    shared.join(participant, root.participant);
+    let participants = ByClass {
+        card: card.participant,
+        render: render.participant,
+        root: root.participant,
+    };
+    take_in(shared, participant, participants);
     let mut sessions = sessions;
     put_behind(&mut sessions, card.sessions);
     put_behind(&mut sessions, render.sessions);
@@ -116,7 +141,7 @@ fn serve_shared<R: Wait + Threads + Log + Sync>(
     ensures sessions { IfOk result (λ sessions. AreSessionsOf counts sessions.items) }
     ensures participants { IfOk result (λ sessions. HaveSat counts participant.new sessions.items) }
     ensures same { Same participant.old participant.new × StartsWith participant.new.seen participant.old.seen }
-    ensures outstanding { OnOk result (participant.new.outstanding ≡ participant.old.outstanding) }
+    ensures outstanding { participant.new.outstanding ≡ participant.old.outstanding }
     ensures journaled { IfOk result (λ sessions. participant.new.journaled ≡ participant.old.journaled + all_steps sessions.items) }
     ensures turn { result ≢ Err TurnOut }
     ensures memory { IfErr result (λ fault. fault ≡ NoMemory → participant.new ≡ participant.old) }
@@ -133,8 +158,13 @@ fn serve_shared<R: Wait + Threads + Log + Sync>(
         device: shared,
         open,
     };
-    let served = serve_listeners(rt, &hall, participants, sockets, counts, rooms)?;
-    Ok(gather(shared, participant, served, sessions))
+    match serve_listeners(rt, &hall, participants, sockets, counts, rooms) {
+        Ok(served) => Ok(gather(shared, participant, served, sessions)),
+        Err(failed) => {
+            take_in(shared, participant, failed.participants);
+            Err(failed.fault)
+        }
+    }
 }
 
 /// The reason that not all connections were served, with the device that served the others (own).
@@ -142,8 +172,8 @@ fn serve_shared<R: Wait + Threads + Log + Sync>(
 pub struct Unserved {
     /// The reason.
     pub fault: ServeFault,
-    /// The device. `None` if there was no memory to share it, or if a thread ended without passing its turn on.
-    pub device: Option<Device>,
+    /// The device.
+    pub device: Device,
 }
 
 /// Serves connections as [`serve_until_told`] does, and returns the device on a fault too (own). It may wait.
@@ -151,8 +181,7 @@ pub struct Unserved {
 /// # Errors
 ///
 /// [`Unserved`] has the fault, and the device with the events of one legal history. That history begins with what the device had
-/// recorded before, and ends with the last step before all threads ended. There is no device if there was no memory to share it, or
-/// if a thread ended without passing its turn on.
+/// recorded before, and ends with the last step before all threads ended. `NoMemory` leaves the device unchanged.
 pub fn serve_keeping<R: Wait + Threads + Log + Sync>(
     rt: &R,
     alloc: Global,
@@ -170,35 +199,27 @@ pub fn serve_keeping<R: Wait + Threads + Log + Sync>(
     ensures history { IfOk result (λ served. IsHistoryOf counts device served.0 served.1.items) }
     ensures journaled { IfOk result (λ served. length served.0.journal ≡ length device.journal + all_steps served.1.items) }
     ensures turn { IfErr result (λ unserved. unserved.fault ≢ TurnOut) }
-    ensures kept { IfErr result (λ unserved. IfSome unserved.device (Continues device)) }
+    ensures kept { IfErr result (λ unserved. Continues device unserved.device) }
+    ensures memory { IfErr result (λ unserved. unserved.fault ≡ NoMemory → unserved.device ≡ device) }
 {
-    let Ok((shared, mut participant)) = SharedDevice::new(alloc, device) else {
-        return Err(Unserved {
-            fault: ServeFault::NoMemory,
-            device: None,
-        });
+    let _journal = device.journal();
+    let (shared, mut participant) = match SharedDevice::new(alloc, device) {
+        Ok(made) => made,
+        Err((device, _)) => {
+            return Err(Unserved {
+                fault: ServeFault::NoMemory,
+                device,
+            });
+        }
     };
     let sockets = ByClass { card, render, root };
     let served = serve_shared(rt, alloc, &shared, open, &mut participant, sockets, counts);
-    let closed = shared.close(participant);
+    let Ok(device) = shared.close(participant) else {
+        unreachable!()
+    };
     match served {
-        Ok(sessions) => match closed {
-            Ok(device) => Ok((device, sessions)),
-            Err(_) => Err(Unserved {
-                fault: ServeFault::TurnOut,
-                device: None,
-            }),
-        },
-        Err(fault) => match closed {
-            Ok(device) => Err(Unserved {
-                fault,
-                device: Some(device),
-            }),
-            Err(_) => Err(Unserved {
-                fault,
-                device: None,
-            }),
-        },
+        Ok(sessions) => Ok((device, sessions)),
+        Err(fault) => Err(Unserved { fault, device }),
     }
 }
 

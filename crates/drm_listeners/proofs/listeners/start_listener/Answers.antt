@@ -15,9 +15,8 @@ use Rattle.drm_turns.specs.contracts.seat.Seat as participant
 use Rattle.drm_sessions.proofs.end.Session.TheSendSync as session
 use Rattle.drm_sessions.specs.contracts.end.Session as session_type
 use Rattle.drm_listeners.proofs.connections.Listener.TheSendSync as listener
-use Rattle.drm_listeners.proofs.serve_faults.ServeFault.TheSendSync as fault
 use Rattle.drm_listeners.specs.contracts.connections.Listener as listener_type
-use Rattle.drm_listeners.proofs.Crossing.{listener_send}
+use Rattle.drm_listeners.proofs.Crossing.{failed_send, listener_send}
 use Rattle.drm_listeners.proofs.listeners.start_listener.Goals as goal
 
 -- what the thread takes along: the runtime and the device by `&`, the participant, the listener and the list for its sessions
@@ -31,4 +30,4 @@ spawn_with-served-requires-send-F g c κs within =
     (shr_send _ _ _ c.type_bounds.sync-R, (shr_send _ _ _ c.type_bounds.sync-D, (participant_send, (listener.the_send, (Vec-send _ session.the_send, tt)))))))
 
 pub spawn_with-served-requires-send-T : goal.spawn_with-served-requires-send-T
-spawn_with-served-requires-send-T g c κs within = param_send _ _ (arg_send _ no _ (result.the_send _ _ listener_send fault.the_send))
+spawn_with-served-requires-send-T g c κs within = param_send _ _ (arg_send _ no _ (result.the_send _ _ listener_send failed_send))

@@ -1,14 +1,14 @@
 use Rattle.std.proofs.Common.{sym, ◌∙◌, arith}
 use Rattle.drm_turns.specs.Participants.{ParticipantView}
 use Rattle.drm_turns.proofs.Taken.{given_back}
-use Rattle.drm_listeners.proofs.serving.gather.Goals as goal
+use Rattle.drm_listeners.proofs.serving.take_in.Goals as goal
 
 pub returns-clause-outstanding : goal.returns-clause-outstanding
 returns-clause-outstanding c =
     let children = c.requires.children in
-    let card = c.args.served.card.participant in
-    let render = c.args.served.render.participant in
-    let root = c.args.served.root.participant in
+    let card = c.args.participants.card in
+    let render = c.args.participants.render in
+    let root = c.args.participants.root in
     let one : ParticipantView = c.join.new.participant in
     let two : ParticipantView = c.join-2.new.participant in
     let same = c.join.ensures.extends.0.1 in
