@@ -15,9 +15,10 @@ use Rattle.drm_runs.specs.Lines.{ended}
 use Rattle.drm_runs.specs.Script.{bound, event_of, label_bound}
 use Rattle.drm_runs.proofs.InterpreterLemmas.{steps_on}
 use Rattle.drm_checks.specs.Updates.{with_answer}
-use Rattle.drm_journals.specs.Journals.{AddsLine, HasNoLabel, IsCut, IsWhole, Lines, finds, labels_used}
+use Rattle.drm_journals.specs.Journals.{AddsComment, AddsLine, Comments, HasNoLabel, IsCut, IsWhole, Lines, finds, labels_used}
+use Rattle.drm_journals.specs.Journals.Comments.{commented}
 use Rattle.drm_journals.specs.Journals.Lines.{answered}
-use Rattle.drm_journals.specs.Lines.{command_at, command_text, written_event}
+use Rattle.drm_journals.specs.Lines.{brief_event, command_at, command_text, comment_text, written_event}
 
 -- ---- labels
 
@@ -53,6 +54,25 @@ adds asked place result text device labels text' device' labels' script within n
     let more = answered asked place result lines within names (steps_on device device' asked result step ok err) in
     subst (λ (z : List ℕ × List ℕ). Lines limits first (before ++ asked ∷ []) z.0 device' z.1) (λ i. (sym (new ∙ ap (λ s. text ++ ended (with_answer s (Some result))) is) i, sym binds i)) more
 
+-- ---- comments
+
+pub adds_comment : (asked : Event) (result : Result Answer Apart) (text : List ℕ) (device : DeviceValue) (text' : List ℕ) (device' : DeviceValue) (words : List ℕ)
+    → words ≡ comment_text (brief_event asked) → text' ≡ text ++ ended (with_answer words (Some result))
+    → Step (rows_of device) asked result (rows_of device') → OnOk result (device' ≡ journaled_in device asked) → OnErr result (device' ≡ device)
+    → AddsComment asked text device text' device'
+adds_comment asked result text device text' device' words is new step ok err =
+    λ front first before comments.
+    let more = commented asked result comments (steps_on device device' asked result step ok err) in
+    subst (λ (z : List ℕ). Comments front first (before ++ asked ∷ []) z device') (sym (new ∙ ap (λ w. text ++ ended (with_answer w (Some result))) is)) more
+
+pub commented_more : (front : List ℕ) (first device : DeviceValue) (es : List Event) (n : ℕ) (e : Event) (text : List ℕ) → n < length es → e ≡ get_or es n e
+    → Comments front first (take n es ++ e ∷ []) text device → Comments front first (take (n + 1) es) text device
+commented_more front first device es n e text within is h =
+    subst (λ (l : List Event). Comments front first l text device) (sym (take_more es n e within ∙ (λ i. take n es ++ sym is i ∷ []))) h
+
+pub all_commented : (front : List ℕ) (first device : DeviceValue) (es : List Event) (n : ℕ) (text : List ℕ) → length es ≤ n → Comments front first (take n es) text device → Comments front first es text device
+all_commented front first device es n text all h = subst (λ (l : List Event). Comments front first l text device) (take_all n es all) h
+
 -- an answer of memory that was refused says nothing
 pub on_ok : {D E : Type 0} {P Q : Type 0} (r : Result D E) → (P → Q) → OnOk r P → OnOk r Q
 on_ok (Ok d) step h = step h
@@ -68,22 +88,24 @@ written_more es n e within is = ap (map written_event) (take_more es n e within)
 pub whole : (limits : Limits) (first device : DeviceValue) (es : List Event) (n : ℕ) (text labels : List ℕ) → length es ≤ n → Lines limits first (map written_event (take n es)) text device labels → IsWhole limits first es text
 whole limits first device es n text labels all lines = record { device = device; labels = labels; lines = subst (λ l. Lines limits first (map written_event l) text device labels) (take_all n es all) lines }
 
-split_at : (es : List Event) (n : ℕ) (e : Event) → n < length es → e ≡ get_or es n e → es ≡ take n es ++ e ∷ drop (n + 1) es
-split_at es n e within is =
+from_here : (es : List Event) (n : ℕ) (e : Event) → n < length es → e ≡ get_or es n e → drop n es ≡ e ∷ drop (n + 1) es
+from_here es n e within is =
     let on : suc n ≡ n + 1 = omega arith in
-    sym (take-append-drop n es) ∙ ap (λ (l : List Event). take n es ++ l) (drop-cons es n e within ∙ (λ i. sym is i ∷ drop (on i) es))
+    drop-cons es n e within ∙ (λ i. sym is i ∷ drop (on i) es)
 
-pub cut : (limits : Limits) (first device : DeviceValue) (es : List Event) (n : ℕ) (e : Event) (lines_text text labels : List ℕ) → n < length es → e ≡ get_or es n e → Lines limits first (map written_event (take n es)) lines_text device labels
-    → HasNoLabel labels e × (text ≡ lines_text ++ ended labels_used) → IsCut limits first es text
-cut limits first device es n e lines_text text labels within is lines h = record {
+pub cut : (limits : Limits) (first device device' after : DeviceValue) (es rest : List Event) (n : ℕ) (e : Event) (lines_text text text' labels : List ℕ) → n < length es → e ≡ get_or es n e
+    → Lines limits first (map written_event (take n es)) lines_text device labels
+    → HasNoLabel labels e × (text ≡ lines_text ++ ended labels_used) × (device' ≡ device) → rest ≡ drop n es → Comments text device' rest text' after → IsCut limits first es text'
+cut limits first device device' after es rest n e lines_text text text' labels within is lines h are comments = record {
   front = take n es;
   next = e;
   others = drop (n + 1) es;
   lines_text = lines_text;
   device = device;
   labels = labels;
-  parts = split_at es n e within is;
+  after = after;
+  parts = sym (take-append-drop n es) ∙ ap (λ (l : List Event). take n es ++ l) (from_here es n e within is);
   lines = lines;
   unnamed = h.0;
-  text_is = h.1;
+  comments = subst (λ (z : List ℕ × DeviceValue × List Event). Comments z.0 z.1 z.2 text' after) (λ i. (h.1 i, h.2 i, (are ∙ from_here es n e within is) i)) comments;
 }

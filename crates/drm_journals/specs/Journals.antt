@@ -9,7 +9,7 @@ use Rattle.drm_model.specs.Run.{DeviceValue}
 use Rattle.drm_runs.specs.Lines.{ended}
 use Rattle.drm_runs.specs.Script.{StepsOn, bound, event_of, label_bound, unbound}
 use Rattle.drm_checks.specs.Updates.{with_answer}
-use Rattle.drm_journals.specs.Lines.{command_at, command_text, limits_text, written_event}
+use Rattle.drm_journals.specs.Lines.{brief_event, command_at, command_text, comment_text, limits_text, written_event}
 
 -- The line of limits, and then a line for each event, in order: of a command that asks for it by a label, with the answer
 -- that the device gives there, where both fit into 255 bytes. A label names the client of the last accepted opening by it. The last
@@ -29,9 +29,17 @@ HasNoLabel labels (events.Open opening) = position (finds 0) labels ≡ None
 HasNoLabel labels (events.Close client) = position (finds client) labels ≡ None
 HasNoLabel labels (events.Ask client call) = position (finds client) labels ≡ None
 
--- the comment that stands in place of the events left out
+-- the comment before the first event without a line
 abbrev pub labels_used : List ℕ
-labels_used = codes "# more clients are open here than there are labels, and what follows is left out"
+labels_used = codes "# more clients are open here than there are labels: each further step is a comment"
+
+-- A comment for each event, in order, behind this text: with the answer that the device gives there, if both fit into 255 bytes. The last is
+-- the device behind the comments.
+pub data Comments (front : List ℕ) (first : DeviceValue) : List Event → List ℕ → DeviceValue → Type 0 where
+  none : Comments front first [] front first
+  commented : {events : List Event} {text : List ℕ} {device after : DeviceValue} (next : Event) (result : Result Answer Apart)
+      → Comments front first events text device → StepsOn device next result after
+      → Comments front first (events ++ next ∷ []) (text ++ ended (with_answer (comment_text (brief_event next)) (Some result))) after
 
 -- All events have their lines.
 pub record IsWhole (limits : Limits) (first : DeviceValue) (events : List Event) (text : List ℕ) : Type 0 where
@@ -39,18 +47,19 @@ pub record IsWhole (limits : Limits) (first : DeviceValue) (events : List Event)
   pub labels : List ℕ
   pub lines : Lines limits first (map written_event events) text device labels
 
--- The events up to one for which there is no label have their lines, and a comment says that the others are left out.
+-- The events up to one for which there is no label have their lines, and each of the others has a comment.
 pub record IsCut (limits : Limits) (first : DeviceValue) (events : List Event) (text : List ℕ) : Type 0 where
   pub front : List Event
   pub next : Event
   pub others : List Event
   pub lines_text : List ℕ
   pub device : DeviceValue
+  pub after : DeviceValue
   pub labels : List ℕ
   pub parts : events ≡ front ++ next ∷ others
   pub lines : Lines limits first (map written_event front) lines_text device labels
   pub unnamed : HasNoLabel labels next
-  pub text_is : text ≡ lines_text ++ ended labels_used
+  pub comments : Comments (lines_text ++ ended labels_used) device (next ∷ others) text after
 
 -- The text is the script of the events.
 abbrev pub IsScriptOf : Limits → DeviceValue → List Event → List ℕ → Bool → Type 0
@@ -63,7 +72,12 @@ AddsLine event text device labels text' device' labels' =
     (limits : Limits) (first : DeviceValue) (events : List Event) → Lines limits first events text device labels
     → Lines limits first (events ++ event ∷ []) text' device' labels'
 
--- The same, if there is a label for the event; else the comment ends the text.
+-- Whichever comments there were, one more stands behind them.
+abbrev pub AddsComment : Event → List ℕ → DeviceValue → List ℕ → DeviceValue → Type 0
+AddsComment event text device text' device' =
+    (front : List ℕ) (first : DeviceValue) (events : List Event) → Comments front first events text device → Comments front first (events ++ event ∷ []) text' device'
+
+-- One more line, if there is a label for the event; else the comment before the first event without a line.
 abbrev pub Advances : Event → List ℕ → DeviceValue → List ℕ → List ℕ → DeviceValue → List ℕ → Bool → Type 0
 Advances event text device labels text' device' labels' true = AddsLine (written_event event) text device labels text' device' labels'
-Advances event text device labels text' device' labels' false = HasNoLabel labels event × (text' ≡ text ++ ended labels_used)
+Advances event text device labels text' device' labels' false = HasNoLabel labels event × (text' ≡ text ++ ended labels_used) × (device' ≡ device)

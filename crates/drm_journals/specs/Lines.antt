@@ -72,3 +72,19 @@ abbrev pub command_at : ℕ → Event → Command
 command_at place (events.Open opening) = commands.Open place opening
 command_at place (events.Close client) = commands.Close place
 command_at place (events.Ask client call) = commands.Ask place call
+
+-- ---- comments
+
+-- the comment in place of an event's line, where `?` is the label of a client that has none
+abbrev pub comment_text : Event → List ℕ
+comment_text (events.Open opening) = codes "# " ++ (open_text opening ++ (codes "?" ++ opening_text opening))
+comment_text (events.Close client) = codes "# close client" ++ spaced client
+comment_text (events.Ask client call) = codes "# client" ++ (spaced client ++ call_text call)
+
+-- A call whose comment has more than 255 bytes is written as one with the wrong fields.
+abbrev pub brief_call : ℕ → Call → Call
+brief_call client call = if nat_lt 255 (length (comment_text (events.Ask client call))) then BadLayout (call_number call) else call
+
+abbrev pub brief_event : Event → Event
+brief_event (events.Ask client call) = events.Ask client (brief_call client call)
+brief_event event = event

@@ -1,11 +1,12 @@
 //! A journal as a script.
 
 ghost use Rattle.std.specs.Prelude.{◌≡◌, ◌<◌, IfSome, IfNone, IfOk, OnOk};
+ghost use Rattle.drm_model.specs.Run.{DeviceValue};
 ghost use Rattle.drm_runs.specs.Script.{event_of, label_bound};
-ghost use Rattle.drm_journals.specs.Journals.{AddsLine, Advances, HasNoLabel, IsScriptOf};
-ghost use Rattle.drm_journals.specs.Lines.{command_at, written_call, written_event};
+ghost use Rattle.drm_journals.specs.Journals.{AddsComment, AddsLine, Advances, Comments, HasNoLabel, IsScriptOf};
+ghost use Rattle.drm_journals.specs.Lines.{brief_call, brief_event, command_at, written_call, written_event};
 
-use crate::lines::{put_call, put_event, put_limits};
+use crate::lines::{put_asked, put_call, put_comment, put_event, put_limits};
 use crate::namings::Namings;
 use drm_checks::put_answered;
 use drm_device::Device;
@@ -16,21 +17,20 @@ use std::alloc::{AllocError, Global};
 /// How many bytes a line of a script has at most.
 const LONGEST: usize = 255;
 
-/// What stands in place of what follows, where there is no label.
+/// The comment before the first event for which there is no label.
 const LABELS_USED: &[u8] =
-    b"# more clients are open here than there are labels, and what follows is left out\n";
+    b"# more clients are open here than there are labels: each further step is a comment\n";
 
 /// The script of a journal (own).
 #[derive(Drop)]
 pub struct Journal {
     /// Its bytes.
     pub text: Vec<u8>,
-    /// Whether all events stand in it. Where more clients were open at once than there are labels, a comment says so, and what
-    /// follows is left out.
+    /// Whether each event has a line. If more clients were open at once than there are labels, the other events have comments.
     pub is_whole: bool,
 }
 
-/// The same call.
+/// Returns the same call.
 fn copy_of(call: &Call) -> Call
     ensures { result ≡ call.now }
 {
@@ -63,6 +63,43 @@ fn written_event(line: &mut Vec<u8>, event: &Event) -> Result<Event, AllocError>
         Event::Close(client) => Ok(Event::Close(*client)),
         Event::Ask(client, call) => {
             let call = written_call(line, call)?;
+            Ok(Event::Ask(*client, call))
+        }
+    }
+}
+
+/// Returns the same event.
+fn copy_of_event(event: &Event) -> Event
+    ensures { result ≡ event.now }
+{
+    match event {
+        Event::Open(opening) => Event::Open(*opening),
+        Event::Close(client) => Event::Close(*client),
+        Event::Ask(client, call) => Event::Ask(*client, copy_of(call)),
+    }
+}
+
+/// Returns the call, or one that a comment can hold. The call is written into `line` to measure it.
+fn brief_call(line: &mut Vec<u8>, client: u32, call: &Call) -> Result<Call, AllocError>
+    ensures { IfOk result (λ brief. brief ≡ brief_call client call.now) }
+{
+    line.clear();
+    put_asked(line, client, call)?;
+    if line.len() > LONGEST {
+        return Ok(Call::BadLayout(call.number()));
+    }
+    Ok(copy_of(call))
+}
+
+/// Returns the event, or one that a comment can hold.
+fn brief_event(line: &mut Vec<u8>, event: &Event) -> Result<Event, AllocError>
+    ensures { IfOk result (λ brief. brief ≡ brief_event event.now) }
+{
+    match event {
+        Event::Open(opening) => Ok(Event::Open(*opening)),
+        Event::Close(client) => Ok(Event::Close(*client)),
+        Event::Ask(client, call) => {
+            let call = brief_call(line, *client, call)?;
             Ok(Event::Ask(*client, call))
         }
     }
@@ -143,13 +180,54 @@ fn write_event(
     Ok(true)
 }
 
-/// The events of a journal as a script (own).
+/// Writes the comment of an event, with the answer of the device.
+fn write_comment(
+    text: &mut Vec<u8>,
+    line: &mut Vec<u8>,
+    device: &mut Device,
+    event: &Event,
+) -> Result<(), AllocError>
+    ensures { OnOk result (AddsComment event.now text.old.items device.old text.new.items device.new) }
+{
+    let brief = brief_event(line, event)?;
+    line.clear();
+    put_comment(line, &brief)?;
+    let outcome = device.step(copy_of_event(event));
+    put_answered(text, line.as_slice(), &outcome)
+}
+
+/// Writes a comment for each event behind the text.
+fn with_comments(
+    text: Vec<u8>,
+    line: Vec<u8>,
+    device: Device,
+    events: &[Event],
+) -> Result<Vec<u8>, AllocError>
+    ensures { IfOk result (λ whole. (after : DeviceValue) × Comments text.items device events.now whole.items after) }
+{
+    let mut text = text;
+    let mut line = line;
+    let mut device = device;
+    for event in events {
+        write_comment(&mut text, &mut line, &mut device, event)?;
+    }
+    Ok(text)
+}
+
+/// Returns the events of a journal as a script (own).
 ///
-/// Its first line sets the limits, and behind each event stands ` -> ` with the answer that an empty device, which is given with
-/// those limits, gives it in its turn. A client has a label while it is open, and after that until another one takes it. An answer
-/// with which the line would be longer than 255 bytes is left out. A call that is by itself too long for a line, which is one of
-/// a lease of ids that no device has, is written by its bare number, and is denied as well. An error, which is want of memory, leaves no
-/// text; the device is gone in any case.
+/// Its first line sets the limits. Each event has a line, and behind it ` -> ` with the answer that an empty device, which is passed with
+/// those limits, returns in its turn. A client has a label while it is open, and after that until another one takes it.
+///
+/// If more clients are open at once than there are labels, a comment says so. It and each event from there on are comments, also with
+/// the device's answers: a script's device would not have the steps of a client without a label, and so other answers.
+///
+/// An answer with which the line would be longer than 255 bytes is left out. A call that is by itself too long for a line, which is one of
+/// a lease of ids that no device has, is written by its bare number, and is denied as well.
+///
+/// # Errors
+///
+/// If memory is refused, there is no text. The device is dropped in any case.
 pub fn journal_of(
     alloc: Global,
     events: &[Event],
@@ -164,13 +242,17 @@ pub fn journal_of(
     let mut text = Vec::new(alloc);
     put_limits(&mut text, limits)?;
     text.extend_from_slice(b"\n")?;
+    let mut written = 0;
     for event in events {
         if !write_event(&mut text, &mut line, &mut device, &mut namings, event)? {
+            let rest = events.split_at(written).1;
+            let text = with_comments(text, line, device, rest)?;
             return Ok(Journal {
                 text,
                 is_whole: false,
             });
         }
+        written += 1;
     }
     Ok(Journal {
         text,

@@ -2,8 +2,9 @@
 
 ghost use Rattle.std.specs.Prelude.{◌≡◌, ◌<◌, ◌++◌, OnOk, codes};
 ghost use Rattle.std.specs.List.{flat_map};
+ghost use Rattle.drm_table.specs.declared.events.Event.TheVariants.{Ask, Close};
 ghost use Rattle.drm_script.specs.Lines.{number_behind};
-ghost use Rattle.drm_journals.specs.Lines.{call_text, command_at, command_text, label_text, limits_text, open_text, opening_text, spaced};
+ghost use Rattle.drm_journals.specs.Lines.{call_text, command_at, command_text, comment_text, label_text, limits_text, open_text, opening_text, spaced};
 
 use drm_script::Label;
 use drm_table::{Call, Event, Field, Limits, Opening};
@@ -151,5 +152,38 @@ pub(crate) fn put_event(text: &mut Vec<u8>, place: usize, event: &Event) -> Resu
             put_label(text, place)?;
             put_call(text, call)
         }
+    }
+}
+
+/// Writes the comment of a call by a client.
+pub(crate) fn put_asked(text: &mut Vec<u8>, client: u32, call: &Call) -> Result<(), AllocError>
+    ensures { OnOk result (text.new.items ≡ text.old.items ++ comment_text (Ask client call.now)) }
+{
+    text.extend_from_slice(b"# client")?;
+    put_number(text, u64::from(client))?;
+    put_call(text, call)
+}
+
+/// Writes the comment of a closing.
+fn put_closed(text: &mut Vec<u8>, client: u32) -> Result<(), AllocError>
+    ensures { OnOk result (text.new.items ≡ text.old.items ++ comment_text (Close client)) }
+{
+    text.extend_from_slice(b"# close client")?;
+    put_number(text, u64::from(client))
+}
+
+/// Writes the comment of an event.
+pub(crate) fn put_comment(text: &mut Vec<u8>, event: &Event) -> Result<(), AllocError>
+    ensures { OnOk result (text.new.items ≡ text.old.items ++ comment_text event.now) }
+{
+    match event {
+        Event::Open(opening) => {
+            text.extend_from_slice(b"# ")?;
+            text.extend_from_slice(open_word(*opening))?;
+            text.extend_from_slice(b"?")?;
+            put_opening(text, *opening)
+        }
+        Event::Close(client) => put_closed(text, *client),
+        Event::Ask(client, call) => put_asked(text, *client, call),
     }
 }
