@@ -1,12 +1,11 @@
 //! Accepting connections, also where the system can't for a while.
 
-use crate::classes::class_word;
+use crate::notes::Note;
 use crate::open_connections::OpenConnections;
 use drm_sessions::Class;
 use libc::net::{POLLIN, poll};
 use libc::types::pollfd;
 use libc::{ECONNABORTED, EMFILE, ENOMEM};
-use log::{Log, error, warn};
 use std::io;
 use std::os::fd::AsRawFd;
 use std::os::unix::net::{UnixListener, UnixStream};
@@ -65,7 +64,7 @@ fn accept_or_end<R: Wait>(
 /// Accepts the next connection. If the system lacks descriptors or memory for it, this logs the reason and retries ten times a second,
 /// while a connection is open, and then for five seconds; who connects meanwhile waits. Where all were told to end it is one whose
 /// client has ended.
-pub(crate) fn accept_next<R: Wait + Log>(
+pub(crate) fn accept_next<R: Wait>(
     rt: &R,
     open: &OpenConnections,
     socket: &UnixListener,
@@ -77,7 +76,8 @@ pub(crate) fn accept_next<R: Wait + Log>(
         match accept_or_end(rt, open, socket) {
             Err(reason) if may_pass(&reason) => {
                 if !is_logged {
-                    error!(rt; "{}: {reason}; trying again", class_word(class));
+                    let note = Note::Retried(class, reason.raw_os_error());
+                    open.notes().add(rt, note);
                     is_logged = true;
                 }
                 if pauses == MOST_PAUSES {
@@ -98,10 +98,15 @@ pub(crate) fn accept_next<R: Wait + Log>(
 
 /// Logs where a connection waits behind the last one that a listener accepts, which is refused as the listener is closed. Whoever
 /// connects later isn't seen: the system refuses it.
-pub(crate) fn note_beyond<R: Log>(rt: &R, socket: &UnixListener, class: Class) {
+pub(crate) fn note_beyond<R: Wait>(
+    rt: &R,
+    open: &OpenConnections,
+    socket: &UnixListener,
+    class: Class,
+) {
     let mut asked = [asking(socket)];
     // a listener that was told to end has more to tell
     if poll(&mut asked, 0) == 1 && asked[0].revents == POLLIN {
-        warn!(rt; "{}: a connection beyond the count was refused", class_word(class));
+        open.notes().add(rt, Note::Refused(class));
     }
 }

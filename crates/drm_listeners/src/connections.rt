@@ -13,11 +13,10 @@ ghost use Rattle.drm_listeners.specs.Connections.{IsFailed, IsFresh, IsRoomFor, 
 use crate::accepting::{accept_next, note_beyond};
 use crate::answering::Answering;
 use crate::backlog::Ahead;
-use crate::classes::class_word;
 use crate::counts::MOST;
 use crate::greeting::Greeting;
 use crate::hall::Gathering;
-use crate::notes::note_session;
+use crate::notes::Note;
 use crate::open_connections::Role;
 use crate::serve_faults::ServeFault;
 use arrayvec::ArrayVec;
@@ -25,7 +24,7 @@ use drm_sessions::{Class, NoGate, Served, Session, serve_through};
 use drm_streams::{FromRead, Sink, Source, ToWrite};
 use drm_turns::{Seat, SharedDevice, Sharing};
 use libc::net::{SHUT_RDWR, shutdown};
-use log::{Log, error};
+use log::Log;
 use std::os::fd::AsRawFd;
 use std::os::unix::net::{UnixListener, UnixStream};
 use std::snapshot::Snapshot;
@@ -152,8 +151,10 @@ fn serve_connection<R: Wait + Log, D: Gathering>(
     ensures unchanged { Unchanged participant result.participant }
 {
     let served = serve_attended(rt, shared, participant, class, stream);
-    if !shared.open().has_ended(rt) {
-        note_session(rt, class, &served.session);
+    if let Some(note) = Note::of_session(class, &served.session) {
+        if !shared.open().has_ended(rt) {
+            shared.open().notes().add(rt, note);
+        }
     }
     served
 }
@@ -176,7 +177,8 @@ fn start_connection<'s, E: 's, R: Wait + Threads + Log + Sync, D: Gathering + Sy
     let stream = match accept_next(rt, shared.open(), &listener.socket, class) {
         Ok(stream) => stream,
         Err(reason) => {
-            error!(rt; "{}: {reason}", class_word(class));
+            let note = Note::Closed(class, reason.raw_os_error());
+            shared.open().notes().add(rt, note);
             return Err(Failed {
                 fault: ServeFault::Accept(class),
                 participant,
@@ -242,7 +244,7 @@ fn start_connections<'s, E: 's, R: Wait + Threads + Log + Sync, D: Gathering + S
             }
         }
     }
-    note_beyond(rt, &listener.socket, listener.class);
+    note_beyond(rt, shared.open(), &listener.socket, listener.class);
     Started {
         handles,
         failed: None,

@@ -18,7 +18,7 @@ use std::os::unix::net::UnixListener;
 use std::snapshot::Snapshot;
 use std::sync::Wait;
 use std::thread;
-use std::thread::{Promise, PromisedHandle, Scope, Threads};
+use std::thread::{JoinHandle, Promise, PromisedHandle, Scope, Threads};
 
 /// One for each class of listener.
 #[derive(Drop)]
@@ -200,6 +200,51 @@ fn serve_in_scope<'s, E: 's, R: Wait + Threads + Log + Sync, D: Gathering + Sync
     })
 }
 
+// Logs what is noted, until the end.
+fn log_notes<R: Wait + Log, D: Gathering>(rt: &R, shared: &D) {
+    shared.open().notes().log_all(rt);
+}
+
+// Starts the thread that logs.
+fn start_logging<'s, E: 's, R: Wait + Threads + Log + Sync, D: Gathering + Sync>(
+    scope: &Scope<'s, E>,
+    rt: &'s R,
+    shared: &'s D,
+) -> Option<JoinHandle<()>> {
+    let logging = scope.spawn(move || log_notes(rt, shared));
+    match logging {
+        Ok(logging) => Some(logging),
+        Err(_) => None,
+    }
+}
+
+// Serves the listeners in threads of the scope, and logs in another. If none can be started for that, nothing is served.
+fn serve_logged<'s, E: 's, R: Wait + Threads + Log + Sync, D: Gathering + Sync>(
+    scope: &Scope<'s, E>,
+    rt: &'s R,
+    shared: &'s D,
+    participants: ByClass<Seat>,
+    sockets: ByClass<UnixListener>,
+    counts: Counts,
+    rooms: ByClass<Vec<Session>>,
+) -> Result<ByClass<ServedListener>, FailedListeners>
+    requires fresh { AreFresh (D.table shared.now) participants }
+    requires rooms { AreRooms counts rooms }
+    ensures { AreAllServed counts participants result }
+{
+    shared.open().notes().begin(rt);
+    let Some(logging) = start_logging(scope, rt, shared) else {
+        return Err(FailedListeners {
+            fault: ServeFault::NoThread,
+            participants,
+        });
+    };
+    let served = serve_in_scope(scope, rt, shared, participants, sockets, counts, rooms);
+    shared.open().notes().end(rt);
+    logging.join(rt);
+    served
+}
+
 /// Serves so many connections of three listeners at once, until all have ended. It may wait.
 ///
 /// On a fault the threads that were started are waited for, and the participant of each listener is returned. None is for want of memory
@@ -223,6 +268,6 @@ pub(crate) fn serve_listeners<R: Wait + Threads + Log + Sync, D: Gathering + Syn
             requires fresh { AreFresh (D.table shared.now) participants }
             requires rooms { AreRooms counts rooms }
             ensures { AreAllServed counts participants result }
-        { serve_in_scope(scope, rt, shared, participants, sockets, counts, rooms) },
+        { serve_logged(scope, rt, shared, participants, sockets, counts, rooms) },
     )
 }

@@ -1,16 +1,200 @@
-//! What is logged of sessions.
+//! What is logged of listeners and of sessions, by a thread of its own.
+//!
+//! Nothing here shows in a contract: no clause tells what is logged.
 
 use crate::classes::class_word;
 use drm_sessions::{Class, Session, SessionEnd};
-use log::{Log, warn};
+use libc::net::{POLLOUT, poll};
+use libc::types::pollfd;
+use log::{Log, error, warn};
+use std::alloc::{AllocError, Global};
+use std::io::ErrorKind;
+use std::os::fd::RawFd;
+use std::sync::{Condvar, Mutex, Wait};
+use std::{io, mem};
 
-/// Logs a session of this class that ended in another way than by the end of its input between frames.
-pub(crate) fn note_session<R: Log>(rt: &R, class: Class, session: &Session) {
-    let listener = class_word(class);
-    let end = session.end;
-    match (end, session.client) {
-        (SessionEnd::Ended, _) => {}
-        (_, 0) => warn!(rt; "{listener}, no client: {end}"),
-        (_, client) => warn!(rt; "{listener}, client {client}: {end}"),
+/// The most notes that wait to be logged.
+const MOST: usize = 64;
+
+/// The descriptor of standard error.
+const STANDARD_ERROR: RawFd = 2;
+
+/// How long standard error is waited for before the thread looks whether all connections have ended, in milliseconds.
+const PAUSE: i32 = 100;
+
+/// The number of such pauses after all connections have ended: one second in all.
+const MOST_PAUSES: u32 = 10;
+
+/// A line to be logged.
+#[derive(Clone, Copy, Debug, PartialEq, Eq)]
+pub(crate) enum Note {
+    /// A connection could not be accepted, by the error of this number, and the listener retries.
+    Retried(Class, Option<i32>),
+    /// A connection could not be accepted, by the error of this number, and the listener is closed.
+    Closed(Class, Option<i32>),
+    /// A connection behind the last one of a listener.
+    Refused(Class),
+    /// A session with this client that did not end normally. A session without a client has client 0.
+    Session(Class, u32, SessionEnd),
+    /// The number of notes for which there was no room.
+    LeftOut(u64),
+}
+
+fn reason_of(number: Option<i32>) -> io::Error {
+    match number {
+        Some(number) => io::Error::from_raw_os_error(number),
+        None => io::Error::from(ErrorKind::Other),
+    }
+}
+
+impl Note {
+    /// Returns the note of a session, unless its input ended between frames.
+    pub(crate) fn of_session(class: Class, session: &Session) -> Option<Note> {
+        match session.end {
+            SessionEnd::Ended => None,
+            end => Some(Note::Session(class, session.client, end)),
+        }
+    }
+
+    /// Logs the note.
+    fn log<R: Log>(self, rt: &R) {
+        match self {
+            Note::Retried(class, number) => {
+                error!(rt; "{}: {}; trying again", class_word(class), reason_of(number));
+            }
+            Note::Closed(class, number) => {
+                error!(rt; "{}: {}", class_word(class), reason_of(number));
+            }
+            Note::Refused(class) => {
+                warn!(rt; "{}: a connection beyond the count was refused", class_word(class));
+            }
+            Note::Session(class, 0, end) => warn!(rt; "{}, no client: {end}", class_word(class)),
+            Note::Session(class, client, end) => {
+                warn!(rt; "{}, client {client}: {end}", class_word(class));
+            }
+            Note::LeftOut(count) => {
+                warn!(rt; "{count} log lines were left out: standard error did not take them");
+            }
+        }
+    }
+}
+
+/// The notes that wait.
+#[derive(Drop)]
+struct Waiting {
+    notes: Vec<Note>,
+    left_out: u64,
+    has_ended: bool,
+}
+
+impl Waiting {
+    /// Whether there is nothing to do.
+    fn is_idle(&self) -> bool {
+        self.notes.is_empty() && self.left_out == 0 && !self.has_ended
+    }
+
+    fn add(&mut self, note: Note) {
+        if self.notes.len() < self.notes.capacity() {
+            self.notes.push_reserved(note);
+        } else {
+            self.left_out = self.left_out.saturating_add(1);
+        }
+    }
+
+    fn take(&mut self) -> Option<Note> {
+        if !self.notes.is_empty() {
+            return Some(self.notes.remove(0));
+        }
+        match mem::replace(&mut self.left_out, 0) {
+            0 => None,
+            count => Some(Note::LeftOut(count)),
+        }
+    }
+}
+
+/// Notes that a thread of its own logs, so that no other thread waits for standard error.
+#[derive(Drop)]
+pub(crate) struct Notes {
+    waiting: Mutex<Waiting>,
+    more: Condvar,
+}
+
+fn has_room() -> bool {
+    let mut asked = [pollfd {
+        fd: STANDARD_ERROR,
+        events: POLLOUT,
+        revents: 0,
+    }];
+    poll(&mut asked, PAUSE) == 1
+}
+
+impl Notes {
+    /// No note waits yet. There is room for all that may.
+    pub(crate) fn new(alloc: Global) -> Result<Notes, AllocError> {
+        let notes = Vec::with_capacity(alloc, MOST)?;
+        Ok(Notes {
+            waiting: Mutex::new(Waiting {
+                notes,
+                left_out: 0,
+                has_ended: false,
+            }),
+            more: Condvar::new(),
+        })
+    }
+
+    /// Adds a note, or counts it if there is no room. It does not wait for standard error.
+    pub(crate) fn add<R: Wait>(&self, rt: &R, note: Note) {
+        self.waiting.lock(rt).add(note);
+        self.more.notify_one();
+    }
+
+    /// Tells that there will be notes, before the thread that logs them is started.
+    pub(crate) fn begin<R: Wait>(&self, rt: &R) {
+        self.waiting.lock(rt).has_ended = false;
+    }
+
+    /// Tells the thread that logs that there will be no more notes.
+    pub(crate) fn end<R: Wait>(&self, rt: &R) {
+        self.waiting.lock(rt).has_ended = true;
+        self.more.notify_one();
+    }
+
+    /// Takes the first note, and waits for one. There is none at the end.
+    fn take<R: Wait>(&self, rt: &R) -> Option<Note> {
+        let locked = self.waiting.lock(rt);
+        let mut waiting = self
+            .more
+            .wait_while(rt, locked, |waiting| waiting.is_idle());
+        waiting.take()
+    }
+
+    /// Waits until standard error takes a line, which may be never. After the end it gives up within a second.
+    fn wait_for_room<R: Wait>(&self, rt: &R) -> bool {
+        let mut pauses: u32 = 0;
+        for _ in rt.forever() {
+            if has_room() {
+                return true;
+            }
+            if pauses == MOST_PAUSES {
+                return false;
+            }
+            if self.waiting.lock(rt).has_ended {
+                pauses = pauses.saturating_add(1);
+            }
+        }
+        false
+    }
+
+    /// Logs notes until the end.
+    pub(crate) fn log_all<R: Wait + Log>(&self, rt: &R) {
+        for _ in rt.forever() {
+            let Some(note) = self.take(rt) else {
+                return;
+            };
+            if !self.wait_for_room(rt) {
+                return;
+            }
+            note.log(rt);
+        }
     }
 }

@@ -3,6 +3,7 @@
 //! Nothing here shows in a contract: no clause tells when a connection ends, or that a thread waits for another.
 
 use crate::counts::Counts;
+use crate::notes::Notes;
 use libc::net::{POLLHUP, SHUT_RDWR, poll, shutdown};
 use libc::types::pollfd;
 use std::alloc::{AllocError, Global};
@@ -113,6 +114,7 @@ pub struct OpenConnections {
     places: Mutex<Places>,
     left: Condvar,
     ended: Option<UnixStream>,
+    notes: Notes,
 }
 
 impl OpenConnections {
@@ -129,6 +131,7 @@ impl OpenConnections {
             + usize::from(counts.renders)
             + usize::from(counts.roots);
         let places = Vec::with_capacity(alloc, connections + LISTENERS)?;
+        let notes = Notes::new(alloc)?;
         Ok(OpenConnections {
             places: Mutex::new(Places {
                 has_ended: false,
@@ -137,6 +140,7 @@ impl OpenConnections {
             }),
             left: Condvar::new(),
             ended,
+            notes,
         })
     }
 
@@ -164,6 +168,11 @@ impl OpenConnections {
     /// Returns whether a connection is served.
     pub(crate) fn is_serving<R: Wait>(&self, rt: &R) -> bool {
         self.places.lock(rt).is_serving()
+    }
+
+    /// Returns what is to be logged of the connections.
+    pub(crate) fn notes(&self) -> &Notes {
+        &self.notes
     }
 
     /// Returns the allocator that the connections were given.

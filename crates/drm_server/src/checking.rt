@@ -10,7 +10,9 @@ use crate::command_line::{AskedDevice, Checking};
 use crate::commands::explain_command;
 use crate::devices::asked_setup;
 use crate::faults::Fault;
+use crate::files::LoggedRead;
 use crate::outcomes::{Outcome, outcome_of_checks, outcome_of_fault, script_fault};
+use crate::visible::Visible;
 use drm_checks::{Report, Totals, check_on, write_malformed, write_totals};
 use drm_runs::ScriptEnd;
 use drm_script::Malformed;
@@ -33,14 +35,20 @@ pub(crate) fn fault_of(written: Written) -> Result<(), Fault> {
 }
 
 /// The path that stands for standard input.
-const INPUT: &str = "-";
+pub(crate) const INPUT: &str = "-";
+
+/// The bytes of a file, or of standard input. If they can't be read, the cause is logged.
+pub(crate) type FileBytes<'a, R, F> = FromRead<LoggedRead<'a, R, F>>;
 
 /// A file's bytes. Where it can't be opened, the cause is logged.
-pub(crate) fn open<R: Files + Log>(rt: &R, path: &str) -> Result<FromRead<R::File>, Fault>
+pub(crate) fn open<'a, R: Files + Log>(
+    rt: &'a R,
+    path: &'a str,
+) -> Result<FileBytes<'a, R, R::File>, Fault>
     ensures { IfOk result (λ source. source.counts ≡ no_calls) }
 {
     match fs::open(rt, path) {
-        Ok(file) => Ok(FromRead::new(file)),
+        Ok(file) => Ok(FromRead::new(LoggedRead::new(rt, path, file))),
         Err(reason) => {
             error!(rt; "{path}: {reason}");
             Err(Fault::Read)
@@ -56,9 +64,9 @@ fn check_file<R: Input + Files + Print + AllocGlobal + Log>(
     path: &str,
 ) -> Result<(Report, Option<Malformed>), Fault> {
     let setup = asked_setup(rt, asked)?;
-    let mut sink = ToWrite::new(io::writer(rt));
+    let mut sink = ToWrite::new(Visible::new(io::writer(rt)));
     if path == INPUT {
-        let mut source = FromRead::new(rt.reader());
+        let mut source = FromRead::new(LoggedRead::new(rt, path, rt.reader()));
         return Ok(check_on(alloc, setup, path, "", &mut source, &mut sink, MOST_TURNS));
     }
     let mut source = open(rt, path)?;

@@ -129,7 +129,7 @@ fn journal<'a>(alloc: Global) -> Arg<'a> {
         .value_name("FILE")
         .value_parser(ValueParser::NonEmptyString)
         .help(
-            "Writes what was asked and answered into this file at the end, as a script that checks itself",
+            "Writes what was asked and answered into this file at the end, also after a fault, as a script that checks itself",
         )
 }
 
@@ -162,7 +162,9 @@ fn explain_command<'a>(alloc: Global) -> Result<Command<'a>, Error> {
     let file = Arg::new(alloc, "FILE")
         .value_parser(ValueParser::NonEmptyString)
         .required(true)
-        .help("A script; answers that its lines expect behind ' -> ' are passed over");
+        .help(
+            "A script; answers that its lines expect behind ' -> ' are passed over; - is standard input",
+        );
     let client = Arg::new(alloc, "client")
         .long("client")
         .value_name("CLIENT")
@@ -198,7 +200,7 @@ fn explain_command<'a>(alloc: Global) -> Result<Command<'a>, Error> {
 fn serve_command<'a>(alloc: Global) -> Result<Command<'a>, Error> {
     let command = Command::new(alloc, "serve")
         .about(
-            "Serves connections on three Unix sockets, and lists what the device then holds on standard output",
+            "Serves connections on three Unix sockets, and lists what the device then holds on standard output, also after a fault",
         )
         .arg(path(alloc, "card", "The socket of primary clients"))?
         .arg(path(alloc, "render", "The socket of render clients"))?

@@ -5,13 +5,13 @@ ghost use Rattle.drm_table.specs.Limits.{are_in_range};
 
 use crate::command_line::AskedDevice;
 use crate::faults::Fault;
+use crate::files::read_whole;
 use crate::limits::limits_of;
 use drm_device::{Device, Limits, Topology};
 use drm_runs::{Setup, test_topology};
 use drm_topologies::read_topology;
 use log::{Log, error};
 use std::alloc::Global;
-use std::fs;
 use std::rt::Files;
 
 /// The limits that the command line sets, or the program's.
@@ -30,13 +30,7 @@ pub(crate) fn asked_limits<R: Log>(rt: &R, numbers: Option<&str>) -> Result<Limi
 
 /// The topology of a file.
 fn topology_of<R: Files + AllocGlobal + Log>(rt: &R, path: &str) -> Result<Topology, Fault> {
-    let text = match fs::read(rt, path) {
-        Ok(text) => text,
-        Err(reason) => {
-            error!(rt; "{path}: {reason}");
-            return Err(Fault::Read);
-        }
-    };
+    let text = read_whole(rt, rt.alloc(), path)?;
     match read_topology(text.as_slice()) {
         Ok(topology) => Ok(topology),
         Err(line) => {

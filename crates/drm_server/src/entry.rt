@@ -8,17 +8,18 @@ use crate::command_line::{Asked, Serving, is_memory, read_words};
 use crate::devices::{asked_device, asked_limits};
 use crate::explaining::explain_script;
 use crate::faults::{Fault, FaultLine};
-use crate::journal::{empty_file, write_noted};
+use crate::journal::{JournalFile, create_asked, write_noted};
 use crate::listing::list_audit;
 use crate::outcomes::{Outcome, outcome_of_fault, outcome_of_listing};
 use crate::running::run;
-use crate::serving::serve_device;
+use crate::serving::{Ended, serve_device};
+use crate::standard::open_standard;
 use crate::updating::update;
 use crate::words::words_of;
 use clap::Error;
 use drm_device::{Device, Limits};
 use drm_streams::ToWrite;
-use log::Log;
+use log::{Log, error};
 use std::alloc::Global;
 use std::io;
 use std::net::Net;
@@ -36,41 +37,42 @@ fn list<R: Print>(rt: &R, device: &Device) -> Outcome {
     outcome_of_listing(&list_audit(device, &mut sink, MOST_TURNS))
 }
 
-/// Writes what a device has noted where that is asked for, and lists on standard output what it holds.
+/// Writes what a device has noted, if there is a file for it, and lists on standard output what it holds. Then a fault of the listeners is
+/// logged.
 fn write_and_list<R: Print + Files + AllocGlobal + Log>(
     rt: &R,
     alloc: Global,
-    serving: Serving<'_>,
+    topology: Option<&str>,
+    journal: Option<JournalFile<'_, R::File>>,
     limits: Limits,
-    device: &Device,
+    ended: &Ended,
 ) -> Result<Outcome, Fault>
     requires { are_in_range limits ≡ true }
 {
-    let written = match serving.journal {
-        Some(path) => {
-            let topology = serving.device.topology;
-            write_noted(rt, alloc, path, topology, limits, device.journal())
-        }
-        None => Ok(()),
-    };
-    let listed = list(rt, device);
+    let noted = ended.device.journal();
+    let written = write_noted(rt, alloc, journal, topology, limits, noted);
+    let listed = list(rt, &ended.device);
+    if let Some(fault) = ended.fault {
+        error!(rt; "{fault}");
+        return Err(Fault::from(fault));
+    }
     written?;
     Ok(listed)
 }
 
-/// Serves an empty device, writes what it noted where that is asked for, and lists on standard output what it holds at the end.
+/// Serves an empty device, writes what it noted where that is asked for, and lists on standard output what it holds at the end, also
+/// after a fault of a listener.
 fn serve_and_list<R: Input + Print + Files + Net + AllocGlobal + Log + Wait + Threads + Sync>(
     rt: &R,
     alloc: Global,
     serving: Serving<'_>,
 ) -> Result<Outcome, Fault> {
     let limits = asked_limits(rt, serving.device.limits)?;
-    let device = asked_device(rt, alloc, serving.device.topology, limits)?;
-    if let Some(path) = serving.journal {
-        empty_file(rt, path)?;
-    }
-    let device = serve_device(rt, alloc, device, serving)?;
-    write_and_list(rt, alloc, serving, limits, &device)
+    let topology = serving.device.topology;
+    let device = asked_device(rt, alloc, topology, limits)?;
+    let journal = create_asked(rt, serving.journal, topology)?;
+    let ended = serve_device(rt, alloc, device, serving)?;
+    write_and_list(rt, alloc, topology, journal, limits, &ended)
 }
 
 /// Serves connections.
@@ -123,6 +125,7 @@ pub fn program<
     R: Input + Print + Eprint + Files + Net + Env + AllocGlobal + Log + Wait + Threads + Sync,
 >(rt: &R) -> ExitCode {
     let alloc: Global = rt.alloc();
+    let _standard = open_standard(rt);
     let outcome = match words_of(rt, alloc) {
         Ok(words) => carry_out_command(rt, alloc, words.as_slice()),
         Err(fault) => outcome_of_fault(fault),

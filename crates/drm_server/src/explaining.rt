@@ -1,16 +1,17 @@
 //! Explaining a script.
 
-use crate::checking::{fault_of, open, tell_end};
+use crate::checking::{INPUT, fault_of, open, tell_end};
 use crate::command_line::Explaining;
 use crate::devices::{asked_setup, asked_topology};
 use crate::faults::{Fault, FaultLine};
+use crate::files::LoggedRead;
 use crate::outcomes::{Outcome, outcome_of_fault};
 use crate::recording::{Recording, record};
 use drm_explanations::{Explanation, Labels, explain, lines_of};
 use drm_refusals::{AnswerRow, explain_answer, lines_of_answer};
 use drm_runs::Stop;
 use drm_script::Label;
-use drm_streams::{ToWrite, put_all};
+use drm_streams::{FromRead, ToWrite, put_all};
 use log::{Log, error};
 use std::alloc::Global;
 use std::io;
@@ -166,15 +167,29 @@ fn told_of<R: Files + Print + AllocGlobal + Log>(
     }
 }
 
+/// Records the script of a file, or of standard input.
+fn record_asked<R: Input + Files + AllocGlobal + Log>(
+    rt: &R,
+    alloc: Global,
+    explaining: &Explaining<'_>,
+) -> Result<Result<Recording, Stop>, Fault> {
+    let Explaining { path, line, .. } = *explaining;
+    let setup = asked_setup(rt, explaining.device)?;
+    if path == INPUT {
+        let mut source = FromRead::new(LoggedRead::new(rt, path, rt.reader()));
+        return Ok(record(alloc, setup, &mut source, MOST_TURNS, line));
+    }
+    let mut source = open(rt, path)?;
+    Ok(record(alloc, setup, &mut source, MOST_TURNS, line))
+}
+
 /// Records a script, and tells of it on standard output.
-fn record_and_tell<R: Files + Print + AllocGlobal + Log>(
+fn record_and_tell<R: Input + Files + Print + AllocGlobal + Log>(
     rt: &R,
     alloc: Global,
     explaining: &Explaining<'_>,
 ) -> Result<Outcome, Fault> {
-    let setup = asked_setup(rt, explaining.device)?;
-    let mut source = open(rt, explaining.path)?;
-    let recording = match record(alloc, setup, &mut source, MOST_TURNS, explaining.line) {
+    let recording = match record_asked(rt, alloc, explaining)? {
         Ok(recording) => recording,
         Err(stop) => return Ok(outcome_of_stop(rt, explaining.path, stop)),
     };
@@ -187,7 +202,7 @@ fn record_and_tell<R: Files + Print + AllocGlobal + Log>(
 }
 
 /// Explains what the clients of a script have, or the answer of one of its lines, on standard output.
-pub(crate) fn explain_script<R: Files + Print + AllocGlobal + Log>(
+pub(crate) fn explain_script<R: Input + Files + Print + AllocGlobal + Log>(
     rt: &R,
     alloc: Global,
     explaining: Explaining<'_>,

@@ -5,61 +5,105 @@ ghost use Rattle.drm_table.specs.Limits.{are_in_range};
 
 use crate::devices::asked_device;
 use crate::faults::Fault;
+use crate::files::write_fault;
 use drm_device::{Device, Limits};
 use drm_journals::journal_of;
 use drm_table::Event;
-use log::{Log, error};
+use log::{Log, error, warn};
 use std::alloc::Global;
+use std::fs;
+use std::io::Write;
+use std::os::unix::fs::MetadataExt;
 use std::rt::Files;
-use std::{fs, io};
 
-fn write_fault<R: Log>(rt: &R, path: &str, reason: &io::Error) -> Fault {
-    error!(rt; "{path}: {reason}");
-    Fault::Write
+/// Which file a path names, also through symbolic links.
+fn id_of<R: Files>(rt: &R, path: &str) -> Option<(u64, u64)> {
+    let metadata = fs::metadata(rt, path).ok()?;
+    Some((metadata.dev(), metadata.ino()))
 }
 
-/// Makes a file, or empties it, so that nothing is asked where that can't be done.
-pub(crate) fn empty_file<R: Files + Log>(rt: &R, path: &str) -> Result<(), Fault> {
-    match fs::write(rt, path, b"".as_slice()) {
-        Ok(()) => Ok(()),
+/// Whether both paths name one file.
+fn is_same_file<R: Files>(rt: &R, path: &str, other: &str) -> bool {
+    let id = id_of(rt, path);
+    id.is_some() && id == id_of(rt, other)
+}
+
+/// The open file of a journal.
+#[derive(Drop)]
+pub(crate) struct JournalFile<'a, F: Drop> {
+    path: &'a str,
+    file: F,
+}
+
+/// Creates the file of a journal, or empties it, so that nothing is asked if that can't be done. It is opened this once. The file of
+/// the topology is refused, since it would be emptied before it is read.
+pub(crate) fn create_journal<'a, R: Files + Log>(
+    rt: &R,
+    path: &'a str,
+    topology: Option<&str>,
+) -> Result<JournalFile<'a, R::File>, Fault> {
+    if let Some(topology) = topology {
+        if is_same_file(rt, path, topology) {
+            error!(rt; "{path}: the journal would replace the topology");
+            return Err(Fault::CommandLine);
+        }
+    }
+    match fs::create(rt, path) {
+        Ok(file) => Ok(JournalFile { path, file }),
         Err(reason) => Err(write_fault(rt, path, &reason)),
     }
 }
 
-/// Writes the events of a journal into a file, with the answers of an empty device of the same topology and limits.
-fn write_journal<R: Files + Log>(
+/// Creates the file of a journal, if there is to be one.
+pub(crate) fn create_asked<'a, R: Files + Log>(
+    rt: &R,
+    path: Option<&'a str>,
+    topology: Option<&str>,
+) -> Result<Option<JournalFile<'a, R::File>>, Fault> {
+    match path {
+        Some(path) => Ok(Some(create_journal(rt, path, topology)?)),
+        None => Ok(None),
+    }
+}
+
+/// Writes the events of a journal into its file, with the answers of an empty device of the same topology and limits.
+fn write_journal<R: Log, F: Write + Drop>(
     rt: &R,
     alloc: Global,
-    path: &str,
+    journal: JournalFile<'_, F>,
     limits: Limits,
     events: &[Event],
     replayed: Device,
 ) -> Result<(), Fault> {
-    let Ok(journal) = journal_of(alloc, events, limits, replayed) else {
+    let JournalFile { path, file } = journal;
+    let Ok(script) = journal_of(alloc, events, limits, replayed) else {
         return Err(Fault::Memory);
     };
-    if let Err(reason) = fs::write(rt, path, journal.text.as_slice()) {
+    let mut file = file;
+    if let Err(reason) = file.write_all(script.text.as_slice()) {
         return Err(write_fault(rt, path, &reason));
     }
-    if !journal.is_whole {
-        error!(rt; "{path}: more clients were open at once than a script has labels");
-        return Err(Fault::Write);
+    if !script.is_whole {
+        warn!(rt; "{path}: more clients were open at once than a script has labels: the last steps are comments");
     }
     Ok(())
 }
 
-/// Writes the events of a journal into a file, with the answers of an empty device of the topology that is asked for and of the same
-/// limits.
+/// Writes the events of a journal into its file, if there is one, with the answers of an empty device of the topology that is asked for
+/// and of the same limits.
 pub(crate) fn write_noted<R: Files + AllocGlobal + Log>(
     rt: &R,
     alloc: Global,
-    path: &str,
+    journal: Option<JournalFile<'_, R::File>>,
     topology: Option<&str>,
     limits: Limits,
     events: &[Event],
 ) -> Result<(), Fault>
     requires { are_in_range limits ≡ true }
 {
+    let Some(journal) = journal else {
+        return Ok(());
+    };
     let replayed = asked_device(rt, alloc, topology, limits)?;
-    write_journal(rt, alloc, path, limits, events, replayed)
+    write_journal(rt, alloc, journal, limits, events, replayed)
 }

@@ -9,6 +9,7 @@ mod ending;
 mod entry;
 mod explaining;
 mod faults;
+mod files;
 mod journal;
 mod limits;
 mod listing;
@@ -17,7 +18,9 @@ mod recording;
 mod running;
 mod serving;
 mod sockets;
+mod standard;
 mod updating;
+mod visible;
 mod words;
 
 pub use drm_listeners::{

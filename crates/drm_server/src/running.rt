@@ -3,7 +3,7 @@
 use crate::command_line::Running;
 use crate::devices::asked_setup;
 use crate::faults::Fault;
-use crate::journal::{empty_file, write_noted};
+use crate::journal::{JournalFile, create_asked, write_noted};
 use crate::outcomes::{Outcome, outcome_of, outcome_of_fault};
 use drm_runs::{Interpreter, ScriptEnd, Setup, run_on};
 use drm_streams::{FromRead, ToWrite};
@@ -15,28 +15,21 @@ use std::rt::Files;
 /// How many reads and writes a run makes at most.
 const MOST_TURNS: u64 = 1_000_000;
 
-/// Writes what the device of a script has noted where that is asked for.
+/// Writes what the device of a script has noted, if there is a file for it.
 fn write_asked<R: Files + AllocGlobal + Log>(
     rt: &R,
     alloc: Global,
     running: Running<'_>,
+    journal: Option<JournalFile<'_, R::File>>,
     interpreter: &Interpreter,
 ) -> Result<(), Fault> {
-    let Some(path) = running.journal else {
-        return Ok(());
-    };
     let events = match interpreter.device() {
         Some(device) => device.journal(),
         None => &[],
     };
-    write_noted(
-        rt,
-        alloc,
-        path,
-        running.device.topology,
-        interpreter.limits(),
-        events,
-    )
+    let topology = running.device.topology;
+    let limits = interpreter.limits();
+    write_noted(rt, alloc, journal, topology, limits, events)
 }
 
 /// Runs the script on standard input, and writes what its device noted where that is asked for. Where a line can't be used, the
@@ -46,6 +39,7 @@ fn run_and_write<R: Input + Print + Files + AllocGlobal + Log>(
     alloc: Global,
     setup: Setup,
     running: Running<'_>,
+    journal: Option<JournalFile<'_, R::File>>,
 ) -> (ScriptEnd, Result<(), Fault>) {
     let mut source = FromRead::new(rt.reader());
     let mut sink = ToWrite::new(io::writer(rt));
@@ -53,7 +47,7 @@ fn run_and_write<R: Input + Print + Files + AllocGlobal + Log>(
     if let (ScriptEnd::Malformed(number), Some(cause)) = (ran.end, ran.cause) {
         error!(rt; "line {number}: {cause}");
     }
-    let written = write_asked(rt, alloc, running, &ran.interpreter);
+    let written = write_asked(rt, alloc, running, journal, &ran.interpreter);
     (ran.end, written)
 }
 
@@ -64,10 +58,8 @@ fn run_asked<R: Input + Print + Files + AllocGlobal + Log>(
     running: Running<'_>,
 ) -> Result<Outcome, Fault> {
     let setup = asked_setup(rt, running.device)?;
-    if let Some(path) = running.journal {
-        empty_file(rt, path)?;
-    }
-    let (end, written) = run_and_write(rt, alloc, setup, running);
+    let journal = create_asked(rt, running.journal, running.device.topology)?;
+    let (end, written) = run_and_write(rt, alloc, setup, running, journal);
     written?;
     Ok(outcome_of(&end))
 }

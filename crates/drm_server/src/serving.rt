@@ -5,7 +5,7 @@ use crate::ending::end_with_input;
 use crate::faults::Fault;
 use crate::sockets::{Listeners, Sockets, bind_all};
 use drm_device::Device;
-use drm_listeners::{Counts, OpenConnections, ServeFault, serve_until_told};
+use drm_listeners::{Counts, OpenConnections, ServeFault, Unserved, serve_keeping};
 use log::{Log, error, info};
 use std::alloc::Global;
 use std::net::Net;
@@ -31,22 +31,28 @@ struct Task {
     counts: Counts,
 }
 
+/// Returns why a task was not begun, with its device.
+fn unbegun(fault: ServeFault, task: Task) -> Unserved {
+    Unserved {
+        fault,
+        device: task.device,
+    }
+}
+
 /// Serves the connections until all have ended.
 fn serve_all_of<R: Log + Wait + Threads + Sync>(
     rt: &R,
     alloc: Global,
     task: Task,
     open: &OpenConnections,
-) -> Result<Device, ServeFault> {
+) -> Result<Device, Unserved> {
     let Task {
         device,
         listeners,
         counts,
     } = task;
     let Listeners { card, render, root } = listeners;
-    let (device, _sessions) = serve_until_told(
-        rt, alloc, device, card, render, root, counts, open,
-    )?;
+    let (device, _sessions) = serve_keeping(rt, alloc, device, card, render, root, counts, open)?;
     Ok(device)
 }
 
@@ -61,7 +67,16 @@ fn make_pair<R: Net + Log>(rt: &R) -> Result<(UnixStream, UnixStream), ServeFaul
     }
 }
 
-/// Serves the connections in a thread of the scope, and lets go of `serving` once all have ended.
+/// Returns the device of a server, however it ended.
+fn device_of(served: Result<Device, Unserved>) -> Device {
+    match served {
+        Ok(device) => device,
+        Err(unserved) => unserved.device,
+    }
+}
+
+/// Serves the connections in a thread of the scope, and lets go of `serving` once all have ended. If no thread can be started, all
+/// connections are told to end: then serving them here takes no step, and returns the device.
 fn start_serving<'s, E: 's, R: Log + Wait + Threads + Sync>(
     scope: &Scope<'s, E>,
     rt: &'s R,
@@ -69,7 +84,7 @@ fn start_serving<'s, E: 's, R: Log + Wait + Threads + Sync>(
     task: Task,
     open: &'s OpenConnections,
     serving: UnixStream,
-) -> Result<JoinHandle<Result<Device, ServeFault>>, ServeFault> {
+) -> Result<JoinHandle<Result<Device, Unserved>>, Unserved> {
     let server = scope.spawn(move || {
         let device = serve_all_of(rt, alloc, task, open);
         drop(serving);
@@ -77,7 +92,12 @@ fn start_serving<'s, E: 's, R: Log + Wait + Threads + Sync>(
     });
     match server {
         Ok(server) => Ok(server),
-        Err(_) => Err(ServeFault::NoThread),
+        Err(refused) => {
+            open.end(rt);
+            let device = device_of((refused.value)());
+            let fault = ServeFault::NoThread;
+            Err(Unserved { fault, device })
+        }
     }
 }
 
@@ -89,7 +109,7 @@ fn serve_in_scope<'s, E: 's, R: Input + Log + Wait + Threads + Sync>(
     task: Task,
     open: &'s OpenConnections,
     ends: (UnixStream, UnixStream),
-) -> Result<Device, ServeFault> {
+) -> Result<Device, Unserved> {
     let (serving, served) = ends;
     let server = start_serving(scope, rt, alloc, task, open, serving)?;
     end_with_input(rt, &served, open);
@@ -103,12 +123,41 @@ fn serve_beside_input<R: Input + Log + Wait + Threads + Sync>(
     task: Task,
     open: &OpenConnections,
     ends: (UnixStream, UnixStream),
-) -> Result<Device, ServeFault> {
+) -> Result<Device, Unserved> {
     thread::scope(
         thread::scope_env(),
         rt,
         move |scope| serve_in_scope(scope, rt, alloc, task, open, ends),
     )
+}
+
+/// The two ends of what tells connections to end, and of what tells that all have ended.
+#[derive(Drop)]
+struct Ends {
+    ended: UnixStream,
+    served: (UnixStream, UnixStream),
+}
+
+fn make_ends<R: Net + Log>(rt: &R) -> Result<Ends, ServeFault> {
+    let (ended, _) = make_pair(rt)?;
+    let served = make_pair(rt)?;
+    Ok(Ends { ended, served })
+}
+
+/// Serves the connections, and tells them to end once standard input has.
+fn serve_until_input_ends<R: Input + Net + Log + Wait + Threads + Sync>(
+    rt: &R,
+    alloc: Global,
+    task: Task,
+) -> Result<Device, Unserved> {
+    let Ends { ended, served } = match make_ends(rt) {
+        Ok(ends) => ends,
+        Err(fault) => return Err(unbegun(fault, task)),
+    };
+    match OpenConnections::new(alloc, task.counts, Some(ended)) {
+        Ok(open) => serve_beside_input(rt, alloc, task, &open, served),
+        Err(_) => Err(unbegun(ServeFault::NoMemory, task)),
+    }
 }
 
 /// Serves the connections, as the command line says.
@@ -117,20 +166,21 @@ fn serve_listeners<R: Input + Net + Log + Wait + Threads + Sync>(
     alloc: Global,
     task: Task,
     ends_with_input: bool,
-) -> Result<Device, ServeFault> {
-    let counts = task.counts;
+) -> Result<Device, Unserved> {
     if ends_with_input {
-        let (ended, _) = make_pair(rt)?;
-        let ends = make_pair(rt)?;
-        let Ok(open) = OpenConnections::new(alloc, counts, Some(ended)) else {
-            return Err(ServeFault::NoMemory);
-        };
-        return serve_beside_input(rt, alloc, task, &open, ends);
+        return serve_until_input_ends(rt, alloc, task);
     }
-    let Ok(open) = OpenConnections::new(alloc, counts, None) else {
-        return Err(ServeFault::NoMemory);
-    };
-    serve_all_of(rt, alloc, task, &open)
+    match OpenConnections::new(alloc, task.counts, None) {
+        Ok(open) => serve_all_of(rt, alloc, task, &open),
+        Err(_) => Err(unbegun(ServeFault::NoMemory, task)),
+    }
+}
+
+/// A device that was served, and why not all connections were.
+#[derive(Drop)]
+pub(crate) struct Ended {
+    pub(crate) device: Device,
+    pub(crate) fault: Option<ServeFault>,
 }
 
 /// Serves a device on three sockets, whose files are removed at the end.
@@ -139,7 +189,7 @@ pub(crate) fn serve_device<R: Input + Files + Net + Log + Wait + Threads + Sync>
     alloc: Global,
     device: Device,
     serving: Serving<'_>,
-) -> Result<Device, Fault> {
+) -> Result<Ended, Fault> {
     let Sockets { card, render, root } = bind_all(rt, serving.paths)?;
     let _files = (card.file, render.file, root.file);
     let listeners = Listeners {
@@ -156,10 +206,13 @@ pub(crate) fn serve_device<R: Input + Files + Net + Log + Wait + Threads + Sync>
         counts: serving.counts,
     };
     match serve_listeners(rt, alloc, task, serving.ends_with_input) {
-        Ok(device) => Ok(device),
-        Err(fault) => {
-            error!(rt; "{fault}");
-            Err(Fault::from(fault))
-        }
+        Ok(device) => Ok(Ended {
+            device,
+            fault: None,
+        }),
+        Err(unserved) => Ok(Ended {
+            device: unserved.device,
+            fault: Some(unserved.fault),
+        }),
     }
 }

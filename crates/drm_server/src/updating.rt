@@ -3,19 +3,14 @@
 use crate::command_line::{AskedDevice, Checking};
 use crate::devices::asked_setup;
 use crate::faults::{Fault, FaultLine};
+use crate::files::{read_whole, replace_text, write_fault};
 use crate::outcomes::{Outcome, outcome_of_fault};
 use drm_checks::{UpdateFault, update_script};
 use log::{Log, error};
 use std::alloc::Global;
 use std::rt::Files;
-use std::{fs, io};
 
-fn read_fault<R: Log>(rt: &R, path: &str, reason: &io::Error) -> Fault {
-    error!(rt; "{path}: {reason}");
-    Fault::Read
-}
-
-/// Updates a file, which is left as it was where a line of it can't be used.
+/// Updates a file. If a line of it can't be used, or the new text can't be written whole, the file is unchanged.
 fn update_file<R: Files + AllocGlobal + Log>(
     rt: &R,
     alloc: Global,
@@ -23,10 +18,7 @@ fn update_file<R: Files + AllocGlobal + Log>(
     path: &str,
 ) -> Result<(), Fault> {
     let setup = asked_setup(rt, asked)?;
-    let text = match fs::read(rt, path) {
-        Ok(text) => text,
-        Err(reason) => return Err(read_fault(rt, path, &reason)),
-    };
+    let text = read_whole(rt, alloc, path)?;
     let updated = match update_script(alloc, setup, text.as_slice()) {
         Ok(updated) => updated,
         Err(UpdateFault::NoMemory) => return Err(Fault::Memory),
@@ -38,12 +30,9 @@ fn update_file<R: Files + AllocGlobal + Log>(
     if updated.as_slice() == text.as_slice() {
         return Ok(());
     }
-    match fs::write(rt, path, updated.as_slice()) {
+    match replace_text(rt, alloc, path, updated.as_slice()) {
         Ok(()) => Ok(()),
-        Err(reason) => {
-            error!(rt; "{path}: {reason}");
-            Err(Fault::Write)
-        }
+        Err(reason) => Err(write_fault(rt, path, &reason)),
     }
 }
 

@@ -6,6 +6,7 @@ use Rattle.drm_turns.proofs.Crossing.{shared_sync}
 use Rattle.drm_sessions.specs.declared.end.Session.{Session}
 use Rattle.drm_listeners.specs.Serving.{AreSessionsOf}
 use Rattle.drm_sessions.specs.Serving.{all_steps}
+use Rattle.drm_listeners.proofs.open_connections.OpenConnections.TheSendSync as connections
 use Rattle.drm_listeners.proofs.Gathering.{are-sessions, have-sat, steps-three}
 use Rattle.drm_listeners.proofs.serving.serve_shared.Goals as goal
 
@@ -30,7 +31,7 @@ gather-requires-clause-children g c =
     }
 
 pub serve_listeners-requires-sync-D : goal.serve_listeners-requires-sync-D
-serve_listeners-requires-sync-D g c κs within = search (shared_sync, crosses, sendable) depth 30
+serve_listeners-requires-sync-D g c κs within = search (shared_sync, connections.the_sync, crosses, sendable) depth 60 fits 10000
 
 pub returns-in-Ok-clause-journaled : goal.returns-in-Ok-clause-journaled
 returns-in-Ok-clause-journaled g c =

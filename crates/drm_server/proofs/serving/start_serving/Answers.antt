@@ -13,6 +13,8 @@ use Rattle.std.specs.contracts.net.unix.UnixStream as stream
 use Rattle.drm_device.proofs.Crossing.{device_send}
 use Rattle.drm_turns.proofs.Crossing.{closure_send}
 use Rattle.drm_listeners.proofs.serve_faults.ServeFault.TheSendSync as fault
+use Rattle.drm_listeners.specs.contracts.serving.Unserved as unserved
+use Rattle.drm_listeners.proofs.open_connections.OpenConnections.TheSendSync as crossing
 use Rattle.drm_listeners.specs.contracts.open_connections.OpenConnections as open_connections
 use Rattle.drm_server.specs.contracts.serving.Task as task
 use Rattle.drm_server.proofs.serving.start_serving.Goals as goal
@@ -20,8 +22,11 @@ use Rattle.drm_server.proofs.serving.start_serving.Goals as goal
 task_send : IsSend task.the_row
 task_send = recorded_send _ _ _ task.the_type.to_one (struct_send (shape task.the_type) (device_send, (search (crosses, sendable) depth 20, (search (crosses, sendable) depth 20, tt))))
 
+unserved_send : IsSend unserved.the_row
+unserved_send = recorded_send _ _ _ unserved.the_type.to_one (struct_send (shape unserved.the_type) (fault.the_field_send, (device_send, tt)))
+
 open_sync : IsSync open_connections.the_row
-open_sync = search (crosses, sendable) depth 30
+open_sync = crossing.the_sync
 
 -- what the thread takes along: the runtime by `&`, the allocator, the device with its listeners, the open connections by `&`, and
 -- an end of a connection
@@ -34,4 +39,4 @@ spawn-server-requires-send-F g c κs within =
     (shr_send _ _ _ c.type_bounds.sync-R, (send, (task_send, (shr_send _ _ _ open_sync, (search (crosses, sendable) depth 20, tt)))))))
 
 pub spawn-server-requires-send-T : goal.spawn-server-requires-send-T
-spawn-server-requires-send-T g c κs within = param_send _ _ (arg_send _ no _ (result.the_send _ _ device_send fault.the_send))
+spawn-server-requires-send-T g c κs within = param_send _ _ (arg_send _ no _ (result.the_send _ _ device_send unserved_send))

@@ -1,0 +1,152 @@
+//! Files that are read whole, and files whose text is replaced.
+
+use crate::faults::Fault;
+use log::{Log, error};
+use std::alloc::Global;
+use std::fs::{OpenFile, OpenOptions, Permissions};
+use std::io::{ErrorKind, Read, Write};
+use std::path::AsPath;
+use std::rt::Files;
+use std::{fs, io};
+
+/// The most bytes of a file that is read whole: more than the longest journal has, which is 100,001 lines of 256 bytes.
+const MOST_BYTES: usize = 32 * 1024 * 1024;
+
+/// The number of names that are tried for a temporary file.
+const MOST_NAMES: u32 = 1_000;
+
+/// Logs why a file can't be read.
+fn read_fault<R: Log>(rt: &R, path: &str, reason: &io::Error) -> Fault {
+    error!(rt; "{path}: {reason}");
+    Fault::Read
+}
+
+/// Logs why a file can't be written.
+pub(crate) fn write_fault<R: Log>(rt: &R, path: &str, reason: &io::Error) -> Fault {
+    error!(rt; "{path}: {reason}");
+    Fault::Write
+}
+
+/// A reader that logs why it can't be read.
+#[derive(Drop)]
+pub(crate) struct LoggedRead<'a, R: Log, F: Read + Drop> {
+    rt: &'a R,
+    path: &'a str,
+    file: F,
+}
+
+impl<'a, R: Log, F: Read + Drop> LoggedRead<'a, R, F> {
+    pub(crate) fn new(rt: &'a R, path: &'a str, file: F) -> LoggedRead<'a, R, F> {
+        LoggedRead { rt, path, file }
+    }
+}
+
+impl<R: Log, F: Read + Drop> Read for LoggedRead<'_, R, F> {
+    fn read(&mut self, buf: &mut [u8]) -> io::Result<usize> {
+        match self.file.read(buf) {
+            Err(reason) if reason.kind() != ErrorKind::Interrupted => {
+                let path = self.path;
+                error!(self.rt; "{path}: {reason}");
+                Err(reason)
+            }
+            read => read,
+        }
+    }
+}
+
+/// Returns the bytes of a file, at most one more than [`MOST_BYTES`].
+fn read_bounded<R: Files>(rt: &R, alloc: Global, path: &str) -> io::Result<Vec<u8>> {
+    let file = fs::open(rt, path)?;
+    let mut bytes = Vec::new(alloc);
+    file.take(MOST_BYTES as u64 + 1).read_to_end(&mut bytes)?;
+    Ok(bytes)
+}
+
+/// Returns the bytes of a file. If it can't be read, or has more than 32 MiB, the reason is logged.
+pub(crate) fn read_whole<R: Files + Log>(
+    rt: &R,
+    alloc: Global,
+    path: &str,
+) -> Result<Vec<u8>, Fault> {
+    match read_bounded(rt, alloc, path) {
+        Ok(bytes) if bytes.len() > MOST_BYTES => {
+            error!(rt; "{path}: more than {MOST_BYTES} bytes, which is the most of a file that is read whole");
+            Err(Fault::Read)
+        }
+        Ok(bytes) => Ok(bytes),
+        Err(reason) => Err(read_fault(rt, path, &reason)),
+    }
+}
+
+/// A file that is removed as this is let go, unless it has taken the place of another.
+struct Temporary<'a, R: Files> {
+    rt: &'a R,
+    path: String,
+    is_moved: bool,
+}
+
+impl<R: Files> Drop for Temporary<'_, R> {
+    fn drop(self) {
+        let Self { rt, path, is_moved } = self;
+        if !is_moved {
+            let _ = fs::remove_file(rt, path.as_str());
+        }
+    }
+}
+
+/// Creates a file beside the one at `target`, which only its owner may read, under a name that no file has.
+fn create_beside<'a, R: Files>(
+    rt: &'a R,
+    alloc: Global,
+    target: &str,
+) -> io::Result<(R::File, Temporary<'a, R>)> {
+    for number in 0..MOST_NAMES {
+        let path = format!(in alloc; "{target}.new{number}")?;
+        match OpenOptions::new()
+            .write(true)
+            .create_new(true)
+            .open(rt, path.as_str())
+        {
+            Ok(file) => {
+                let is_moved = false;
+                return Ok((file, Temporary { rt, path, is_moved }));
+            }
+            Err(reason) if reason.kind() == ErrorKind::AlreadyExists => {}
+            Err(reason) => return Err(reason),
+        }
+    }
+    Err(io::Error::from(ErrorKind::AlreadyExists))
+}
+
+/// Writes a text into a new file, to the disk, with the permissions of the file that it replaces.
+fn fill<F: Write + OpenFile>(
+    file: &mut F,
+    permissions: Permissions,
+    text: &[u8],
+) -> io::Result<()> {
+    file.write_all(text)?;
+    file.set_permissions(permissions)?;
+    file.sync_all()
+}
+
+/// Replaces the text of a regular file by another, also through symbolic links. The file is replaced as a whole, or not at all: the text is
+/// first written to the disk in a file beside it, which then takes its place. The permissions stay. The owner is the user who runs
+/// this, and other hard links to the file keep the old text.
+pub(crate) fn replace_text<R: Files + AllocGlobal>(
+    rt: &R,
+    alloc: Global,
+    path: &str,
+    text: &[u8],
+) -> io::Result<()> {
+    let target = fs::canonicalize(rt, path)?.into_string();
+    let metadata = fs::metadata(rt, target.as_str())?;
+    if !metadata.is_file() {
+        return Err(io::Error::from(ErrorKind::InvalidInput));
+    }
+    let (mut file, mut temporary) = create_beside(rt, alloc, target.as_str())?;
+    fill(&mut file, metadata.permissions(), text)?;
+    drop(file);
+    fs::rename(rt, temporary.path.as_str(), target.as_str())?;
+    temporary.is_moved = true;
+    Ok(())
+}

@@ -1,0 +1,51 @@
+//! Descriptors 0 to 2.
+
+use libc::net::{POLLNVAL, poll};
+use libc::types::pollfd;
+use std::fs::OpenOptions;
+use std::os::fd::RawFd;
+use std::rt::Files;
+
+/// The file on standard streams that were closed.
+const NOTHING: &str = "/dev/null";
+
+/// The files on the standard streams that were closed.
+#[derive(Drop)]
+pub(crate) struct Standard<F: Drop> {
+    input: Option<F>,
+    output: Option<F>,
+    error: Option<F>,
+}
+
+fn is_closed(descriptor: RawFd) -> bool {
+    let mut asked = [pollfd {
+        fd: descriptor,
+        events: 0,
+        revents: 0,
+    }];
+    poll(&mut asked, 0) == 1 && asked[0].revents & POLLNVAL != 0
+}
+
+/// Opens `/dev/null` on a descriptor that is closed, which has to be the lowest such.
+fn open_if_closed<R: Files>(rt: &R, descriptor: RawFd, how: &OpenOptions) -> Option<R::File> {
+    if is_closed(descriptor) {
+        how.open(rt, NOTHING).ok()
+    } else {
+        None
+    }
+}
+
+/// Opens `/dev/null` on each of the descriptors 0 to 2 that is closed, so that no socket and no file gets its number: what is written to
+/// standard output or logged would otherwise reach a client. Standard input is opened for writing, and the others for reading, so that
+/// its use still fails as that of a closed one.
+pub(crate) fn open_standard<R: Files>(rt: &R) -> Standard<R::File> {
+    let mut writing = OpenOptions::new();
+    writing.write(true);
+    let mut reading = OpenOptions::new();
+    reading.read(true);
+    Standard {
+        input: open_if_closed(rt, 0, &writing),
+        output: open_if_closed(rt, 1, &reading),
+        error: open_if_closed(rt, 2, &reading),
+    }
+}
