@@ -3,6 +3,7 @@ import re
 from typing import List, NamedTuple
 
 from support import REPOSITORY
+
 from worked_rows import read_rows  # the tool, which stands in tools
 
 # what a document says of a block that no test runs, in the paragraph before it or behind it
@@ -13,6 +14,7 @@ COMMANDS = ("./", "tools/", "clients/", "bench/")
 
 class Block(NamedTuple):
     """Some lines of a document, the words behind its fence where it has one, and the paragraphs beside it."""
+
     document: str
     line: int
     words: List[str]
@@ -48,7 +50,11 @@ class Block(NamedTuple):
 
 def documents():
     """The paths of all documents."""
-    found = [path for folder in ("", "docs/", "docs/guides/", "clients/*/", "bench/") for path in REPOSITORY.glob(f"{folder}*.md")]
+    found = [
+        path
+        for folder in ("", "docs/", "docs/guides/", "clients/*/", "bench/")
+        for path in REPOSITORY.glob(f"{folder}*.md")
+    ]
     return sorted(str(path.relative_to(REPOSITORY)) for path in found)
 
 
@@ -70,7 +76,7 @@ def blocks_of(path):
     found = []
     parts = parts_of(path)
     for place, (number, part) in enumerate(parts):
-        beside = " ".join(line for _, near in parts[max(0, place - 1):place + 2] if near is not part for line in near)
+        beside = " ".join(line for _, near in parts[max(0, place - 1) : place + 2] if near is not part for line in near)
         if part[0].startswith("```"):
             found.append(Block(path, number, part[0][3:].split(), part[1:-1], beside))
         elif all(line.startswith("    ") for line in part):

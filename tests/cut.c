@@ -1,4 +1,5 @@
-/* Cuts what the program that it is loaded into, by LD_PRELOAD, reads and writes, for tests/streams.
+/* Cuts what the program that it is loaded into, by LD_PRELOAD, reads and writes, for
+ * tests/test_streams.py.
  *
  * CUT_READ says how of its standard input, CUT_WRITE of its standard output, CUT_RECV of what it
  * receives of sockets and CUT_SEND of what it sends to them, as PIECE FAULT AT TIMES. A call moves

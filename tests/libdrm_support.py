@@ -7,7 +7,17 @@ import time
 
 sys.dont_write_bytecode = True
 from support import (  # noqa: E402
-    BUILT, CLASSES, CLIENTS, REPOSITORY, SECONDS, connect, expect, run, server, want_libdrm)
+    BUILT,
+    CLASSES,
+    CLIENTS,
+    REPOSITORY,
+    SECONDS,
+    connect,
+    expect,
+    run,
+    server,
+    want_libdrm,
+)
 
 LIBRARY = CLIENTS / "libdrm"
 COMPILER = ["cc", "-std=gnu11", "-Wall", "-Wextra", "-Wpedantic", "-Werror", "-O2", "-pthread"]

@@ -13,20 +13,34 @@ def edges_of(left, top, width, height):
 def drawn(text):
     """The boxes of a picture as edges, its texts as place and extent, and its arrows as lists of points."""
     root = ElementTree.fromstring(text)
-    boxes = [edges_of(*(float(box.get(name)) for name in ("x", "y", "width", "height")))
-             for box in root.iter(SVG + "rect") if (box.get("class") or "").startswith("box")]
+    boxes = [
+        edges_of(*(float(box.get(name)) for name in ("x", "y", "width", "height")))
+        for box in root.iter(SVG + "rect")
+        if (box.get("class") or "").startswith("box")
+    ]
     # letters are at most so wide, on the average of a line
     letter = {"title": 8.8, "line": 7.0, "head": 8.8}
-    texts = [(shown.text, float(shown.get("x")), float(shown.get("y")), letter[shown.get("class")] * len(shown.text),
-              shown.get("class")) for shown in root.iter(SVG + "text")]
-    arrows = [[float(word) for word in path.get("d").split() if word not in "MC"] for path in root.iter(SVG + "path")
-              if path.get("class") == "arrow"]
+    texts = [
+        (
+            shown.text,
+            float(shown.get("x")),
+            float(shown.get("y")),
+            letter[shown.get("class")] * len(shown.text),
+            shown.get("class"),
+        )
+        for shown in root.iter(SVG + "text")
+    ]
+    arrows = [
+        [float(word) for word in path.get("d").split() if word not in "MC"]
+        for path in root.iter(SVG + "path")
+        if path.get("class") == "arrow"
+    ]
     return float(root.get("width")), float(root.get("height")), boxes, texts, arrows
 
 
 def pieces_of(arrow):
     """The curves that an arrow is made of, each begun where the one before ends."""
-    return [arrow[start:start + 8] for start in range(0, len(arrow) - 2, 6)]
+    return [arrow[start : start + 8] for start in range(0, len(arrow) - 2, 6)]
 
 
 def overlap(one, other):
@@ -44,7 +58,7 @@ def is_inside(box, x, y):
 
 def point(arrow, part):
     """A point of a curve."""
-    weights = ((1 - part) ** 3, 3 * part * (1 - part) ** 2, 3 * part ** 2 * (1 - part), part ** 3)
+    weights = ((1 - part) ** 3, 3 * part * (1 - part) ** 2, 3 * part**2 * (1 - part), part**3)
     return [sum(weight * value for weight, value in zip(weights, arrow[axis::2])) for axis in (0, 1)]
 
 
@@ -55,10 +69,18 @@ def expect_picture(text, count_boxes, count_arrows):
     expect("boxes that overlap", overlapping(boxes), [])
     frames = [(x, y - 11, x + extent, y + 3) for _, x, y, extent, _ in texts]
     expect("texts that overlap", overlapping(frames), [])
-    outside = [shown for (shown, *_, kind), (left, top, right, bottom) in zip(texts, frames) if kind != "head" and not any(
-        box[0] < left and box[1] < top and right < box[2] and bottom < box[3] for box in boxes)]
+    outside = [
+        shown
+        for (shown, *_, kind), (left, top, right, bottom) in zip(texts, frames)
+        if kind != "head"
+        and not any(box[0] < left and box[1] < top and right < box[2] and bottom < box[3] for box in boxes)
+    ]
     expect("texts outside of boxes", outside, [])
     points = [point(piece, step / 50) for arrow in arrows for piece in pieces_of(arrow) for step in range(51)]
     expect("points of arrows in boxes", [at for at in points if any(is_inside(box, *at) for box in boxes)], [])
-    expect("what is outside of the picture", [at for at in points if not (0 < at[0] < width and 0 < at[1] < height)], [])
-    expect("boxes outside of the picture", [box for box in boxes if box[0] < 0 or box[2] > width or box[3] > height], [])
+    expect(
+        "what is outside of the picture", [at for at in points if not (0 < at[0] < width and 0 < at[1] < height)], []
+    )
+    expect(
+        "boxes outside of the picture", [box for box in boxes if box[0] < 0 or box[2] > width or box[3] > height], []
+    )

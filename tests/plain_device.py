@@ -7,24 +7,74 @@ import dataclasses
 from typing import Dict, List, NamedTuple, Optional, Set, Tuple
 
 RULES = {
-    1: ("Unknown", 22), 2: ("Layout", 22), 3: ("NoClient", 22), 11: ("RootOnly", 13), 12: ("Auth", 13), 13: ("Master", 13),
-    14: ("RenderAllow", 13), 21: ("NoHandle", 2), 22: ("NoHandleToClose", 22), 23: ("NoName", 2), 24: ("NoToken", 2),
-    25: ("NoMagic", 22), 26: ("MasterPerm", 13), 27: ("MasterBusy", 16), 28: ("NotCurrent", 22), 29: ("IsLessee", 22),
-    30: ("NoModeObject", 2), 31: ("NotLeasable", 22), 32: ("Repeated", 22), 33: ("LeaseShape", 22), 34: ("LeasedOut", 16),
-    35: ("SubLease", 22), 36: ("NoLessee", 2), 37: ("NotYourLessee", 13), 38: ("NoFb", 2), 39: ("BadSize", 22),
-    40: ("BadRoute", 22), 41: ("BadCap", 22), 42: ("NoLeaseToken", 2), 43: ("Full", 28),
+    1: ("Unknown", 22),
+    2: ("Layout", 22),
+    3: ("NoClient", 22),
+    11: ("RootOnly", 13),
+    12: ("Auth", 13),
+    13: ("Master", 13),
+    14: ("RenderAllow", 13),
+    21: ("NoHandle", 2),
+    22: ("NoHandleToClose", 22),
+    23: ("NoName", 2),
+    24: ("NoToken", 2),
+    25: ("NoMagic", 22),
+    26: ("MasterPerm", 13),
+    27: ("MasterBusy", 16),
+    28: ("NotCurrent", 22),
+    29: ("IsLessee", 22),
+    30: ("NoModeObject", 2),
+    31: ("NotLeasable", 22),
+    32: ("Repeated", 22),
+    33: ("LeaseShape", 22),
+    34: ("LeasedOut", 16),
+    35: ("SubLease", 22),
+    36: ("NoLessee", 2),
+    37: ("NotYourLessee", 13),
+    38: ("NoFb", 2),
+    39: ("BadSize", 22),
+    40: ("BadRoute", 22),
+    41: ("BadCap", 22),
+    42: ("NoLeaseToken", 2),
+    43: ("Full", 28),
 }
 # each call by its word in a script: its number, its flags, and how many fields it has; a lease has a list
 CALLS = {
-    "version": (0x00, "R", 0), "get_magic": (0x02, "", 0), "gem_close": (0x09, "R", 1), "gem_flink": (0x0A, "A", 1),
-    "gem_open": (0x0B, "A", 1), "get_cap": (0x0C, "R", 1), "set_client_cap": (0x0D, "", 2), "auth_magic": (0x11, "M", 1),
-    "set_master": (0x1E, "", 0), "drop_master": (0x1F, "", 0), "prime_export": (0x2D, "R", 1), "prime_import": (0x2E, "R", 1),
-    "buf_create": (0x40, "R", 1), "stamp_write": (0x41, "R", 2), "stamp_read": (0x42, "R", 1), "token_close": (0x43, "R", 1),
-    "list_handles": (0x44, "R", 1), "audit": (0x45, "O", 2), "getresources": (0xA0, "", 0), "getcrtc": (0xA1, "", 1),
-    "setcrtc": (0xA2, "M", 3), "getencoder": (0xA6, "", 1), "getconnector": (0xA7, "", 1), "getfb": (0xAD, "", 1),
-    "addfb": (0xAE, "", 5), "rmfb": (0xAF, "", 1), "create_dumb": (0xB2, "", 3), "destroy_dumb": (0xB4, "", 1),
-    "getplaneresources": (0xB5, "", 0), "getplane": (0xB6, "", 1), "setplane": (0xB7, "M", 3), "create_lease": (0xC6, "M", None),
-    "list_lessees": (0xC7, "M", 0), "get_lease": (0xC8, "M", 0), "revoke_lease": (0xC9, "M", 1),
+    "version": (0x00, "R", 0),
+    "get_magic": (0x02, "", 0),
+    "gem_close": (0x09, "R", 1),
+    "gem_flink": (0x0A, "A", 1),
+    "gem_open": (0x0B, "A", 1),
+    "get_cap": (0x0C, "R", 1),
+    "set_client_cap": (0x0D, "", 2),
+    "auth_magic": (0x11, "M", 1),
+    "set_master": (0x1E, "", 0),
+    "drop_master": (0x1F, "", 0),
+    "prime_export": (0x2D, "R", 1),
+    "prime_import": (0x2E, "R", 1),
+    "buf_create": (0x40, "R", 1),
+    "stamp_write": (0x41, "R", 2),
+    "stamp_read": (0x42, "R", 1),
+    "token_close": (0x43, "R", 1),
+    "list_handles": (0x44, "R", 1),
+    "audit": (0x45, "O", 2),
+    "getresources": (0xA0, "", 0),
+    "getcrtc": (0xA1, "", 1),
+    "setcrtc": (0xA2, "M", 3),
+    "getencoder": (0xA6, "", 1),
+    "getconnector": (0xA7, "", 1),
+    "getfb": (0xAD, "", 1),
+    "addfb": (0xAE, "", 5),
+    "rmfb": (0xAF, "", 1),
+    "create_dumb": (0xB2, "", 3),
+    "destroy_dumb": (0xB4, "", 1),
+    "getplaneresources": (0xB5, "", 0),
+    "getplane": (0xB6, "", 1),
+    "setplane": (0xB7, "M", 3),
+    "create_lease": (0xC6, "M", None),
+    "list_lessees": (0xC7, "M", 0),
+    "get_lease": (0xC8, "M", 0),
+    "revoke_lease": (0xC9, "M", 1),
 }
 NUMBERS = {number for number, _, _ in CALLS.values()}
 KINDS = ("client", "master", "object", "name", "token", "hold", "grant", "framebuffer", "shown", "device")
@@ -49,12 +99,14 @@ class Limits(NamedTuple):
 
 class Plane(NamedTuple):
     """The CRTCs that it can be on, and of which of them it is the primary or the cursor plane, if of one."""
+
     crtcs: Set[int]
     special: Optional[int]
 
 
 class Topology(NamedTuple):
     """The mode objects by their ids."""
+
     crtcs: List[int]
     planes: Dict[int, Plane]
     encoders: Dict[int, Set[int]]
@@ -158,7 +210,9 @@ class Plain:
             self.limits = Limits(*map(int, words[1:]))
             return None
         if words[0] in ("open", "open2"):
-            answer = self.step(len(self.clients) + 2, lambda: self.open(words[2], int((words + ["0"])[3]), words[0] == "open"))
+            answer = self.step(
+                len(self.clients) + 2, lambda: self.open(words[2], int((words + ["0"])[3]), words[0] == "open")
+            )
             if answer.startswith("client "):
                 self.labels[words[1]] = int(answer.split()[1])
             return answer
@@ -189,7 +243,13 @@ class Plain:
     # clients and masters
 
     def open(self, kind, token, universal):
-        client = Client(self.number, kind == "render", kind.startswith("root"), universal or kind == "render", kind.startswith("root"))
+        client = Client(
+            self.number,
+            kind == "render",
+            kind.startswith("root"),
+            universal or kind == "render",
+            kind.startswith("root"),
+        )
         if kind in ("lease", "rootlease"):
             lessee = next((m for m in self.masters.values() if m.token == token and token), None)
             need(lessee is not None, 42)
@@ -296,8 +356,14 @@ class Plain:
         return f"number {client.magic}"
 
     def auth_magic(self, client, magic):
-        found = next((other for other in self.clients.values()
-                      if other.master == client.master and other.magic == magic and not other.spent), None)
+        found = next(
+            (
+                other
+                for other in self.clients.values()
+                if other.master == client.master and other.magic == magic and not other.spent
+            ),
+            None,
+        )
         need(found is not None and magic, 25)
         found.authenticated = found.spent = True
         return "done"
@@ -390,7 +456,9 @@ class Plain:
     def prime_import(self, client, token):
         need(token in self.tokens, 24)
         buffer = self.tokens[token][1]
-        places = [(place, handle) for handle, (held, place) in client.handles.items() if held == buffer and place is not None]
+        places = [
+            (place, handle) for handle, (held, place) in client.handles.items() if held == buffer and place is not None
+        ]
         handle = min(places)[1] if places else self.new_handle(client, buffer, self.number)
         return f"buffer {handle} {self.buffers[buffer].size}"
 
@@ -420,8 +488,10 @@ class Plain:
 
     def getresources(self, client):
         own = sorted(fb for fb, row in self.framebuffers.items() if row.client == client.number)
-        return (f"crtcs {ids(self.seen(client, self.topology.crtcs))} connectors {ids(self.seen(client, self.topology.connectors))}"
-                f" encoders {ids(sorted(self.topology.encoders))} framebuffers {ids(own)}")
+        return (
+            f"crtcs {ids(self.seen(client, self.topology.crtcs))} connectors {ids(self.seen(client, self.topology.connectors))}"
+            f" encoders {ids(sorted(self.topology.encoders))} framebuffers {ids(own)}"
+        )
 
     def getplaneresources(self, client):
         return f"list {ids(self.seen(client, self.topology.planes))}"
@@ -498,14 +568,21 @@ class Plain:
         need(len(set(listed)) == len(listed), 32)
         kinds = (top.crtcs, top.connectors, top.planes) if client.universal else (top.crtcs, top.connectors)
         need(all(any(thing in kind for thing in listed) for kind in kinds), 33)
-        along = [] if client.universal else [
-            plane for plane, row in top.planes.items() if row.special in listed and self.controls(master, plane)]
+        along = (
+            []
+            if client.universal
+            else [plane for plane, row in top.planes.items() if row.special in listed and self.controls(master, plane)]
+        )
         given = {*listed, *along}
         need(not any(given & lessee.grants for lessee in self.lessees(master)), 34)
         owner = self.owner(master)
-        taken = {other.lessee_id for other in self.masters.values() if other.lessor and self.owner(other.number) == owner}
+        taken = {
+            other.lessee_id for other in self.masters.values() if other.lessor and self.owner(other.number) == owner
+        }
         lessee_id = least_free(taken, 1, self.limits.lessees)
-        token = next_in_turn({other.token for other in self.masters.values()}, self.last_lease_token, self.limits.tokens)
+        token = next_in_turn(
+            {other.token for other in self.masters.values()}, self.last_lease_token, self.limits.tokens
+        )
         self.last_lease_token = token
         self.masters[self.number] = Master(self.number, master, lessee_id, token, given)
         return f"lease {lessee_id} {token}"
@@ -520,8 +597,14 @@ class Plain:
 
     def revoke_lease(self, client, lessee_id):
         owner = self.owner(client.master)
-        found = next((other for other in self.masters.values()
-                      if other.lessor and other.lessee_id == lessee_id and self.owner(other.number) == owner), None)
+        found = next(
+            (
+                other
+                for other in self.masters.values()
+                if other.lessor and other.lessee_id == lessee_id and self.owner(other.number) == owner
+            ),
+            None,
+        )
         need(found is not None, 36)
         need(found.lessor == client.master, 37)
         self.end(found.number)
@@ -531,31 +614,44 @@ class Plain:
 
     def audit(self, _client, kind, first):
         need(1 <= kind <= len(KINDS), 2)
-        page = self.rows(KINDS[kind - 1])[first:first + PAGE]
+        page = self.rows(KINDS[kind - 1])[first : first + PAGE]
         return "".join([f"rows {len(page)}", *(" | " + " ".join(map(str, row)) for row in page)])
 
     def rows(self, kind):
         """The rows of a kind, as the audit has them."""
         handles = [(c.number, handle, *held) for c in self.clients.values() for handle, held in c.handles.items()]
         referring = [buffer for _, buffer in self.tokens.values()] + [fb.buffer for fb in self.framebuffers.values()]
-        return sorted({
-            "client": lambda: [(c.number, self.flags(c), c.master or 0, c.magic or 0) for c in self.clients.values()],
-            "master": lambda: [(m.number, m.lessor or 0, m.lessee_id, m.token or 0) for m in self.masters.values()],
-            "object": lambda: [(number, b.size, sum(buffer == number for _, _, buffer, _ in handles), referring.count(number))
-                               for number, b in self.buffers.items()],
-            "name": lambda: [(name, buffer, 0, 0) for name, buffer in self.names.items()],
-            "token": lambda: [(token, *row, 0) for token, row in self.tokens.items()],
-            "hold": lambda: [(client, handle, buffer, place or 0) for client, handle, buffer, place in handles],
-            "grant": lambda: [(m.number, thing, 0, 0) for m in self.masters.values() for thing in m.grants],
-            "framebuffer": lambda: [(fb, row.client, row.buffer, 0) for fb, row in self.framebuffers.items()],
-            "shown": lambda: [(thing, fb, 0, 0) for thing, fb in self.shown.items()],
-            "device": lambda: [(self.device_master or 0, self.last_token, self.last_lease_token, self.steps)],
-        }[kind]())
+        return sorted(
+            {
+                "client": lambda: [
+                    (c.number, self.flags(c), c.master or 0, c.magic or 0) for c in self.clients.values()
+                ],
+                "master": lambda: [(m.number, m.lessor or 0, m.lessee_id, m.token or 0) for m in self.masters.values()],
+                "object": lambda: [
+                    (number, b.size, sum(buffer == number for _, _, buffer, _ in handles), referring.count(number))
+                    for number, b in self.buffers.items()
+                ],
+                "name": lambda: [(name, buffer, 0, 0) for name, buffer in self.names.items()],
+                "token": lambda: [(token, *row, 0) for token, row in self.tokens.items()],
+                "hold": lambda: [(client, handle, buffer, place or 0) for client, handle, buffer, place in handles],
+                "grant": lambda: [(m.number, thing, 0, 0) for m in self.masters.values() for thing in m.grants],
+                "framebuffer": lambda: [(fb, row.client, row.buffer, 0) for fb, row in self.framebuffers.items()],
+                "shown": lambda: [(thing, fb, 0, 0) for thing, fb in self.shown.items()],
+                "device": lambda: [(self.device_master or 0, self.last_token, self.last_lease_token, self.steps)],
+            }[kind]()
+        )
 
     @staticmethod
     def flags(client):
-        told = (client.render, client.root, client.authenticated, client.once_master, client.is_master, client.spent,
-                not client.universal)
+        told = (
+            client.render,
+            client.root,
+            client.authenticated,
+            client.once_master,
+            client.is_master,
+            client.spent,
+            not client.universal,
+        )
         return sum(1 << place for place, holds in enumerate(told) if holds)
 
     def listing(self):

@@ -1,5 +1,5 @@
 /* Refuses one request for memory of the program that it is loaded into, by LD_PRELOAD, for
- * tests/memory.
+ * tests/test_memory.py.
  *
  * REFUSE_AT is the number of the request to refuse, from 1 (0, or none: no request is refused), and
  * REFUSE_NOTE a file to which it tells, in three numbers of 64 bits, how many requests there were,

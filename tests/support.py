@@ -1,4 +1,6 @@
 """What the tests of the built program and of the clients share: how a server is run, and how tests are run and counted."""
+from __future__ import annotations
+
 import contextlib
 import functools
 import os
@@ -16,6 +18,7 @@ import threading
 import time
 import traceback
 import unittest
+from typing import TYPE_CHECKING, Any, Callable, Dict, Iterable, Iterator, List, Optional, Tuple, Type, TypeVar, Union
 
 REPOSITORY = pathlib.Path(__file__).resolve().parent.parent
 SCRIPT = REPOSITORY / "drm_server"
@@ -30,16 +33,27 @@ sys.path[:0] = [str(CLIENTS / "python"), str(REPOSITORY / "tools")]
 from zirkoshe import Client, Refusal  # noqa: E402  (the client stands in clients/python)
 from zirkoshe.protocol import words  # noqa: E402
 
+Made = TypeVar("Made")
+if TYPE_CHECKING:
+    PathLike = os.PathLike[str]
+    Ran = subprocess.CompletedProcess[str]
+    Started = subprocess.Popen[str]
+    Word = Union[str, os.PathLike[str]]
+else:
+    PathLike = os.PathLike
+
 CLASSES = ("card", "render", "root")
 
 
 @functools.lru_cache(None)
-def find_program():
+def find_program() -> Optional[pathlib.Path]:
     """The program that the script at the top would run, or none; it compiles one where that is to be done, and tells so.
 
     Whatever a test starts takes the same one, and looks for no other.
     """
-    found = subprocess.run([SCRIPT, "--program"], stdin=subprocess.DEVNULL, stdout=subprocess.PIPE, text=True, check=False)
+    found = subprocess.run(
+        [SCRIPT, "--program"], stdin=subprocess.DEVNULL, stdout=subprocess.PIPE, text=True, check=False
+    )
     if found.returncode != 0:
         return None
     program = pathlib.Path(found.stdout.rstrip("\n")).resolve()
@@ -47,10 +61,10 @@ def find_program():
     return program
 
 
-class Program(os.PathLike):
+class Program(PathLike):
     """The path of the program, which is looked for when it is first used and not before."""
 
-    def __fspath__(self):
+    def __fspath__(self) -> str:
         program = find_program()
         if program is None:
             raise Skipped("there is no program of the server")
@@ -64,31 +78,31 @@ BUILT = tempfile.TemporaryDirectory(prefix="drm_")
 LIBRARY_COMPILER = ["cc", "-std=gnu99", "-Wall", "-Wextra", "-Wpedantic", "-Werror", "-O2", "-fPIC", "-shared"]
 
 
-def expect(what, found, wanted):
+def expect(what: str, found: object, wanted: object) -> None:
     """Fails the test where a value isn't the one that is wanted."""
     if found != wanted:
         raise AssertionError(f"{what}: {found!r} in place of {wanted!r}")
 
 
-def expect_end(ran, status, error, output):
+def expect_end(ran: Ran, status: int, error: str, output: str) -> None:
     """Compares an ended run's status, error output and output."""
     expect("error output", ran.stderr, error)
     expect("status", ran.returncode, status)
     expect("output", ran.stdout, output)
 
 
-def told_by(line):
+def told_by(line: str) -> str:
     """A logged line as its level and its text, as `ERROR line 1: ..`. Where the program logs it is left out."""
     return re.sub(r"^\[([A-Z]+) +drm_[a-z_:]+\] ", r"\1 ", line.rstrip("\n"))
 
 
-def next_told(started):
+def next_told(started: Started) -> Optional[str]:
     """The next line that a running server logs."""
     ready, _, _ = select.select([started.stderr], [], [], SECONDS)
-    return told_by(started.stderr.readline()) if ready else None
+    return told_by(started.stderr.readline()) if ready and started.stderr else None
 
 
-def expect_told(ran, status, told, output):
+def expect_told(ran: Ran, status: int, told: List[str], output: str) -> None:
     """Compares an ended run's status, what it told on error output, and its output.
 
     Warnings stand first, in any order: each comes as its session ends.
@@ -96,23 +110,23 @@ def expect_told(ran, status, told, output):
     lines = [told_by(line) for line in ran.stderr.splitlines()]
     warned = sorted(line for line in lines if line.startswith("WARN "))
     lines = warned + [line for line in lines if not line.startswith("WARN ")]
-    expect("error output", lines, sorted(told[:len(warned)]) + told[len(warned):])
+    expect("error output", lines, sorted(told[: len(warned)]) + told[len(warned) :])
     expect("status", ran.returncode, status)
     expect("output", ran.stdout, output)
 
 
-def run(*command, **options):
+def run(*command: object, **options: Any) -> Ran:
     """Runs a command to its end."""
-    given = {"stdin": subprocess.DEVNULL, "timeout": 4 * SECONDS, **options}
+    given: Dict[str, Any] = {"stdin": subprocess.DEVNULL, "timeout": 4 * SECONDS, **options}
     return subprocess.run(list(map(str, command)), capture_output=True, text=True, **given)
 
 
-def run_program(*words, script="", **options):
+def run_program(*words: Word, script: str = "", **options: Any) -> Ran:
     """Runs the program to its end over this input."""
     return subprocess.run([PROGRAM, *words], input=script, capture_output=True, text=True, timeout=SECONDS, **options)
 
 
-def loading(source, **variables):
+def loading(source: str, **variables: str) -> Dict[str, str]:
     """The environment of a program that a file of tests/ in C is loaded into, which is built once, with variables for it."""
     want_program(LIBRARY_COMPILER[0])
     library = os.path.join(BUILT.name, source + ".so")
@@ -122,32 +136,35 @@ def loading(source, **variables):
     return {**os.environ, "LD_PRELOAD": library, **variables}
 
 
-def path_words(folder):
+def path_words(folder: pathlib.Path) -> List[str]:
     """The words of the command line that name a socket for each class."""
     return [word for name in CLASSES for word in (f"--{name}", str(folder / name))]
 
 
-def count_words(cards, renders, roots):
+def count_words(cards: int, renders: int, roots: int) -> List[str]:
     """The words of the command line that say how many connections are accepted."""
     return ["--cards", str(cards), "--renders", str(renders), "--roots", str(roots)]
 
 
 @contextlib.contextmanager
-def server(folder, *counts, limits=(), **options):
+def server(
+    folder: pathlib.Path, *counts: int, limits: Iterable[Tuple[int, int]] = (), **options: Any
+) -> Iterator[Started]:
     """A server on the three sockets of a folder, which is killed where the test didn't let it end.
 
     A limit is a resource and how much of it the server may have.
     """
-    def prepare():
+
+    def prepare() -> None:
         # a shell lets what it starts in the background ignore this one
         signal.signal(signal.SIGINT, signal.SIG_DFL)
         for kind, most in limits:
             resource.setrlimit(kind, (most, most))
 
-    started = subprocess.Popen(
-        [PROGRAM, "serve", *path_words(folder), *count_words(*counts)],
-        **{"stdin": subprocess.DEVNULL, "stdout": subprocess.PIPE, "stderr": subprocess.PIPE, "text": True, **options},
-        preexec_fn=prepare)
+    pipes = {"stdin": subprocess.DEVNULL, "stdout": subprocess.PIPE, "stderr": subprocess.PIPE}
+    given: Dict[str, Any] = {**pipes, "text": True, "preexec_fn": prepare, **options}
+    words: List[Word] = [PROGRAM, "serve", *path_words(folder), *count_words(*counts)]
+    started: Started = subprocess.Popen(words, **given)
     try:
         yield started
     finally:
@@ -156,13 +173,13 @@ def server(folder, *counts, limits=(), **options):
         started.communicate()
 
 
-def end_of(started):
+def end_of(started: Started) -> Ran:
     """Waits for a server that ends by itself."""
     output, error = started.communicate(timeout=SECONDS)
     return subprocess.CompletedProcess(started.args, started.returncode, output, error)
 
 
-def retry(action):
+def retry(action: Callable[[], Made]) -> Made:
     """What the action gives once it is no longer refused: the server makes its sockets while the test goes on."""
     until = time.monotonic() + SECONDS
     while True:
@@ -174,7 +191,7 @@ def retry(action):
             time.sleep(0.01)
 
 
-def wait_until(what, is_so):
+def wait_until(what: str, is_so: Callable[[], bool]) -> None:
     """Waits until this is so, and fails where it takes too long."""
     until = time.monotonic() + SECONDS
     while not is_so():
@@ -182,27 +199,28 @@ def wait_until(what, is_so):
         time.sleep(0.01)
 
 
-def wait_until_it_listens(path):
+def wait_until_it_listens(path: Word) -> None:
     """Waits until the server listens on this socket, and uses up none of its connections. (Its file is there a moment before.)"""
     wanted = os.fsencode(path)
     wait_until(
         f"whether somebody listens on {path}",
-        lambda: any(len(row) == 8 and row[3] == LISTENS and row[7] == wanted for row in sockets_of_this_system()))
+        lambda: any(len(row) == 8 and row[3] == LISTENS and row[7] == wanted for row in sockets_of_this_system()),
+    )
 
 
-def is_bound(path):
+def is_bound(path: Word) -> bool:
     """Whether a socket is bound to this path that is no connection: it is listened to, or will be in a moment."""
     wanted = os.fsencode(path)
     return any(len(row) == 8 and row[5] == UNCONNECTED and row[7] == wanted for row in sockets_of_this_system())
 
 
-def sockets_of_this_system():
+def sockets_of_this_system() -> List[List[bytes]]:
     """The rows of all Unix sockets."""
     return [line.split(None, 7) for line in pathlib.Path("/proc/net/unix").read_bytes().split(b"\n")]
 
 
 @contextlib.contextmanager
-def ended_in_time(started):
+def ended_in_time(started: Started) -> Iterator[Started]:
     """Kills a process at the end, and after a time, so that who reads from it doesn't wait for ever."""
     timer = threading.Timer(4 * SECONDS, started.kill)
     timer.start()
@@ -214,12 +232,12 @@ def ended_in_time(started):
             started.kill()
 
 
-def connect(path, lease=None, version=1):
+def connect(path: Word, lease: Optional[int] = None, version: int = 1) -> Client:
     """A client of the socket, once the server has made it: of the node, or by a lease token, with a hello of this version."""
     return retry(lambda: Client(path, lease, SECONDS, version))
 
 
-def connect_raw(path):
+def connect_raw(path: Word) -> socket.socket:
     """A connection to the socket, on which nothing was said."""
     connected = socket.socket(socket.AF_UNIX)
     connected.settimeout(SECONDS)
@@ -231,7 +249,7 @@ def connect_raw(path):
     return connected
 
 
-def expect_refused(path):
+def expect_refused(path: Word) -> None:
     """A further connection is refused at once, or a server that has ended removed the socket.
 
     One that was made while the listener still closed has ended by then.
@@ -247,7 +265,7 @@ def expect_refused(path):
     raise AssertionError(f"connections to {path} are not refused")
 
 
-def refusal_of(path, lease=None):
+def refusal_of(path: Word, lease: Optional[int] = None) -> str:
     """The words by which an opening is refused."""
     try:
         connect(path, lease).abandon()
@@ -256,18 +274,18 @@ def refusal_of(path, lease=None):
     raise AssertionError(f"an opening on {path} was accepted")
 
 
-def opened_by(client):
+def opened_by(client: Client) -> str:
     """The words by which its opening was accepted."""
     return words(client.opened)
 
 
-def expect_answers(asked):
+def expect_answers(asked: Iterable[Tuple[Client, str, str]]) -> None:
     """Compares the answers to calls, each a client, its call and the answer, in their order."""
     for client, call, answer in asked:
         expect(call, client.ask(call), answer)
 
 
-def expect_no_sockets(folder):
+def expect_no_sockets(folder: pathlib.Path) -> None:
     """The server has removed its files."""
     expect("files left", sorted(path.name for path in folder.iterdir()), [])
 
@@ -276,38 +294,47 @@ class Skipped(unittest.SkipTest):
     """What a test raises that can't be run here, with the reason."""
 
 
-def want_program(name):
+def want_program(name: str) -> None:
     """Skips the test where this program isn't on the path."""
     if shutil.which(name) is None:
         raise Skipped(f"there is no {name}")
 
 
 @functools.lru_cache(None)
-def is_compiled_with_checks():
+def is_compiled_with_checks() -> bool:
     """Whether the program checks its accesses to memory as it runs, as one does that was compiled without a proof."""
     return b"__asan_init" in pathlib.Path(PROGRAM).read_bytes()
 
 
-def want_no_checks(reason):
+def want_no_checks(reason: str) -> None:
     """Skips the test where the program is compiled with such checks, which it can't be run with for this reason."""
     if is_compiled_with_checks():
         raise Skipped(f"the program was compiled with checks: {reason}")
 
 
 @functools.lru_cache(None)
-def find_libdrm():
+def find_libdrm() -> Optional[List[str]]:
     """What a C compiler is told to find libdrm by, or none where there is no compiler, or no libdrm with its headers."""
     if shutil.which("cc") is None:
         return None
     words = ["-I/usr/include/libdrm", "-ldrm"]
     if shutil.which("pkg-config") is not None and run("pkg-config", "--exists", "libdrm").returncode == 0:
         words = run("pkg-config", "--cflags", "--libs", "libdrm").stdout.split()
-    probe = run("cc", "-x", "c", "-", "-o", os.path.join(BUILT.name, "probe"), *words, stdin=None,
-                input="#include <xf86drm.h>\n#include <drm_fourcc.h>\nint main(void) { return drmAvailable(); }\n")
+    probe = run(
+        "cc",
+        "-x",
+        "c",
+        "-",
+        "-o",
+        os.path.join(BUILT.name, "probe"),
+        *words,
+        stdin=None,
+        input="#include <xf86drm.h>\n#include <drm_fourcc.h>\nint main(void) { return drmAvailable(); }\n",
+    )
     return words if probe.returncode == 0 else None
 
 
-def want_libdrm():
+def want_libdrm() -> List[str]:
     """What a C compiler is told to find libdrm by; skips the test where it can't be found."""
     words = find_libdrm()
     if words is None:
@@ -321,7 +348,7 @@ COMPILERS = {
 }
 
 
-def compile_client(language, source, folder):
+def compile_client(language: str, source: str, folder: pathlib.Path) -> pathlib.Path:
     """A program of the tests in C or Rust, compiled into this folder."""
     want_program(COMPILERS[language][0])
     program = folder / language
@@ -330,38 +357,70 @@ def compile_client(language, source, folder):
     return program
 
 
-def passes(test):
-    """Runs one test in a folder of its own, and says how it went; None where it couldn't be run here."""
-    with tempfile.TemporaryDirectory(prefix="drm_") as folder:
-        try:
-            test(pathlib.Path(folder))
-        except Skipped as reason:
-            print(f"skipped {test.__name__}: {reason}", flush=True)
-            return None
-        except Exception:  # whatever a test raises, it has failed, and the others go on
-            print(f"FAILED {test.__name__}", flush=True)
-            traceback.print_exc(file=sys.stdout)
-            return False
-    print(f"passed {test.__name__}", flush=True)
-    return True
+class FolderCase(unittest.TestCase):
+    """A case whose tests each have a folder of their own. They are skipped where there is no program of the server."""
+
+    folder: pathlib.Path
+
+    @classmethod
+    def setUpClass(cls) -> None:
+        socket.setdefaulttimeout(SECONDS)
+        cls.addClassCleanup(socket.setdefaulttimeout, None)
+        if find_program() is None:
+            raise Skipped("there is no program of the server")
+
+    def setUp(self) -> None:
+        room = tempfile.TemporaryDirectory(prefix="drm_")
+        self.addCleanup(room.cleanup)
+        self.folder = pathlib.Path(room.name)
 
 
-def functions_among(found):
-    """The tests among what a file defines, by their names."""
-    return {name: value for name, value in found.items() if name.startswith("test_")}
+def add_tests(case: Type[FolderCase], tests: Dict[str, Callable[[pathlib.Path], None]]) -> None:
+    """Adds functions of a folder to a case, each as the test of its name."""
+    for name, test in tests.items():
+        setattr(case, name, lambda self, function=test: function(self.folder))
 
 
-def run_tests(found):
-    """Runs each test `test_..` among what a file defines, or those that the command line names, and gives the status.
+class LineResult(unittest.TestResult):
+    """Prints a line for each test as it ends, and counts those that passed."""
+
+    def __init__(self) -> None:
+        super().__init__()
+        self.passed = 0
+
+    def addSuccess(self, test: unittest.TestCase) -> None:
+        self.passed += 1
+        print(f"passed {name_of(test)}", flush=True)
+
+    def addSkip(self, test: unittest.TestCase, reason: str) -> None:
+        print(f"skipped {name_of(test)}: {reason}", flush=True)
+
+    def addFailure(self, test: unittest.TestCase, err: Any) -> None:
+        self.addError(test, err)
+
+    def addError(self, test: unittest.TestCase, err: Any) -> None:
+        self.errors.append((test, ""))
+        print(f"FAILED {name_of(test)}", flush=True)
+        print("".join(traceback.format_exception(*err)), end="", flush=True)
+
+
+def name_of(test: Union[unittest.TestCase, unittest.TestSuite]) -> str:
+    """The name of a test, or what unittest calls a case that fails as a whole."""
+    return getattr(test, "_testMethodName", str(test))
+
+
+def run_tests() -> int:
+    """Runs the tests of the program's file, or those that the command line names, and returns the status.
 
     The last line is `N passed, M failed`.
     """
     if find_program() is None:
         print("0 passed, 1 failed")
         return 1
-    socket.setdefaulttimeout(SECONDS)
     chosen = sys.argv[1:]
-    results = [passes(test) for name, test in functions_among(found).items() if not chosen or name in chosen]
-    failed = results.count(False)
-    print(f"{results.count(True)} passed, {failed} failed")
-    return 1 if failed else 0
+    result = LineResult()
+    for suite in unittest.defaultTestLoader.loadTestsFromModule(sys.modules["__main__"]):
+        if isinstance(suite, unittest.TestSuite):
+            unittest.TestSuite(test for test in suite if not chosen or name_of(test) in chosen).run(result)
+    print(f"{result.passed} passed, {len(result.errors)} failed")
+    return 1 if result.errors else 0

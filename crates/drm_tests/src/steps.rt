@@ -1,5 +1,5 @@
 //! Scripts as the events of a device, line by line: each gets its answer. That what is refused for want of memory leaves nothing is
-//! shown on the built program (`tests/memory`), and so is who has which handle (`tests/explanations`).
+//! shown on the built program (`tests/test_memory.py`), and so is who has which handle (`tests/test_explanations.py`).
 
 use crate::comparing::same;
 use crate::devices::{Trial, try_on_new};

@@ -11,17 +11,33 @@ import subprocess
 import sys
 
 sys.dont_write_bytecode = True
+from support import (  # noqa: E402
+    REPOSITORY,
+    FolderCase,
+    Skipped,
+    add_tests,
+    connect,
+    end_of,
+    expect,
+    expect_end,
+    retry,
+    run,
+    run_program,
+    run_tests,
+    server,
+    want_libdrm,
+    want_program,
+)
+
+from zirkoshe import constants, protocol  # noqa: E402
+
 from blocks import blocks_of, commands_of, documents, is_answer, tables_of, worked_rows  # noqa: E402
 from pictures import expect_picture  # noqa: E402
-from support import (  # noqa: E402
-    REPOSITORY, Skipped, connect, end_of, expect, expect_end, retry, run, run_program, run_tests, server,
-    want_libdrm, want_program)
-from zirkoshe import constants, protocol  # noqa: E402
 
 # what commands of the documents find at the top of the repository, where they are run
 TOP = ("bench", "clients", "crates", "drm_server", "examples", "tools")
 
-# The examples whose answers tests/program doesn't have.
+# The examples whose answers tests/test_program.py doesn't have.
 EXAMPLES = {
     "audit": """client 1
 dumb 1 256 16384
@@ -168,8 +184,14 @@ def expect_commands(folder, block):
 def expect_terminal_beside(folder, serving, block):
     """Clients of the server that the document starts, and whose last line it tells."""
     words = serving.lines[0].split()
-    started = subprocess.Popen([REPOSITORY / words[0], *words[1:]], cwd=folder, stdin=subprocess.DEVNULL,
-                               stdout=subprocess.PIPE, stderr=subprocess.PIPE, text=True)
+    started = subprocess.Popen(
+        [REPOSITORY / words[0], *words[1:]],
+        cwd=folder,
+        stdin=subprocess.DEVNULL,
+        stdout=subprocess.PIPE,
+        stderr=subprocess.PIPE,
+        text=True,
+    )
     try:
         retry((folder / "root").stat)
         for command, printed in commands_of(block.lines):
@@ -226,13 +248,18 @@ def expect_listing(folder, script, listing):
 
 
 # the folder of examples that each guide shows
-GUIDES = {"docs/guides/compositor.md": "tutorial", **{f"docs/guides/{name}.md": name for name in ("toolkit", "sandbox", "ci")}}
+GUIDES = {
+    "docs/guides/compositor.md": "tutorial",
+    **{f"docs/guides/{name}.md": name for name in ("toolkit", "sandbox", "ci")},
+}
 
 
 def expect_excerpt(block):
     """An excerpt of a file is in one file of the guide's examples, after an empty line or at its beginning."""
     text = block.text()
-    files = [path.read_text() for path in (REPOSITORY / "examples" / GUIDES[block.document]).iterdir() if path.is_file()]
+    files = [
+        path.read_text() for path in (REPOSITORY / "examples" / GUIDES[block.document]).iterdir() if path.is_file()
+    ]
     found = [place for place in files if place.startswith(text) or f"\n\n{text}" in place]
     expect("number of example files that have it", len(found), 1)
 
@@ -243,25 +270,11 @@ def expect_page(folder, language, ending):
     link_top(folder)
     blocks = blocks_of(page)
     expect("kinds of blocks", {block.language() for block in blocks}, {language, "console"})
-    program, = [block for block in blocks if block.language() == language]
+    (program,) = [block for block in blocks if block.language() == language]
     (folder / f"lease.{ending}").write_text(program.text())
     for block in blocks:
         for command, printed in commands_of(block.lines if block.is_terminal() else []):
             expect_command(folder, command, printed)
-
-
-def test_page_of_the_python_client(folder):
-    expect_page(folder, "python", "py")
-
-
-def test_page_of_the_c_client(folder):
-    want_program("cc")
-    expect_page(folder, "c", "c")
-
-
-def test_page_of_the_rust_client(folder):
-    want_program("rustc")
-    expect_page(folder, "rust", "rs")
 
 
 def expect_known(block):
@@ -289,101 +302,13 @@ def below(words, there):
     return named | {name for crate in named & set(there) for name in there[crate]} if "dependencies" in words else named
 
 
-def test_crates_of_the_architecture(folder):
-    """The last table lists all crates with their dependencies."""
-    there = crates()
-    table = tables_of("docs/ARCHITECTURE.md")[-1]
-    told = {row[0].strip("`"): row[1] for row in table}
-    expect("crates", sorted(told), sorted(there))
-    for crate, words in told.items():
-        expect(f"what {crate} stands on", sorted(below(words, there)), sorted(there[crate]))
-
-
-def test_layers_of_the_architecture(folder):
-    """The page opens with those of crates.txt, and a crate stands on none of a layer that comes later there."""
-    ran = run(REPOSITORY / "tools/crates_picture.py", "--layers")
-    expect_end(ran, 0, "", ran.stdout)
-    layers = [re.findall(r"`(\w+)`", line) for line in ran.stdout.splitlines()]
-    rows = "| layer | crates | what it is |\n|---|---|---|\n" + ran.stdout
-    expect("the page opens with these layers", rows in (REPOSITORY / "docs/ARCHITECTURE.md").read_text(), True)
-    expect("crates", sorted(sum(layers, [])), sorted(crates()))
-    high = {crate: place for place, layer in enumerate(layers) for crate in layer}
-    expect("crates on a layer above", [(crate, other) for crate, others in crates().items() for other in others
-                                       if other in high and high[other] < high[crate]], [])
-
-
-def test_picture_of_the_crates(folder):
-    """It is that of crates.txt, names all crates, and is drawn clearly."""
-    ran = run(REPOSITORY / "tools/crates_picture.py")
-    expect_end(ran, 0, "", (REPOSITORY / "docs/crates.svg").read_text())
-    expect("crates", sorted(re.findall(r">(drm_[a-z_]+)<", ran.stdout)), sorted(crates()))
-    expect_picture(ran.stdout, ran.stdout.count('<rect class="box"'), ran.stdout.count('<path class="arrow"'))
-
-
-def test_crates_of_the_promises(folder):
-    told = [row[0].strip("`") for table in tables_of("docs/PROMISES.md") for row in table if row[0].startswith("`drm_")]
-    expect("crates", sorted(told), sorted(crates()))
-
-
 # the glossary
-
-
-def test_calls_of_the_glossary(folder):
-    """It has each call of the core once, by its word, with its name in libdrm, which the C client's follows."""
-    header = (REPOSITORY / "clients/c/drm_client.h").read_text()
-    rows = [row for table in tables_of("docs/GLOSSARY.md") for row in table if row[0].strip("`") in protocol.CALLS]
-    wanted = [word for word, call in protocol.CALLS.items() if not 0x40 <= call.number <= 0x9F]
-    expect("calls", sorted(row[0].strip("`") for row in rows), sorted(wanted))
-    for word, libdrm, _ in rows:
-        named = re.fullmatch(r"`(\w+)`", libdrm)
-        function = f"zirkoshe_{named[1] if named else word.strip('`')}"
-        expect(f"the function {function}", f" {function}(struct zirkoshe_client" in header, True)
 
 
 # the rules
 
 
-def test_rules_of_the_rules_page(folder):
-    """It has each rule and each fault once, with its name and errno, in the order of their numbers."""
-    rules = {**constants.RULES, **constants.APARTS}
-    wanted = [[f"{number} {name}", f"{errno.errorcode[error]} ({error})"] for number, (name, error) in sorted(rules.items())]
-    table, = (table for table in tables_of("docs/RULES.md") if table[0][0] == "1 Unknown")
-    expect("the table", [row[:2] for row in table], wanted)
-
-
 # what the documents say of a long session and of the files of sockets
-
-
-def test_journal_is_full(folder):
-    """100,000 steps: what comes behind them changes nothing, and the closing has its place."""
-    asked, most = protocol.frame(0x00), 100_000
-    with server(folder, 1, 0, 0) as started:
-        client = connect(folder / "card")
-        sizes = []
-        for _ in range(most // 1000):
-            client.socket.sendall(1000 * asked)
-            for _ in range(1000):
-                length = int.from_bytes(client.socket.recv(4, socket.MSG_WAITALL), "little")
-                sizes.append(length)
-                body = client.socket.recv(length, socket.MSG_WAITALL)
-        expect("the last answer", protocol.pack("HII", 0x2001, 50, 28), body)
-        # the opening, 99,998 requests, and the closing
-        expect("how many are carried out", sizes.count(14), most - 2)
-        client.close()
-        expect_end(end_of(started), 0, "", "device 0 0 0 100000\n")
-
-
-def test_files_of_sockets_have_the_permissions_of_the_umask(folder):
-    words = [f"--{name} {folder}/{name}" for name in ("card", "render", "root")]
-    program = REPOSITORY / "drm_server"
-    started = subprocess.Popen(["sh", "-c", f"umask 077; exec {program} serve {' '.join(words)}"], stdin=subprocess.DEVNULL,
-                               stdout=subprocess.PIPE, stderr=subprocess.PIPE, text=True)
-    try:
-        found = retry((folder / "root").stat)
-        expect("permissions", oct(found.st_mode & 0o777), oct(0o700))
-    finally:
-        started.kill()
-        started.communicate()
 
 
 # all blocks of all documents
@@ -397,7 +322,7 @@ def named(name, test):
 def trial_of(block, before):
     """What tries a block, given those before it in its document: a function of a folder, or none where nothing is to be run."""
     serving = [earlier for earlier in before if earlier.lines[0].startswith("./drm_server serve ")]
-    # tests/packages tries what that page shows
+    # tests/test_packages.py tries what that page shows
     if block.is_said_not_to_be_run() or block.document.startswith(("clients/", "docs/TESTING.md")):
         return None
     if block.is_script():
@@ -408,7 +333,9 @@ def trial_of(block, before):
         return lambda folder: expect_terminal(folder, block)
     if block.is_of_commands():
         # a server is started by the test of the terminal beside it
-        return None if block.lines[0].startswith("./drm_server serve ") else lambda folder: expect_commands(folder, block)
+        return (
+            None if block.lines[0].startswith("./drm_server serve ") else lambda folder: expect_commands(folder, block)
+        )
     kinds = {
         "hex": lambda folder: expect_frames(folder, block),
         "listing": lambda folder: expect_listing(folder, before[-1], block),
@@ -428,63 +355,12 @@ def document_tests():
             test = trial_of(block, blocks[:place])
             tests += [named(f"test_block: {block.place()}", test)] if test is not None else []
     for name, lines, answers in worked_rows():
-        tests.append(named(f"test_script: {name}", lambda folder, asked=lines, wanted=answers: expect_script(asked, wanted)))
+        tests.append(
+            named(f"test_script: {name}", lambda folder, asked=lines, wanted=answers: expect_script(asked, wanted))
+        )
     for name in EXAMPLES:
         tests.append(named(f"test_example: {name}", lambda folder, example=name: expect_example(example)))
     return {test.__name__: test for test in tests}
-
-
-def test_every_example_is_tried(folder):
-    tried = {"buffer.script", "modes.script", "leases.script", "lease_clients.py"}  # in tests/program
-    tried |= {"libdrm_lease.c"}  # in tests/libdrm
-    tried |= {"session_picture.py", *(f"{name}.script" for name in EXAMPLES)}
-    there = {path.name for path in (REPOSITORY / "examples").iterdir() if path.is_file()}
-    expect("examples", there, tried)
-    folders = {path.name for path in (REPOSITORY / "examples").iterdir() if path.is_dir()}
-    expect("folders", folders, {"rows", "linux", "topologies", *GUIDES.values()})
-    for guide, name in GUIDES.items():
-        shown = (REPOSITORY / guide).read_text()
-        for path in (REPOSITORY / "examples" / name).iterdir():
-            if path.is_file():  # Python may leave a folder there
-                expect(f"{path.name} in {guide}", f"examples/{name}/{path.name}" in shown, True)
-
-
-def test_edits_are_counted(folder):
-    gate, others = (len(list(REPOSITORY.glob(paths))) for paths in ("crates/*/must-fail/*.edit", "edits/*/*.edit"))
-    first, second = (re.match(r"\d+", row[-1])[0] for row in tables_of("edits/README.md")[0])
-    expect("the edits of the gate and the others", (int(first), int(second)), (gate, others))
-    expect("the edits of README", re.search(r"(\d+) edits that must fail", (REPOSITORY / "README.md").read_text())[1], first)
-
-
-def test_what_is_made_of_the_worked_rows(folder):
-    ran = run(REPOSITORY / "tools/worked_rows.py", "--check")
-    expect("files that the rows don't give", ran.stdout.splitlines(), [])
-    expect_end(ran, 0, "", "")
-
-
-def test_topology_of_the_server_page_is_an_example(folder):
-    found, = [block for block in blocks_of("docs/SERVER.md") if block.lines[0].startswith("# A laptop")]
-    expect("the topology", found.text(), (REPOSITORY / "examples/topologies/laptop.topology").read_text())
-
-
-def test_scripts_of_the_guides_are_their_files(folder):
-    for guide, name in GUIDES.items():
-        scripts = {block.text() for block in blocks_of(guide) if block.is_script()}
-        files = {path.read_text() for path in (REPOSITORY / "examples" / name).glob("*.script")}
-        expect(f"the scripts of {guide}", scripts, files)
-
-
-def test_documents_link_to_what_exists(folder):
-    """Each relative link names a file, and a heading of it if it names one."""
-    for document in documents():
-        for target in re.findall(r"\]\(([^)\s]+)\)", (REPOSITORY / document).read_text()):
-            path, _, heading = target.partition("#")
-            if "://" in target:
-                continue
-            file = (REPOSITORY / document).parent / path if path else REPOSITORY / document
-            expect(f"{target} of {document}", file.exists(), True)
-            if heading:
-                expect(f"the heading {target} of {document}", heading in headings_of(file), True)
 
 
 def headings_of(file):
@@ -493,10 +369,176 @@ def headings_of(file):
     return {re.sub(r"[^\w\s-]", "", line).strip().lower().replace(" ", "-") for line in lines}
 
 
-def all_tests():
-    """Those of this file, and those that the documents give."""
-    return {**globals(), **document_tests()}
+class DocumentsTests(FolderCase):
+    """Tests that what the documents show is so: their scripts, terminals, commands, sessions in hex, tables and pictures."""
 
+    def test_page_of_the_python_client(self):
+        folder = self.folder
+        expect_page(folder, "python", "py")
+
+    def test_page_of_the_c_client(self):
+        folder = self.folder
+        want_program("cc")
+        expect_page(folder, "c", "c")
+
+    def test_page_of_the_rust_client(self):
+        folder = self.folder
+        want_program("rustc")
+        expect_page(folder, "rust", "rs")
+
+    def test_crates_of_the_architecture(self):
+        """The last table lists all crates with their dependencies."""
+        there = crates()
+        table = tables_of("docs/ARCHITECTURE.md")[-1]
+        told = {row[0].strip("`"): row[1] for row in table}
+        expect("crates", sorted(told), sorted(there))
+        for crate, words in told.items():
+            expect(f"what {crate} stands on", sorted(below(words, there)), sorted(there[crate]))
+
+    def test_layers_of_the_architecture(self):
+        """The page opens with those of crates.txt, and a crate stands on none of a layer that comes later there."""
+        ran = run(REPOSITORY / "tools/crates_picture.py", "--layers")
+        expect_end(ran, 0, "", ran.stdout)
+        layers = [re.findall(r"`(\w+)`", line) for line in ran.stdout.splitlines()]
+        rows = "| layer | crates | what it is |\n|---|---|---|\n" + ran.stdout
+        expect("the page opens with these layers", rows in (REPOSITORY / "docs/ARCHITECTURE.md").read_text(), True)
+        expect("crates", sorted(sum(layers, [])), sorted(crates()))
+        high = {crate: place for place, layer in enumerate(layers) for crate in layer}
+        expect(
+            "crates on a layer above",
+            [
+                (crate, other)
+                for crate, others in crates().items()
+                for other in others
+                if other in high and high[other] < high[crate]
+            ],
+            [],
+        )
+
+    def test_picture_of_the_crates(self):
+        """It is that of crates.txt, names all crates, and is drawn clearly."""
+        ran = run(REPOSITORY / "tools/crates_picture.py")
+        expect_end(ran, 0, "", (REPOSITORY / "docs/crates.svg").read_text())
+        expect("crates", sorted(re.findall(r">(drm_[a-z_]+)<", ran.stdout)), sorted(crates()))
+        expect_picture(ran.stdout, ran.stdout.count('<rect class="box"'), ran.stdout.count('<path class="arrow"'))
+
+    def test_crates_of_the_promises(self):
+        told = [
+            row[0].strip("`") for table in tables_of("docs/PROMISES.md") for row in table if row[0].startswith("`drm_")
+        ]
+        expect("crates", sorted(told), sorted(crates()))
+
+    def test_calls_of_the_glossary(self):
+        """It has each call of the core once, by its word, with its name in libdrm, which the C client's follows."""
+        header = (REPOSITORY / "clients/c/drm_client.h").read_text()
+        rows = [row for table in tables_of("docs/GLOSSARY.md") for row in table if row[0].strip("`") in protocol.CALLS]
+        wanted = [word for word, call in protocol.CALLS.items() if not 0x40 <= call.number <= 0x9F]
+        expect("calls", sorted(row[0].strip("`") for row in rows), sorted(wanted))
+        for word, libdrm, _ in rows:
+            named = re.fullmatch(r"`(\w+)`", libdrm)
+            function = f"zirkoshe_{named[1] if named else word.strip('`')}"
+            expect(f"the function {function}", f" {function}(struct zirkoshe_client" in header, True)
+
+    def test_rules_of_the_rules_page(self):
+        """It has each rule and each fault once, with its name and errno, in the order of their numbers."""
+        rules = {**constants.RULES, **constants.APARTS}
+        wanted = [
+            [f"{number} {name}", f"{errno.errorcode[error]} ({error})"]
+            for number, (name, error) in sorted(rules.items())
+        ]
+        (table,) = (table for table in tables_of("docs/RULES.md") if table[0][0] == "1 Unknown")
+        expect("the table", [row[:2] for row in table], wanted)
+
+    def test_journal_is_full(self):
+        """100,000 steps: what comes behind them changes nothing, and the closing has its place."""
+        folder = self.folder
+        asked, most = protocol.frame(0x00), 100_000
+        with server(folder, 1, 0, 0) as started:
+            client = connect(folder / "card")
+            sizes = []
+            for _ in range(most // 1000):
+                client.socket.sendall(1000 * asked)
+                for _ in range(1000):
+                    length = int.from_bytes(client.socket.recv(4, socket.MSG_WAITALL), "little")
+                    sizes.append(length)
+                    body = client.socket.recv(length, socket.MSG_WAITALL)
+            expect("the last answer", protocol.pack("HII", 0x2001, 50, 28), body)
+            # the opening, 99,998 requests, and the closing
+            expect("how many are carried out", sizes.count(14), most - 2)
+            client.close()
+            expect_end(end_of(started), 0, "", "device 0 0 0 100000\n")
+
+    def test_files_of_sockets_have_the_permissions_of_the_umask(self):
+        folder = self.folder
+        words = [f"--{name} {folder}/{name}" for name in ("card", "render", "root")]
+        program = REPOSITORY / "drm_server"
+        started = subprocess.Popen(
+            ["sh", "-c", f"umask 077; exec {program} serve {' '.join(words)}"],
+            stdin=subprocess.DEVNULL,
+            stdout=subprocess.PIPE,
+            stderr=subprocess.PIPE,
+            text=True,
+        )
+        try:
+            found = retry((folder / "root").stat)
+            expect("permissions", oct(found.st_mode & 0o777), oct(0o700))
+        finally:
+            started.kill()
+            started.communicate()
+
+    def test_every_example_is_tried(self):
+        tried = {"buffer.script", "modes.script", "leases.script", "lease_clients.py"}  # in tests/test_program.py
+        tried |= {"libdrm_lease.c"}  # in tests/test_libdrm.py
+        tried |= {"session_picture.py", *(f"{name}.script" for name in EXAMPLES)}
+        there = {path.name for path in (REPOSITORY / "examples").iterdir() if path.is_file()}
+        expect("examples", there, tried)
+        folders = {path.name for path in (REPOSITORY / "examples").iterdir() if path.is_dir()}
+        expect("folders", folders, {"rows", "linux", "topologies", *GUIDES.values()})
+        for guide, name in GUIDES.items():
+            shown = (REPOSITORY / guide).read_text()
+            for path in (REPOSITORY / "examples" / name).iterdir():
+                if path.is_file():  # Python may leave a folder there
+                    expect(f"{path.name} in {guide}", f"examples/{name}/{path.name}" in shown, True)
+
+    def test_edits_are_counted(self):
+        gate, others = (len(list(REPOSITORY.glob(paths))) for paths in ("crates/*/must-fail/*.edit", "edits/*/*.edit"))
+        first, second = (re.match(r"\d+", row[-1])[0] for row in tables_of("edits/README.md")[0])
+        expect("the edits of the gate and the others", (int(first), int(second)), (gate, others))
+        expect(
+            "the edits of README",
+            re.search(r"(\d+) edits that must fail", (REPOSITORY / "README.md").read_text())[1],
+            first,
+        )
+
+    def test_what_is_made_of_the_worked_rows(self):
+        ran = run(REPOSITORY / "tools/worked_rows.py", "--check")
+        expect("files that the rows don't give", ran.stdout.splitlines(), [])
+        expect_end(ran, 0, "", "")
+
+    def test_topology_of_the_server_page_is_an_example(self):
+        (found,) = [block for block in blocks_of("docs/SERVER.md") if block.lines[0].startswith("# A laptop")]
+        expect("the topology", found.text(), (REPOSITORY / "examples/topologies/laptop.topology").read_text())
+
+    def test_scripts_of_the_guides_are_their_files(self):
+        for guide, name in GUIDES.items():
+            scripts = {block.text() for block in blocks_of(guide) if block.is_script()}
+            files = {path.read_text() for path in (REPOSITORY / "examples" / name).glob("*.script")}
+            expect(f"the scripts of {guide}", scripts, files)
+
+    def test_documents_link_to_what_exists(self):
+        """Each relative link names a file, and a heading of it if it names one."""
+        for document in documents():
+            for target in re.findall(r"\]\(([^)\s]+)\)", (REPOSITORY / document).read_text()):
+                path, _, heading = target.partition("#")
+                if "://" in target:
+                    continue
+                file = (REPOSITORY / document).parent / path if path else REPOSITORY / document
+                expect(f"{target} of {document}", file.exists(), True)
+                if heading:
+                    expect(f"the heading {target} of {document}", heading in headings_of(file), True)
+
+
+add_tests(DocumentsTests, document_tests())
 
 if __name__ == "__main__":
-    sys.exit(run_tests(all_tests()))
+    sys.exit(run_tests())

@@ -1,7 +1,7 @@
 #!/usr/bin/env python3
 """Random scripts and random clients, whose answers are compared with those of tests/plain_device.py, a second device in plain Python.
 
-    tests/random [--scripts N] [--seconds N] [TEST ..]
+    tests/test_random.py [--scripts N] [--seconds N] [TEST ..]
 
 runs N scripts (300 where nothing is said), and clients on servers for so many seconds (60). What differs is told with the seed of its
 script, and `DRM_RANDOM_SEED` begins with another one. The last line is `N passed, M failed`. Standard library only.
@@ -16,17 +16,28 @@ import threading
 import time
 
 sys.dont_write_bytecode = True
-from plain_device import CALLS, MOST_SIZE, Limits, Plain  # noqa: E402
-from support import CLASSES, CLIENTS, expect, run_program, run_tests, wait_until  # noqa: E402
+from support import CLASSES, CLIENTS, FolderCase, expect, run_program, run_tests, wait_until  # noqa: E402
+
 from zirkoshe import Client, Refusal  # noqa: E402
 from zirkoshe.server import Server  # noqa: E402
 
+from plain_device import CALLS, MOST_SIZE, Plain  # noqa: E402
+
 SEED = int(os.environ.get("DRM_RANDOM_SEED", "1"))
+OPTIONS = {"--scripts": 300, "--seconds": 60}
 LINES = 120
 LABELS = "abcdefgh"
 # sets of mode objects that make a lease, or nearly
 OUTPUTS = ((1, 3, 7), (2, 4, 8), (1, 2, 3, 4, 7, 8), (1, 7), (2, 8), (1, 3, 8), (1, 2, 3, 7, 8), (2, 3, 8))
-SHAPES = ((64, 64, 256, 32), (1, 1, 4, 32), (1, 1, 3, 32), (0, 1, 4, 32), (64, 65, 256, 32), (64, 64, 255, 32), (1, 1, 16, 65))
+SHAPES = (
+    (64, 64, 256, 32),
+    (1, 1, 4, 32),
+    (1, 1, 3, 32),
+    (0, 1, 4, 32),
+    (64, 65, 256, 32),
+    (64, 64, 255, 32),
+    (1, 1, 16, 65),
+)
 DUMBS = ((64, 64, 32), (1, 1, 8), (65535, 65535, 64), (0, 1, 32), (65536, 1, 32), (1, 1, 65), (100, 7, 13))
 SIZES = (0, 1, 4096, 4097, 16384, MOST_SIZE, MOST_SIZE + 1)
 CAPS = ((2, 0), (2, 1), (2, 2), (1, 1), (0, 0))
@@ -53,7 +64,9 @@ class Seen(Known):
         plain = self.plain
         there = {
             "handle": lambda: plain.clients[client].handles if client in plain.clients else (),
-            "name": lambda: plain.names, "token": lambda: plain.tokens, "fb": lambda: plain.framebuffers,
+            "name": lambda: plain.names,
+            "token": lambda: plain.tokens,
+            "fb": lambda: plain.framebuffers,
             "magic": lambda: [c.magic for c in plain.clients.values() if c.magic],
             "lessee": lambda: [m.lessee_id for m in plain.masters.values() if m.lessor],
             "lease": lambda: [m.token for m in plain.masters.values() if m.token],
@@ -63,25 +76,42 @@ class Seen(Known):
 
 def fields_of(word, draw, known, client):
     """Random fields of a call."""
+
     def some(kind, most=6):
         return known.pick(draw, kind, client, most)
 
     thing = draw.randint(0, 9)
     fb = draw.choice((0, some("fb", 12)))
     return {
-        "gem_close": lambda: (some("handle"),), "destroy_dumb": lambda: (some("handle"),), "gem_flink": lambda: (some("handle"),),
-        "prime_export": lambda: (some("handle"),), "stamp_read": lambda: (some("handle"),), "gem_open": lambda: (some("name"),),
-        "stamp_write": lambda: (some("handle"), draw.getrandbits(64)), "prime_import": lambda: (some("token"),),
-        "token_close": lambda: (some("token"),), "auth_magic": lambda: (some("magic"),), "get_cap": lambda: (draw.choice((1, 5, 2)),),
-        "set_client_cap": lambda: draw.choice(CAPS), "buf_create": lambda: (draw.choice(SIZES),),
-        "create_dumb": lambda: draw.choice(DUMBS), "list_handles": lambda: (draw.randint(0, 4),),
-        "audit": lambda: (draw.randint(1, 10), draw.choice((0, 0, 1, 16))), "getcrtc": lambda: (thing,),
-        "getencoder": lambda: (thing,), "getconnector": lambda: (thing,), "getplane": lambda: (thing,),
+        "gem_close": lambda: (some("handle"),),
+        "destroy_dumb": lambda: (some("handle"),),
+        "gem_flink": lambda: (some("handle"),),
+        "prime_export": lambda: (some("handle"),),
+        "stamp_read": lambda: (some("handle"),),
+        "gem_open": lambda: (some("name"),),
+        "stamp_write": lambda: (some("handle"), draw.getrandbits(64)),
+        "prime_import": lambda: (some("token"),),
+        "token_close": lambda: (some("token"),),
+        "auth_magic": lambda: (some("magic"),),
+        "get_cap": lambda: (draw.choice((1, 5, 2)),),
+        "set_client_cap": lambda: draw.choice(CAPS),
+        "buf_create": lambda: (draw.choice(SIZES),),
+        "create_dumb": lambda: draw.choice(DUMBS),
+        "list_handles": lambda: (draw.randint(0, 4),),
+        "audit": lambda: (draw.randint(1, 10), draw.choice((0, 0, 1, 16))),
+        "getcrtc": lambda: (thing,),
+        "getencoder": lambda: (thing,),
+        "getconnector": lambda: (thing,),
+        "getplane": lambda: (thing,),
         "setcrtc": lambda: (draw.choice((1, 2, thing)), fb, draw.choice((0, 7, 8, thing))),
-        "setplane": lambda: (draw.choice((3, 4, thing)), draw.choice((1, 2, thing)), fb), "getfb": lambda: (some("fb", 12),),
-        "rmfb": lambda: (some("fb", 12),), "addfb": lambda: (*draw.choice(SHAPES), some("handle")),
+        "setplane": lambda: (draw.choice((3, 4, thing)), draw.choice((1, 2, thing)), fb),
+        "getfb": lambda: (some("fb", 12),),
+        "rmfb": lambda: (some("fb", 12),),
+        "addfb": lambda: (*draw.choice(SHAPES), some("handle")),
         "revoke_lease": lambda: (some("lessee"),),
-        "create_lease": lambda: draw.choice((draw.choice(OUTPUTS), tuple(draw.randint(0, 10) for _ in range(draw.randint(0, 5))))),
+        "create_lease": lambda: draw.choice(
+            (draw.choice(OUTPUTS), tuple(draw.randint(0, 10) for _ in range(draw.randint(0, 5))))
+        ),
     }.get(word, tuple)()
 
 
@@ -135,21 +165,6 @@ def first_difference(script, expected, written):
         if wanted != came:
             return f"line {place}, {line}: {came!r} in place of {wanted!r}"
     return "more lines than were asked for"
-
-
-def test_random_scripts(folder):
-    answered, kinds = 0, set()
-    for seed in range(SEED, SEED + OPTIONS["--scripts"]):
-        script, expected = random_script(seed)
-        ran = run_program("run", script="".join(line + "\n" for line in script))
-        written = ran.stdout.splitlines()
-        if (ran.returncode, ran.stderr, written) != (0, "", expected):
-            (folder / "script").write_text("\n".join(script))
-            raise AssertionError(f"seed {seed}: {first_difference(script, expected, written)} (status {ran.returncode}, {ran.stderr!r})")
-        answered += len(expected)
-        kinds |= {re.match(r"denied \d+|apart \d+|[a-z]+", line)[0] for line in expected}
-    denials = sorted(int(kind.split()[1]) for kind in kinds if kind.startswith("denied"))
-    print(f"{answered} answers alike, with {len(denials)} of the rules and {len(kinds) - len(denials)} other kinds")
 
 
 # clients on a server
@@ -218,13 +233,19 @@ class Round:
         elif end < 0.7:
             client.abandon()
         else:
-            client.socket.sendall(draw.choice((b"\x06", b"\x06\x00\x00\x00\x44\x00\x00", b"\xff\xff\xff\xff", b"\x02\x00\x00\x00\x00\x00")))
+            client.socket.sendall(
+                draw.choice(
+                    (b"\x06", b"\x06\x00\x00\x00\x44\x00\x00", b"\xff\xff\xff\xff", b"\x02\x00\x00\x00\x00\x00")
+                )
+            )
             client.abandon()
 
     def kill_one(self, draw, name):
         """A client in a process of its own, which is killed."""
         words = [CLIENTS / "python/drm-client", getattr(self.server, name)]
-        with subprocess.Popen(words, stdin=subprocess.PIPE, stdout=subprocess.PIPE, stderr=subprocess.DEVNULL, text=True) as asking:
+        with subprocess.Popen(
+            words, stdin=subprocess.PIPE, stdout=subprocess.PIPE, stderr=subprocess.DEVNULL, text=True
+        ) as asking:
             for _ in range(draw.randint(0, 20)):
                 asking.stdin.write(request_of(draw, Known(), None) + "\n")
             asking.stdin.flush()
@@ -237,8 +258,11 @@ def held_by(process):
     """How many threads and descriptors a process has, and its memory in KiB."""
     folder = pathlib.Path(f"/proc/{process}")
     status = (folder / "status").read_text()
-    return (int(re.search(r"Threads:\s*(\d+)", status)[1]), len(list((folder / "fd").iterdir())),
-            int(re.search(r"VmRSS:\s*(\d+)", status)[1]))
+    return (
+        int(re.search(r"Threads:\s*(\d+)", status)[1]),
+        len(list((folder / "fd").iterdir())),
+        int(re.search(r"VmRSS:\s*(\d+)", status)[1]),
+    )
 
 
 def replayed(journal):
@@ -278,33 +302,54 @@ def soak(seed, folder):
     expect(f"seed {seed}: the listing", server.listing, plain.listing())
     for client, given in trial.answers.items():
         # what was sent as the client broke off may have been carried out
-        expect(f"seed {seed}: what client {client} was answered", answers.get(client, [])[:len(given)], given)
+        expect(f"seed {seed}: what client {client} was answered", answers.get(client, [])[: len(given)], given)
     expect("files", sorted(path.name for path in folder.iterdir()), ["journal.script"])
     journal.unlink()
     return plain.steps, memory
 
 
-def test_soak(folder):
-    until, seed, steps, rounds = time.monotonic() + OPTIONS["--seconds"], SEED, 0, []
-    while time.monotonic() < until or not rounds:
-        made, memory = soak(seed, folder)
-        rounds.append((made, memory))
-        steps, seed = steps + made, seed + 1
-    print(f"{steps} steps in {len(rounds)} servers, each answer and what was left as the plain device has it; at most "
-          f"{max(memory for _, memory in rounds) // 1024} MiB, with {max(made for made, _ in rounds)} steps")
-
-
-def options():
-    """The options, which are taken from the command line."""
-    found = {"--scripts": 300, "--seconds": 60}
-    for name in found:
+def take_options():
+    """Takes the options from the command line."""
+    for name in OPTIONS:
         if name in sys.argv:
             place = sys.argv.index(name)
-            found[name] = int(sys.argv[place + 1])
-            del sys.argv[place:place + 2]
-    return found
+            OPTIONS[name] = int(sys.argv[place + 1])
+            del sys.argv[place : place + 2]
+
+
+class RandomTests(FolderCase):
+    """Random scripts and random clients, whose answers are compared with those of tests/plain_device.py, a second device in plain Python."""
+
+    def test_random_scripts(self):
+        folder = self.folder
+        answered, kinds = 0, set()
+        for seed in range(SEED, SEED + OPTIONS["--scripts"]):
+            script, expected = random_script(seed)
+            ran = run_program("run", script="".join(line + "\n" for line in script))
+            written = ran.stdout.splitlines()
+            if (ran.returncode, ran.stderr, written) != (0, "", expected):
+                (folder / "script").write_text("\n".join(script))
+                raise AssertionError(
+                    f"seed {seed}: {first_difference(script, expected, written)} (status {ran.returncode}, {ran.stderr!r})"
+                )
+            answered += len(expected)
+            kinds |= {re.match(r"denied \d+|apart \d+|[a-z]+", line)[0] for line in expected}
+        denials = sorted(int(kind.split()[1]) for kind in kinds if kind.startswith("denied"))
+        print(f"{answered} answers alike, with {len(denials)} of the rules and {len(kinds) - len(denials)} other kinds")
+
+    def test_soak(self):
+        folder = self.folder
+        until, seed, steps, rounds = time.monotonic() + OPTIONS["--seconds"], SEED, 0, []
+        while time.monotonic() < until or not rounds:
+            made, memory = soak(seed, folder)
+            rounds.append((made, memory))
+            steps, seed = steps + made, seed + 1
+        print(
+            f"{steps} steps in {len(rounds)} servers, each answer and what was left as the plain device has it; at most "
+            f"{max(memory for _, memory in rounds) // 1024} MiB, with {max(made for made, _ in rounds)} steps"
+        )
 
 
 if __name__ == "__main__":
-    OPTIONS = options()
-    sys.exit(run_tests(globals()))
+    take_options()
+    sys.exit(run_tests())

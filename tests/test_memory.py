@@ -18,17 +18,46 @@ import time
 from typing import List, NamedTuple
 
 sys.dont_write_bytecode = True
-from blocks import worked_rows  # noqa: E402
 from support import (  # noqa: E402
-    REPOSITORY, Client, Refusal, connect_raw, end_of, expect, expect_no_sockets, expect_told, is_bound, loading, opened_by,
-    run_program, run_tests, server, told_by, want_no_checks)
+    REPOSITORY,
+    Client,
+    FolderCase,
+    Refusal,
+    Skipped,
+    add_tests,
+    connect_raw,
+    end_of,
+    expect,
+    expect_no_sockets,
+    expect_told,
+    is_bound,
+    loading,
+    opened_by,
+    run_program,
+    run_tests,
+    server,
+    told_by,
+    want_no_checks,
+)
+
+from blocks import worked_rows  # noqa: E402
 
 APART = "apart 51 NoMemory 12"
 
 # the words of the lines that may want memory
 GROWING = {
-    "open", "create_dumb", "buf_create", "gem_flink", "gem_open", "prime_export", "prime_import", "set_master", "getfb", "addfb",
-    "create_lease"}
+    "open",
+    "create_dumb",
+    "buf_create",
+    "gem_flink",
+    "gem_open",
+    "prime_export",
+    "prime_import",
+    "set_master",
+    "getfb",
+    "addfb",
+    "create_lease",
+}
 
 # each of these words at a line that wants memory: a client's first handle, and the fifth master, do
 GROWING_SCRIPT = """open a card
@@ -58,6 +87,7 @@ s set_master
 
 class Ran(NamedTuple):
     """An ended run: how many requests for memory it made, how many were refused, and how many blocks it didn't give back."""
+
     returncode: int
     stdout: str
     stderr: str
@@ -110,6 +140,7 @@ def requests_at_start():
 
 # ---- scripts
 
+
 def text_of(lines):
     return "".join(line + "\n" for line in lines)
 
@@ -124,7 +155,9 @@ def answers_of(script):
 
 def answered(lines):
     """The places of the lines that have an answer."""
-    return [at for at, line in enumerate(lines) if line.split() and not line.startswith("#") and line.split()[0] != "limits"]
+    return [
+        at for at, line in enumerate(lines) if line.split() and not line.startswith("#") and line.split()[0] != "limits"
+    ]
 
 
 def word_of(line):
@@ -135,8 +168,12 @@ def word_of(line):
 
 def audits(lines):
     """Lines that show all that a device holds, by a label that these lines don't have."""
-    label = next(one for one in reversed(string.ascii_lowercase) if one not in {word for line in lines for word in line.split()})
-    return [f"open {label} root"] + [f"{label} audit {kind} {skipped}" for skipped in range(0, 96, 16) for kind in range(1, 11)]
+    label = next(
+        one for one in reversed(string.ascii_lowercase) if one not in {word for line in lines for word in line.split()}
+    )
+    return [f"open {label} root"] + [
+        f"{label} audit {kind} {skipped}" for skipped in range(0, 96, 16) for kind in range(1, 11)
+    ]
 
 
 def expect_answers_with(folder, at, lines, wanted):
@@ -151,7 +188,7 @@ def expect_refused_step(folder, at, lines, answers):
     expect(f"answers at request {at} that are {APART}", answers.count(APART), 1)
     place = answers.index(APART)
     line = answered(lines)[place]
-    before, behind = lines[:line], lines[line + 1:]
+    before, behind = lines[:line], lines[line + 1 :]
     plain = answers_of(text_of(lines))
     expect(f"a growth at request {at}", plain[place].split()[0] in ("denied", "apart"), False)
     rest = answers_of(text_of(before + behind))
@@ -177,10 +214,6 @@ def expect_refusals(folder, lines):
     return words
 
 
-def test_each_call_that_grows(folder):
-    expect("words", expect_refusals(folder, GROWING_SCRIPT.splitlines()), GROWING)
-
-
 def lines_of(path):
     """The lines of a script, without the answers that it expects."""
     return [re.split(" +-> ", line)[0] for line in path.read_text().splitlines()]
@@ -200,23 +233,13 @@ def script_tests():
     """A test for each script."""
     tests = {}
     for name, lines in scripts().items():
+
         def test(folder, asked=lines):
             expect_refusals(folder, asked)
+
         test.__name__ = f"test_script: {name}"
         tests[test.__name__] = test
     return tests
-
-
-def test_closings_denials_and_calls_that_do_not_grow_take_no_memory(folder):
-    for name, lines in scripts().items():
-        answers = answers_of(text_of(lines))
-        before = None
-        for place, line in enumerate(answered(lines)):
-            requests = run_refusing(folder, 0, "run", script=text_of(lines[:line + 1])).requests
-            is_refused = answers[place].split()[0] in ("denied", "apart")
-            if before is not None and (is_refused or word_of(lines[line]) not in GROWING):
-                expect(f"requests of {name} behind {lines[line]!r}", requests, before)
-            before = requests
 
 
 def expect_unspent(folder, lines, behind, wanted):
@@ -224,97 +247,17 @@ def expect_unspent(folder, lines, behind, wanted):
     at = run_refusing(folder, 0, "run", script=text_of(lines)).requests + 1
     ran = run_refusing(folder, at, "run", script=text_of(lines + behind))
     expect("status", (ran.returncode, ran.stderr), (0, ""))
-    expect("answers", ran.stdout.splitlines()[-len(behind):], wanted)
+    expect("answers", ran.stdout.splitlines()[-len(behind) :], wanted)
     expect("whether the refusal is spent", ran.refused, 0)
 
 
-def test_closings_leave_a_refusal_unspent(folder):
-    for name, until in (("tokens_keep_objects_and_go_with_their_client", "close a"), ("framebuffers_are_shown_on_crtcs", "a rmfb 9")):
-        row = scripts()[f"row {name}"]
-        lines = row[:row.index(until)]
-        closings = [f"close {label}" for label in ("a", "b")]
-        expect_unspent(folder, lines, closings, ["closed", "closed"])
-
-
-def test_denials_leave_a_refusal_unspent(folder):
-    for name in ("names_are_for_authenticated_clients", "masters_are_set_and_dropped", "leases_are_refused_in_order"):
-        lines = scripts()[f"row {name}"]
-        answers = answers_of(text_of(lines))
-        denied = [line for line, answer in zip(answered(lines), answers) if answer.startswith("denied")]
-        expect(f"whether {name} has denials", len(denied) > 2, True)
-        for line in denied:
-            expect_unspent(folder, lines[:line], [lines[line]], [answers[answered(lines).index(line)]])
-
-
-def test_refused_export_gives_no_token(folder):
-    lines = ["open a card", "a buf_create 1", "a prime_export 1", "a prime_export 1"]
-    first = run_refusing(folder, 0, "run", script=text_of(lines[:2])).requests + 1
-    last = run_refusing(folder, 0, "run", script=text_of(lines[:3])).requests
-    expect("requests of an export", last >= first, True)
-    for at in range(first, last + 1):
-        expect_answers_with(folder, at, lines, ["client 1", "buffer 1 4096", APART, "number 1"])
-
-
-def test_refused_lease_leaves_no_lessee(folder):
-    lines = ["open a card", "a create_lease 2 4 8", "a list_lessees", "a create_lease 2 4 8"]
-    first = run_refusing(folder, 0, "run", script=text_of(lines[:1])).requests + 1
-    last = run_refusing(folder, 0, "run", script=text_of(lines[:2])).requests
-    expect("requests of a lease", last >= first, True)
-    for at in range(first, last + 1):
-        expect_answers_with(folder, at, lines, ["client 1", APART, "list -", "lease 1 1"])
-
-
 # ---- the start of the program, and files that check themselves
+
 
 def expect_same_start(at, ran, plain):
     """What was refused was asked for again, in another way."""
     expect(f"the run at request {at}", ran[:3], plain[:3])
     expect(f"requests at request {at}, beside {plain.requests}", ran.requests > plain.requests, True)
-
-
-def test_start_of_a_run(folder):
-    plain = run_refusing(folder, 0, "run")
-    for at, ran in refused_in_turn(folder, 1, "run"):
-        if ran.returncode != 0:
-            expect_told(ran, 1, ["fault: memory"], "")
-        elif ran.refused:
-            expect_same_start(at, ran, plain)
-    expect("requests", at, plain.requests + 1)
-
-
-def test_command_lines_that_are_refused(folder):
-    for words in (["fly"], ["run", "now"], ["check"], ["serve", "--card", "c"], ["serve", "--cards", "65"]):
-        plain = run_refusing(folder, 0, *words)
-        for at, ran in refused_in_turn(folder, 1, *words):
-            if ran.returncode == 3:
-                expect(f"what {words} tells at request {at}", ran[:3], plain[:3])
-            else:
-                expect_told(ran, 1, ["fault: memory"], "")
-
-
-def test_check_of_a_file(folder):
-    path = REPOSITORY / "examples/rows/buffer_is_made_and_closed.script"
-    plain = run_refusing(folder, 0, "check", path)
-    for at, ran in refused_in_turn(folder, 1, "check", path):
-        if ran.returncode == 1:
-            expect_told(ran, 1, ["fault: memory"], "")
-        elif ran.returncode == 4:
-            first, *rest = ran.stdout.splitlines()
-            expect(f"the first difference at request {at}", first.endswith(f", came {APART}"), True)
-            expect(f"others like it at request {at}", [line for line in rest if APART in line], [])
-        elif ran.refused:
-            expect_same_start(at, ran, plain)
-
-
-def test_explanations(folder):
-    """An explanation is written whole or not at all. Where a step is refused memory, it is one of a script in which that stands apart."""
-    path = REPOSITORY / "examples/sharing.script"
-    for words in (["explain", path], ["explain", path, "--json"], ["explain", path, "--line", "12"]):
-        for at, ran in refused_in_turn(folder, 1, *words):
-            if ran.returncode == 1:
-                expect_told(ran, 1, ["fault: memory"], "")
-            else:
-                expect(f"the end at request {at}", (ran.returncode, ran.stderr, ran.stdout[-1:]), (0, "", "\n"))
 
 
 # ---- a server
@@ -356,6 +299,7 @@ FAULTS = {
 
 class Served(NamedTuple):
     """What the clients were answered, and how the server ended."""
+
     answers: List[str]
     ran: Ran
 
@@ -463,35 +407,157 @@ def expect_fault(at, served, plain):
         expect(f"what was answered at request {at}, and is lost", set(served.answers), {GONE})
 
 
-def test_server(folder):
-    plain = serve_sessions(folder)
-    expect("answers that tell of no memory", APART in plain.answers or GONE in plain.answers, False)
-    expect("the end with ample memory", plain.ran[:3], (0, "device 0 1 1 20\n", ""))
-    for at in itertools.count(1):
-        served = serve_sessions(folder, at)
-        if served.ran.refused == 0:
-            expect("what is served without a refusal", (served.answers, served.ran[:3]), (plain.answers, plain.ran[:3]))
+class ScriptsTests(FolderCase):
+    """Tests: scripts."""
+
+    def test_each_call_that_grows(self):
+        folder = self.folder
+        expect("words", expect_refusals(folder, GROWING_SCRIPT.splitlines()), GROWING)
+
+    def test_closings_denials_and_calls_that_do_not_grow_take_no_memory(self):
+        folder = self.folder
+        for name, lines in scripts().items():
+            answers = answers_of(text_of(lines))
+            before = None
+            for place, line in enumerate(answered(lines)):
+                requests = run_refusing(folder, 0, "run", script=text_of(lines[: line + 1])).requests
+                is_refused = answers[place].split()[0] in ("denied", "apart")
+                if before is not None and (is_refused or word_of(lines[line]) not in GROWING):
+                    expect(f"requests of {name} behind {lines[line]!r}", requests, before)
+                before = requests
+
+    def test_closings_leave_a_refusal_unspent(self):
+        folder = self.folder
+        for name, until in (
+            ("tokens_keep_objects_and_go_with_their_client", "close a"),
+            ("framebuffers_are_shown_on_crtcs", "a rmfb 9"),
+        ):
+            row = scripts()[f"row {name}"]
+            lines = row[: row.index(until)]
+            closings = [f"close {label}" for label in ("a", "b")]
+            expect_unspent(folder, lines, closings, ["closed", "closed"])
+
+    def test_denials_leave_a_refusal_unspent(self):
+        folder = self.folder
+        for name in (
+            "names_are_for_authenticated_clients",
+            "masters_are_set_and_dropped",
+            "leases_are_refused_in_order",
+        ):
+            lines = scripts()[f"row {name}"]
+            answers = answers_of(text_of(lines))
+            denied = [line for line, answer in zip(answered(lines), answers) if answer.startswith("denied")]
+            expect(f"whether {name} has denials", len(denied) > 2, True)
+            for line in denied:
+                expect_unspent(folder, lines[:line], [lines[line]], [answers[answered(lines).index(line)]])
+
+    def test_refused_export_gives_no_token(self):
+        folder = self.folder
+        lines = ["open a card", "a buf_create 1", "a prime_export 1", "a prime_export 1"]
+        first = run_refusing(folder, 0, "run", script=text_of(lines[:2])).requests + 1
+        last = run_refusing(folder, 0, "run", script=text_of(lines[:3])).requests
+        expect("requests of an export", last >= first, True)
+        for at in range(first, last + 1):
+            expect_answers_with(folder, at, lines, ["client 1", "buffer 1 4096", APART, "number 1"])
+
+    def test_refused_lease_leaves_no_lessee(self):
+        folder = self.folder
+        lines = ["open a card", "a create_lease 2 4 8", "a list_lessees", "a create_lease 2 4 8"]
+        first = run_refusing(folder, 0, "run", script=text_of(lines[:1])).requests + 1
+        last = run_refusing(folder, 0, "run", script=text_of(lines[:2])).requests
+        expect("requests of a lease", last >= first, True)
+        for at in range(first, last + 1):
+            expect_answers_with(folder, at, lines, ["client 1", APART, "list -", "lease 1 1"])
+
+
+class StartTests(FolderCase):
+    """Tests: the start of the program, and files that check themselves."""
+
+    def test_start_of_a_run(self):
+        folder = self.folder
+        plain = run_refusing(folder, 0, "run")
+        for at, ran in refused_in_turn(folder, 1, "run"):
+            if ran.returncode != 0:
+                expect_told(ran, 1, ["fault: memory"], "")
+            elif ran.refused:
+                expect_same_start(at, ran, plain)
+        expect("requests", at, plain.requests + 1)
+
+    def test_command_lines_that_are_refused(self):
+        folder = self.folder
+        for words in (["fly"], ["run", "now"], ["check"], ["serve", "--card", "c"], ["serve", "--cards", "65"]):
+            plain = run_refusing(folder, 0, *words)
+            for at, ran in refused_in_turn(folder, 1, *words):
+                if ran.returncode == 3:
+                    expect(f"what {words} tells at request {at}", ran[:3], plain[:3])
+                else:
+                    expect_told(ran, 1, ["fault: memory"], "")
+
+    def test_check_of_a_file(self):
+        folder = self.folder
+        path = REPOSITORY / "examples/rows/buffer_is_made_and_closed.script"
+        plain = run_refusing(folder, 0, "check", path)
+        for at, ran in refused_in_turn(folder, 1, "check", path):
+            if ran.returncode == 1:
+                expect_told(ran, 1, ["fault: memory"], "")
+            elif ran.returncode == 4:
+                first, *rest = ran.stdout.splitlines()
+                expect(f"the first difference at request {at}", first.endswith(f", came {APART}"), True)
+                expect(f"others like it at request {at}", [line for line in rest if APART in line], [])
+            elif ran.refused:
+                expect_same_start(at, ran, plain)
+
+    def test_explanations(self):
+        """An explanation is written whole or not at all. Where a step is refused memory, it is one of a script in which that stands apart."""
+        folder = self.folder
+        path = REPOSITORY / "examples/sharing.script"
+        for words in (["explain", path], ["explain", path, "--json"], ["explain", path, "--line", "12"]):
+            for at, ran in refused_in_turn(folder, 1, *words):
+                if ran.returncode == 1:
+                    expect_told(ran, 1, ["fault: memory"], "")
+                else:
+                    expect(f"the end at request {at}", (ran.returncode, ran.stderr, ran.stdout[-1:]), (0, "", "\n"))
+
+
+class ServerTests(FolderCase):
+    """Tests: a server."""
+
+    def test_server(self):
+        folder = self.folder
+        plain = serve_sessions(folder)
+        expect("answers that tell of no memory", APART in plain.answers or GONE in plain.answers, False)
+        expect("the end with ample memory", plain.ran[:3], (0, "device 0 1 1 20\n", ""))
+        for at in itertools.count(1):
+            served = serve_sessions(folder, at)
+            if served.ran.refused == 0:
+                expect(
+                    "what is served without a refusal", (served.answers, served.ran[:3]), (plain.answers, plain.ran[:3])
+                )
+                return
+            if served.ran.returncode != 0:
+                expect_fault(at, served, plain)
+            elif APART in served.answers:
+                expect_refused_session(folder, at, served)
+            else:
+                expect_same_start(at, served.ran, plain.ran)
+
+
+add_tests(ScriptsTests, script_tests())
+
+
+def tearDownModule() -> None:
+    """A tool that refuses nothing would pass all tests before."""
+    with tempfile.TemporaryDirectory(prefix="drm_") as folder:
+        try:
+            refusing(pathlib.Path(folder) / "note", 0)  # where that can't be, nothing was tried
+        except Skipped:
             return
-        if served.ran.returncode != 0:
-            expect_fault(at, served, plain)
-        elif APART in served.answers:
-            expect_refused_session(folder, at, served)
-        else:
-            expect_same_start(at, served.ran, plain.ran)
-
-
-def requests_were_refused(folder):
-    """Comes last: a tool that refuses nothing would pass all tests before it."""
-    refusing(folder / "note", 0)  # where that can't be, nothing was tried
     refused = sum(count * runs for count, runs in refusals.items())
     print(f"refused {refused} requests for memory, in {sum(refusals.values())} runs", flush=True)
+    if sys.argv[1:]:
+        return
     expect("a request that was refused", refused > 0, True)
 
 
-def all_tests():
-    """Those of this file, those of the scripts, and the last one."""
-    return {**globals(), **script_tests(), "test_requests_were_refused": requests_were_refused}
-
-
 if __name__ == "__main__":
-    sys.exit(run_tests(all_tests()))
+    sys.exit(run_tests())

@@ -17,7 +17,7 @@ import sys
 from typing import Iterator, List, NamedTuple
 
 sys.dont_write_bytecode = True
-from support import REPOSITORY, Skipped, expect, loading, run_tests  # noqa: E402
+from support import REPOSITORY, FolderCase, Skipped, expect, loading, run_tests  # noqa: E402
 
 # how long one run of a test may take
 MOST_SECONDS = 60
@@ -31,6 +31,7 @@ OTHERS = re.compile(r"::(random|threads)_")
 
 class Ran(NamedTuple):
     """A run of a test: how it ended, what it said, and how many requests it made, of which so many were refused."""
+
     status: int
     said: str
     requests: int
@@ -61,7 +62,15 @@ def run_refusing(note: pathlib.Path, crate: str, name: str, at: int) -> Ran:
     """Runs a test, and refuses the request of this number."""
     note.write_bytes(bytes(24))
     env = loading("refuse.c", REFUSE_AT=str(at), REFUSE_NOTE=str(note))
-    ran = subprocess.run([program_of(crate), name], capture_output=True, text=True, errors="replace", env=env, timeout=MOST_SECONDS, check=False)
+    ran = subprocess.run(
+        [program_of(crate), name],
+        capture_output=True,
+        text=True,
+        errors="replace",
+        env=env,
+        timeout=MOST_SECONDS,
+        check=False,
+    )
     requests, refused, _left = struct.unpack("<3Q", note.read_bytes())
     return Ran(ran.returncode, ran.stdout + ran.stderr, requests, refused)
 
@@ -93,68 +102,71 @@ def expect_each(folder: pathlib.Path, crate: str, *modules: str) -> None:
     expect("some request is refused", refusals["all"] > before, True)
 
 
-def test_arrays_and_numbers(folder):
-    """`IndexArray::insert`; `IdTable::add` and `add_cyclic`; `Groups::note`."""
-    expect_each(folder, "drm_part_tests", "arrays", "number_tables", "number_groups")
-
-
-def test_files_and_objects(folder):
-    """`Files::open` and `add_handle`; `Objects::create`."""
-    expect_each(folder, "drm_part_tests", "handles", "objects")
-
-
-def test_names_and_tokens(folder):
-    """`Names::give`; `Tokens::export`."""
-    expect_each(folder, "drm_part_tests", "sharing")
-
-
-def test_masters(folder):
-    """`Masters::on_open`, `on_redeem`, `set`, `magic` and `make_lessee`."""
-    expect_each(folder, "drm_part_tests", "masters")
-
-
-def test_framebuffers(folder):
-    """`Modes::addfb`."""
-    expect_each(folder, "drm_part_tests", "modes")
-
-
-def test_leases(folder):
-    """`Leases::create`, and `Masters::on_redeem` by its tokens."""
-    expect_each(folder, "drm_part_tests", "leases")
-
-
-def test_shared_devices(folder):
-    """`SharedDevice::new` and `call`."""
-    expect_each(folder, "drm_tests", "turns")
-
-
-def test_jobs(folder):
-    """`serve_many`, which is asked again for jobs of the same bytes."""
-    expect_each(folder, "drm_tests", "many")
-
-
-def test_replays(folder):
-    """`Device::new` and `replay`: a refusal for the device is told apart from one at an event."""
-    name = "replays::replays_stop_where_an_event_is_not_noted"
-    said = ""
-    for at, ran in enumerate(refused_in_turn(folder, "drm_tests", name), start=1):
-        expect_well(name, at, ran)
-        said += ran.said
-    for word in ("refused for the device", "refused at an event"):
-        expect(word, word in said, True)
-
-
-def requests_were_refused(_folder):
-    """Comes last."""
+def expect_requests_refused():
+    """Prints how many requests were refused, and fails if none was."""
     program_of("drm_part_tests")  # where that isn't there, nothing was tried
     print(f"refused {refusals['all']} requests for memory, of which {refusals['own']} were a test's own", flush=True)
     expect("requests that were refused and asked again", refusals["all"] > refusals["own"], True)
 
 
-def all_tests():
-    """Those of this file, and the last one."""
-    return {**globals(), "test_requests_were_refused": requests_were_refused}
+class GrowthsTests(FolderCase):
+    """The tests in Rust with one of their requests for memory refused: the first, the second, and so on, until none is."""
+
+    def test_arrays_and_numbers(self):
+        """`IndexArray::insert`; `IdTable::add` and `add_cyclic`; `Groups::note`."""
+        folder = self.folder
+        expect_each(folder, "drm_part_tests", "arrays", "number_tables", "number_groups")
+
+    def test_files_and_objects(self):
+        """`Files::open` and `add_handle`; `Objects::create`."""
+        folder = self.folder
+        expect_each(folder, "drm_part_tests", "handles", "objects")
+
+    def test_names_and_tokens(self):
+        """`Names::give`; `Tokens::export`."""
+        folder = self.folder
+        expect_each(folder, "drm_part_tests", "sharing")
+
+    def test_masters(self):
+        """`Masters::on_open`, `on_redeem`, `set`, `magic` and `make_lessee`."""
+        folder = self.folder
+        expect_each(folder, "drm_part_tests", "masters")
+
+    def test_framebuffers(self):
+        """`Modes::addfb`."""
+        folder = self.folder
+        expect_each(folder, "drm_part_tests", "modes")
+
+    def test_leases(self):
+        """`Leases::create`, and `Masters::on_redeem` by its tokens."""
+        folder = self.folder
+        expect_each(folder, "drm_part_tests", "leases")
+
+    def test_shared_devices(self):
+        """`SharedDevice::new` and `call`."""
+        folder = self.folder
+        expect_each(folder, "drm_tests", "turns")
+
+    def test_jobs(self):
+        """`serve_many`, which is asked again for jobs of the same bytes."""
+        folder = self.folder
+        expect_each(folder, "drm_tests", "many")
+
+    def test_replays(self):
+        """`Device::new` and `replay`: a refusal for the device is told apart from one at an event."""
+        folder = self.folder
+        name = "replays::replays_stop_where_an_event_is_not_noted"
+        said = ""
+        for at, ran in enumerate(refused_in_turn(folder, "drm_tests", name), start=1):
+            expect_well(name, at, ran)
+            said += ran.said
+        for word in ("refused for the device", "refused at an event"):
+            expect(word, word in said, True)
+
+    @classmethod
+    def tearDownClass(cls) -> None:
+        expect_requests_refused()
 
 
 if __name__ == "__main__":
-    sys.exit(run_tests(all_tests()))
+    sys.exit(run_tests())

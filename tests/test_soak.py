@@ -1,7 +1,7 @@
 #!/usr/bin/env python3
 """A soak: hostile clients in three languages on one server after another, and what a monitor client and the server notice of them.
 
-    tests/soak MINUTES
+    tests/test_soak.py MINUTES
 
 Without MINUTES it takes one. The clients connect, ask, break off, flood, take no answers, pass descriptors, and are stopped and killed.
 Meanwhile a root client asks, and another asks an idle server. Each round is one server, since a server accepts a fixed number of
@@ -22,8 +22,23 @@ import time
 
 sys.dont_write_bytecode = True
 from support import (  # noqa: E402
-    COMPILERS, PROGRAM, SECONDS, compile_client, connect, connect_raw, count_words, expect, expect_no_sockets, is_compiled_with_checks,
-    path_words, run_tests, wait_until, wait_until_it_listens)
+    COMPILERS,
+    PROGRAM,
+    SECONDS,
+    FolderCase,
+    compile_client,
+    connect,
+    connect_raw,
+    count_words,
+    expect,
+    expect_no_sockets,
+    is_compiled_with_checks,
+    path_words,
+    run_tests,
+    wait_until,
+    wait_until_it_listens,
+)
+
 from zirkoshe import Refusal  # noqa: E402
 
 HELLO = bytes.fromhex("0e000000 0001 02000000 00000000 00000000")
@@ -56,7 +71,7 @@ def ask_and_close(path):
 def break_off(path):
     """Ends within a frame."""
     with connect_raw(path) as cut:
-        cut.sendall((HELLO + VERSION)[:random.randrange(len(HELLO + VERSION))])
+        cut.sendall((HELLO + VERSION)[: random.randrange(len(HELLO + VERSION))])
 
 
 def flood(path):
@@ -86,6 +101,7 @@ def pass_itself(path):
 
 def stop_and_kill(program):
     """A client of another program, which is stopped while it asks, goes on, and is killed."""
+
     def act(path):
         with subprocess.Popen([program, path], stdin=subprocess.DEVNULL, stdout=subprocess.DEVNULL) as asking:
             for wait, number in ((0.02, signal.SIGSTOP), (0.1, signal.SIGCONT), (0.02, signal.SIGKILL)):
@@ -177,7 +193,9 @@ def serving(sockets):
     """A server that ends where its standard input does, and a client that asks it meanwhile."""
     sockets.mkdir()
     words = ["serve", "--until-input-ends", *path_words(sockets), *count_words(CONNECTIONS, CONNECTIONS, 2)]
-    with subprocess.Popen([PROGRAM, *words], stdin=subprocess.PIPE, stdout=subprocess.PIPE, stderr=subprocess.DEVNULL, text=True) as started:
+    with subprocess.Popen(
+        [PROGRAM, *words], stdin=subprocess.PIPE, stdout=subprocess.PIPE, stderr=subprocess.DEVNULL, text=True
+    ) as started:
         try:
             wait_until_it_listens(sockets / "root")
             with Monitor(sockets / "root") as monitor:
@@ -211,29 +229,41 @@ def shown(waits):
     return f"median {1e6 * statistics.median(waits):.0f} us, worst {1e3 * max(waits):.2f} ms"
 
 
-def test_hostile_clients_delay_no_other_and_leave_nothing(folder):
-    clients = programs(folder)
-    until = time.monotonic() + 60 * MINUTES
-    count, waits, idle_waits, used = 0, [], [], []
-    with serving(folder / "idle") as (_, idle):
-        while time.monotonic() < until:
-            found = soak_one(folder, clients, idle, until)
-            count += found[0]
-            waits += found[1]
-            idle_waits += found[2]
-            used.append(found[3])
-    print(f"{len(used)} servers, {count} hostile clients in {1 + len(clients)} languages, {len(waits)} answers to the monitors")
-    print(f"a monitor waited: {shown(waits)}; that of an idle server: {shown(idle_waits)}")
-    print(f"threads, descriptors and KB of a server: {used[0][0]} before and {used[0][1]} after; the most KB {max(after[2] for _, after in used)}")
-    expect("the median is within its bound", statistics.median(waits) <= MEDIAN_RATIO * statistics.median(idle_waits), True)
-    expect("the worst wait is within its bound", max(waits) <= RATIO * max(SHORTEST, max(idle_waits)), True)
-
-
 def main():
     global MINUTES
     if sys.argv[1:] and sys.argv[1].replace(".", "", 1).isdigit():
         MINUTES = float(sys.argv.pop(1))
-    return run_tests(globals())
+    return run_tests()
+
+
+class SoakTests(FolderCase):
+    """Tests: what is noticed of them."""
+
+    def test_hostile_clients_delay_no_other_and_leave_nothing(self):
+        folder = self.folder
+        clients = programs(folder)
+        until = time.monotonic() + 60 * MINUTES
+        count, waits, idle_waits, used = 0, [], [], []
+        with serving(folder / "idle") as (_, idle):
+            while time.monotonic() < until:
+                found = soak_one(folder, clients, idle, until)
+                count += found[0]
+                waits += found[1]
+                idle_waits += found[2]
+                used.append(found[3])
+        print(
+            f"{len(used)} servers, {count} hostile clients in {1 + len(clients)} languages, {len(waits)} answers to the monitors"
+        )
+        print(f"a monitor waited: {shown(waits)}; that of an idle server: {shown(idle_waits)}")
+        print(
+            f"threads, descriptors and KB of a server: {used[0][0]} before and {used[0][1]} after; the most KB {max(after[2] for _, after in used)}"
+        )
+        expect(
+            "the median is within its bound",
+            statistics.median(waits) <= MEDIAN_RATIO * statistics.median(idle_waits),
+            True,
+        )
+        expect("the worst wait is within its bound", max(waits) <= RATIO * max(SHORTEST, max(idle_waits)), True)
 
 
 if __name__ == "__main__":

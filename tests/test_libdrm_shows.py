@@ -1,0 +1,485 @@
+#!/usr/bin/env python3
+"""Tests of frame loops behind clients/libdrm: flips, vertical blanking, events, and programs that show frames.
+
+Each test is a function of a folder of its own. The last line is `N passed, M failed`; where there is no C compiler, no libdrm with
+its headers, or no such program, a test is skipped, and told so. Standard library only.
+"""
+import contextlib
+import os
+import pathlib
+import re
+import shutil
+import subprocess
+import sys
+import time
+
+sys.dont_write_bytecode = True
+from support import (  # noqa: E402
+    CLASSES,
+    REPOSITORY,
+    SECONDS,
+    FolderCase,
+    Skipped,
+    connect,
+    ended_in_time,
+    expect,
+    run,
+    run_tests,
+    want_program,
+)
+
+from libdrm_support import compiled, environment, library, said, served, wait_until  # noqa: E402
+
+# How long frames are shown, and how fast at most: the modes have 60 Hz, and what is counted may begin and end within a frame.
+SHOWING = 10
+MOST_RATE = 61
+
+
+def frames(folder, what, text):
+    """What the program of frame loops finds."""
+    expect("what it finds", said(folder, compiled("tests/libdrm_frames.c"), what), text)
+
+
+def steps_of(folder, frames_):
+    """The lines of the journal of a loop of so many frames, each with a cursor that moves."""
+    program, journal = compiled("tests/libdrm_frames.c"), folder / f"{frames_}.script"
+    library()
+    ran = run(REPOSITORY / "tools/with-server", "--libdrm", "--journal", journal, program, "steady", frames_)
+    expect("what it finds", (ran.stdout, ran.stderr, ran.returncode), (f"frames {frames_}, failed 0\n", "", 0))
+    return [line.split()[1] for line in journal.read_text().splitlines() if not line.startswith(("limits", "#"))]
+
+
+# programs that show frames
+
+
+def showing(folder, *command, **variables):
+    """What a program prints that shows frames until a line is typed, beside a server."""
+    with subprocess.Popen(
+        command,
+        stdin=subprocess.PIPE,
+        stdout=subprocess.PIPE,
+        stderr=subprocess.STDOUT,
+        text=True,
+        env=environment(folder, **variables),
+    ) as shown, ended_in_time(shown):
+        time.sleep(SHOWING)
+        output, _ = shown.communicate("\n", timeout=SECONDS)
+    expect("status", shown.returncode, 0)
+    return output
+
+
+def expect_rates(text, pattern):
+    """Fails the test unless frames were counted, at no more than the rate of the mode."""
+    rates = [float(rate) for rate in re.findall(pattern, text)]
+    expect("that there are rates", rates != [], True)
+    expect("rates that are too high", [rate for rate in rates if rate > MOST_RATE], [])
+
+
+# How many steps a compositor of wlroots makes at most before its first frame.
+START_OF_A_COMPOSITOR = 200
+
+# What sway is told: a program shows frames, and after a time it is to end.
+SWAY = f"""\
+xwayland disable
+exec weston-presentation-shm > frames
+exec sleep {SHOWING} && swaymsg exit
+"""
+
+
+@contextlib.contextmanager
+def seated(given):
+    """A seatd that gives the card to somebody who isn't root, and the words by which a program is run as that one."""
+    for name in ("seatd", "setpriv"):
+        want_program(name)
+    if os.geteuid() != 0 or pathlib.Path("/run/seatd.sock").exists():
+        raise Skipped("who runs the tests isn't root, or there is a seatd")
+    with subprocess.Popen(
+        ["seatd", "-u", "nobody"],
+        stdin=subprocess.DEVNULL,
+        stdout=subprocess.DEVNULL,
+        stderr=subprocess.DEVNULL,
+        env={**given, "SEATD_VTBOUND": "0"},
+    ) as seat, ended_in_time(seat):
+        wait_until(pathlib.Path("/run/seatd.sock").exists)
+        try:
+            yield ["setpriv", "--reuid=nobody", "--regid=nogroup", "--clear-groups"]
+        finally:
+            # it takes its socket away
+            seat.terminate()
+            seat.wait(SECONDS)
+
+
+@contextlib.contextmanager
+def compositor(folder):
+    """A server and what a compositor of wlroots wants beside it: a runner of commands as somebody who isn't root, in a folder of that one's."""
+    own = folder / "own"
+    own.mkdir(0o700)
+    shutil.chown(own, "nobody")
+    given = environment(
+        folder,
+        LD_PRELOAD=str(shutil.copy(library(), folder / "library.so")),
+        XDG_RUNTIME_DIR=str(own),
+        LIBSEAT_BACKEND="seatd",
+        WLR_BACKENDS="drm",
+        WLR_DRM_DEVICES="/dev/dri/card0",
+        WLR_RENDERER="pixman",
+        WLR_LIBINPUT_NO_DEVICES="1",
+    )
+    with served(folder), seated(given) as somebody:
+        for path in (folder, *(folder / name for name in CLASSES)):
+            path.chmod(0o777)
+        yield own, lambda *words: run(*somebody, *words, env=given, cwd=own)
+
+
+def steps_until_now(folder):
+    """How many steps the server has made: the number that the next client gets is that of its opening."""
+    root = connect(folder / "root")
+    said = root.ask("audit 1 0")
+    root.close()
+    return int(re.match(r"rows 1 \| (\d+) ", said)[1])
+
+
+class LibdrmShowsTests(FolderCase):
+    """Tests of frame loops behind clients/libdrm: flips, vertical blanking, events, and programs that show frames."""
+
+    def test_frames_come_at_the_rate_of_the_mode(self):
+        folder = self.folder
+        frames(
+            folder,
+            "frames",
+            """\
+shows a frame: done
+frames 60, early 0, astray 0, of the CRTC 1, data 1
+not faster than the mode: 1, not slower than a tenth of it: 1
+""",
+        )
+
+    def test_second_flip_waits_for_the_first(self):
+        folder = self.folder
+        frames(
+            folder,
+            "early",
+            """\
+flips: done
+flips again: EBUSY
+flips again without an event: EBUSY
+flips once it is told: done
+flips at once: EBUSY
+events 1
+""",
+        )
+
+    def test_flips_are_refused(self):
+        folder = self.folder
+        frames(
+            folder,
+            "refusals",
+            """\
+flips a dark CRTC: EBUSY
+no CRTC: ENOENT
+no framebuffer: ENOENT
+framebuffer 0: ENOENT
+asynchronous: EINVAL
+with a target: EINVAL
+unknown flag: EINVAL
+reserved field: EINVAL
+who isn't master: EACCES
+who isn't master, with an unknown flag: EACCES
+flips: done
+darkens it: done
+flips a dark CRTC: EBUSY
+""",
+        )
+
+    def test_lessee_flips_what_it_has(self):
+        folder = self.folder
+        frames(
+            folder,
+            "lease",
+            """\
+lessee flips: done
+of its CRTC: 1
+lessee flips another CRTC: ENOENT
+revokes: done
+lessee flips: ENOENT
+owner flips: done
+""",
+        )
+
+    def test_vertical_blanking_is_waited_for(self):
+        folder = self.folder
+        frames(
+            folder,
+            "vblanks",
+            """\
+a dark CRTC: EINVAL
+asks: done
+waits for three: done
+three: 1, in time: 1
+waits for a number: done
+two: 1
+waits for one that has passed: done
+waits for the next on a miss: done
+next: 1
+the second CRTC, which is dark: EINVAL
+no third CRTC: EINVAL
+the second CRTC: done
+a signal: EINVAL
+""",
+        )
+
+    def test_vertical_blanking_has_events(self):
+        folder = self.folder
+        frames(
+            folder,
+            "queues",
+            """\
+a dark CRTC's sequence: EINVAL
+queues on a dark CRTC: EINVAL
+unknown flag on a dark CRTC: EINVAL
+asks for an event: done
+its number 1, data 1
+its sequence: done
+now: 1
+queues: done
+its number 1, data 1, time 1
+no CRTC: ENOENT
+queues on no CRTC: ENOENT
+""",
+        )
+
+    def test_events_wake_who_waits(self):
+        folder = self.folder
+        frames(
+            folder,
+            "waits",
+            """\
+adds: done
+poll 0 0, ppoll 0, select 0 0, pselect 0, epoll 0 0
+flips: done
+poll 1 1, ppoll 1, select 1 1, pselect 1, epoll 1 77
+poll 0 0, ppoll 0, select 0 0, pselect 0, epoll 0 0
+flips: done
+changes it: done
+poll 1 1, ppoll 1, select 1 1, pselect 1, epoll 1 78
+takes it out: done
+takes it out again: ENOENT
+poll 1 1, ppoll 1, select 1 1, pselect 1, epoll 0 0
+""",
+        )
+
+    def test_events_are_read_whole(self):
+        folder = self.folder
+        frames(
+            folder,
+            "reads",
+            """\
+reads nothing: EAGAIN
+events 128, then ENOMEM
+a flip without an event: done
+31 bytes: 0
+100 bytes: 96
+all: 4000, the last 127
+reads nothing: EAGAIN
+queues: done
+waits: 32
+waits until a signal: EINTR
+""",
+        )
+
+    def test_child_has_none_of_its_parents_events(self):
+        folder = self.folder
+        frames(folder, "fork", "flips: done\nchild 0\nevents 1, of the CRTC 1\n")
+
+    def test_events_end_with_what_they_are_of(self):
+        folder = self.folder
+        frames(
+            folder,
+            "ends",
+            """\
+flips: done
+before its time: 0
+darkens it: done
+events 1
+flips: done
+of a new descriptor: 0
+""",
+        )
+
+    def test_cursors_are_kept_without_a_picture(self):
+        folder = self.folder
+        frames(
+            folder,
+            "cursors",
+            """\
+sets: done
+sets with a spot: done
+moves: done
+hides: done
+no CRTC: ENOENT
+no handle: ENOENT
+too large: EINVAL
+who isn't master: EACCES
+""",
+        )
+
+    def test_frame_costs_one_step(self):
+        """Once the first frame was shown, each other is the SETCRTC of its framebuffer alone, also with a cursor that moves."""
+        folder = self.folder
+        few, many = steps_of(folder, 10), steps_of(folder, 60)
+        expect("steps of 50 frames", len(many) - len(few), 50)
+        expect(
+            "calls that set a CRTC: the mode, and each frame", (few.count("setcrtc"), many.count("setcrtc")), (11, 61)
+        )
+
+    def test_dropped_master_shows_at_the_next_refusal(self):
+        folder = self.folder
+        frames(
+            folder,
+            "dropped",
+            """\
+moves: done
+drops: done
+moves: EACCES
+sets: done
+moves: done
+moves: done
+flips: EACCES
+moves: EACCES
+""",
+        )
+
+    def test_flip_of_a_crtc_that_a_removal_darkened(self):
+        folder = self.folder
+        frames(
+            folder,
+            "darkened",
+            """\
+flips: done
+removes what is shown: done
+flips a dark CRTC: EBUSY
+""",
+        )
+
+    def test_mode_without_a_framebuffer(self):
+        folder = self.folder
+        frames(
+            folder,
+            "unframed",
+            """\
+a mode and no framebuffer: ENOENT
+with two connectors: ENOENT
+no CRTC: ENOENT
+who isn't master: EACCES
+neither, with a connector: EINVAL
+neither: done
+""",
+        )
+
+    def test_mode_that_was_set_is_told(self):
+        folder = self.folder
+        frames(folder, "modes", "dark: mode 0; lit: mode 1, 25 ms\n")
+
+    def test_nobody_wakes_for_answers_of_other_threads(self):
+        folder = self.folder
+        frames(folder, "beside", "woken 0\n")
+
+    def test_modetest_flips_pages(self):
+        folder = self.folder
+        want_program("modetest")
+        with served(folder):
+            text = showing(folder, "modetest", "-M", "zirkoshe", "-s", "7@1:1024x768", "-v")
+        expect_rates(text, r"(?m)^freq: ([\d.]+)Hz$")
+
+    def test_vbltest_counts_what_modetest_lights(self):
+        folder = self.folder
+        want_program("modetest")
+        want_program("vbltest")
+        with served(folder):
+            root = connect(folder / "root")
+            expect("that the card is left to modetest", root.ask("drop_master"), "done")
+            with subprocess.Popen(
+                ["modetest", "-M", "zirkoshe", "-s", "7@1:1024x768"],
+                stdin=subprocess.PIPE,
+                stdout=subprocess.PIPE,
+                stderr=subprocess.DEVNULL,
+                text=True,
+                env=environment(folder),
+            ) as lighting, ended_in_time(lighting):
+                wait_until(lambda: root.ask("getcrtc 1") != "number 0")
+                root.close()
+                text = showing(folder, "vbltest", "-M", "zirkoshe")
+                lighting.communicate("\n", timeout=SECONDS)
+        expect_rates(text, r"(?m)^freq: ([\d.]+)Hz$")
+
+    def test_kmscube_shows_frames(self):
+        folder = self.folder
+        want_program("kmscube")
+        with served(folder):
+            text = showing(folder, "kmscube")
+        expect_rates(text, r"\(([\d.]+) fps\)")
+
+    def test_mpv_shows_frames(self):
+        folder = self.folder
+        want_program("mpv")
+        with served(folder):
+            ran = run(
+                "mpv",
+                "--no-config",
+                "--no-audio",
+                "--vo=drm",
+                "--drm-atomic=no",
+                f"--length={SHOWING}",
+                "av://lavfi:testsrc=size=320x240:rate=30",
+                env=environment(folder),
+            )
+        expect("status", ran.returncode, 0)
+        expect("that it comes to the end", "Exiting... (End of file)" in ran.stdout, True)
+
+    def test_sway_shows_frames(self):
+        folder = self.folder
+        for name in ("sway", "swaymsg", "weston-presentation-shm"):
+            want_program(name)
+        with compositor(folder) as (own, ran_by):
+            (own / "config").write_text(SWAY, "utf-8")
+            ran = ran_by("sway", "-c", own / "config")
+        expect("status", ran.returncode, 0)
+        expect("that frames are shown", (own / "frames").read_text("utf-8").count("\n") > SHOWING, True)
+
+    def test_cage_shows_frames(self):
+        folder = self.folder
+        for name in ("cage", "Xwayland", "weston-presentation-shm"):
+            want_program(name)
+        with compositor(folder) as (_, ran_by):
+            ran = ran_by("cage", "--", "sh", "-c", f"weston-presentation-shm & sleep {SHOWING}; kill $!")
+            steps = steps_until_now(folder)
+        expect("status", ran.returncode, 0)
+        expect("that frames are shown", steps > 10 * SHOWING + START_OF_A_COMPOSITOR, True)
+
+    def test_tinywl_lights_its_outputs(self):
+        """The compositor that wlroots' source has, which no package has: it is looked for in PATH."""
+        folder = self.folder
+        for name in ("tinywl", "weston-simple-shm"):
+            want_program(name)
+        with compositor(folder) as (_, ran_by):
+            ran = ran_by("tinywl", "-s", "weston-simple-shm & sleep 2; kill $PPID")
+        expect("modes that are set", ran.stderr.count("Modesetting with '1920x1080@60000mHz'"), 2)
+        expect("what is an error to it", re.findall(r".*\[ERROR\].*", ran.stderr), [])
+
+    def test_weston_comes_to_its_session(self):
+        """It wants logind or a launcher of its own, and ends where there is neither, before it opens a device."""
+        folder = self.folder
+        want_program("weston")
+        with compositor(folder) as (_, ran_by):
+            before = steps_until_now(folder)
+            ran = ran_by("weston", "--backend=drm-backend.so", "--use-pixman")
+            # the opening and closing of who asked before, and the opening of who asks now
+            expect("steps of weston's", steps_until_now(folder) - before - 3, 0)
+        expect(
+            "what it ends for", "drm backend should be run using weston-launch binary" in ran.stdout + ran.stderr, True
+        )
+        expect("status", ran.returncode, 1)
+
+
+if __name__ == "__main__":
+    sys.exit(run_tests())

@@ -1,0 +1,204 @@
+#!/usr/bin/env python3
+"""Runs the usual linters of each language over the clients and the tests, with the configuration that is beside them.
+
+Each test is a function of a folder of its own. The last line is `N passed, M failed`; a linter that isn't there is skipped, and
+told so. Standard library only.
+"""
+import os
+import shutil
+import sys
+
+sys.dont_write_bytecode = True
+from support import (  # noqa: E402
+    CLIENTS,
+    REPOSITORY,
+    FolderCase,
+    Skipped,
+    expect,
+    expect_end,
+    run,
+    run_tests,
+    want_program,
+)
+
+PYTHON = CLIENTS / "python"
+TESTS = REPOSITORY / "tests"
+# what is no module, and so isn't found by its name
+COMMANDS = ("drm-client", "drm-audit")
+
+
+# Python
+
+
+def expect_clean(folder, *command, cwd=PYTHON):
+    """A linter that is there finds nothing in the Python client, or in another folder."""
+    want_program(command[0])
+    ran = run(*command, cwd=cwd, env={**os.environ, "RUFF_CACHE_DIR": str(folder), "BLACK_CACHE_DIR": str(folder)})
+    expect(f"what {command[0]} says", (ran.returncode, ran.stdout if ran.returncode else ""), (0, ""))
+
+
+def python_3_8():
+    """A Python of the oldest version that the client runs on."""
+    for python in ("python3.8", *map(str, interpreters_of_pyenv())):
+        if shutil.which(python) is not None and run(python, "--version").returncode == 0:
+            return python
+    raise Skipped("there is no Python 3.8")
+
+
+def interpreters_of_pyenv():
+    """The interpreters that pyenv has of that version."""
+    root = run("pyenv", "root").stdout.strip() if shutil.which("pyenv") is not None else ""
+    return sorted((REPOSITORY / root / "versions").glob("3.8.*/bin/python3")) if root else []
+
+
+# sessions over a server of its own, by both clients
+OLDEST = """
+import asyncio
+from zirkoshe import AsyncClient, Client, Denied
+from zirkoshe.audit import read_audit
+from zirkoshe.server import Server
+
+async def asked(path):
+    async with AsyncClient(path) as client:
+        return await client.getcrtc(1)
+
+with Server() as server:
+    with Client(server.card) as client:
+        try:
+            client.create_lease(2, 8, 8)
+        except Denied as denial:
+            print(denial)
+        print(client.getplaneresources(), asyncio.run(asked(server.card)))
+    print(len(read_audit(server.root).clients))
+"""
+
+
+# Rust
+
+
+# C and C++
+
+
+def sources_in_c():
+    found = [
+        path
+        for place in ("clients/c", "clients/libdrm", "tests", "examples")
+        for ending in ("c", "h")
+        for path in (REPOSITORY / place).glob(f"*.{ending}")
+    ]
+    return sorted(found)
+
+
+WARNINGS = ["-Wall", "-Wextra", "-Wpedantic", "-Wconversion", "-Wshadow", "-Werror", "-pthread"]
+# each header alone, and after one that decides what the system's headers declare
+INCLUDED = {
+    "the client": '#include "drm_client.h"\n',
+    "the client after stdio": '#include <stdio.h>\n#include "drm_client.h"\n',
+    "a server for a test": '#include "drm_testing.h"\n',
+    "the numbers": '#include "drm_server.h"\n',
+}
+PROGRAM = "int main(void)\n{\n    return 0;\n}\n"
+
+
+def expect_compiles(folder, compiler, ending, *standards):
+    """The headers compile without a warning by each of these standards."""
+    want_program(compiler)
+    for standard in standards:
+        for what, included in INCLUDED.items():
+            file = folder / f"header.{ending}"
+            file.write_text(included + PROGRAM)
+            more = ["-Wold-style-cast"] if ending == "cc" else []
+            ran = run(compiler, f"-std={standard}", *WARNINGS, *more, "-fsyntax-only", "-I", CLIENTS / "c", file)
+            expect(f"{what} by {compiler} in {standard}", (ran.returncode, ran.stderr), (0, ""))
+
+
+class LintersTests(FolderCase):
+    """Runs the usual linters of each language over the clients and the tests, with the configuration that is beside them."""
+
+    def test_tests_are_as_black_formats_them(self):
+        expect_clean(self.folder, "black", "--check", "--quiet", ".", "all", cwd=TESTS)
+
+    def test_imports_of_the_tests_are_as_isort_sorts_them(self):
+        expect_clean(self.folder, "isort", "--check-only", "--quiet", ".", "all", cwd=TESTS)
+
+    def test_tests_are_clean_by_flake8(self):
+        expect_clean(self.folder, "flake8", ".", "all", cwd=TESTS)
+
+    def test_types_of_what_tests_share_are_clean_by_a_strict_mypy(self):
+        expect_clean(self.folder, "mypy", "--cache-dir", self.folder / "cache", "support.py", cwd=TESTS)
+
+    def test_python_is_as_black_formats_it(self):
+        folder = self.folder
+        expect_clean(folder, "black", "--check", "--quiet", ".", *COMMANDS)
+
+    def test_python_imports_are_as_isort_sorts_them(self):
+        folder = self.folder
+        expect_clean(folder, "isort", "--check-only", "--quiet", ".", *COMMANDS)
+
+    def test_python_is_clean_by_flake8(self):
+        folder = self.folder
+        expect_clean(folder, "flake8", ".", *COMMANDS)
+
+    def test_python_types_are_clean_by_a_strict_mypy(self):
+        folder = self.folder
+        expect_clean(folder, "mypy", "--cache-dir", folder / "cache", ".")
+
+    def test_python_is_clean_by_ruff(self):
+        folder = self.folder
+        expect_clean(folder, "ruff", "check", "--no-cache", ".")
+
+    def test_python_is_as_ruff_formats_it(self):
+        folder = self.folder
+        expect_clean(folder, "ruff", "format", "--check", "--no-cache", ".")
+
+    def test_python_client_on_the_oldest_python(self):
+        ran = run(
+            python_3_8(), "-c", OLDEST, env={**os.environ, "PYTHONPATH": str(PYTHON), "PYTHONDONTWRITEBYTECODE": "1"}
+        )
+        expect_end(ran, 0, "", "denied 32 Repeated 22 (EINVAL)\n(4,) 0\n1\n")
+
+    def test_rust_is_as_rustfmt_formats_it(self):
+        want_program("rustfmt")
+        sources = [*(CLIENTS / "rust/src").glob("*.rs"), *(REPOSITORY / "tests").glob("*.rs")]
+        expect_end(run("rustfmt", "--edition", "2021", "--check", *sources), 0, "", "")
+
+    def test_rust_is_clean_by_clippy(self):
+        folder = self.folder
+        if shutil.which("cargo") is None or run("cargo", "clippy", "--version").returncode != 0:
+            raise Skipped("there is no cargo clippy")
+        crate = shutil.copytree(CLIENTS / "rust", folder / "crate")
+        (crate / "tests").mkdir()
+        shutil.copy(REPOSITORY / "tests/fixture.rs", crate / "tests")
+        environment = {**os.environ, "CARGO_NET_OFFLINE": "true", "CARGO_TARGET_DIR": str(folder / "target")}
+        ran = run("cargo", "clippy", "--quiet", "--all-targets", "--", "-D", "warnings", cwd=crate, env=environment)
+        expect_end(ran, 0, "", "")
+
+    def test_c_is_as_clang_format_formats_it(self):
+        want_program("clang-format")
+        expect_end(run("clang-format", "--dry-run", "-Werror", *sources_in_c()), 0, "", "")
+
+    def test_c_headers_without_warnings(self):
+        folder = self.folder
+        expect_compiles(folder, "cc", "c", "c99", "c11", "gnu17")
+
+    def test_c_headers_without_warnings_by_clang(self):
+        folder = self.folder
+        expect_compiles(folder, "clang", "c", "c99", "c11", "gnu17")
+
+    def test_c_headers_in_cplusplus_without_warnings(self):
+        folder = self.folder
+        expect_compiles(folder, "c++", "cc", "c++11", "c++17", "gnu++17")
+
+    def test_c_headers_in_cplusplus_without_warnings_by_clang(self):
+        folder = self.folder
+        expect_compiles(folder, "clang++", "cc", "c++11", "c++17")
+
+    def test_programs_of_the_tests_without_warnings(self):
+        want_program("cc")
+        for name in ("session", "opening", "closed", "threads", "fixture"):
+            ran = run("cc", "-std=c99", *WARNINGS, "-fsyntax-only", "-I", CLIENTS / "c", REPOSITORY / f"tests/{name}.c")
+            expect(f"what is said of {name}", (ran.returncode, ran.stderr), (0, ""))
+
+
+if __name__ == "__main__":
+    sys.exit(run_tests())

@@ -1,0 +1,345 @@
+#!/usr/bin/env python3
+"""Tests of the tools that need no server: the constants of the clients, the examples of doc comments, the lemmas that nothing
+leads to, and the English of the documents.
+
+Each test is a function of a folder of its own. The last line is `N passed, M failed`. Standard library only.
+"""
+import collections
+import errno
+import inspect
+import json
+import re
+import shutil
+import sys
+
+sys.dont_write_bytecode = True
+from support import CLIENTS, REPOSITORY, FolderCase, expect, expect_end, run, run_tests  # noqa: E402
+
+from zirkoshe import AsyncClient, Client  # noqa: E402
+from zirkoshe.protocol import CALLS  # noqa: E402
+
+from blocks import tables_of  # noqa: E402
+
+CONSTANTS = REPOSITORY / "tools/constants"
+# what the constants are read from
+SOURCES = ("drm_table", "drm_frames", "drm_device", "drm_client_calls")
+# what the Python client calls a field in its own way
+FIELDS = {"framebuffer": "framebuffer", "lessee": "lessee_id", "from": {"list_handles": "least", "audit": "skipped"}}
+
+
+def table():
+    """What the sources of the server have."""
+    ran = run(CONSTANTS, "--json")
+    expect("error output and status", (ran.stderr, ran.returncode), ("", 0))
+    return json.loads(ran.stdout)
+
+
+def copied(folder):
+    """The sources, the tool and the clients in a repository of their own."""
+    for crate in SOURCES:
+        shutil.copytree(REPOSITORY / f"crates/{crate}/src", folder / f"crates/{crate}/src")
+    shutil.copytree(CLIENTS, folder / "clients")
+    (folder / "tools").mkdir()
+    shutil.copy(CONSTANTS, folder / "tools")
+    return folder / "tools/constants", folder / "crates/drm_table/src/rules.rt"
+
+
+def examples_in(folder, most):
+    """The tool in a folder with the crates but for those tests, which may have so many lines."""
+    if not (folder / "crates").exists():
+        ignored = shutil.ignore_patterns("out", "proofs", "specs", "must-fail", "examples")
+        shutil.copytree(REPOSITORY / "crates", folder / "crates", ignore=ignored)
+        shutil.copytree(REPOSITORY / "tools", folder / "tools")
+        shutil.copy(REPOSITORY / "crates.txt", folder)
+    tool = folder / "tools/doc_examples"
+    tool.write_text(re.sub(r"^MOST_LINES = \d+$", f"MOST_LINES = {most}", tool.read_text(), flags=re.MULTILINE))
+    return tool
+
+
+def lines_of_examples(folder):
+    """How often each line stands in the tests of examples, before they are laid out."""
+    return collections.Counter(
+        line for path in folder.glob("crates/*/src/examples/*.rt") for line in path.read_text().splitlines()
+    )
+
+
+# a crate whose contract leads to one lemma and over it to another; the third is only named by itself
+LEMMAS = {
+    "src/lib.rt": "pub fn one() -> u8\n    ensures it { IsOne result }\n{\n    1\n}\n",
+    "specs/Ones.antt": "IsOne : ℕ → Type 0\nIsOne n = n ≡ one\n\none : ℕ\none = 1\n",
+    "proofs/Ones.antt": "-- unused is named here too\nused : 1 ≡ one\nused = refl\n\nunused : ℕ → ℕ\nunused 0 = 0\nunused (suc n) = unused n\n",
+    "proofs/one/Answers.antt": "use Rattle.low.proofs.Ones.{used}\n\nit = used\n",
+}
+
+
+def with_lemmas(folder):
+    for name, text in LEMMAS.items():
+        file = folder / "crates/low" / name
+        file.parent.mkdir(parents=True, exist_ok=True)
+        file.write_text(text)
+    (folder / "tools").mkdir()
+    shutil.copy(REPOSITORY / "tools/dead-lemmas", folder / "tools")
+    return folder / "tools/dead-lemmas"
+
+
+# imports all tests, and prints how many there are of each file, and how often the program was looked for
+COLLECTING = """
+import collections, json, sys, unittest
+sys.path.insert(0, "tests")
+import support
+
+def each(suite):
+    for part in suite:
+        yield from each(part) if isinstance(part, unittest.TestSuite) else [part]
+
+found = collections.Counter(type(case).__name__ for case in each(unittest.defaultTestLoader.discover("tests")))
+print(json.dumps([found, support.find_program.cache_info().misses]))
+"""
+
+
+PROSE = REPOSITORY / "tools/prose"
+# a page with one of each thing that the tool lists, and with what it leaves out
+PAGE = """# What stands here
+
+A line of `nobody`, [a link](nobody.md) and an end.
+
+    nobody reads code
+
+```text
+nobody reads this either
+```
+
+- An item with a word that
+  comes late.
+- LONG at the end. A short one; e.g. this.
+
+| nobody | fine |
+|---|---|
+| fine | HALF `code of three` \\| HALF |
+
+"""
+PAGE = PAGE.replace("LONG", "word " * 31).replace("HALF", "word " * 15) + "A line of a paragraph.\n" * 9
+LISTED = """page.md:1: "stands": write is in, represents, belongs to, is attached to
+page.md:12: "comes": write is created, arrives, follows
+page.md:13: a sentence of 34 words: "word word word word word word .."
+page.md:15: "nobody": write the client, the caller, no client
+page.md:17: a sentence of 31 words: "word word word word word word .."
+page.md:19: a paragraph of 9 lines
+"""
+
+
+def prose(folder, *words):
+    return run(PROSE, "--repository", folder, *words)
+
+
+class ToolsTests(FolderCase):
+    """Tests of the tools that need no server: the constants of the clients, the examples of doc comments, the lemmas that nothing"""
+
+    def test_constants_are_those_of_the_sources(self):
+        expect_end(run(CONSTANTS, "--check"), 0, "", "")
+
+    def test_constants_that_changed_are_told_and_made(self):
+        folder = self.folder
+        tool, rules = copied(folder)
+        before = (folder / "clients/rust/src/constants.rs").read_text()
+        rules.write_text(rules.read_text().replace('row(34, EBUSY, "LeasedOut")', 'row(44, EACCES, "LeasedOut")'))
+        told = "".join(
+            f"clients/{name} isn't what tools/constants makes\n"
+            for name in ("c/drm_server.h", "python/zirkoshe/constants.py", "rust/src/constants.rs")
+        )
+        expect_end(run(tool, "--check"), 1, told, "")
+        expect("a client that was only checked", (folder / "clients/rust/src/constants.rs").read_text(), before)
+        expect_end(run(tool), 0, "", "")
+        expect_end(run(tool, "--check"), 0, "", "")
+        for name, text in (
+            ("c/drm_server.h", '{44, 13, "LeasedOut"}'),
+            ("python/zirkoshe/constants.py", "LEASED_OUT = 44"),
+            ("rust/src/constants.rs", "LeasedOut = 44,"),
+        ):
+            expect(f"{text} in {name}", text in (folder / "clients" / name).read_text(), True)
+
+    def test_constants_of_sources_that_are_no_longer_understood(self):
+        folder = self.folder
+        tool, rules = copied(folder)
+        rules.write_text(
+            rules.read_text().replace(
+                'Rule::LeasedOut => row(34, EBUSY, "LeasedOut")', "Rule::LeasedOut => leased_out()"
+            )
+        )
+        ran = run(tool)
+        expect("status and output", (ran.returncode, ran.stdout), (2, ""))
+        expect("the reason", ran.stderr.startswith("constants: 29 places of "), True)
+
+    def test_examples_of_doc_comments_are_tests(self):
+        """Each public item has one, and the tests are made of them."""
+        expect_end(run(REPOSITORY / "tools/doc_examples", "--check"), 0, "", "")
+
+    def test_examples_that_make_a_long_test_are_told_and_stand_in_several(self):
+        """Of all that stood in one test nothing is lost."""
+        folder = self.folder
+        expect("status", run(examples_in(folder, 1000)).returncode, 0)
+        whole = lines_of_examples(folder)
+        ran = run(examples_in(folder, 20), "--check")
+        expect("status and error output", (ran.returncode, ran.stderr), (1, ""))
+        for told in (
+            "stale: crates/drm_tests/src/examples/sessions.rt",
+            "too long: crates/drm_tests/src/examples/sessions.rt: values",
+        ):
+            expect(told, told in ran.stdout.splitlines(), True)
+        expect("status", run(examples_in(folder, 20)).returncode, 0)
+        expect_end(run(examples_in(folder, 20), "--check"), 0, "", "")
+        several = lines_of_examples(folder)
+        expect("more tests", several["#[test]"] > whole["#[test]"], True)
+        expect("lines that are lost", [line for line in whole - several if not line.startswith("use ")], [])
+
+    def test_error_numbers_are_those_of_this_system(self):
+        found = table()["errnos"]
+        expect("error numbers", found, {name: getattr(errno, name) for name in found})
+
+    def test_sources_are_those_of_the_documents(self):
+        """The rows of calls, answers, rules and audits, which the documents have in words of their own."""
+        found = table()
+        rows = [row for rows in tables_of("docs/FORMATS.md") for row in rows if re.fullmatch(r"0x[0-9A-F]{2}", row[0])]
+        expect(
+            "calls",
+            [(row[0], row[2]) for row in rows],
+            [(f"0x{call['number']:02X}", f"`{call['word']}`") for call in found["calls"]],
+        )
+        flags = {"ROOT": "ROOT_ONLY", "RENDER": "RENDER_ALLOW"}
+        expect(
+            "flags",
+            [row[3] for row in rows],
+            [", ".join(flags.get(flag, flag) for flag in call["flags"]) or "none" for call in found["calls"]],
+        )
+        answers = [
+            row[0] for rows in tables_of("docs/FORMATS.md") for row in rows if re.fullmatch(r"0x[0-9A-F]{4}", row[0])
+        ]
+        expect(
+            "answers", answers[-len(found["answers"]) :], [f"0x{number:04X}" for number in found["answers"].values()]
+        )
+        audits = [row[:2] for rows in tables_of("docs/RULES.md") for row in rows if len(row) == 6]
+        expect("audits", audits, [[str(kind["number"]), kind["name"]] for kind in found["audits"]])
+
+    def test_python_client_has_each_call_with_its_fields(self):
+        found = table()["calls"]
+        expect(
+            "calls",
+            {word: (call.number, call.layout) for word, call in CALLS.items()},
+            {call["word"]: (call["number"], call["layout"]) for call in found},
+        )
+        for call in found:
+            method = inspect.signature(getattr(Client, call["word"]))
+            expect(
+                f"{call['word']} for asyncio", str(inspect.signature(getattr(AsyncClient, call["word"]))), str(method)
+            )
+            names = list(method.parameters)[1:]
+            renamed = [FIELDS.get(field, field) for field in call["fields"]]
+            wanted = [name if isinstance(name, str) else name[call["word"]] for name in renamed]
+            expect(f"fields of {call['word']}", names, wanted)
+
+    def test_rust_client_has_each_call_with_as_many_fields(self):
+        text = (CLIENTS / "rust/src/client.rs").read_text()
+        told = dict(re.findall(r"pub fn (\w+)\(\s*&mut self((?:,\s+\w+: [^,)]+)*),?\s*\)", text))
+        for call in table()["calls"]:
+            expect(f"fields of {call['word']}", told[call["word"]].count(": "), len(call["fields"]))
+            expect(f"places of {call['name']}", text.count(f"call::{call['name']})"), 1)
+
+    def test_c_client_has_each_call_with_its_fields(self):
+        """Each call's number stands once in the header, with a letter for each field, and a function has a parameter for each."""
+        text = (CLIENTS / "c/drm_client.h").read_text()
+        functions = dict(
+            reversed(pair)
+            for pair in re.findall(
+                r"^static inline int (zirkoshe_\w+)\([^{]*?\)\n\{(?:\n(?!\}).*)*?\bZIRKOSHE_CALL_(\w+)\b",
+                text,
+                re.MULTILINE,
+            )
+        )
+        for call in table()["calls"]:
+            found = re.findall(rf"ZIRKOSHE_CALL_{call['name']}, \"(\w*)\"", text)
+            expect(f"fields of {call['word']}", found, ["I" if call["layout"] == "L" else call["layout"]])
+            (head,) = re.findall(rf"^static inline int {functions[call['name']]}\(([^{{]*?)\)\n", text, re.MULTILINE)
+            parameters = [word for word in head.split(",")[1:] if "struct" not in word]
+            expect(f"parameters of {call['word']}", len(parameters) >= len(call["fields"]), True)
+
+    def test_lemmas_that_nothing_leads_to(self):
+        folder = self.folder
+        tool = with_lemmas(folder)
+        expect_end(run(tool), 1, "", "crates/low/proofs/Ones.antt:5: unused\n1 names, 3 lines of them\n")
+        expect_end(run(tool, "high"), 2, "no crate is named high\n", "")
+        answers = folder / "crates/low/proofs/one/Answers.antt"
+        answers.write_text(answers.read_text() + "\nmore = unused\n")
+        expect_end(run(tool, "low"), 0, "", "0 names, 0 lines of them\n")
+
+    def test_definitions_of_each_promise_are_counted(self):
+        """The page of promises has the number that the tool prints."""
+        rows = re.findall(r"\| `(drm_\w+::[\w:]+)` \| ([\d,]+) \|", (REPOSITORY / "docs/PROMISES.md").read_text())
+        expect("whether there are promises", len(rows) > 10, True)
+        for promise, counted in rows:
+            ran = run(REPOSITORY / "tools/trusted", promise)
+            expect(f"error output and status of {promise}", (ran.stderr, ran.returncode), ("", 0))
+            lines = int(re.search(r"(\d+) lines", ran.stdout.splitlines()[-1])[1])
+            expect(f"lines of definitions of {promise}", f"{lines:,}", counted)
+
+    def test_promise_that_is_none(self):
+        name = "drm_device::Device::leap"
+        expect_end(
+            run(REPOSITORY / "tools/trusted", name),
+            2,
+            f"there is no public function with such a contract: {name}\n",
+            "",
+        )
+
+    def test_unittest_has_the_tests_of_each_file(self):
+        """And importing them looks for no program, and builds none."""
+        ran = run(sys.executable, "-c", COLLECTING, cwd=REPOSITORY)
+        expect("error output and status", (ran.stderr, ran.returncode), ("", 0))
+        found, looked = json.loads(ran.stdout)
+        expect("how often the program was looked for", looked, 0)
+        for file, case in (
+            ("tools", "ToolsTests"),
+            ("with_server", "WithServerTests"),
+            ("libdrm_shows", "LibdrmShowsTests"),
+        ):
+            text = (REPOSITORY / "tests" / f"test_{file}.py").read_text()
+            expect(f"tests of {file}", found[case], len(re.findall(r"^    def test_", text, re.MULTILINE)))
+        expect("tests of the documents' blocks", found["DocumentsTests"] > 200, True)
+
+    def test_documents_are_plain_english(self):
+        expect_end(run(PROSE), 0, "", "")
+
+    def test_prose_lists_each_kind_of_thing(self):
+        folder = self.folder
+        (folder / "page.md").write_text(PAGE)
+        (folder / "out").mkdir()
+        (folder / "out/built.md").write_text("Nobody reads this.\n")
+        expect_end(prose(folder), 1, "", LISTED)
+        expect_end(prose(folder, "page.md"), 1, "", LISTED)
+        (folder / "page.md").write_text("# A title\n\nOne sentence.\n")
+        expect_end(prose(folder), 0, "", "")
+
+    def test_prose_has_exceptions_with_reasons(self):
+        folder = self.folder
+        (folder / "tools").mkdir()
+        (folder / "page.md").write_text("Nobody came. Somebody\nstands there.\n")
+        exceptions = folder / "tools/prose-exceptions.txt"
+        exceptions.write_text("# a comment\npage.md | Nobody came | a title\npage.md | elsewhere | a quotation\n")
+        left = """page.md:1: "Somebody": write the client, the caller, no client
+page.md:2: "stands": write is in, represents, belongs to, is attached to
+tools/prose-exceptions.txt:3: excuses nothing
+"""
+        expect_end(prose(folder), 1, "", left)
+        exceptions.write_text("page.md | Nobody came. Somebody |\n")
+        expect_end(prose(folder), 2, "prose: tools/prose-exceptions.txt:1: malformed\n", "")
+
+    def test_prose_counts_words(self):
+        folder = self.folder
+        (folder / "a.md").write_text("# One two\n")
+        (folder / "b.md").write_text("three | four\n")
+        expect_end(prose(folder, "--words"), 0, "", "      3 a.md\n      3 b.md\n      6 in all\n")
+        ran = prose(folder, "none.md")
+        expect("status and output", (ran.returncode, ran.stdout), (2, ""))
+
+
+if __name__ == "__main__":
+    sys.exit(run_tests())
