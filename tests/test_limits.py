@@ -9,7 +9,17 @@ import sys
 import time
 
 sys.dont_write_bytecode = True
-from support import PROGRAM, FolderCase, expect, expect_end, run, run_program, run_tests, want_no_checks  # noqa: E402
+from support import (  # noqa: E402
+    PROGRAM,
+    FolderCase,
+    expect,
+    expect_end,
+    is_compiled_with_checks,
+    run,
+    run_program,
+    run_tests,
+    want_no_checks,
+)
 
 LAST = 65_535
 # as many names as a journal has steps for, each of an object
@@ -17,8 +27,9 @@ NAMES = 49_000
 LINES = 10_000
 CHAINED = 2_000
 CLOSINGS = 1_000
-OPENED = 3_000
-IMPORTS = 2_900
+# handles and imports, and as many as a program that checks itself can be asked for
+MANY = (40_000, 30_000)
+FEW = (3_000, 2_900)
 FULL = "denied 43 Full 28"
 
 
@@ -102,13 +113,14 @@ class LimitsTests(FolderCase):
 
     def test_import_visits_no_other_handle(self):
         """A client with many handles of one object, each with an export order or not, imports it as fast as it names it."""
+        handles, imports = FEW if is_compiled_with_checks() else MANY
         named = "open a card\na buf_create 1\na gem_flink 1\na prime_export 1\n"
-        opened = OPENED * "a gem_open 1\n"
-        exported = "".join(f"a gem_open 1\na prime_export {handle}\n" for handle in range(2, OPENED // 2 + 2))
+        opened = handles * "a gem_open 1\n"
+        exported = "".join(f"a gem_open 1\na prime_export {handle}\n" for handle in range(2, handles // 2 + 2))
         for made in (named + opened, named + exported):
-            others = seconds_of(made + IMPORTS * "a gem_flink 1\n")
-            imports = seconds_of(made + IMPORTS * "a prime_import 1\n")
-            expect(f"whether {imports:.2f} s are no longer than twice {others:.2f} s", imports < 2 * others, True)
+            naming = seconds_of(made + imports * "a gem_flink 1\n")
+            importing = seconds_of(made + imports * "a prime_import 1\n")
+            expect(f"whether {importing:.2f} s are little more than {naming:.2f} s", importing < 2 * naming + 1, True)
 
     def test_lease_outlasts_the_closings_of_other_lessees(self):
         """Each closing frees the other lessee, whose key and id the next one gets. The first keeps its own lease."""

@@ -48,7 +48,7 @@ CONNECTIONS = 64
 AT_ONCE = 8
 # the worst wait is at most so many times that of a client of an idle server on the same machine, or that of the shortest that counts
 RATIO = 20
-SHORTEST = 0.005
+SHORTEST = 0.01
 # the median is at most so many times that of the client of the idle server
 MEDIAN_RATIO = 10
 # the threads of a server that serves one client: its own, that for its standard input's end, that for the log, and one for each listener and the client
