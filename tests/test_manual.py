@@ -1,0 +1,90 @@
+#!/usr/bin/env python3
+"""Tests of the manual pages and the completions that tools/manual makes.
+
+Each test has a folder of its own. The last line is `N passed, M failed`. Standard library only.
+"""
+import re
+import sys
+
+sys.dont_write_bytecode = True
+from support import REPOSITORY, FolderCase, expect, run, run_tests, want_program  # noqa: E402
+
+COMMANDS = ("run", "check", "explain", "serve", "test", "client", "audit", "watch")
+PAGES = {
+    "man1": ["zirkoshe.1", *(f"zirkoshe-{name}.1" for name in COMMANDS)],
+    "man5": ["zirkoshe-script.5"],
+    "man7": ["zirkoshe-libdrm.7"],
+}
+
+
+def make(folder):
+    """Makes pages and completions."""
+    ran = run(REPOSITORY / "tools/manual", folder)
+    expect("status and output", (ran.returncode, ran.stdout), (0, ""))
+
+
+def options_of(text):
+    """The long options that a text names."""
+    return set(re.findall(r"--[a-z][a-z-]*", text))
+
+
+class ManualTests(FolderCase):
+    """Tests: manual pages and completions."""
+
+    def test_pages_are_there(self):
+        make(self.folder)
+        for section, names in PAGES.items():
+            found = sorted(path.name for path in (self.folder / "man" / section).iterdir())
+            expect(f"pages of {section}", found, sorted(names))
+
+    def test_pages_have_the_options_of_the_commands(self):
+        make(self.folder)
+        for name in COMMANDS:
+            wanted = options_of(run(REPOSITORY / "zirkoshe", name, "--help").stdout)
+            text = (self.folder / f"man/man1/zirkoshe-{name}.1").read_text().replace("\\-", "-")
+            expect(f"options of {name}", {option for option in wanted if option not in options_of(text)}, set())
+
+    def test_pages_are_set_without_a_warning(self):
+        want_program("man")
+        make(self.folder)
+        for section, names in PAGES.items():
+            for name in names:
+                ran = run("man", "--warnings", "-E", "UTF-8", "-l", self.folder / "man" / section / name)
+                expect(f"what man says of {name}", (ran.returncode, ran.stderr), (0, ""))
+
+    def test_completion_of_bash(self):
+        want_program("bash")
+        make(self.folder)
+        completion = self.folder / "bash-completion/completions/zirkoshe"
+        for words, wanted in (
+            ("zirkoshe e", "explain"),
+            ("zirkoshe serve --ca", "--card --cards"),
+            ("zirkoshe check --u", "--update"),
+            ("zirkoshe explain --li", "--line --limits"),
+        ):
+            count = len(words.split()) - 1
+            script = (
+                f'source {completion}; COMP_WORDS=({words}); COMP_CWORD={count}; _zirkoshe; echo "${{COMPREPLY[@]}}"'
+            )
+            ran = run("bash", "-c", script)
+            expect(f"what completes {words}", (ran.stderr, ran.stdout), ("", wanted + "\n"))
+
+    def test_completions_of_zsh_and_fish(self):
+        """Their syntax is checked where they are installed."""
+        make(self.folder)
+        zsh = self.folder / "zsh/site-functions/_zirkoshe"
+        fish = self.folder / "fish/vendor_completions.d/zirkoshe.fish"
+        for text in (zsh.read_text(), fish.read_text()):
+            expect("commands that are missing", [name for name in COMMANDS if name not in text], [])
+        for shell, file in (("zsh", zsh), ("fish", fish)):
+            if run("sh", "-c", f"command -v {shell}").returncode == 0:
+                ran = run(shell, "-n", file)
+                expect(f"what {shell} says", (ran.returncode, ran.stderr), (0, ""))
+
+    def test_command_line(self):
+        ran = run(REPOSITORY / "tools/manual")
+        expect("status and whether it explains itself", (ran.returncode, "manual FOLDER" in ran.stderr), (2, True))
+
+
+if __name__ == "__main__":
+    sys.exit(run_tests())
