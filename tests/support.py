@@ -342,6 +342,28 @@ def want_libdrm() -> List[str]:
     return words
 
 
+def make_root(root: pathlib.Path, *programs: Word) -> None:
+    """Makes a root that has nothing but a shell with a few commands, and the libraries that it and these programs need."""
+    for name in ("unshare", "busybox", "ldd"):
+        want_program(name)
+    (root / "bin").mkdir(parents=True)
+    (root / "tmp").mkdir()
+    shutil.copy(str(shutil.which("busybox")), root / "bin")
+    for name in ("sh", "cat", "dirname", "readlink", "find", "head", "mktemp", "mkfifo", "rm", "sleep"):
+        (root / "bin" / name).symlink_to("busybox")
+    for program in (root / "bin/busybox", *programs):
+        for word in run("ldd", program).stdout.split():
+            if word.startswith("/") and not word.endswith(":"):
+                library = root / word[1:]
+                library.parent.mkdir(parents=True, exist_ok=True)
+                shutil.copy(word, library)
+
+
+def run_in_root(root: pathlib.Path, script: str) -> Ran:
+    """Runs a script in such a root."""
+    return run("unshare", "--map-root-user", f"--root={root}", "/bin/sh", "-c", script, env={"PATH": "/usr/bin:/bin"})
+
+
 COMPILERS = {
     "c": ["cc", "-std=c99", "-Wall", "-Wextra", "-Wpedantic", "-Werror", "-pthread", "-I", str(CLIENTS / "c")],
     "rust": ["rustc", "--edition", "2021", "-D", "warnings"],

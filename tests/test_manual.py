@@ -3,6 +3,7 @@
 
 Each test has a folder of its own. The last line is `N passed, M failed`. Standard library only.
 """
+import os
 import re
 import sys
 
@@ -49,7 +50,8 @@ class ManualTests(FolderCase):
         make(self.folder)
         for section, names in PAGES.items():
             for name in names:
-                ran = run("man", "--warnings", "-E", "UTF-8", "-l", self.folder / "man" / section / name)
+                page = self.folder / "man" / section / name
+                ran = run("man", "--warnings", "-E", "UTF-8", "-l", page, env={**os.environ, "LC_ALL": "C.UTF-8"})
                 expect(f"what man says of {name}", (ran.returncode, ran.stderr), (0, ""))
 
     def test_completion_of_bash(self):

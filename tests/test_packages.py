@@ -13,7 +13,21 @@ import signal
 import sys
 
 sys.dont_write_bytecode = True
-from support import CLIENTS, REPOSITORY, FolderCase, Skipped, expect, run, run_tests, want_program  # noqa: E402
+from support import (  # noqa: E402
+    CLIENTS,
+    REPOSITORY,
+    FolderCase,
+    Skipped,
+    expect,
+    expect_end,
+    make_root,
+    run,
+    run_in_root,
+    run_program,
+    run_tests,
+    want_libdrm,
+    want_program,
+)
 
 from zirkoshe import Client, Denied  # noqa: E402
 from zirkoshe.server import Server, ServerError  # noqa: E402
@@ -395,6 +409,53 @@ def test_buffer(drm_server):
             set(re.findall(r"zirkoshe-([0-9.]+)-x86", (REPOSITORY / PAGE).read_text())),
             {version},
         )
+
+
+def debian_package(folder):
+    """A Debian package of the program, and a folder into which it is unpacked."""
+    for name in ("dpkg-deb", "strip"):
+        want_program(name)
+    want_libdrm()
+    made = run(REPOSITORY / "tools/debian-package", folder / "made", timeout=300)
+    expect("status", made.returncode, 0)
+    package = pathlib.Path(made.stdout.rstrip("\n"))
+    root = folder / "root"
+    expect_end(run("dpkg-deb", "-x", package, root), 0, "", "")
+    return package, root
+
+
+class DebianTests(FolderCase):
+    """Tests: the Debian package."""
+
+    def test_debian_package_in_an_empty_root(self):
+        """Its first lease, with nothing but the package, a shell and the C library."""
+        _, root = debian_package(self.folder)
+        make_root(root, root / "usr/lib/zirkoshe/bin/drm_server_main")
+        script = "cd /usr/share/doc/zirkoshe/examples && zirkoshe check rows/*.script > /tmp/checked && zirkoshe run < leases.script"
+        ran = run_in_root(root, script)
+        # a program that was compiled with checks misses /proc
+        told = [line for line in ran.stderr.splitlines() if "reading executable name failed" not in line]
+        wanted = run_program("run", script=(REPOSITORY / "examples/leases.script").read_text())
+        expect("error output, status and output", (told, ran.returncode, ran.stdout), ([], 0, wanted.stdout))
+
+    def test_debian_package_has_what_is_compiled(self):
+        """Neither the program nor the library for libdrm programs is compiled at the first use."""
+        _, root = debian_package(self.folder)
+        lib = root / "usr/lib/zirkoshe"
+        without = {**os.environ, "DRM_SERVER_PROGRAM": "", "CC": "false"}
+        library = lib / "clients/libdrm/out/libzirkoshe_libdrm.so"
+        expect_end(run(lib / "clients/libdrm/build", env=without), 0, "", f"{library}\n")
+        expect_end(run(root / "usr/bin/drm_server", "--program", env=without), 0, "", f"{lib}/bin/drm_server_main\n")
+        asked = "import zirkoshe.server as s; server = s.Server(); print(server.__enter__() is server); server.__exit__(None, None, None)"
+        packages = str(root / "usr/lib/python3/dist-packages")
+        python = {**without, "PYTHONPATH": packages, "PYTHONDONTWRITEBYTECODE": "1"}
+        expect_end(run(sys.executable, "-c", asked, env=python), 0, "", "True\n")
+
+    def test_debian_package_by_lintian(self):
+        want_program("lintian")
+        package, _ = debian_package(self.folder)
+        ran = run("lintian", package, timeout=300)
+        expect("what lintian finds", [line for line in ran.stdout.splitlines() if line[:3] in ("E: ", "W: ")], [])
 
 
 if __name__ == "__main__":
