@@ -458,5 +458,45 @@ class DebianTests(FolderCase):
         expect("what lintian finds", [line for line in ran.stdout.splitlines() if line[:3] in ("E: ", "W: ")], [])
 
 
+# what a project does that has nothing but the wheel: a client, and an unchanged libdrm program
+OF_THE_WHEEL = """
+import os, subprocess
+from zirkoshe import Client, Denied
+from zirkoshe.server import Server, find_library, find_program
+
+with Server(cards=64) as server:
+    with Client(server.card) as owner:
+        lease = owner.create_lease(2, 4, 8)
+        with Client(server.card, lease=lease.token) as lessee:
+            owner.revoke_lease(lease.lessee_id)
+            try:
+                lessee.getcrtc(2)
+            except Denied as denial:
+                print(denial)
+    words = ["modetest", "-M", "zirkoshe", "-e"]
+    shown = subprocess.run(words, env={**os.environ, **server.libdrm_environment}, stdout=subprocess.PIPE, text=True)
+    print(shown.stdout.count("Virtual"))
+print(find_program().count("site-packages"), find_library().count("site-packages"))
+"""
+
+
+class WheelTests(FolderCase):
+    """Tests: the Python wheel."""
+
+    def test_wheel_in_an_empty_environment(self):
+        want_libdrm()
+        want_program("modetest")
+        made = run(REPOSITORY / "tools/wheel", self.folder, timeout=300)
+        expect("status", made.returncode, 0)
+        if run(sys.executable, "-m", "venv", self.folder / "env", timeout=300).returncode != 0:
+            raise Skipped("this Python makes no virtual environments")
+        python = self.folder / "env/bin/python"
+        installed = run(python, "-m", "pip", "install", "--quiet", "--no-index", made.stdout.rstrip("\n"), timeout=300)
+        expect("what pip says", (installed.returncode, installed.stdout), (0, ""))
+        environment = {name: value for name, value in os.environ.items() if not name.startswith(("DRM_", "PYTHON"))}
+        ran = run(python, "-c", OF_THE_WHEEL, cwd=self.folder, env=environment)
+        expect_end(ran, 0, "", "denied 30 NoModeObject 2 (ENOENT)\n2\n1 1\n")
+
+
 if __name__ == "__main__":
     sys.exit(run_tests())

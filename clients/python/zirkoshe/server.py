@@ -13,9 +13,9 @@ listens. At the end of `with` it ends the server: all connections end, `listing`
 what the device still held, and the folder is removed. Each server starts with an empty
 device, so clients, tokens and ids have the same numbers in each test.
 
-The program is the parameter `program`, that of DRM_SERVER_PROGRAM, the one that
-`drm_server` of this checkout or archive would run, or that of a `drm_server` on the
-path.
+The program is the parameter `program`, that of DRM_SERVER_PROGRAM, the one in this
+package if it was installed from a wheel, the one that `drm_server` of this checkout or
+archive would run, or that of a `drm_server` on the path.
 """
 
 import os
@@ -29,6 +29,7 @@ from typing import IO, Dict, Iterable, List, Optional, Type
 
 from .client import PathLike
 
+PACKAGE = pathlib.Path(__file__).resolve().parent
 CLASSES = ("card", "render", "root")
 
 #: How many connections a socket accepts by default.
@@ -51,7 +52,10 @@ def find_program() -> str:
     named = os.environ.get("DRM_SERVER_PROGRAM")
     if named:
         return named
-    own = pathlib.Path(__file__).resolve().parents[3] / "drm_server"
+    packed = PACKAGE / "bin" / "drm_server_main"
+    if packed.is_file():
+        return str(packed)
+    own = PACKAGE.parents[2] / "drm_server"
     script = str(own) if own.is_file() else shutil.which("drm_server")
     if script is None:
         raise ServerError(
@@ -66,6 +70,29 @@ def find_program() -> str:
     )
     if asked.returncode != 0:
         raise ServerError(f"{script} --program gave status {asked.returncode}")
+    return os.fsdecode(asked.stdout.rstrip(b"\n"))
+
+
+def find_library() -> str:
+    """Returns the library that connects unchanged libdrm programs to a server.
+
+    It is the one in this package if it was installed from a wheel. Otherwise that of
+    this checkout or archive is compiled, if it is not there yet.
+    """
+    packed = PACKAGE / "lib" / "libzirkoshe_libdrm.so"
+    if packed.is_file():
+        return str(packed)
+    build = PACKAGE.parents[1] / "libdrm" / "build"
+    if not build.is_file():
+        raise ServerError("there is no library for libdrm programs")
+    asked = subprocess.run(
+        [str(build)],
+        stdin=subprocess.DEVNULL,
+        stdout=subprocess.PIPE,
+        check=False,
+    )
+    if asked.returncode != 0:
+        raise ServerError(f"{build} gave status {asked.returncode}")
     return os.fsdecode(asked.stdout.rstrip(b"\n"))
 
 
@@ -141,6 +168,16 @@ class Server:
         They are DRM_SERVER_CARD, DRM_SERVER_RENDER and DRM_SERVER_ROOT.
         """
         return {f"DRM_SERVER_{name.upper()}": self._path(name) for name in CLASSES}
+
+    @property
+    def libdrm_environment(self) -> Dict[str, str]:
+        """The variables for an unchanged program that calls libdrm.
+
+        They are those of `environment`, and LD_PRELOAD with the library that connects
+        the program's /dev/dri to this server.
+        """
+        loaded = filter(None, (find_library(), os.environ.get("LD_PRELOAD")))
+        return {**self.environment, "LD_PRELOAD": " ".join(loaded)}
 
     def end(self) -> str:
         """Ends the server, and returns its listing. A second time it does nothing.
