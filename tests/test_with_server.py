@@ -161,6 +161,26 @@ class WithServerTests(FolderCase):
             expect(f"the status of {words_of}", ran.returncode, 2)
         expect_nothing_left(folder)
 
+    def test_with_server_has_the_topology_and_limits_that_are_asked_for(self):
+        words = ["--topology", REPOSITORY / "examples/topologies/laptop.topology", "--limits", "8 2 8 8 8 8 8 100"]
+        asked = f'printf "getresources\\nbuf_create 1\\nbuf_create 1\\nbuf_create 1\\n" | {TOOL} "$DRM_SERVER_CARD"'
+        ran = run(WITH_SERVER, *words, "sh", "-c", asked, env=within(self.folder))
+        other = run(WITH_SERVER, "sh", "-c", asked, env=within(self.folder))
+        expect("status and error output", (ran.returncode, ran.stderr), (0, ""))
+        expect("whether the device is another", ran.stdout.splitlines()[1] != other.stdout.splitlines()[1], True)
+        expect(
+            "the third buffer",
+            (ran.stdout.splitlines()[4], other.stdout.splitlines()[4]),
+            ("denied 43 Full 28", "buffer 3 4096"),
+        )
+        expect_nothing_left(self.folder)
+
+    def test_with_server_names_no_socket_that_accepts_nobody(self):
+        asked = "echo ${DRM_SERVER_CARD+card} ${DRM_SERVER_RENDER+render} ${DRM_SERVER_ROOT+root}"
+        environment = {**within(self.folder), "DRM_SERVER_RENDER": "/inherited"}
+        expect_end(run(WITH_SERVER, "--renders", "0", "sh", "-c", asked, env=environment), 0, "", "card root\n")
+        expect_end(run(WITH_SERVER, "sh", "-c", asked, env=environment), 0, "", "card render root\n")
+
     def test_with_server_tells_the_sockets(self):
         folder = self.folder
         asked = f'for path in "$DRM_SERVER_CARD" "$DRM_SERVER_ROOT" "$DRM_SERVER_RENDER"; do {TOOL} "$path" version; done; cat'
