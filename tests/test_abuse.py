@@ -50,12 +50,14 @@ FEW_FILES = 24
 
 
 @contextlib.contextmanager
-def journaling(folder, *counts, files=None):
+def journaling(folder, *counts, files=None, limits=()):
     """A server with a journal, whose sockets are in a folder of their own, and that may open so many files."""
 
     def limit():
         if files is not None:
             resource.setrlimit(resource.RLIMIT_NOFILE, (files, files))
+        for kind, most in limits:
+            resource.setrlimit(kind, (most, most))
 
     sockets = folder / "sockets"
     sockets.mkdir()
@@ -201,18 +203,19 @@ class DescriptorsTests(FolderCase):
         expect_journaled_fault(folder, ended, "accept card", "device 0 0 0 6\n")
 
     def test_a_thread_that_can_not_be_started_loses_no_journal(self):
-        """No memory is left for the stack of a thread."""
+        """The threads for the log, the listeners and one client find room, with a stack of 1 GiB each, and none for another client."""
         folder = self.folder
         want_no_checks("it wants more address space than the test gives")
-        with journaling(folder, 1, 0, 1) as (started, sockets):
-            connect(sockets / "root").close()
-            status = pathlib.Path(f"/proc/{started.pid}/status").read_text(encoding="ascii")
-            most = int(re.search(r"VmSize:\s+(\d+) kB", status)[1]) * 1024
-            resource.prlimit(started.pid, resource.RLIMIT_AS, (most, resource.RLIM_INFINITY))
+        gib = 1 << 30
+        limits = ((resource.RLIMIT_STACK, gib), (resource.RLIMIT_AS, 6 * gib))
+        with journaling(folder, 1, 1, 1, limits=limits) as (started, sockets):
+            root = connect(sockets / "root")
             # the connection is closed, with an answer or without
             with connect_raw(sockets / "card") as refused, contextlib.suppress(ConnectionResetError, BrokenPipeError):
                 refused.sendall(HELLO)
                 refused.recv(64)
+            root.close()
+            connect_raw(sockets / "render").close()
             ended = end_of(started)
         expect("fault", ended.stderr.splitlines()[-1], "fault: thread")
         expect("status", ended.returncode, 1)

@@ -874,12 +874,12 @@ lessee getcrtc 2 -> denied 30 NoModeObject 2
     def test_connection_that_gets_no_thread(self):
         folder = self.folder
         want_no_checks("it wants more address space than the test gives")
-        # Three threads for the listeners find room, with a stack of 1 GiB each, and none for a connection.
+        # The threads for the log and the listeners find room, with a stack of 1 GiB each, and none for a connection.
         gib = 1 << 30
-        limits = ((resource.RLIMIT_STACK, gib), (resource.RLIMIT_AS, 4 * gib))
+        limits = ((resource.RLIMIT_STACK, gib), (resource.RLIMIT_AS, 5 * gib))
         with server(folder, 1, 1, 1, limits=limits) as started:
             wait_until(
-                "whether each listener has its thread", lambda: len(os.listdir(f"/proc/{started.pid}/task")) >= 4
+                "whether each listener has its thread", lambda: len(os.listdir(f"/proc/{started.pid}/task")) >= 5
             )
             unserved = connect_raw(folder / "card")
             expect("what the client reads", read_end(unserved), b"")
