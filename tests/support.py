@@ -441,8 +441,8 @@ def run_tests() -> int:
         return 1
     chosen = sys.argv[1:]
     result = LineResult()
-    for suite in unittest.defaultTestLoader.loadTestsFromModule(sys.modules["__main__"]):
-        if isinstance(suite, unittest.TestSuite):
-            unittest.TestSuite(test for test in suite if not chosen or name_of(test) in chosen).run(result)
+    cases = unittest.defaultTestLoader.loadTestsFromModule(sys.modules["__main__"])
+    tests = [test for case in cases if isinstance(case, unittest.TestSuite) for test in case]
+    unittest.TestSuite(test for test in tests if not chosen or name_of(test) in chosen).run(result)
     print(f"{result.passed} passed, {len(result.errors)} failed")
     return 1 if result.errors else 0
