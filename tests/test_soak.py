@@ -244,13 +244,14 @@ class SoakTests(FolderCase):
         clients = programs(folder)
         until = time.monotonic() + 60 * MINUTES
         count, waits, idle_waits, used = 0, [], [], []
-        with serving(folder / "idle") as (_, idle):
-            while time.monotonic() < until:
+        while time.monotonic() < until:
+            # a new one each time, since its journal has a bound too
+            with serving(folder / "idle") as (_, idle):
                 found = soak_one(folder, clients, idle, until)
-                count += found[0]
-                waits += found[1]
-                idle_waits += found[2]
-                used.append(found[3])
+            count += found[0]
+            waits += found[1]
+            idle_waits += found[2]
+            used.append(found[3])
         print(
             f"{len(used)} servers, {count} hostile clients in {1 + len(clients)} languages, {len(waits)} answers to the monitors"
         )
