@@ -93,34 +93,44 @@ one_fewer members ms device gone c =
     ap (λ o. option_map_or (is_current_among ms device) o false) (find_where (λ (x : Member). x.client) (λ n. not (n == gone)) c members)
     ∙ elim (not (c == gone)) as (λ b. option_map_or (is_current_among ms device) (cond b (member_of members c) None) false ≡ (b && current_in members ms device c)) [ true ↦ refl | false ↦ refl ]
 
--- a client's row is another, of the same master
+-- a client has another row
+module _ (members : List Member) (y : Member) where
+  abbrev put : Member → Member
+  put x = if is_client y.client x then y else x
+
+  found_put : (c : ℕ) → member_of (map put members) c ≡ option_map put (member_of members c)
+  found_put c = find-map (is_client c) put members ∙ ap (option_map put) (find-same (λ z. is_client c (put z)) (is_client c) members (all_each (λ z. is_client c (put z) ≡ is_client c z) (λ z. ap (λ n. n == c) (put_client z)) members))
+    where
+      put_client : (z : Member) → (put z).client ≡ z.client
+      put_client z = (elim (z.client == y.client) as (λ b. (z.client == y.client) ≡ b → (if b then y else z).client ≡ z.client) [ true ↦ λ e. sym (eqb-true z.client y.client e) | false ↦ λ e. refl ]) refl
+
+  number_of : (c : ℕ) (x : Member) → member_of members c ≡ Some x → x.client ≡ c
+  number_of c x e = eqb-true x.client c (found (is_client c) (λ _. Unit {0}) x members (all_each (λ _. Unit {0}) (λ _. tt) members) e).0
+
+  -- it is found with that
+  pub remade_there : (x : Member) → member_of members y.client ≡ Some x → member_of (map put members) y.client ≡ Some y
+  remade_there x e = found_put y.client ∙ ap (option_map put) e ∙ ap (λ b. Some (if b then y else x)) (eq-eqb x.client y.client (number_of y.client x e))
+
+  -- the others with their own
+  pub others_put : (c : ℕ) → (c == y.client) ≡ false → member_of (map put members) c ≡ member_of members c
+  others_put c differs = found_put c ∙ by_row (member_of members c) refl
+    where
+      by_row : (o : Option Member) → member_of members c ≡ o → option_map put o ≡ o
+      by_row None e = refl
+      by_row (Some x) e = ap (λ b. Some (if b then y else x)) (ap (λ n. n == y.client) (number_of c x e) ∙ differs)
+
+-- that is of the same master
 pub one_changed : (members : List Member) (x y : Member) (ms : List Master) (device : Option ℕ) → member_of members x.client ≡ Some x → y.client ≡ x.client → y.is_master ≡ x.is_master → y.master ≡ x.master → (c : ℕ)
     → current_in (map (λ (z : Member). if is_client y.client z then y else z) members) ms device c ≡ current_in members ms device c
 one_changed members x y ms device here same own of_one c =
-    ap (λ o. option_map_or (is_current_among ms device) o false)
-    (find-map (is_client c) put members ∙ ap (option_map put) (find-same (λ z. is_client c (put z)) (is_client c) members (all_each (λ z. is_client c (put z) ≡ is_client c z) (λ z. ap (λ n. n == c) (put_client z)) members)))
-    ∙ by_row (member_of members c) refl
-  where
-    put : Member → Member
-    put z = if is_client y.client z then y else z
-
-    put_client : (z : Member) → (put z).client ≡ z.client
-    put_client z = (elim (z.client == y.client) as (λ b. (z.client == y.client) ≡ b → (if b then y else z).client ≡ z.client) [ true ↦ λ e. sym (eqb-true z.client y.client e) | false ↦ λ e. refl ]) refl
-
-    current_alike : is_current_among ms device y ≡ is_current_among ms device x
-    current_alike = λ i. own i && is_option (owner_of ms (of_one i)) device
-
-    by_row : (o : Option Member) → member_of members c ≡ o → option_map_or (is_current_among ms device) (option_map put o) false ≡ option_map_or (is_current_among ms device) o false
-    by_row None e = refl
-    by_row (Some z) e =
-        (elim (z.client == y.client) as (λ b. (z.client == y.client) ≡ b → is_current_among ms device (if b then y else z) ≡ is_current_among ms device z) [
-          | true ↦ λ k.
-              let num : z.client ≡ c = eqb-true z.client c (found (is_client c) (λ _. Unit {0}) z members (all_each (λ _. Unit {0}) (λ _. tt) members) e).0 in
-              let one : Some z ≡ Some x = sym e ∙ ap (member_of members) (sym num ∙ eqb-true z.client y.client k ∙ same) ∙ here in
-              let is : z ≡ x = cc in
-              current_alike ∙ ap (is_current_among ms device) (sym is)
-          | false ↦ λ k. refl
-        ]) refl
+    elim (c == y.client) as (λ b. (c == y.client) ≡ b → current_in (map (λ (z : Member). if is_client y.client z then y else z) members) ms device c ≡ current_in members ms device c) [
+      | true ↦ λ e.
+          let num : c ≡ y.client = eqb-true c y.client e in
+          ap (λ o. option_map_or (is_current_among ms device) o false) (ap (member_of (map (λ (z : Member). if is_client y.client z then y else z) members)) num ∙ remade_there members y x (ap (member_of members) same ∙ here))
+          ∙ (λ i. own i && is_option (owner_of ms (of_one i)) device)
+          ∙ sym (ap (λ o. option_map_or (is_current_among ms device) o false) (ap (member_of members) (num ∙ same) ∙ here))
+      | false ↦ λ e. ap (λ o. option_map_or (is_current_among ms device) o false) (others_put members y c e)
+    ] refl
 
 -- ---- a walk over the clients
 

@@ -15,6 +15,7 @@ mod Swept
 pub mod Released
 mod Numbered
 mod Flagged
+mod Founders
 mod Sound
 pub mod Crossing
 pub mod Newest

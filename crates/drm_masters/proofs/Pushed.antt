@@ -145,7 +145,7 @@ module _ (ms : List Master) (y : Master) (fresh : IsFresh ms y.step_number) wher
   new_lessor = ap (option_and_then (λ (x : Master). x.lessor)) new_at
 
   -- a lessor has another birth too
-  lessors_apart : Older ms → (k l : ℕ) → (k == y.step_number) ≡ false → lessor_of ms k ≡ Some l → (l == y.step_number) ≡ false
+  pub lessors_apart : Older ms → (k l : ℕ) → (k == y.step_number) ≡ false → lessor_of ms k ≡ Some l → (l == y.step_number) ≡ false
   lessors_apart older k l p e = there_apart l (lessor_there ms older k l e).0
 
   -- a master that is there has its owner yet

@@ -235,12 +235,18 @@ impl Masters {
         if let Err(NoMemory) = self.masters.insert(founded_master(birth)) {
             return Err(NoMemory);
         }
-        if let Err(NoMemory) = self.members.add(owner(client, birth)) {
+        let founder = owner(client, birth);
+        if let Err(NoMemory) = self.members.add(founder) {
             self.masters.remove(birth);
             return Err(NoMemory);
         }
         self.device_master = Some(birth);
-        flag_current(&mut self.members, &self.masters, self.device_master);
+        flag_if_current(
+            &mut self.members,
+            &self.masters,
+            self.device_master,
+            founder,
+        );
         Ok(true)
     }
 
@@ -581,13 +587,19 @@ impl Masters {
             Ok(key) => key,
             Err(NoMemory) => return Err(NoMemory),
         };
-        if let Err(NoMemory) = self.members.remake(owner(client, step_number)) {
+        let founder = owner(client, step_number);
+        if let Err(NoMemory) = self.members.remake(founder) {
             self.masters.remove(step_number);
             return Err(NoMemory);
         }
         self.device_master = Some(step_number);
         sweep_up(&self.members, &mut self.masters, old.master);
-        flag_current(&mut self.members, &self.masters, self.device_master);
+        flag_if_current(
+            &mut self.members,
+            &self.masters,
+            self.device_master,
+            founder,
+        );
         Ok(key)
     }
 }

@@ -1,23 +1,24 @@
-use Rattle.std.proofs.Common.{◌≡◌, ℕ, ◌<◌, ◌==◌, true, false, not, List, Some, map, filter, find, refl, sym, ap, subst, ◌∙◌, nat_cmp}
+use Rattle.std.proofs.Common.{◌≡◌, ℕ, ◌<◌, ◌==◌, ◌&&◌, ◌||◌, Bool, true, false, not, List, Some, map, filter, find, refl, sym, ap, subst, ◌∙◌, nat_cmp}
 use Rattle.std.specs.Prelude.{if◌then◌else◌}
 use Rattle.std.specs.FinSet as set
 use Rattle.std.specs.List.{list_any, AllByRecursion}
 use Rattle.std.specs.Option.{is_some, option_map_or}
-use Rattle.std.proofs.lemmas.Bool.{false≢true}
+use Rattle.std.proofs.lemmas.Bool.{eqb-true, false≢true}
 use Rattle.drm_index_array.specs.Rows.{placed}
 use Rattle.drm_lists.specs.Orders.{InOrder}
 use Rattle.drm_masters.specs.declared.rows.Master.{Master}
 use Rattle.drm_masters.specs.declared.rows.Member.{Member}
 use Rattle.drm_masters.specs.Fields.{set_of}
-use Rattle.drm_masters.specs.Masters.{MasterSet, AreMasters, HasOlderLessor, master_before, member_of, is_step_number, is_client, is_option, is_key, is_living, is_current, swept}
+use Rattle.drm_masters.specs.Masters.{MasterSet, AreMasters, HasOlderLessor, master_before, member_of, is_step_number, is_client, is_option, is_key, is_living, is_current, is_current_among, swept}
 use Rattle.drm_masters.specs.Calls as calls
 use Rattle.drm_masters.specs.Tables.{MemberRows}
 use Rattle.drm_masters.proofs.Upward.{OthersUsed}
 use Rattle.drm_masters.proofs.Pushed.{there_apart, pushed_older, taken_back}
 use Rattle.drm_masters.proofs.Living.{IsFresh, Older}
 use Rattle.drm_masters.proofs.Owned.{unnamed_yet}
-use Rattle.drm_masters.proofs.Flagged.{current_in, no_device}
-use Rattle.drm_masters.proofs.Sound.{Keyed, sound, swept_are, remade_ties, remade_used, client_found, master_there, keyed_more, keyed_fewer}
+use Rattle.drm_masters.proofs.Flagged.{current_in, no_device, remade_there, others_put}
+use Rattle.drm_masters.proofs.Founders.{none_yet}
+use Rattle.drm_masters.proofs.Sound.{Keyed, AreTied, sound, swept_are, swept_same, remade_ties, remade_used, client_found, master_there, keyed_more, keyed_fewer}
 use Rattle.drm_masters.proofs.masters.Masters.found.Goals as goal
 
 pub remake-requires : goal.remake-requires
@@ -31,7 +32,7 @@ remake-requires c =
     let look : member_of c.self.inside.members.items c.args.client ≡ Some x = ap (λ (u : MasterSet). member_of u.members c.args.client) c.self.view_is ∙ at in
     record {
       moves =
-          subst (λ (u : Member). option_map_or (λ (y : Member). not (y.master == u.master)) (member_of c.self.inside.members.items u.client) false ≡ true) (sym c.owner.ensures)
+          subst (λ (u : Member). option_map_or (λ (y : Member). not (y.master == u.master)) (member_of c.self.inside.members.items u.client) false ≡ true) (sym c.owner-founder.ensures)
           (ap (λ o. option_map_or (λ (y : Member). not (y.master == b)) o false) look ∙ ap not apart);
     }
 
@@ -118,15 +119,15 @@ sweep_up-requires-clause-others c =
     let key = c.in-Ok.key in
     let y = calls.owner c.args.client b in
     let z = calls.founded_master key b in
-    let items : c.remake.new.self.items ≡ map (λ (u : Member). if is_client y.client u then y else u) c.self.inside.members.items = c.in_default-remake.ensures.rows ∙ ap (λ (z : Member). map (λ (u : Member). if is_client z.client u then z else u) c.self.inside.members.items) c.owner.ensures in
+    let items : c.remake.new.self.items ≡ map (λ (u : Member). if is_client y.client u then y else u) c.self.inside.members.items = c.in_default-remake.ensures.rows ∙ ap (λ (z : Member). map (λ (u : Member). if is_client z.client u then z else u) c.self.inside.members.items) c.owner-founder.ensures in
     let masters : c.insert.new.self.items ≡ placed master_before z c.self.inside.masters.items = c.in-Ok.ensures.ok ∙ ap (λ (u : Master). placed master_before (calls.keyed_as key u) c.self.inside.masters.items) c.founded_master.ensures in
     let Used = λ (m : List Member) (l : List Master). OthersUsed m l x.master in
     let members : c.remake.new.self.items ≡ (calls.changed_member y v).members = items ∙ ap (λ (u : MasterSet). (calls.changed_member y u).members) c.self.view_is in
     let rows : c.insert.new.self.items ≡ placed master_before z v.masters = masters ∙ ap (λ (u : MasterSet). placed master_before z u.masters) c.self.view_is in
     subst (λ m. Used m c.insert.new.self.items) (sym members) (subst (Used (calls.changed_member y v).members) (sym rows) (remade_used v are x y is.1 (sym is.0) z refl))
 
-pub flag_current-requires-clause-older : goal.flag_current-requires-clause-older
-flag_current-requires-clause-older c =
+pub flag_if_current-requires-clause-older : goal.flag_if_current-requires-clause-older
+flag_if_current-requires-clause-older c =
     let v = c.args.self.now in
     let are : AreMasters v = subst AreMasters c.self.view_is c.self.invariant.are in
     let x = c.in-Some.old in
@@ -137,7 +138,7 @@ flag_current-requires-clause-older c =
     let y = calls.owner c.args.client b in
     let z = calls.founded_master key b in
     let t = remade_ties v are x y is.1 (sym is.0) z refl refl refl refl (are.masters_rise, c.requires.new_step_number) in
-    let items : c.remake.new.self.items ≡ map (λ (u : Member). if is_client y.client u then y else u) c.self.inside.members.items = c.in_default-remake.ensures.rows ∙ ap (λ (z : Member). map (λ (u : Member). if is_client z.client u then z else u) c.self.inside.members.items) c.owner.ensures in
+    let items : c.remake.new.self.items ≡ map (λ (u : Member). if is_client y.client u then y else u) c.self.inside.members.items = c.in_default-remake.ensures.rows ∙ ap (λ (z : Member). map (λ (u : Member). if is_client z.client u then z else u) c.self.inside.members.items) c.owner-founder.ensures in
     let masters : c.insert.new.self.items ≡ placed master_before z c.self.inside.masters.items = c.in-Ok.ensures.ok ∙ ap (λ (u : Master). placed master_before (calls.keyed_as key u) c.self.inside.masters.items) c.founded_master.ensures in
     let new = calls.with_device (Some b) (calls.changed_member y (calls.with_master z v)) in
     let mem = c.remake.new.self.items in
@@ -145,27 +146,33 @@ flag_current-requires-clause-older c =
     let swept_is : left mem c.insert.new.self.items ≡ swept new = (λ i. left (items i) (masters i)) ∙ ap (λ (u : MasterSet). swept (calls.with_device (Some b) (calls.changed_member y (calls.with_master z u)))) c.self.view_is in
     subst (λ l. AllByRecursion (HasOlderLessor l) l) (sym (c.sweep_up.ensures ∙ ap (λ (u : MasterSet). u.masters) swept_is)) (swept_are new t).lessors_older
 
-pub flag_current-requires-clause-rise : goal.flag_current-requires-clause-rise
-flag_current-requires-clause-rise c =
+pub flag_if_current-requires-clause-open_client : goal.flag_if_current-requires-clause-open_client
+flag_if_current-requires-clause-open_client c =
     let v = c.args.self.now in
-    let are : AreMasters v = subst AreMasters c.self.view_is c.self.invariant.are in
-    let x = c.in-Some.old in
-    let look : member_of v.members c.args.client ≡ Some x = sym (ap (λ (u : MasterSet). member_of u.members c.args.client) c.self.view_is) ∙ sym c.get.ensures ∙ c.in-Some.is in
-    let is = client_found v.members c.args.client x look in
-    let b = c.args.step_number in
-    let key = c.in-Ok.key in
-    let y = calls.owner c.args.client b in
-    let z = calls.founded_master key b in
-    let t = remade_ties v are x y is.1 (sym is.0) z refl refl refl refl (are.masters_rise, c.requires.new_step_number) in
-    let items : c.remake.new.self.items ≡ map (λ (u : Member). if is_client y.client u then y else u) c.self.inside.members.items = c.in_default-remake.ensures.rows ∙ ap (λ (z : Member). map (λ (u : Member). if is_client z.client u then z else u) c.self.inside.members.items) c.owner.ensures in
-    let new = calls.with_device (Some b) (calls.changed_member y (calls.with_master z v)) in
-    subst (λ (l : List Member). InOrder (λ (u v : Member). u.client < v.client) l) (sym (items ∙ ap (λ (u : MasterSet). (calls.changed_member y u).members) c.self.view_is)) (swept_are new t).members_rise
+    let look : member_of v.members c.args.client ≡ Some c.in-Some.old = sym (ap (λ (u : MasterSet). member_of u.members c.args.client) c.self.view_is) ∙ sym c.get.ensures ∙ c.in-Some.is in
+    let y = calls.owner c.args.client c.args.step_number in
+    let items : c.remake.new.self.items ≡ map (λ (u : Member). if is_client y.client u then y else u) c.self.inside.members.items = c.in_default-remake.ensures.rows ∙ ap (λ (z : Member). map (λ (u : Member). if is_client z.client u then z else u) c.self.inside.members.items) c.owner-founder.ensures in
+    ap (λ (x : Member). is_some (member_of c.remake.new.self.items x.client)) c.owner-founder.ensures
+    ∙ ap (λ l. is_some (member_of l c.args.client)) (items ∙ ap (λ (u : MasterSet). map (λ (x : Member). if is_client y.client x then y else x) u.members) c.self.view_is)
+    ∙ ap is_some (remade_there v.members y c.in-Some.old look)
 
-pub flag_current-requires-clause-unflagged : goal.flag_current-requires-clause-unflagged
-flag_current-requires-clause-unflagged c = λ k.
-    let v = c.args.self.now in
-    let old : (k : ℕ) → set.contains c.self.inside.members.flags k ≡ is_current v k = λ k. c.self.invariant.flagged k ∙ ap (λ (w : MasterSet). is_current w k) c.self.view_is in
-    ap (λ (s : set.FinSet nat_cmp). set.contains s k) c.remake.ensures.flags ∙ old k ∙ ap (λ d. current_in v.members v.masters d k) c.requires.none ∙ no_device v.members v.masters k
+-- the founder alone is current after it, and masters that nobody needs have gone
+alone_current : (v : MasterSet) (are : AreMasters v) (y x : Member) → member_of v.members y.client ≡ Some x → (z : Master) → IsFresh v.masters z.step_number →
+    let new = calls.with_device (Some z.step_number) (calls.changed_member y (calls.with_master z v)) in
+    AreTied new → (k : ℕ) → (((k == y.client) && is_current_among (swept new).masters (Some z.step_number) y) || false) ≡ is_current (swept new) k
+alone_current v are y x look z fresh t k =
+    let new = calls.with_device (Some z.step_number) (calls.changed_member y (calls.with_master z v)) in
+    elim (k == y.client) as (λ b. (k == y.client) ≡ b → ((b && is_current_among (swept new).masters (Some z.step_number) y) || false) ≡ is_current (swept new) k) [
+      | true ↦ λ e.
+          or_false (is_current_among (swept new).masters (Some z.step_number) y)
+          ∙ sym (ap (λ o. option_map_or (is_current_among (swept new).masters (Some z.step_number)) o false) (ap (member_of new.members) (eqb-true k y.client e) ∙ remade_there v.members y x look))
+      | false ↦ λ e.
+          sym (swept_same new t k ∙ ap (λ o. option_map_or (is_current_among new.masters (Some z.step_number)) o false) (others_put v.members y k e) ∙ none_yet v are z fresh k)
+    ] refl
+  where
+    or_false : (b : Bool) → (b || false) ≡ b
+    or_false true = refl
+    or_false false = refl
 
 pub invariant_of-self-2 : goal.invariant_of-self-2
 invariant_of-self-2 c =
@@ -180,15 +187,21 @@ invariant_of-self-2 c =
     let y = calls.owner c.args.client b in
     let z = calls.founded_master key b in
     let t = remade_ties v are x y is.1 (sym is.0) z refl refl refl refl (are.masters_rise, c.requires.new_step_number) in
-    let items : c.remake.new.self.items ≡ map (λ (u : Member). if is_client y.client u then y else u) c.self.inside.members.items = c.in_default-remake.ensures.rows ∙ ap (λ (z : Member). map (λ (u : Member). if is_client z.client u then z else u) c.self.inside.members.items) c.owner.ensures in
+    let items : c.remake.new.self.items ≡ map (λ (u : Member). if is_client y.client u then y else u) c.self.inside.members.items = c.in_default-remake.ensures.rows ∙ ap (λ (z : Member). map (λ (u : Member). if is_client z.client u then z else u) c.self.inside.members.items) c.owner-founder.ensures in
     let masters : c.insert.new.self.items ≡ placed master_before z c.self.inside.masters.items = c.in-Ok.ensures.ok ∙ ap (λ (u : Master). placed master_before (calls.keyed_as key u) c.self.inside.masters.items) c.founded_master.ensures in
     let new = calls.with_device (Some b) (calls.changed_member y (calls.with_master z v)) in
     let mem = c.remake.new.self.items in
+    let mem_flags = c.remake.new.self.flags in
+    let old : (k : ℕ) → set.contains c.self.inside.members.flags k ≡ is_current v k = λ k. c.self.invariant.flagged k ∙ ap (λ (w : MasterSet). is_current w k) c.self.view_is in
     let left = λ (l : List Member) (ms : List Master). let r : MasterSet = record { members = l; masters = filter (λ (u : Master). is_living l ms u.step_number) ms; device_master = Some b; last_magic = c.self.inside.last_magic; last_lessee = c.self.inside.last_lessee } in r in
     let swept_is : left mem c.insert.new.self.items ≡ swept new = (λ i. left (items i) (masters i)) ∙ ap (λ (u : MasterSet). swept (calls.with_device (Some b) (calls.changed_member y (calls.with_master z u)))) c.self.view_is in
     let path : left mem c.insert.new.self.items ≡ swept new = swept_is in
     sound _ (swept new)
-    ((λ i. record (set_of c.self.inside) { members = (c.flag_current.ensures.rows i); masters = c.sweep_up.ensures i; device_master = Some b }) ∙ path)
+    ((λ i. record (set_of c.self.inside) { members = (c.flag_if_current.ensures.rows i); masters = c.sweep_up.ensures i; device_master = Some b }) ∙ path)
     (swept_are new t)
     (keyed_fewer new.masters (λ (u : Master). is_living new.members new.masters u.step_number) (keyed_more v.masters z key are.masters_rise keyed (ap (λ (w : MasterSet). find (is_key key) w.masters) (sym c.self.view_is) ∙ c.in-Ok.ensures.free) refl))
-    (λ k. c.flag_current.ensures.flags k ∙ (λ i. current_in mem (c.sweep_up.ensures i) (Some b) k) ∙ ap (λ (u : MasterSet). is_current u k) path)
+    (λ k.
+    let unflagged : set.contains mem_flags k ≡ false = ap (λ (s : set.FinSet nat_cmp). set.contains s k) c.in_default-remake.ensures.flags ∙ old k ∙ ap (λ d. current_in v.members v.masters d k) c.requires.none ∙ no_device v.members v.masters k in
+    c.flag_if_current.ensures.flags k
+    ∙ (λ i. ((k == (c.owner-founder.ensures i).client) && is_current_among ((c.sweep_up.ensures ∙ ap (λ (u : MasterSet). u.masters) swept_is) i) (Some b) (c.owner-founder.ensures i)) || unflagged i)
+    ∙ alone_current v are y x look z (are.masters_rise, c.requires.new_step_number) t k)

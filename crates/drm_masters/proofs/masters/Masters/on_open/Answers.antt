@@ -1,18 +1,17 @@
-use Rattle.std.proofs.Common.{◌≡◌, ℕ, ◌<◌, false, List, not, filter, find, None, Some, refl, sym, ap, subst, ◌∙◌, nat_cmp}
+use Rattle.std.proofs.Common.{◌≡◌, ℕ, ◌==◌, ◌&&◌, ◌||◌, false, not, filter, find, None, Some, refl, sym, ap, subst, ◌∙◌, nat_cmp}
 use Rattle.std.specs.FinSet as set
 use Rattle.std.specs.List.{list_any, AllByRecursion}
 use Rattle.std.specs.Option.{is_some}
 use Rattle.std.proofs.lemmas.Bool.{false≢true}
-use Rattle.drm_lists.specs.Orders.{InOrder}
 use Rattle.drm_index_array.specs.Rows.{placed}
-use Rattle.drm_lists.proofs.Placed.{rise_placed}
 use Rattle.drm_masters.specs.Tables.{MemberRows}
 use Rattle.drm_masters.specs.declared.rows.Master.{Master}
 use Rattle.drm_masters.specs.declared.rows.Member.{Member}
 use Rattle.drm_masters.specs.Fields.{set_of}
-use Rattle.drm_masters.specs.Masters.{MasterSet, AreMasters, HasOlderLessor, member_of, member_before, master_before, is_key, is_step_number, is_option, master_at, owner_of, is_lessee_of, is_current}
+use Rattle.drm_masters.specs.Masters.{MasterSet, AreMasters, HasOlderLessor, member_of, member_before, master_before, is_key, is_step_number, is_option, master_at, owner_of, is_lessee_of, is_current, is_current_among}
 use Rattle.drm_masters.specs.Calls as calls
-use Rattle.drm_masters.proofs.Flagged.{current_in, no_device, others_apart}
+use Rattle.drm_masters.proofs.Flagged.{current_in, no_device, one_more, added_there}
+use Rattle.drm_masters.proofs.Founders.{none_yet}
 use Rattle.drm_masters.proofs.Living.{IsFresh, Older}
 use Rattle.drm_masters.proofs.Owned.{unnamed_yet}
 use Rattle.drm_masters.proofs.Pushed.{pushed_older, taken_back}
@@ -65,7 +64,7 @@ remove-requires-clause-no_lessee c =
 pub add-requires-2 : goal.add-requires-2
 add-requires-2 c =
     let absent = rw (← c.self.view_is) at c.requires.new_client in
-    record { new_client = subst (λ (u : Member). is_some (member_of c.self.inside.members.items u.client) ≡ false) (sym c.owner.ensures) absent }
+    record { new_client = subst (λ (u : Member). is_some (member_of c.self.inside.members.items u.client) ≡ false) (sym c.owner-founder.ensures) absent }
 
 pub invariant_of-self-in-Err-add : goal.invariant_of-self-in-Err-add
 invariant_of-self-in-Err-add c =
@@ -91,8 +90,8 @@ returns-in-Err-add-clause-err c =
     let path = (λ i. record (set_of c.self.inside) { members = (c.in-Err-add.ensures.err i).items; masters = back i }) ∙ c.self.view_is in
     path
 
-pub flag_current-requires-clause-older : goal.flag_current-requires-clause-older
-flag_current-requires-clause-older c =
+pub flag_if_current-requires-clause-older : goal.flag_if_current-requires-clause-older
+flag_if_current-requires-clause-older c =
     let v = c.args.self.now in
     let are : AreMasters v = subst AreMasters c.self.view_is c.self.invariant.are in
     let keyed : Keyed v.masters = subst (λ (w : MasterSet). Keyed w.masters) c.self.view_is c.self.invariant.keyed in
@@ -104,20 +103,14 @@ flag_current-requires-clause-older c =
     let masters : c.insert.new.self.items ≡ placed master_before z c.self.inside.masters.items = c.in_default-insert.ensures.ok ∙ ap (λ (x : Master). placed master_before (calls.keyed_as key x) c.self.inside.masters.items) c.founded_master.ensures in
     subst (λ l. AllByRecursion (HasOlderLessor l) l) (sym (masters ∙ ap (λ (u : MasterSet). placed master_before z u.masters) c.self.view_is)) (pushed_older v.masters z (are.masters_rise, c.requires.new_step_number) (λ l e. absurd (let n : None ≡ Some l = e in cc)) are.lessors_older)
 
-pub flag_current-requires-clause-rise : goal.flag_current-requires-clause-rise
-flag_current-requires-clause-rise c =
+pub flag_if_current-requires-clause-open_client : goal.flag_if_current-requires-clause-open_client
+flag_if_current-requires-clause-open_client c =
     let v = c.args.self.now in
-    let are : AreMasters v = subst AreMasters c.self.view_is c.self.invariant.are in
     let y = calls.owner c.args.client c.args.birth in
-    let items : c.add-2.new.self.items ≡ placed member_before y v.members = c.in_default-add-2.ensures.ok ∙ ap (λ (x : Member). placed member_before x c.self.inside.members.items) c.owner.ensures ∙ ap (λ (w : MasterSet). placed member_before y w.members) c.self.view_is in
-    subst (λ (l : List Member). InOrder (λ (a b : Member). a.client < b.client) l) (sym items) (rise_placed (λ (a : Member). a.client) y v.members are.members_rise (others_apart v.members y.client c.requires.new_client))
-
-pub flag_current-requires-clause-unflagged : goal.flag_current-requires-clause-unflagged
-flag_current-requires-clause-unflagged c = λ k.
-    let v = c.args.self.now in
-    let old : (k : ℕ) → set.contains c.self.inside.members.flags k ≡ is_current v k = λ k. c.self.invariant.flagged k ∙ ap (λ (w : MasterSet). is_current w k) c.self.view_is in
-    let none : v.device_master ≡ None = sym (ap (λ (w : MasterSet). w.device_master) c.self.view_is) ∙ c.in_default.is in
-    ap (λ (s : set.FinSet nat_cmp). set.contains s k) c.in_default-add-2.ensures.flags ∙ old k ∙ ap (λ d. current_in v.members v.masters d k) none ∙ no_device v.members v.masters k
+    let items : c.add-2.new.self.items ≡ placed member_before y c.self.inside.members.items = c.in_default-add-2.ensures.ok ∙ ap (λ (x : Member). placed member_before x c.self.inside.members.items) c.owner-founder.ensures in
+    ap (λ (x : Member). is_some (member_of c.add-2.new.self.items x.client)) c.owner-founder.ensures
+    ∙ ap (λ l. is_some (member_of l c.args.client)) (items ∙ ap (λ (w : MasterSet). placed member_before y w.members) c.self.view_is)
+    ∙ ap is_some (added_there v.members y (subst AreMasters c.self.view_is c.self.invariant.are).members_rise c.requires.new_client)
 
 founded : ℕ → ℕ → ℕ → MasterSet → MasterSet
 founded c key b v = calls.with_device (Some b) (calls.with_member (calls.owner c b) (calls.with_master (calls.founded_master key b) v))
@@ -128,15 +121,22 @@ invariant_of-self-2 c =
     let v = c.args.self.now in
     let are : AreMasters v = subst AreMasters c.self.view_is c.self.invariant.are in
     let keyed : Keyed v.masters = subst (λ (w : MasterSet). Keyed w.masters) c.self.view_is c.self.invariant.keyed in
+    let old : (k : ℕ) → set.contains c.self.inside.members.flags k ≡ is_current v k = λ k. c.self.invariant.flagged k ∙ ap (λ (w : MasterSet). is_current w k) c.self.view_is in
     let b = c.args.birth in
     let key = c.in_default-insert.field-0 in
     let y = calls.owner c.args.client b in
     let z = calls.founded_master key b in
     let masters : c.insert.new.self.items ≡ placed master_before z c.self.inside.masters.items = c.in_default-insert.ensures.ok ∙ ap (λ (x : Master). placed master_before (calls.keyed_as key x) c.self.inside.masters.items) c.founded_master.ensures in
-    let items : c.add-2.new.self.items ≡ placed member_before y c.self.inside.members.items = c.in_default-add-2.ensures.ok ∙ ap (λ (x : Member). placed member_before x c.self.inside.members.items) c.owner.ensures in
-    let rows : c.flag_current.new.members.items ≡ placed member_before y c.self.inside.members.items = c.flag_current.ensures.rows ∙ items in
+    let items : c.add-2.new.self.items ≡ placed member_before y c.self.inside.members.items = c.in_default-add-2.ensures.ok ∙ ap (λ (x : Member). placed member_before x c.self.inside.members.items) c.owner-founder.ensures in
+    let rows : c.flag_if_current.new.members.items ≡ placed member_before y c.self.inside.members.items = c.flag_if_current.ensures.rows ∙ items in
     let path = ap (founded c.args.client key b) c.self.view_is in
     sound _ (founded c.args.client key b v) ((λ i. record (set_of c.self.inside) { members = rows i; masters = masters i; device_master = Some b }) ∙ path)
     (opener_are v are y c.requires.new_client c.requires.room refl z refl refl refl (are.masters_rise, c.requires.new_step_number))
     (keyed_more v.masters z key are.masters_rise keyed (ap (λ (w : MasterSet). find (is_key key) w.masters) (sym c.self.view_is) ∙ c.in_default-insert.ensures.free) refl)
-    (λ k. c.flag_current.ensures.flags k ∙ (λ i. current_in (items i) (masters i) (Some b) k) ∙ ap (λ (u : MasterSet). is_current u k) path)
+    (λ k.
+    let none : v.device_master ≡ None = sym (ap (λ (w : MasterSet). w.device_master) c.self.view_is) ∙ c.in_default.is in
+    let unflagged : set.contains c.add-2.new.self.flags k ≡ false = ap (λ (s : set.FinSet nat_cmp). set.contains s k) c.in_default-add-2.ensures.flags ∙ old k ∙ ap (λ d. current_in v.members v.masters d k) none ∙ no_device v.members v.masters k in
+    let placed_is : c.insert.new.self.items ≡ placed master_before z v.masters = masters ∙ ap (λ (w : MasterSet). placed master_before z w.masters) c.self.view_is in
+    c.flag_if_current.ensures.flags k
+    ∙ (λ i. ((k == (c.owner-founder.ensures i).client) && is_current_among (placed_is i) (Some b) (c.owner-founder.ensures i)) || (unflagged ∙ sym (none_yet v are z (are.masters_rise, c.requires.new_step_number) k)) i)
+    ∙ sym (one_more v.members y are.members_rise c.requires.new_client (placed master_before z v.masters) (Some b) k))
