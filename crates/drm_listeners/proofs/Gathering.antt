@@ -13,7 +13,7 @@ use Rattle.drm_sessions.specs.declared.class.Class.TheVariants.{Card, Render, Ro
 use Rattle.drm_sessions.specs.declared.end.Session.{Session}
 use Rattle.drm_sessions.specs.Serving.{all_steps}
 use Rattle.drm_listeners.specs.declared.connections.ServedListener.{ServedListener}
-use Rattle.drm_listeners.specs.declared.counts.Counts.{Counts}
+use Rattle.drm_connections.specs.declared.counts.Counts.{Counts}
 use Rattle.drm_listeners.specs.declared.listeners.ByClass.{ByClass}
 use Rattle.drm_listeners.specs.Connections.{IsServed, IsSessionBy, IsSessionOf, SessionState, participants_in, sessions_in}
 use Rattle.drm_listeners.specs.Listeners.{AreServed}

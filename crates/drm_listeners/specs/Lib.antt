@@ -1,4 +1,3 @@
-pub mod Classes
 pub mod Connections
 pub mod Listeners
 pub mod Serving

@@ -6,7 +6,7 @@ use Rattle.drm_sessions.specs.declared.end.Session.{Session}
 use Rattle.drm_sessions.specs.declared.class.Class.TheVariants.{Card, Render, Root}
 use Rattle.drm_listeners.specs.declared.connections.Failed.{Failed}
 use Rattle.drm_listeners.specs.declared.connections.ServedListener.{ServedListener}
-use Rattle.drm_listeners.specs.declared.counts.Counts.{Counts}
+use Rattle.drm_connections.specs.declared.counts.Counts.{Counts}
 use Rattle.drm_listeners.specs.declared.listeners.ByClass.{ByClass}
 use Rattle.drm_listeners.specs.declared.listeners.FailedListeners.{FailedListeners}
 use Rattle.drm_listeners.specs.declared.serve_faults.ServeFault.TheVariants as faults

@@ -8,7 +8,7 @@ use Rattle.drm_turns.specs.Participants.{HasSeen, ParticipantView, numbers_of}
 use Rattle.drm_sessions.specs.declared.class.Class.{Class}
 use Rattle.drm_sessions.specs.declared.end.Session.{Session}
 use Rattle.drm_sessions.specs.declared.class.Class.TheVariants.{Card, Render, Root}
-use Rattle.drm_listeners.specs.declared.counts.Counts.{Counts}
+use Rattle.drm_connections.specs.declared.counts.Counts.{Counts}
 use Rattle.drm_listeners.specs.Connections.{IsSessionBy, IsSessionOf, SessionState, participants_in, sessions_in}
 
 -- how many connections there are in all

@@ -10,16 +10,10 @@ ghost use Rattle.drm_sessions.specs.Serving.{Costs, all_steps};
 ghost use Rattle.drm_sessions.specs.Shared.{ServesShared};
 ghost use Rattle.drm_listeners.specs.Connections.{IsFailed, IsFresh, IsRoomFor, IsSessionBy, IsUnused, Serves, SessionState, connection_turns, participants_in, sessions_in};
 
-use crate::accepting::{accept_next, note_beyond};
-use crate::answering::Answering;
-use crate::backlog::Ahead;
-use crate::counts::MOST;
-use crate::greeting::Greeting;
 use crate::hall::Gathering;
-use crate::notes::Note;
-use crate::open_connections::Role;
 use crate::serve_faults::ServeFault;
 use arrayvec::ArrayVec;
+use drm_connections::{Ahead, Answering, Greeting, MOST, Note, Role, accept_next, note_beyond};
 use drm_sessions::{Class, NoGate, Served, Session, serve_through};
 use drm_streams::{FromRead, Sink, Source, ToWrite};
 use drm_turns::{Seat, SharedDevice, Sharing};

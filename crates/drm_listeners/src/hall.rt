@@ -2,7 +2,7 @@
 
 ghost use Rattle.std.specs.Prelude.{◌≡◌};
 
-use crate::open_connections::OpenConnections;
+use drm_connections::OpenConnections;
 use drm_turns::{SharedDevice, Sharing};
 
 /// What threads share a device and the open connections by, as a type parameter (see `Sharing`).

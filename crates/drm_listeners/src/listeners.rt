@@ -6,9 +6,9 @@ ghost use Rattle.drm_listeners.specs.Connections.{IsFailed, IsFresh, IsRoomFor, 
 ghost use Rattle.drm_listeners.specs.Listeners.{AreAllServed, AreFresh, AreRooms, AreServing};
 
 use crate::connections::{Failed, Listener, ServedListener, serve_listener};
-use crate::counts::Counts;
 use crate::hall::Gathering;
 use crate::serve_faults::ServeFault;
+use drm_connections::Counts;
 use drm_sessions::{Class, Session};
 use drm_turns::Seat;
 use libc::net::{SHUT_RDWR, shutdown};

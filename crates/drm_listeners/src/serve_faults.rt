@@ -1,6 +1,6 @@
 //! Why not all connections were served.
 
-use crate::classes::class_word;
+use drm_connections::class_word;
 use drm_sessions::Class;
 use thiserror::Error;
 

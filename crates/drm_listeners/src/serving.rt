@@ -12,11 +12,10 @@ ghost use Rattle.drm_listeners.specs.Listeners.{AreChildren, AreRooms, participa
 ghost use Rattle.drm_listeners.specs.Serving.{AreSessionsOf, Continues, HaveSat, IsHistoryOf, card_sessions, connections, render_sessions, root_sessions};
 
 use crate::connections::ServedListener;
-use crate::counts::Counts;
 use crate::hall::Hall;
 use crate::listeners::{ByClass, serve_listeners};
-use crate::open_connections::OpenConnections;
 use crate::serve_faults::ServeFault;
+use drm_connections::{Counts, OpenConnections};
 use drm_device::Device;
 use drm_sessions::Session;
 use drm_turns::{Seat, SharedDevice};

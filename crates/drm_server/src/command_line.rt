@@ -4,7 +4,7 @@ use crate::sockets::Paths;
 use clap::builder::ValueParser;
 use clap::error::ErrorKind;
 use clap::{Arg, ArgAction, ArgMatches, Command, Error};
-use drm_listeners::Counts;
+use drm_connections::Counts;
 use std::alloc::{AllocError, Global};
 
 /// How many connections each listener may be told to accept.

@@ -1,6 +1,6 @@
 //! A server that ends where its standard input does.
 
-use drm_listeners::OpenConnections;
+use drm_connections::OpenConnections;
 use libc::net::{POLLIN, poll};
 use libc::types::pollfd;
 use std::io::Read;

@@ -2,11 +2,12 @@
 
 ghost use Rattle.std.specs.Prelude.{◌≡◌, ◌+◌, ◌≤◌, ◌++◌, length, decimal};
 ghost use Rattle.arrayvec.specs.ArrayString.{array_string_len};
-ghost use Rattle.drm_listeners.specs.Classes as classes;
+ghost use Rattle.drm_connections.specs.Classes as classes;
 ghost use Rattle.drm_server.specs.Faults as faults;
 
 use arrayvec::ArrayString;
-use drm_listeners::{ServeFault, class_word};
+use drm_connections::class_word;
+use drm_listeners::ServeFault;
 use drm_script::push_number;
 use drm_sessions::Class;
 use std::marker::Model;

@@ -6,7 +6,7 @@ use Rattle.drm_turns.proofs.Crossing.{shared_sync}
 use Rattle.drm_sessions.specs.declared.end.Session.{Session}
 use Rattle.drm_listeners.specs.Serving.{AreSessionsOf}
 use Rattle.drm_sessions.specs.Serving.{all_steps}
-use Rattle.drm_listeners.proofs.open_connections.OpenConnections.TheSendSync as connections
+use Rattle.drm_connections.proofs.open_connections.OpenConnections.TheSendSync as connections
 use Rattle.drm_listeners.proofs.Gathering.{are-sessions, have-sat, steps-three}
 use Rattle.drm_listeners.proofs.serving.serve_shared.Goals as goal
 

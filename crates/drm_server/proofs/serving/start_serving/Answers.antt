@@ -14,8 +14,8 @@ use Rattle.drm_device.proofs.Crossing.{device_send}
 use Rattle.drm_turns.proofs.Crossing.{closure_send}
 use Rattle.drm_listeners.proofs.serve_faults.ServeFault.TheSendSync as fault
 use Rattle.drm_listeners.specs.contracts.serving.Unserved as unserved
-use Rattle.drm_listeners.proofs.open_connections.OpenConnections.TheSendSync as crossing
-use Rattle.drm_listeners.specs.contracts.open_connections.OpenConnections as open_connections
+use Rattle.drm_connections.proofs.open_connections.OpenConnections.TheSendSync as crossing
+use Rattle.drm_connections.specs.contracts.open_connections.OpenConnections as open_connections
 use Rattle.drm_server.specs.contracts.serving.Task as task
 use Rattle.drm_server.proofs.serving.start_serving.Goals as goal
 

@@ -64,7 +64,7 @@ fn accept_or_end<R: Wait>(
 /// Accepts the next connection. If the system lacks descriptors or memory for it, this logs the reason and retries ten times a second,
 /// while a connection is open, and then for five seconds; who connects meanwhile waits. Where all were told to end it is one whose
 /// client has ended.
-pub(crate) fn accept_next<R: Wait>(
+pub fn accept_next<R: Wait>(
     rt: &R,
     open: &OpenConnections,
     socket: &UnixListener,
@@ -98,7 +98,7 @@ pub(crate) fn accept_next<R: Wait>(
 
 /// Logs where a connection waits behind the last one that a listener accepts, which is refused as the listener is closed. Whoever
 /// connects later isn't seen: the system refuses it.
-pub(crate) fn note_beyond<R: Wait>(
+pub fn note_beyond<R: Wait>(
     rt: &R,
     open: &OpenConnections,
     socket: &UnixListener,

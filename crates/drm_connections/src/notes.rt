@@ -27,7 +27,7 @@ const MOST_PAUSES: u32 = 10;
 
 /// A line to be logged.
 #[derive(Clone, Copy, Debug, PartialEq, Eq)]
-pub(crate) enum Note {
+pub enum Note {
     /// A connection could not be accepted, by the error of this number, and the listener retries.
     Retried(Class, Option<i32>),
     /// A connection could not be accepted, by the error of this number, and the listener is closed.
@@ -49,7 +49,7 @@ fn reason_of(number: Option<i32>) -> io::Error {
 
 impl Note {
     /// Returns the note of a session, unless its input ended between frames.
-    pub(crate) fn of_session(class: Class, session: &Session) -> Option<Note> {
+    pub fn of_session(class: Class, session: &Session) -> Option<Note> {
         match session.end {
             SessionEnd::Ended => None,
             end => Some(Note::Session(class, session.client, end)),
@@ -114,7 +114,7 @@ impl Waiting {
 
 /// Notes that a thread of its own logs, so that no other thread waits for standard error.
 #[derive(Drop)]
-pub(crate) struct Notes {
+pub struct Notes {
     waiting: Mutex<Waiting>,
     more: Condvar,
 }
@@ -130,7 +130,7 @@ fn has_room() -> bool {
 
 impl Notes {
     /// No note waits yet. There is room for all that may.
-    pub(crate) fn new(alloc: Global) -> Result<Notes, AllocError> {
+    pub fn new(alloc: Global) -> Result<Notes, AllocError> {
         let notes = Vec::with_capacity(alloc, MOST)?;
         Ok(Notes {
             waiting: Mutex::new(Waiting {
@@ -143,18 +143,18 @@ impl Notes {
     }
 
     /// Adds a note, or counts it if there is no room. It does not wait for standard error.
-    pub(crate) fn add<R: Wait>(&self, rt: &R, note: Note) {
+    pub fn add<R: Wait>(&self, rt: &R, note: Note) {
         self.waiting.lock(rt).add(note);
         self.more.notify_one();
     }
 
     /// Tells that there will be notes, before the thread that logs them is started.
-    pub(crate) fn begin<R: Wait>(&self, rt: &R) {
+    pub fn begin<R: Wait>(&self, rt: &R) {
         self.waiting.lock(rt).has_ended = false;
     }
 
     /// Tells the thread that logs that there will be no more notes.
-    pub(crate) fn end<R: Wait>(&self, rt: &R) {
+    pub fn end<R: Wait>(&self, rt: &R) {
         self.waiting.lock(rt).has_ended = true;
         self.more.notify_one();
     }
@@ -186,7 +186,7 @@ impl Notes {
     }
 
     /// Logs notes until the end.
-    pub(crate) fn log_all<R: Wait + Log>(&self, rt: &R) {
+    pub fn log_all<R: Wait + Log>(&self, rt: &R) {
         for _ in rt.forever() {
             let Some(note) = self.take(rt) else {
                 return;

@@ -1,7 +1,7 @@
 //! The words for the classes of listeners.
 
 ghost use Rattle.std.specs.Prelude.{◌≡◌};
-ghost use Rattle.drm_listeners.specs.Classes as classes;
+ghost use Rattle.drm_connections.specs.Classes as classes;
 
 use drm_sessions::Class;
 

@@ -12,7 +12,7 @@ const HELLO: usize = 18;
 
 /// The bytes that a connection brings. The last of its hello is handed on once the connection is admitted.
 #[derive(Drop)]
-pub(crate) struct Greeting<'a, R: Wait> {
+pub struct Greeting<'a, R: Wait> {
     stream: &'a UnixStream,
     ahead: &'a Ahead,
     attendance: &'a Attendance<'a, R>,
@@ -20,7 +20,7 @@ pub(crate) struct Greeting<'a, R: Wait> {
 }
 
 impl<'a, R: Wait> Greeting<'a, R> {
-    pub(crate) fn new(
+    pub fn new(
         stream: &'a UnixStream,
         ahead: &'a Ahead,
         attendance: &'a Attendance<'a, R>,

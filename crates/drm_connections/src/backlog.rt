@@ -30,7 +30,7 @@ struct Bytes {
 /// that is unread, though the client's process has exited. So what it sends is read also then: a read without room for descriptors drops
 /// them.
 #[derive(Drop)]
-pub(crate) struct Ahead {
+pub struct Ahead {
     read: RefCell<Bytes>,
 }
 
@@ -91,7 +91,7 @@ impl Bytes {
 
 impl Ahead {
     /// Nothing was read ahead.
-    pub(crate) fn new(alloc: Global) -> Ahead {
+    pub fn new(alloc: Global) -> Ahead {
         Ahead {
             read: RefCell::new(Bytes {
                 bytes: Vec::new(alloc),
@@ -102,7 +102,7 @@ impl Ahead {
     }
 
     /// Takes bytes that were read ahead, and returns how many: 0 where there are none.
-    pub(crate) fn take(&self, buf: &mut [u8]) -> usize {
+    pub fn take(&self, buf: &mut [u8]) -> usize {
         match self.read.try_borrow_mut() {
             Ok(mut read) => read.take(buf),
             Err(_) => 0,
@@ -111,7 +111,7 @@ impl Ahead {
 
     /// Waits until the stream has room for an answer, or the client has sent something, which is read ahead. An error closes the
     /// connection: the client sent more than may be kept.
-    pub(crate) fn wait(&self, stream: &UnixStream) -> io::Result<()> {
+    pub fn wait(&self, stream: &UnixStream) -> io::Result<()> {
         match self.read.try_borrow_mut() {
             Ok(mut read) => read.wait(stream),
             Err(_) => Ok(()),

@@ -16,7 +16,7 @@ const LISTENERS: usize = 3;
 
 /// What a socket on which a thread waits is.
 #[derive(Clone, Copy, PartialEq, Eq)]
-pub(crate) enum Role {
+pub enum Role {
     /// A listener.
     Listener,
     /// A connection that has not sent its first frame.
@@ -157,7 +157,7 @@ impl OpenConnections {
     }
 
     /// A connection that has ended, once they were told to end.
-    pub(crate) fn ended<R: Wait>(&self, rt: &R) -> Option<&UnixStream> {
+    pub fn ended<R: Wait>(&self, rt: &R) -> Option<&UnixStream> {
         if self.has_ended(rt) {
             self.ended.as_ref()
         } else {
@@ -166,22 +166,22 @@ impl OpenConnections {
     }
 
     /// Returns whether a connection is served.
-    pub(crate) fn is_serving<R: Wait>(&self, rt: &R) -> bool {
+    pub fn is_serving<R: Wait>(&self, rt: &R) -> bool {
         self.places.lock(rt).is_serving()
     }
 
     /// Returns what is to be logged of the connections.
-    pub(crate) fn notes(&self) -> &Notes {
+    pub fn notes(&self) -> &Notes {
         &self.notes
     }
 
     /// Returns the allocator that the connections were given.
-    pub(crate) fn alloc<R: Wait>(&self, rt: &R) -> Global {
+    pub fn alloc<R: Wait>(&self, rt: &R) -> Global {
         self.places.lock(rt).alloc
     }
 
     /// Takes in a socket, until the attendance is let go; it has to be open for as long. Where all were told to end, it is.
-    pub(crate) fn attend<'a, R: Wait>(
+    pub fn attend<'a, R: Wait>(
         &'a self,
         rt: &'a R,
         socket: RawFd,
@@ -204,7 +204,7 @@ impl OpenConnections {
 }
 
 /// That a thread waits on a socket. It has to be let go before the socket is closed.
-pub(crate) struct Attendance<'a, R: Wait> {
+pub struct Attendance<'a, R: Wait> {
     rt: &'a R,
     open: &'a OpenConnections,
     place: usize,
@@ -213,7 +213,7 @@ pub(crate) struct Attendance<'a, R: Wait> {
 
 impl<R: Wait> Attendance<'_, R> {
     /// Waits until each client is closed whose connection has nobody at the other end, and counts this connection's own as open.
-    pub(crate) fn admit(&self) {
+    pub fn admit(&self) {
         let admitted = Attending {
             socket: self.socket,
             role: Role::Admitted,

@@ -11,13 +11,13 @@ const PATIENCE: u64 = 10;
 
 /// The answers of a connection. While the client takes none, what it sends is read ahead.
 #[derive(Drop)]
-pub(crate) struct Answering<'a> {
+pub struct Answering<'a> {
     stream: &'a UnixStream,
     ahead: &'a Ahead,
 }
 
 impl<'a> Answering<'a> {
-    pub(crate) fn new(stream: &'a UnixStream, ahead: &'a Ahead) -> Answering<'a> {
+    pub fn new(stream: &'a UnixStream, ahead: &'a Ahead) -> Answering<'a> {
         // where this fails, an answer waits without an end, and nothing is read ahead
         let _ = stream.set_write_timeout(Some(Duration::from_millis(PATIENCE)));
         Answering { stream, ahead }

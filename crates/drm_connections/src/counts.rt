@@ -1,7 +1,7 @@
 //! How many connections are served.
 
 /// How many connections a listener accepts at most.
-pub(crate) const MOST: usize = 255;
+pub const MOST: usize = 255;
 
 /// How many connections each listener accepts.
 #[derive(Clone, Copy, Debug, PartialEq, Eq)]

@@ -1,0 +1,20 @@
+//! What the threads of a server share: the open connections, how they are accepted and answered, and what is logged of them.
+#![tactic(auto)]
+
+mod accepting;
+mod answering;
+mod backlog;
+mod classes;
+mod counts;
+mod greeting;
+mod notes;
+mod open_connections;
+
+pub use accepting::{accept_next, note_beyond};
+pub use answering::Answering;
+pub use backlog::Ahead;
+pub use classes::class_word;
+pub use counts::{Counts, MOST};
+pub use greeting::Greeting;
+pub use notes::{Note, Notes};
+pub use open_connections::{Attendance, OpenConnections, Role};
