@@ -96,14 +96,41 @@ pub fn accept_next<R: Wait>(
     accept_or_end(rt, open, socket)
 }
 
-/// Logs where a connection waits behind the last one that a listener accepts, which is refused as the listener is closed. Whoever
-/// connects later isn't seen: the system refuses it.
-pub fn note_beyond<R: Wait>(
+/// Accepts the next connection of a listener that goes on. Returns `None` once all were told to end.
+///
+/// If the system is out of descriptors or memory, this logs the reason and retries ten times a second; clients that connect meanwhile wait.
+pub fn accept_unless_ended<R: Wait>(
     rt: &R,
     open: &OpenConnections,
     socket: &UnixListener,
     class: Class,
-) {
+) -> io::Result<Option<UnixStream>> {
+    let mut is_logged = false;
+    for _ in rt.forever() {
+        wait_for_client(socket);
+        if open.has_ended(rt) {
+            return Ok(None);
+        }
+        match socket.accept() {
+            Ok((stream, _)) => return Ok(Some(stream)),
+            Err(reason) if may_pass(&reason) => {
+                if !is_logged {
+                    open.notes()
+                        .add(rt, Note::Retried(class, reason.raw_os_error()));
+                    is_logged = true;
+                }
+                poll(&mut [], PAUSE);
+            }
+            Err(_) if open.has_ended(rt) => return Ok(None),
+            Err(reason) => return Err(reason),
+        }
+    }
+    Ok(None)
+}
+
+/// Logs where a connection waits behind the last one that a listener accepts, which is refused as the listener is closed. Whoever
+/// connects later isn't seen: the system refuses it.
+pub fn note_beyond<R: Wait>(rt: &R, open: &OpenConnections, socket: &UnixListener, class: Class) {
     let mut asked = [asking(socket)];
     // a listener that was told to end has more to tell
     if poll(&mut asked, 0) == 1 && asked[0].revents == POLLIN {

@@ -10,11 +10,11 @@ mod greeting;
 mod notes;
 mod open_connections;
 
-pub use accepting::{accept_next, note_beyond};
+pub use accepting::{accept_next, accept_unless_ended, note_beyond};
 pub use answering::Answering;
 pub use backlog::Ahead;
 pub use classes::class_word;
-pub use counts::{Counts, MOST};
+pub use counts::{Counts, MOST, MOST_AT_ONCE};
 pub use greeting::Greeting;
 pub use notes::{Note, Notes};
 pub use open_connections::{Attendance, OpenConnections, Role};

@@ -3,6 +3,7 @@
 //! Nothing here shows in a contract: no clause tells what is logged.
 
 use crate::classes::class_word;
+use crate::counts::MOST_AT_ONCE;
 use drm_sessions::{Class, Session, SessionEnd};
 use libc::net::{POLLOUT, poll};
 use libc::types::pollfd;
@@ -15,6 +16,9 @@ use std::{io, mem};
 
 /// The most notes that wait to be logged.
 const MOST: usize = 64;
+
+/// The number of notes that are added only once: two of each listener, and the journal's.
+const MOST_ONCE: usize = 7;
 
 /// The descriptor of standard error.
 const STANDARD_ERROR: RawFd = 2;
@@ -34,6 +38,12 @@ pub enum Note {
     Closed(Class, Option<i32>),
     /// A connection behind the last one of a listener.
     Refused(Class),
+    /// A connection beyond those that a listener has open at once.
+    Crowded(Class),
+    /// A connection for which no thread could be started.
+    Threadless(Class),
+    /// An answer was that the journal is full.
+    JournalFull,
     /// A session with this client that did not end normally. A session without a client has client 0.
     Session(Class, u32, SessionEnd),
     /// The number of notes for which there was no room.
@@ -68,6 +78,15 @@ impl Note {
             Note::Refused(class) => {
                 warn!(rt; "{}: a connection beyond the count was refused", class_word(class));
             }
+            Note::Crowded(class) => {
+                warn!(rt; "{}: a connection was refused: {MOST_AT_ONCE} are open", class_word(class));
+            }
+            Note::Threadless(class) => {
+                error!(rt; "{}: a connection was refused: no thread could be started", class_word(class));
+            }
+            Note::JournalFull => {
+                error!(rt; "the journal is full: requests are answered with fault 50 (the last number of --limits is the most steps)");
+            }
             Note::Session(class, 0, end) => warn!(rt; "{}, no client: {end}", class_word(class)),
             Note::Session(class, client, end) => {
                 warn!(rt; "{}, client {client}: {end}", class_word(class));
@@ -83,6 +102,8 @@ impl Note {
 #[derive(Drop)]
 struct Waiting {
     notes: Vec<Note>,
+    /// Those that were added and are not added again.
+    said: Vec<Note>,
     left_out: u64,
     has_ended: bool,
 }
@@ -99,6 +120,16 @@ impl Waiting {
         } else {
             self.left_out = self.left_out.saturating_add(1);
         }
+    }
+
+    fn add_once(&mut self, note: Note) {
+        if self.said.iter().any(|said| *said == note) {
+            return;
+        }
+        if self.said.len() < self.said.capacity() {
+            self.said.push_reserved(note);
+        }
+        self.add(note);
     }
 
     fn take(&mut self) -> Option<Note> {
@@ -132,9 +163,11 @@ impl Notes {
     /// No note waits yet. There is room for all that may.
     pub fn new(alloc: Global) -> Result<Notes, AllocError> {
         let notes = Vec::with_capacity(alloc, MOST)?;
+        let said = Vec::with_capacity(alloc, MOST_ONCE)?;
         Ok(Notes {
             waiting: Mutex::new(Waiting {
                 notes,
+                said,
                 left_out: 0,
                 has_ended: false,
             }),
@@ -145,6 +178,12 @@ impl Notes {
     /// Adds a note, or counts it if there is no room. It does not wait for standard error.
     pub fn add<R: Wait>(&self, rt: &R, note: Note) {
         self.waiting.lock(rt).add(note);
+        self.more.notify_one();
+    }
+
+    /// Adds a note as [`Notes::add`] does, unless it was added so before.
+    pub fn add_once<R: Wait>(&self, rt: &R, note: Note) {
+        self.waiting.lock(rt).add_once(note);
         self.more.notify_one();
     }
 

@@ -2,7 +2,9 @@
 //!
 //! Nothing here shows in a contract: no clause tells when a connection ends, or that a thread waits for another.
 
-use crate::counts::Counts;
+ghost use Rattle.std.specs.Prelude.{◌≤◌};
+
+use crate::counts::{Counts, MOST_AT_ONCE};
 use crate::notes::Notes;
 use libc::net::{POLLHUP, SHUT_RDWR, poll, shutdown};
 use libc::types::pollfd;
@@ -33,15 +35,56 @@ struct Attending {
 }
 
 impl Attending {
-    /// Whether its client may be open still, though nobody is at the other end: the connection was closed there, as a process
-    /// that ends closes all of its own.
-    fn has_gone(&self) -> bool {
+    /// Whether it is a connection that was closed at the other end, as a process that exits closes all of its own.
+    fn is_closed(&self) -> bool {
         let mut asked = [pollfd {
             fd: self.socket,
             events: 0,
             revents: 0,
         }];
-        self.role == Role::Admitted && poll(&mut asked, 0) == 1 && asked[0].revents & POLLHUP != 0
+        self.role != Role::Listener && poll(&mut asked, 0) == 1 && asked[0].revents & POLLHUP != 0
+    }
+
+    /// Whether its client may be open still, though the connection was closed at the other end.
+    fn has_gone(&self) -> bool {
+        self.role == Role::Admitted && self.is_closed()
+    }
+}
+
+/// What a place is used for.
+#[derive(Clone, Copy)]
+enum Place {
+    /// Nothing.
+    Free,
+    /// A thread that does not wait on a socket yet.
+    Reserved,
+    /// A thread that waits on a socket.
+    Taken(Attending),
+    /// A thread that waits no more.
+    Left,
+}
+
+impl Place {
+    /// Returns the socket on which a thread waits here.
+    fn attending(&self) -> Option<Attending> {
+        match self {
+            Place::Taken(attending) => Some(*attending),
+            Place::Free | Place::Reserved | Place::Left => None,
+        }
+    }
+
+    fn is_free(&self) -> bool {
+        match self {
+            Place::Free => true,
+            Place::Reserved | Place::Taken(_) | Place::Left => false,
+        }
+    }
+
+    fn has_left(&self) -> bool {
+        match self {
+            Place::Left => true,
+            Place::Free | Place::Reserved | Place::Taken(_) => false,
+        }
     }
 }
 
@@ -49,7 +92,7 @@ impl Attending {
 #[derive(Drop)]
 struct Places {
     has_ended: bool,
-    places: Vec<Option<Attending>>,
+    places: Vec<Place>,
     alloc: Global,
 }
 
@@ -57,8 +100,20 @@ impl Places {
     /// Whether there is a connection that nobody is at the other end of, and whose client may be open still.
     fn has_gone(&self) -> bool {
         for place in self.places.iter() {
-            if let Some(attending) = place {
+            if let Some(attending) = place.attending() {
                 if attending.has_gone() {
+                    return true;
+                }
+            }
+        }
+        false
+    }
+
+    /// Whether there is a connection that was closed at the other end and is still served.
+    fn is_leaving(&self) -> bool {
+        for place in self.places.iter() {
+            if let Some(attending) = place.attending() {
+                if attending.is_closed() {
                     return true;
                 }
             }
@@ -69,7 +124,7 @@ impl Places {
     /// Whether a connection is served.
     fn is_serving(&self) -> bool {
         for place in self.places.iter() {
-            if let Some(attending) = place {
+            if let Some(attending) = place.attending() {
                 if attending.role != Role::Listener {
                     return true;
                 }
@@ -81,24 +136,39 @@ impl Places {
     /// Ends what goes through each socket.
     fn shut_all(&self) {
         for place in self.places.iter() {
-            if let Some(attending) = place {
+            if let Some(attending) = place.attending() {
                 shutdown(attending.socket, SHUT_RDWR);
             }
         }
     }
 
-    /// Takes in a socket at a place of its own, and gives that. Where there is no room it isn't taken in: no memory is asked for.
-    fn take_in(&mut self, attending: Attending) -> usize {
+    /// Reserves a place and returns it. If there is no room, it returns one that does not exist. Does not allocate.
+    fn reserve(&mut self) -> usize {
+        if let Some(place) = self.places.iter().position(|place| place.is_free()) {
+            self.put(place, Place::Reserved);
+            return place;
+        }
         let place = self.places.len();
         if place < self.places.capacity() {
-            self.places.push_reserved(Some(attending));
+            self.places.push_reserved(Place::Reserved);
         }
         place
     }
 
-    fn put(&mut self, place: usize, attending: Option<Attending>) {
+    fn put(&mut self, place: usize, used: Place) {
         if let Some(slot) = self.places.get_mut(place) {
-            *slot = attending;
+            *slot = used;
+        }
+    }
+
+    /// Frees a place that its thread has left, and returns whether it has.
+    fn free_left(&mut self, place: usize) -> bool {
+        match self.places.get_mut(place) {
+            Some(slot) if slot.has_left() => {
+                *slot = Place::Free;
+                true
+            }
+            _ => false,
         }
     }
 }
@@ -130,6 +200,21 @@ impl OpenConnections {
         let connections = usize::from(counts.cards)
             + usize::from(counts.renders)
             + usize::from(counts.roots);
+        OpenConnections::with_room(alloc, connections, ended)
+    }
+
+    /// None is open yet. There is room for [`MOST_AT_ONCE`] connections of each listener, and for the listeners.
+    pub fn until_ended(alloc: Global) -> Result<OpenConnections, AllocError> {
+        OpenConnections::with_room(alloc, LISTENERS * MOST_AT_ONCE, None)
+    }
+
+    fn with_room(
+        alloc: Global,
+        connections: usize,
+        ended: Option<UnixStream>,
+    ) -> Result<OpenConnections, AllocError>
+        requires { connections ≤ 1000 }
+    {
         let places = Vec::with_capacity(alloc, connections + LISTENERS)?;
         let notes = Notes::new(alloc)?;
         Ok(OpenConnections {
@@ -180,20 +265,40 @@ impl OpenConnections {
         self.places.lock(rt).alloc
     }
 
-    /// Takes in a socket, until the attendance is let go; it has to be open for as long. Where all were told to end, it is.
+    /// Reserves a place for a socket on which a thread will wait.
+    pub fn reserve<R: Wait>(&self, rt: &R) -> usize {
+        // there is room; without it a connection would be served, and not be ended
+        self.places.lock(rt).reserve()
+    }
+
+    /// Frees a place whose attendance was let go, and returns whether it was.
+    pub fn free_left<R: Wait>(&self, rt: &R, place: usize) -> bool {
+        self.places.lock(rt).free_left(place)
+    }
+
+    /// Waits until no connection is served that was closed at the other end.
+    pub fn wait_for_leaving<R: Wait>(&self, rt: &R) {
+        let places = self.places.lock(rt);
+        drop(
+            self.left
+                .wait_while(rt, places, |places| places.is_leaving()),
+        );
+    }
+
+    /// Takes in a socket at a reserved place, until the attendance is let go. The socket has to be open for as long. If all were told to
+    /// end, it is ended.
     pub fn attend<'a, R: Wait>(
         &'a self,
         rt: &'a R,
+        place: usize,
         socket: RawFd,
         role: Role,
     ) -> Attendance<'a, R> {
-        let attending = Attending { socket, role };
         let mut places = self.places.lock(rt);
         if places.has_ended {
             shutdown(socket, SHUT_RDWR);
         }
-        // there is room; without it a connection would be served, and not be ended
-        let place = places.take_in(attending);
+        places.put(place, Place::Taken(Attending { socket, role }));
         Attendance {
             rt,
             open: self,
@@ -223,7 +328,7 @@ impl<R: Wait> Attendance<'_, R> {
             .open
             .left
             .wait_while(self.rt, gathered, |places| places.has_gone());
-        places.put(self.place, Some(admitted));
+        places.put(self.place, Place::Taken(admitted));
     }
 }
 
@@ -235,7 +340,7 @@ impl<R: Wait> Drop for Attendance<'_, R> {
             place,
             socket: _socket,
         } = self;
-        open.places.lock(rt).put(place, None);
+        open.places.lock(rt).put(place, Place::Left);
         open.left.notify_all();
     }
 }

@@ -6,7 +6,7 @@ use Rattle.std.proofs.Math.Seq.{drop-append-add, drop-append_seam, take-append_s
 use Rattle.std.proofs.lemmas.List.Elements.{All-append, All-cons, All-head, All-nil, All-same, All-tail}
 use Rattle.drm_turns.specs.declared.history.Entry.{Entry}
 use Rattle.drm_turns.specs.History.{AllDiffer, Has, StartsWith}
-use Rattle.drm_turns.specs.Participants.{HasSeen, ParticipantView, numbers_of}
+use Rattle.drm_turns.specs.Participants.{HasSeen, HasTakenIn, ParticipantView, numbers_of}
 use Rattle.drm_turns.proofs.Taken.{all-seen-more, starts_on}
 use Rattle.drm_sessions.specs.declared.class.Class.{Class}
 use Rattle.drm_sessions.specs.declared.class.Class.TheVariants.{Card, Render, Root}
@@ -33,7 +33,7 @@ map-both : {A B : Type 0} (f : A → B) (xs ys : List A) → map f (xs ++ ys) �
 map-both f [] ys = refl
 map-both f (x ∷ xs) ys = ap (λ (l : List _). f x ∷ l) (map-both f xs ys)
 
-map-three : {A B : Type 0} (f : A → B) (xs ys zs : List A) → map f (xs ++ (ys ++ zs)) ≡ map f xs ++ (map f ys ++ map f zs)
+pub map-three : {A B : Type 0} (f : A → B) (xs ys zs : List A) → map f (xs ++ (ys ++ zs)) ≡ map f xs ++ (map f ys ++ map f zs)
 map-three f xs ys zs = map-both f xs (ys ++ zs) ∙ ap (λ (l : List _). map f xs ++ l) (map-both f ys zs)
 
 pub if_ok : {D E : Type 0} {P Q : D → Type 0} (r : Result D E) → ((d : D) → P d → Q d) → IfOk r P → IfOk r Q
@@ -43,6 +43,10 @@ if_ok (Err e) step h = tt
 pub if_ok_three : {D E : Type 0} (P Q R : D → Type 0) (r : Result D E) → IfOk r P → IfOk r Q → IfOk r R → IfOk r (λ d. P d × Q d × R d)
 if_ok_three P Q R (Ok d) p q r = (p, q, r)
 if_ok_three P Q R (Err e) p q r = tt
+
+pub if_ok_both : {D E : Type 0} (P Q : D → Type 0) (r : Result D E) → IfOk r P → IfOk r Q → IfOk r (λ d. P d × Q d)
+if_ok_both P Q (Ok d) p q = (p, q)
+if_ok_both P Q (Err e) p q = tt
 
 pub on_ok : {D E : Type 0} {P Q : Type 0} (r : Result D E) → (P → Q) → OnOk r P → OnOk r Q
 on_ok (Ok d) step h = step h
@@ -68,7 +72,7 @@ differ-without (x ∷ xs) y ys d = (λ h. d.0 (has-beside x xs y ys h), differ-w
 
 -- ---- the sessions by their classes
 
-of-class : (class : Class) (sittings : List SessionState) → All (λ (s : SessionState). IsSessionBy class s.participant s.session) sittings → All (IsSessionOf class) (sessions_in sittings)
+pub of-class : (class : Class) (sittings : List SessionState) → All (λ (s : SessionState). IsSessionBy class s.participant s.session) sittings → All (IsSessionOf class) (sessions_in sittings)
 of-class class [] h = All-nil (IsSessionOf class)
 of-class class (s ∷ sittings) h =
     All-cons (IsSessionOf class) s.session (sessions_in sittings) (s.participant, All-head (λ (x : SessionState). IsSessionBy class x.participant x.session) s sittings h)
@@ -78,7 +82,7 @@ of-listener : (class : Class) (count : ℕ) (participant : ParticipantView) (ser
 of-listener class count participant served h = subst (λ (l : List Session). All (IsSessionOf class) l) (sym h.sessions) (of-class class h.sittings h.of_class)
 
 -- what stands in each of three parts, whose lengths are the counts
-parted : {A : Type 0} (P Q R : A → Type 0) (counts : Counts) (cards renders roots : List A) → length cards ≡ counts.cards → length renders ≡ counts.renders
+pub parted : {A : Type 0} (P Q R : A → Type 0) (counts : Counts) (cards renders roots : List A) → length cards ≡ counts.cards → length renders ≡ counts.renders
     → All P cards → All Q renders → All R roots
     → All P (card_sessions counts (cards ++ (renders ++ roots))) × All Q (render_sessions counts (cards ++ (renders ++ roots))) × All R (root_sessions counts (cards ++ (renders ++ roots)))
 parted {A} P Q R counts cards renders roots c r of_cards of_renders of_roots =
@@ -114,36 +118,42 @@ number-of class count participant served h = sym (length-sessions h.sittings) �
 numbers-three : (xs ys zs : List SessionState) → numbers_of (participants_in (xs ++ (ys ++ zs))) ≡ numbers_of (participants_in xs) ++ (numbers_of (participants_in ys) ++ numbers_of (participants_in zs))
 numbers-three xs ys zs = ap numbers_of (map-three (λ (s : SessionState). s.participant) xs ys zs) ∙ map-three (λ (s : ParticipantView). s.number) (participants_in xs) (participants_in ys) (participants_in zs)
 
+-- sessions of three classes, and the participants that took in theirs
+pub sat-of : (counts : Counts) (card render root old new : ParticipantView) (cards renders roots : List SessionState) (sessions : List Session) → length cards ≡ counts.cards → length renders ≡ counts.renders
+    → All (IsBy Card) cards → All (IsBy Render) renders → All (IsBy Root) roots
+    → HasTakenIn card (participants_in cards) → HasTakenIn render (participants_in renders) → HasTakenIn root (participants_in roots)
+    → StartsWith new.seen card.seen × StartsWith new.seen render.seen × StartsWith new.seen root.seen
+    → old.merged ≡ [] → new.merged ≡ ((old.merged ++ card.number ∷ card.merged) ++ render.number ∷ render.merged) ++ root.number ∷ root.merged
+    → AllDiffer new.merged → sessions ≡ sessions_in (cards ++ (renders ++ roots)) → HaveSat counts new sessions
+sat-of counts card render root old new cards renders roots sessions c r of_cards of_renders of_roots cards_taken renders_taken roots_taken seen none merged differ is =
+    let begun : List ℕ = old.merged ++ card.number ∷ card.merged in
+    let without_root : AllDiffer ((begun ++ render.number ∷ render.merged) ++ root.merged) = differ-without (begun ++ render.number ∷ render.merged) root.number root.merged (subst AllDiffer merged differ) in
+    let without_render : AllDiffer (begun ++ (render.merged ++ root.merged)) = differ-without begun render.number (render.merged ++ root.merged) (subst AllDiffer (append_assoc begun (render.number ∷ render.merged) root.merged) without_root) in
+    let without_card : AllDiffer (old.merged ++ (card.merged ++ (render.merged ++ root.merged))) =
+    differ-without old.merged card.number (card.merged ++ (render.merged ++ root.merged)) (subst AllDiffer (append_assoc old.merged (card.number ∷ card.merged) (render.merged ++ root.merged)) without_render) in
+    let numbers : card.merged ++ (render.merged ++ root.merged) ≡ numbers_of (participants_in (cards ++ (renders ++ roots))) =
+    (λ i. cards_taken.merged i ++ (renders_taken.merged i ++ roots_taken.merged i)) ∙ sym (numbers-three cards renders roots) in
+    let parts = parted (IsBy Card) (IsBy Render) (IsBy Root) counts cards renders roots c r of_cards of_renders of_roots in
+    record {
+      sittings = cards ++ (renders ++ roots);
+      are = is;
+      cards = parts.0;
+      renders = parts.1;
+      roots = parts.2;
+      seen = subst (λ (l : List ParticipantView). AllByRecursion (HasSeen new) l) (sym (map-three (λ (s : SessionState). s.participant) cards renders roots))
+          (all-both (HasSeen new) (participants_in cards) (participants_in renders ++ participants_in roots) (all-seen-more card new seen.0 (participants_in cards) cards_taken.seen)
+          (all-both (HasSeen new) (participants_in renders) (participants_in roots) (all-seen-more render new seen.1 (participants_in renders) renders_taken.seen) (all-seen-more root new seen.2 (participants_in roots) roots_taken.seen)));
+      differ = subst AllDiffer numbers (subst (λ (l : List ℕ). AllDiffer (l ++ (card.merged ++ (render.merged ++ root.merged)))) none without_card);
+    }
+
 pub have-sat : (counts : Counts) (participants : ByClass ParticipantView) (served : ByClass ServedListener) (old new : ParticipantView) (sessions : List Session) → AreServed counts participants served
     → StartsWith new.seen served.card.participant.seen × StartsWith new.seen served.render.participant.seen × StartsWith new.seen served.root.participant.seen
     → old.merged ≡ [] → new.merged ≡ ((old.merged ++ served.card.participant.number ∷ served.card.participant.merged) ++ served.render.participant.number ∷ served.render.participant.merged) ++ served.root.participant.number ∷ served.root.participant.merged
     → AllDiffer new.merged → sessions ≡ served.card.sessions.items ++ (served.render.sessions.items ++ served.root.sessions.items) → HaveSat counts new sessions
 have-sat counts participants served old new sessions h seen none merged differ is =
-    let cards : List SessionState = h.card.sittings in
-    let renders : List SessionState = h.render.sittings in
-    let roots : List SessionState = h.root.sittings in
-    let card : List ℕ = served.card.participant.merged in
-    let render : List ℕ = served.render.participant.merged in
-    let root : List ℕ = served.root.participant.merged in
-    let begun : List ℕ = old.merged ++ served.card.participant.number ∷ card in
-    let without_root : AllDiffer ((begun ++ served.render.participant.number ∷ render) ++ root) = differ-without (begun ++ served.render.participant.number ∷ render) served.root.participant.number root (subst AllDiffer merged differ) in
-    let without_render : AllDiffer (begun ++ (render ++ root)) = differ-without begun served.render.participant.number (render ++ root) (subst AllDiffer (append_assoc begun (served.render.participant.number ∷ render) root) without_root) in
-    let without_card : AllDiffer (old.merged ++ (card ++ (render ++ root))) = differ-without old.merged served.card.participant.number (card ++ (render ++ root)) (subst AllDiffer (append_assoc old.merged (served.card.participant.number ∷ card) (render ++ root)) without_render) in
-    let numbers : card ++ (render ++ root) ≡ numbers_of (participants_in (cards ++ (renders ++ roots))) =
-    (λ i. h.card.taken.merged i ++ (h.render.taken.merged i ++ h.root.taken.merged i)) ∙ sym (numbers-three cards renders roots) in
-    let parts =
-    parted (IsBy Card) (IsBy Render) (IsBy Root) counts cards renders roots (number-of _ _ _ _ h.card) (number-of _ _ _ _ h.render) h.card.of_class h.render.of_class h.root.of_class in
-    record {
-      sittings = cards ++ (renders ++ roots);
-      are = is ∙ (λ i. h.card.sessions i ++ (h.render.sessions i ++ h.root.sessions i)) ∙ sym (map-three (λ (s : SessionState). s.session) cards renders roots);
-      cards = parts.0;
-      renders = parts.1;
-      roots = parts.2;
-      seen = subst (λ (l : List ParticipantView). AllByRecursion (HasSeen new) l) (sym (map-three (λ (s : SessionState). s.participant) cards renders roots))
-          (all-both (HasSeen new) (participants_in cards) (participants_in renders ++ participants_in roots) (all-seen-more served.card.participant new seen.0 (participants_in cards) h.card.taken.seen)
-          (all-both (HasSeen new) (participants_in renders) (participants_in roots) (all-seen-more served.render.participant new seen.1 (participants_in renders) h.render.taken.seen) (all-seen-more served.root.participant new seen.2 (participants_in roots) h.root.taken.seen)));
-      differ = subst AllDiffer numbers (subst (λ (l : List ℕ). AllDiffer (l ++ (card ++ (render ++ root)))) none without_card);
-    }
+    sat-of counts served.card.participant served.render.participant served.root.participant old new h.card.sittings h.render.sittings h.root.sittings sessions (number-of _ _ _ _ h.card) (number-of _ _ _ _ h.render)
+    h.card.of_class h.render.of_class h.root.of_class h.card.taken h.render.taken h.root.taken seen none merged differ
+    (is ∙ (λ i. h.card.sessions i ++ (h.render.sessions i ++ h.root.sessions i)) ∙ sym (map-three (λ (s : SessionState). s.session) h.card.sittings h.render.sittings h.root.sittings))
 
 -- ---- the history
 

@@ -6,6 +6,7 @@ use Rattle.drm_turns.specs.Participants.{HasTakenIn, IsChild, Same, ParticipantV
 use Rattle.drm_streams.specs.Streams.{SourceTrace, SinkTrace, no_calls}
 use Rattle.drm_sessions.specs.declared.class.Class.{Class}
 use Rattle.drm_sessions.specs.declared.end.Session.{Session}
+use Rattle.drm_sessions.specs.declared.through.Served.{Served}
 use Rattle.drm_sessions.specs.Serving.{Costs, all_steps}
 use Rattle.drm_sessions.specs.Shared.{ServesShared}
 use Rattle.drm_listeners.specs.declared.connections.Failed.{Failed}
@@ -35,6 +36,11 @@ pub record IsSessionBy (class : Class) (participant : ParticipantView) (session 
 -- the same, through some participant
 abbrev pub IsSessionOf : Class → Session → Type 0
 IsSessionOf class session = (participant : ParticipantView) × IsSessionBy class participant session
+
+-- A session of this class was served through the participant, which took in no other and has those that were split off it.
+abbrev pub IsServedBy : Class → ParticipantView → Served → Type 0
+IsServedBy class participant served = IsSessionBy class served.participant served.session
+    × Same participant served.participant × (served.participant.merged ≡ []) × Unchanged participant served.participant
 
 -- a session, and its participant as the session left it
 pub record SessionState : Type 0 where

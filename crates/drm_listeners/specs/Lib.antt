@@ -1,3 +1,4 @@
 pub mod Connections
 pub mod Listeners
 pub mod Serving
+pub mod UntilEnded

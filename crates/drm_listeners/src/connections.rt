@@ -8,7 +8,7 @@ ghost use Rattle.drm_streams.specs.Streams.{no_calls};
 ghost use Rattle.drm_sessions.specs.Matched.{Matched};
 ghost use Rattle.drm_sessions.specs.Serving.{Costs, all_steps};
 ghost use Rattle.drm_sessions.specs.Shared.{ServesShared};
-ghost use Rattle.drm_listeners.specs.Connections.{IsFailed, IsFresh, IsRoomFor, IsSessionBy, IsUnused, Serves, SessionState, connection_turns, participants_in, sessions_in};
+ghost use Rattle.drm_listeners.specs.Connections.{IsFailed, IsFresh, IsRoomFor, IsServedBy, IsSessionBy, IsUnused, Serves, SessionState, connection_turns, participants_in, sessions_in};
 
 use crate::hall::Gathering;
 use crate::serve_faults::ServeFault;
@@ -60,18 +60,25 @@ struct Started {
 
 /// That a thread serves a connection of this class through the participant, and gives that back.
 #[derive(Drop)]
-struct ConnectionServed {
+pub(crate) struct ConnectionServed {
     class: Class,
     participant: Snapshot<Seat>,
 }
 
 impl Promise<Served> for ConnectionServed {
-    ghost kept_by = { λ promise served. IsSessionBy promise.class served.participant served.session
-        × Same promise.participant.value served.participant × (served.participant.merged ≡ []) × Unchanged promise.participant.value served.participant };
+    ghost kept_by = { λ promise served. IsServedBy promise.class promise.participant.value served };
 }
 
 /// A thread that serves a connection.
-type ConnectionHandle = PromisedHandle<Served, ConnectionServed>;
+pub(crate) type ConnectionHandle = PromisedHandle<Served, ConnectionServed>;
+
+/// A connection of a listener of this class, and the place that is reserved for it among the open ones.
+#[derive(Drop)]
+pub(crate) struct Visitor {
+    pub(crate) class: Class,
+    pub(crate) stream: UnixStream,
+    pub(crate) place: usize,
+}
 
 /// The threads of a listener's connections. They lie in the stack of the listener's own thread, and so take no memory: a list that is
 /// reserved before can't go to that thread, since handles don't cross threads.
@@ -112,21 +119,24 @@ fn serve_attended<R: Wait, D: Gathering>(
     rt: &R,
     shared: &D,
     participant: Seat,
-    class: Class,
-    stream: UnixStream,
+    visitor: Visitor,
 ) -> Served
     requires { IsFresh (D.table shared.now) participant }
-    ensures session { IsSessionBy class result.participant result.session }
+    ensures session { IsSessionBy visitor.class result.participant result.session }
     ensures same { Same participant result.participant }
     ensures merged { result.participant.merged ≡ [] }
     ensures unchanged { Unchanged participant result.participant }
 {
-    let attendance = shared
-        .open()
-        .attend(rt, stream.as_raw_fd(), Role::Connection);
-    let ahead = Ahead::new(shared.open().alloc(rt));
+    let Visitor {
+        class,
+        stream,
+        place,
+    } = visitor;
+    let open = shared.open();
+    let attendance = open.attend(rt, place, stream.as_raw_fd(), Role::Connection);
+    let ahead = Ahead::new(open.alloc(rt));
     let mut source = FromRead::new(Greeting::new(&stream, &ahead, &attendance));
-    let mut sink = ToWrite::new(Answering::new(&stream, &ahead));
+    let mut sink = ToWrite::new(Answering::new(rt, &stream, &ahead, open.notes()));
     serve_sides(rt, shared, participant, class, &mut source, &mut sink)
 }
 
@@ -135,16 +145,13 @@ fn serve_connection<R: Wait + Log, D: Gathering>(
     rt: &R,
     shared: &D,
     participant: Seat,
-    class: Class,
-    stream: UnixStream,
+    visitor: Visitor,
 ) -> Served
     requires { IsFresh (D.table shared.now) participant }
-    ensures session { IsSessionBy class result.participant result.session }
-    ensures same { Same participant result.participant }
-    ensures merged { result.participant.merged ≡ [] }
-    ensures unchanged { Unchanged participant result.participant }
+    ensures { IsServedBy visitor.class participant result }
 {
-    let served = serve_attended(rt, shared, participant, class, stream);
+    let class = visitor.class;
+    let served = serve_attended(rt, shared, participant, visitor);
     if let Some(note) = Note::of_session(class, &served.session) {
         if !shared.open().has_ended(rt) {
             shared.open().notes().add(rt, note);
@@ -153,8 +160,38 @@ fn serve_connection<R: Wait + Log, D: Gathering>(
     served
 }
 
-// Accepts a connection, and starts the thread that serves it. If none can be accepted, the system's reason is logged. If no thread can be
-// started, the connection is ended: then this serves what it still carried, since only a session returns the participant.
+/// Starts a thread that serves a connection. If none can be started, the connection is ended: then this serves what it still carried,
+/// since only a session returns the participant.
+pub(crate) fn start_visitor<'s, E: 's, R: Wait + Threads + Log + Sync, D: Gathering + Sync>(
+    scope: &Scope<'s, E>,
+    rt: &'s R,
+    shared: &'s D,
+    participant: Seat,
+    visitor: Visitor,
+) -> Result<ConnectionHandle, Served>
+    requires { IsFresh (D.table shared.now) participant }
+    ensures class { IfOk result (λ handle. handle.promise.class ≡ visitor.class) }
+    ensures participant { IfOk result (λ handle. handle.promise.participant.value ≡ participant) }
+    ensures ended { IfErr result (λ served. IsServedBy visitor.class participant served) }
+{
+    let socket = visitor.stream.as_raw_fd();
+    let promise = ConnectionServed {
+        class: visitor.class,
+        participant: Snapshot::of(&participant),
+    };
+    match scope.spawn_with(
+        promise,
+        move || serve_connection(rt, shared, participant, visitor),
+    ) {
+        Ok(handle) => Ok(handle),
+        Err(refused) => {
+            shutdown(socket, SHUT_RDWR);
+            Err((refused.value)())
+        }
+    }
+}
+
+// Accepts a connection, and starts the thread that serves it. If none can be accepted, the system's reason is logged.
 fn start_connection<'s, E: 's, R: Wait + Threads + Log + Sync, D: Gathering + Sync>(
     scope: &Scope<'s, E>,
     rt: &'s R,
@@ -179,24 +216,18 @@ fn start_connection<'s, E: 's, R: Wait + Threads + Log + Sync, D: Gathering + Sy
             });
         }
     };
-    let socket = stream.as_raw_fd();
-    let promise = ConnectionServed {
+    let place = shared.open().reserve(rt);
+    let visitor = Visitor {
         class,
-        participant: Snapshot::of(&participant),
+        stream,
+        place,
     };
-    match scope.spawn_with(
-        promise,
-        move || serve_connection(rt, shared, participant, class, stream),
-    ) {
+    match start_visitor(scope, rt, shared, participant, visitor) {
         Ok(handle) => Ok(handle),
-        Err(refused) => {
-            shutdown(socket, SHUT_RDWR);
-            let served = (refused.value)();
-            Err(Failed {
-                fault: ServeFault::NoThread,
-                participant: served.participant,
-            })
-        }
+        Err(served) => Err(Failed {
+            fault: ServeFault::NoThread,
+            participant: served.participant,
+        }),
     }
 }
 
@@ -223,9 +254,10 @@ fn start_connections<'s, E: 's, R: Wait + Threads + Log + Sync, D: Gathering + S
     ensures one_more { IfSome result.failed (λ failed. own.new.outstanding ≡ own.old.outstanding + array_vec_len result.handles + 1) }
 {
     let mut handles = ConnectionHandles::new();
+    let place = shared.open().reserve(rt);
     let _attendance = shared
         .open()
-        .attend(rt, listener.socket.as_raw_fd(), Role::Listener);
+        .attend(rt, place, listener.socket.as_raw_fd(), Role::Listener);
     for _ in 0..listener.count {
         let participant = shared.device().split(own);
         match start_connection(scope, rt, shared, participant, &listener) {

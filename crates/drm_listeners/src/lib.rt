@@ -3,9 +3,13 @@
 
 mod connections;
 mod hall;
+mod lasting;
+mod lasting_listeners;
 mod listeners;
 mod serve_faults;
 mod serving;
+mod until_ended;
 
 pub use serve_faults::ServeFault;
 pub use serving::{Unserved, serve_all, serve_keeping, serve_until_told};
+pub use until_ended::serve_until_ended;

@@ -206,7 +206,7 @@ fn log_notes<R: Wait + Log, D: Gathering>(rt: &R, shared: &D) {
 }
 
 // Starts the thread that logs.
-fn start_logging<'s, E: 's, R: Wait + Threads + Log + Sync, D: Gathering + Sync>(
+pub(crate) fn start_logging<'s, E: 's, R: Wait + Threads + Log + Sync, D: Gathering + Sync>(
     scope: &Scope<'s, E>,
     rt: &'s R,
     shared: &'s D,

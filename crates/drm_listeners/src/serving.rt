@@ -39,7 +39,7 @@ fn put_behind(sessions: &mut Vec<Session>, more: Vec<Session>)
 }
 
 // Takes in the participants of the listeners.
-fn take_in(shared: &SharedDevice, participant: &mut Seat, participants: ByClass<Seat>)
+pub(crate) fn take_in(shared: &SharedDevice, participant: &mut Seat, participants: ByClass<Seat>)
     requires own { participant.old.table ≡ shared.now }
     requires cards { participants.card.table ≡ shared.now }
     requires renders { participants.render.table ≡ shared.now }

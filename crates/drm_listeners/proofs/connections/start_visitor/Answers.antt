@@ -3,24 +3,22 @@ use denote.Exit.{no}
 use denote.Param.{param}
 use denote.RattleType.{RattleType}
 use denote.Struct.Field.{shr_ref_field}
-use denote.Param.Send.{arg_send, param_send, sendable, shr_send}
+use denote.Param.Send.{arg_send, param_send, shr_send}
 use Rattle.std.proofs.Common.{[], ◌∷◌, codes}
-use Rattle.std.proofs.Crossing.{crosses}
-use Rattle.std.specs.contracts.net.unix.UnixStream as stream
 use Rattle.drm_turns.proofs.Crossing.{closure_send, participant_send}
 use Rattle.drm_turns.specs.contracts.seat.Seat as participant
-use Rattle.drm_sessions.proofs.class.Class.TheSendSync as class
-use Rattle.drm_sessions.specs.contracts.class.Class as class_type
+use Rattle.drm_listeners.proofs.connections.Visitor.TheSendSync as visitor
+use Rattle.drm_listeners.specs.contracts.connections.Visitor as visitor_type
 use Rattle.drm_listeners.proofs.Crossing.{served_send}
-use Rattle.drm_listeners.proofs.connections.start_connection.Goals as goal
+use Rattle.drm_listeners.proofs.connections.start_visitor.Goals as goal
 
--- what the thread takes along: the runtime and the device by `&`, the participant, the class and the stream
+-- what the thread takes along: the runtime and the device by `&`, the participant and the visitor
 pub spawn_with-requires-send-F : goal.spawn_with-requires-send-F
 spawn_with-requires-send-F g c κs within =
     let rt : RattleType = (shr_ref_field record { mir = named 6; lft = κs.1.1.1.1.1.1.0 } (param 1 g.row.R) tt).row in
     let shared : RattleType = (shr_ref_field record { mir = named 7; lft = κs.1.1.1.1.1.1.1.0 } (param 2 g.row.D) tt).row in
-    param_send _ _ (arg_send _ no _ (closure_send (codes "drm_listeners::connections::fn::start_connection::spawn_with+Self") (rt ∷ shared ∷ participant.the_row ∷ class_type.the_row ∷ stream.the_row ∷ [])
-    (shr_send _ _ _ c.type_bounds.sync-R, (shr_send _ _ _ c.type_bounds.sync-D, (participant_send, (class.the_send, ((search (crosses, sendable) depth 20), tt)))))))
+    param_send _ _ (arg_send _ no _ (closure_send (codes "drm_listeners::connections::fn::start_visitor::spawn_with+Self") (rt ∷ shared ∷ participant.the_row ∷ visitor_type.the_row ∷ [])
+    (shr_send _ _ _ c.type_bounds.sync-R, (shr_send _ _ _ c.type_bounds.sync-D, (participant_send, (visitor.the_send, tt))))))
 
 pub spawn_with-requires-send-T : goal.spawn_with-requires-send-T
 spawn_with-requires-send-T g c κs within = param_send _ _ (arg_send _ no _ served_send)

@@ -1,0 +1,21 @@
+use Rattle.std.proofs.Common.{◌≡◌, ◌+◌, ◌≤◌, length}
+use Rattle.arrayvec.specs.ArrayVec.{array_vec_len}
+use Rattle.drm_turns.specs.Participants.{Same}
+use Rattle.drm_listeners.specs.declared.lasting.Awaited.TheVariants as awaited
+use Rattle.drm_listeners.specs.UntilEnded.{ArePromised, HasServed}
+use Rattle.drm_listeners.proofs.lasting.join_visits.Given as goal
+
+-- the connections so far were waited for or are left, and those to come have their threads
+abbrev pub invariant-loop-started : goal.invariant-loop-started
+invariant-loop-started g l = record {
+  can : (goal.iterator-loop-started g).can_next l.started-iterator;
+  ends : (goal.iterator-loop-started g).is_finite l.started-iterator;
+  same : Same l.initial.own l.own;
+  parent : l.own.parent ≡ l.initial.own.parent;
+  served : HasServed l.fn.class l.own;
+  waiting : ArePromised (λ visit. visit.handle.promise) l.fn.class l.own l.started-iterator;
+  promised : ArePromised (λ visit. visit.handle.promise) l.fn.class l.own l.left.items;
+  outstanding : l.own.outstanding + length l.initial.started-iterator ≡ l.initial.own.outstanding + (length l.started-iterator + array_vec_len l.left);
+  room : length l.started-iterator + array_vec_len l.left ≤ 64;
+  none : l.awaited ≡ awaited.All → array_vec_len l.left ≡ 0;
+}

@@ -1,0 +1,92 @@
+-- Listeners that accept connections until they are told to end.
+use Rattle.std.specs.Prelude.{◌≡◌, ◌≢◌, ◌+◌, All, List, Option, Result, Ok, Err, IfSome, IsSomeAnd, length}
+use Rattle.drm_model.specs.Run.{DeviceValue}
+use Rattle.drm_turns.specs.Participants.{HasTakenIn, IsChild, ParticipantView, Same, Unchanged}
+use Rattle.drm_sessions.specs.declared.class.Class.{Class}
+use Rattle.drm_sessions.specs.declared.class.Class.TheVariants.{Card, Render, Root}
+use Rattle.drm_sessions.specs.declared.end.Session.{Session}
+use Rattle.drm_sessions.specs.Serving.{all_steps}
+use Rattle.drm_connections.specs.declared.counts.Counts.{Counts}
+use Rattle.drm_listeners.specs.declared.connections.ConnectionServed.{ConnectionServed}
+use Rattle.drm_listeners.specs.declared.connections.Failed.{Failed}
+use Rattle.drm_listeners.specs.declared.lasting_listeners.KeptListeners.{KeptListeners}
+use Rattle.drm_listeners.specs.declared.listeners.ByClass.{ByClass}
+use Rattle.drm_listeners.specs.declared.serve_faults.ServeFault.{ServeFault}
+use Rattle.drm_listeners.specs.declared.serve_faults.ServeFault.TheVariants as faults
+use Rattle.drm_listeners.specs.Connections.{IsFaultOf, IsSessionOf, SessionState, participants_in, sessions_in}
+use Rattle.drm_listeners.specs.Serving.{AreSessionsOf, HaveSat, IsBy, IsHistoryOf, card_sessions, connections, render_sessions, root_sessions}
+
+-- ---- one listener
+
+-- The participant has taken in those of sessions of this class, whose steps are all that it counts.
+pub record HasServed (class : Class) (participant : ParticipantView) : Type 0 where
+  pub sittings : List SessionState
+  pub of_class : All (IsBy class) sittings
+  pub taken : HasTakenIn participant (participants_in sittings)
+  pub journaled : participant.journaled ≡ all_steps (sessions_in sittings)
+
+-- A thread was promised to serve a connection of this class, through a participant that was split off this one.
+pub record IsPromised (class : Class) (participant : ParticipantView) (promise : ConnectionServed) : Type 0 where
+  pub of_class : promise.class ≡ class
+  pub table : promise.participant.value.table ≡ participant.table
+  pub child : IsChild participant promise.participant.value
+
+-- each of these has a thread, with such a promise
+abbrev pub ArePromised : {A : Type 0} → (A → ConnectionServed) → Class → ParticipantView → List (Option A) → Type 0
+ArePromised promise class participant visits = All (λ visit. IsSomeAnd visit (λ visit. IsPromised class participant (promise visit))) visits
+
+-- no fault, or one of a listener of this class
+abbrev pub IsFaultIn : Class → Option ServeFault → Type 0
+IsFaultIn class fault = IfSome fault (IsFaultOf class)
+
+-- The participant of a listener has served sessions of its class, and has back each participant that was split off it.
+pub record HasKept (class : Class) (participant own : ParticipantView) : Type 0 where
+  pub same : Same participant own
+  pub unchanged : Unchanged participant own
+  pub served : HasServed class own
+
+-- what came of a listener, with a fault or without
+abbrev pub Keeps : Class → ParticipantView → Result ParticipantView Failed → Type 0
+Keeps class participant (Ok own) = HasKept class participant own
+Keeps class participant (Err failed) = HasKept class participant failed.participant × IsFaultOf class failed.fault
+
+-- ---- three listeners
+
+-- what came of each of the three
+pub record AreKeeping (participants : ByClass ParticipantView) (kept : ByClass (Result ParticipantView Failed)) : Type 0 where
+  pub card : Keeps Card participants.card kept.card
+  pub render : Keeps Render participants.render kept.render
+  pub root : Keeps Root participants.root kept.root
+
+-- the fault, if there is one, is neither of the turn nor for want of memory
+abbrev pub IsOutside : Option ServeFault → Type 0
+IsOutside fault = IfSome fault (λ fault. (fault ≢ faults.TurnOut) × (fault ≢ faults.NoMemory))
+
+-- what came of the three
+pub record AreKept (participants : ByClass ParticipantView) (kept : KeptListeners) : Type 0 where
+  pub card : HasKept Card participants.card kept.participants.card
+  pub render : HasKept Render participants.render kept.participants.render
+  pub root : HasKept Root participants.root kept.participants.root
+  pub fault : IsOutside kept.fault
+
+-- ---- all sessions
+
+-- A participant has taken in those of as many sessions as each listener accepted connections, each of its class.
+pub record HaveAllSat (old participant : ParticipantView) : Type 0 where
+  pub counts : Counts
+  pub sessions : List Session
+  pub of_classes : AreSessionsOf counts sessions
+  pub sat : HaveSat counts participant sessions
+  pub journaled : participant.journaled ≡ old.journaled + all_steps sessions
+
+-- What came of a server: how many connections each listener accepted, a session of each, of its class, and one legal history of
+-- all of them.
+pub record HasServedAll (before after : DeviceValue) : Type 0 where
+  pub counts : Counts
+  pub sessions : List Session
+  pub count : length sessions ≡ connections counts
+  pub cards : All (IsSessionOf Card) (card_sessions counts sessions)
+  pub renders : All (IsSessionOf Render) (render_sessions counts sessions)
+  pub roots : All (IsSessionOf Root) (root_sessions counts sessions)
+  pub history : IsHistoryOf counts before after sessions
+  pub journaled : length after.journal ≡ length before.journal + all_steps sessions
