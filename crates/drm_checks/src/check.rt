@@ -22,6 +22,32 @@ pub struct Report {
     pub failed: u64,
 }
 
+impl Report {
+    ghost use Rattle.std.specs.Prelude.{◌≡◌};
+    ghost use Rattle.drm_checks.specs.Totals as totals;
+
+    /// Returns whether the whole file was checked and none of its lines expects an answer.
+    pub fn expects_nothing(&self) -> bool
+        ensures { result ≡ totals.expects_nothing self.now }
+    {
+        match self.end {
+            ScriptEnd::Done => self.passed == 0 && self.failed == 0,
+            _ => false,
+        }
+    }
+
+    /// Returns the number of failures: of expectations that were not met, or 1 for a file without an expectation.
+    pub fn failures(&self) -> u64
+        ensures { result ≡ totals.failures_of self.now }
+    {
+        if self.expects_nothing() {
+            1
+        } else {
+            self.failed
+        }
+    }
+}
+
 /// A check that goes on.
 #[derive(Drop)]
 struct Check {

@@ -2,18 +2,18 @@
 
 ghost use Rattle.std.specs.Prelude.{◌≡◌, ◌<◌, ◌+◌, ◌^◌};
 ghost use Rattle.drm_streams.specs.Texts.{WritesOut};
-ghost use Rattle.drm_checks.specs.Totals.{malformed_text, totals_text};
+ghost use Rattle.drm_checks.specs.Totals.{malformed_text, silent_text, totals_text};
 
 use crate::check::Report;
 use drm_runs::ScriptEnd;
 use drm_streams::{Sink, Written, put_each};
 
-/// The expectations and the files of several checks (own).
+/// The expectations and the files of several checks (own). A file without an expectation counts as one failure.
 #[derive(Clone, Copy, Debug, PartialEq, Eq)]
 pub struct Totals {
     /// How many expectations were met.
     pub passed: u64,
-    /// How many expectations were not.
+    /// The number of expectations that were not met, and of files that have none.
     pub failed: u64,
     /// How many files were malformed.
     pub malformed: u64,
@@ -44,13 +44,13 @@ impl Totals {
         };
         Totals {
             passed: self.passed.saturating_add(report.passed),
-            failed: self.failed.saturating_add(report.failed),
+            failed: self.failed.saturating_add(report.failures()),
             malformed: self.malformed.saturating_add(malformed),
         }
     }
 }
 
-/// Writes how many expectations passed and failed.
+/// Writes how many expectations passed, and how many expectations and files failed.
 pub fn write_totals<K: Sink>(totals: &Totals, sink: &mut K, turns: &mut u64) -> Written
     requires { (K.trace sink.old).counts.calls + turns.old < 2 ^ 48 }
     ensures { WritesOut result (K.trace sink.old) (K.trace sink.new) (totals_text totals.now) turns.old turns.new }
@@ -60,6 +60,14 @@ pub fn write_totals<K: Sink>(totals: &Totals, sink: &mut K, turns: &mut u64) -> 
     let passed = passed.format(totals.passed).as_bytes();
     let failed = failed.format(totals.failed).as_bytes();
     put_each(sink, &[passed, b" passed, ", failed, b" failed\n"], turns)
+}
+
+/// Writes that a file has no expectation: `NAME: no expected answers`.
+pub fn write_silent<K: Sink>(name: &str, sink: &mut K, turns: &mut u64) -> Written
+    requires { (K.trace sink.old).counts.calls + turns.old < 2 ^ 48 }
+    ensures { WritesOut result (K.trace sink.old) (K.trace sink.new) (silent_text name.now) turns.old turns.new }
+{
+    put_each(sink, &[name.as_bytes(), b": no expected answers\n"], turns)
 }
 
 /// Writes that a line of a file is malformed: the file's name and the line's number.

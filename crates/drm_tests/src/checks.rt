@@ -1,7 +1,7 @@
 //! Files with right and wrong expectations, whole and cut.
 
 use crate::comparing::same;
-use drm_checks::{Report, Totals, check_script, write_malformed, write_totals};
+use drm_checks::{Report, Totals, check_script, write_malformed, write_silent, write_totals};
 use drm_runs::ScriptEnd;
 use drm_streams::Written;
 use drm_test_streams::{Cut, CutSink, sink_of, source_of};
@@ -177,6 +177,9 @@ fn totals_of_files(rt: HostRuntime) {
         (ScriptEnd::Done, 7, 0),
         (ScriptEnd::Malformed(3), 1, 2),
         (ScriptEnd::Done, 0, 1),
+        (ScriptEnd::Done, 0, 0),
+        (ScriptEnd::Malformed(1), 0, 0),
+        (ScriptEnd::ReadFault, 0, 0),
     ];
     let mut totals = Totals::new();
     for (end, passed, failed) in reports {
@@ -189,17 +192,18 @@ fn totals_of_files(rt: HostRuntime) {
     }
     let sums = Totals {
         passed: 8,
-        failed: 3,
-        malformed: 1,
+        failed: 4,
+        malformed: 2,
     };
     same(&rt, &totals, &sums, "sums");
-    let mut turns = 9;
+    let mut turns = 11;
     let mut sink: CutSink<512> = CutSink::new(512);
     let written = [
         write_totals(&totals, &mut sink, &mut turns),
         write_malformed("f", 12, &mut sink, &mut turns),
+        write_silent("g", &mut sink, &mut turns),
     ];
-    same(&rt, &written, &[Written::Whole, Written::Whole], "ends");
-    let text = b"8 passed, 3 failed\nf:12: malformed\n";
+    same(&rt, &written, &[Written::Whole; 3], "ends");
+    let text = b"8 passed, 4 failed\nf:12: malformed\ng: no expected answers\n";
     same(&rt, &sink.written(), &text.as_slice(), "text");
 }
