@@ -102,7 +102,31 @@ class ChecksTests(FolderCase):
         )
         ran = run_program("check", "file", "-", script=script, cwd=folder)
         expect_end(ran, 4, "", "-:2: expected done, came version 1 0 0\n2 passed, 1 failed\n")
-        expect_end(run_program("check", "-", script=""), 0, "", "0 passed, 0 failed\n")
+        expect_end(run_program("check", "-", script=""), 4, "", "-: no expected answers\n0 passed, 1 failed\n")
+
+    def test_files_without_expectations(self):
+        """Each is named, and counts as one failure. A malformed one is malformed."""
+        folder = self.folder
+        (folder / "met").write_text("open a card -> client 1\n")
+        silent = {
+            "nothing": "",
+            "comments": "# open a card -> client 1\n\n",
+            "steps": "open a card\na version\n",
+            "a\x1b": "open a card\n",
+        }
+        for name, text in silent.items():
+            (folder / name).write_text(text)
+            shown = name.replace("\x1b", "\\x1b")
+            told = f"{shown}: no expected answers\n"
+            expect_end(run(PROGRAM, "check", name, cwd=folder), 4, "", told + "0 passed, 1 failed\n")
+            expect_end(
+                run(PROGRAM, "check", "met", name, "met", name, cwd=folder), 4, "", 2 * told + "2 passed, 2 failed\n"
+            )
+            ran = run(PROGRAM, "check", "--update", name, cwd=folder)
+            expect("an update", (ran.returncode, (folder / name).read_text()), (0, text))
+        (folder / "malformed").write_text("open a card\nfly\n")
+        ran = run(PROGRAM, "check", "malformed", cwd=folder)
+        expect("a malformed file", (ran.returncode, ran.stdout), (2, "malformed:2: malformed\n0 passed, 0 failed\n"))
 
     def test_causes_are_those_without_the_expectation(self):
         """What stands behind the first ` -> ` is no word of the line that is malformed, and counts for its length alone."""

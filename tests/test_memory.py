@@ -490,7 +490,7 @@ class StartTests(FolderCase):
 
     def test_command_lines_that_are_refused(self):
         folder = self.folder
-        for words in (["fly"], ["run", "now"], ["check"], ["serve", "--card", "c"], ["serve", "--cards", "65"]):
+        for words in (["fly"], ["run", "now", "then"], ["check"], ["serve", "--card", "c"], ["serve", "--cards", "65"]):
             plain = run_refusing(folder, 0, *words)
             for at, ran in refused_in_turn(folder, 1, *words):
                 if ran.returncode == 3:

@@ -147,6 +147,9 @@ class ProgramTests(FolderCase):
             expect("error output", ran.stderr, "")
             expect("status", ran.returncode, 0)
             expect("help of " + " ".join(words), "Usage" in ran.stdout, True)
+            _, _, listed = ran.stdout.partition("\nExit status:\n")
+            wanted = ["0", "1", "2", "3"] + (["4"] if words[0] in ("--help", "check") else [])
+            expect("the statuses that it lists", [line.split()[0] for line in listed.splitlines()], wanted)
 
     def test_version_is_printed(self):
         for word in ("--version", "-V"):
@@ -158,7 +161,7 @@ class ProgramTests(FolderCase):
         refused = (
             [],
             ["fly"],
-            ["run", "now"],
+            ["run", "now", "then"],
             ["check"],
             ["check", ""],
             ["check", "", "a"],
@@ -246,6 +249,65 @@ class ProgramTests(FolderCase):
             ran, 0, "", "client 1\nversion 1 0 0\ndumb 1 256 16384\ndone\ndenied 22 NoHandleToClose 22\nclosed\n"
         )
 
+    def test_script_of_a_file(self):
+        """A file is run as standard input is. `-`, and no word, is standard input."""
+        folder = self.folder
+        script = "open a card\na version\nfly\n"
+        (folder / "script").write_text(script)
+        answers = "client 1\nversion 1 0 0\n"
+        told = [
+            "ERROR line 3: column 1: `fly` is no label from a to z, and none of limits, open, open2 and close",
+            "fault: script line 3",
+        ]
+        expect_told(run(PROGRAM, "run", "script", cwd=folder), 2, told, answers)
+        for words in ([], ["-"]):
+            expect_told(run_program("run", *words, script=script, cwd=folder), 2, told, answers)
+        (folder / "-").write_text("open a render\na version\na version\n")
+        expect_end(run(PROGRAM, "run", "./-", cwd=folder), 0, "", answers + "version 1 0 0\n")
+        expect_end(run(PROGRAM, "run", "--journal", "journal", "./-", cwd=folder), 0, "", answers + "version 1 0 0\n")
+        expect_end(run(PROGRAM, "check", "journal", cwd=folder), 0, "", "3 passed, 0 failed\n")
+        expect_told(
+            run(PROGRAM, "run", "--journal", "script", "script", cwd=folder),
+            3,
+            ["ERROR script: the journal would replace the script", "fault: command line"],
+            "",
+        )
+        expect("the script", (folder / "script").read_text(), script)
+        for name, reason in ((".", "Is a directory (os error 21)"), ("none", "No such file or directory (os error 2)")):
+            ran = run(PROGRAM, "run", name, cwd=folder)
+            expect_told(ran, 1, [f"ERROR {name}: {reason}", "fault: read"], "")
+        expect_told(
+            run(PROGRAM, "run", "--journal", "other", "none", cwd=folder),
+            1,
+            [f"ERROR none: {reason}", "fault: read"],
+            "",
+        )
+        expect("whether a journal was created", (folder / "other").exists(), False)
+
+    def test_topology_of_a_pipe(self):
+        """It is read once, also where the device is made twice."""
+        folder = self.folder
+        file = REPOSITORY / "examples/topologies/laptop.topology"
+        script = "open a card -> client 1\na getresources -> crtcs 1,2 connectors 8,9 encoders 6,7 framebuffers -\n"
+        (folder / "script").write_text(script)
+        for words in (
+            ["run", "--journal", "journal", "plain"],
+            ["check", "script", "script"],
+            ["check", "--update", "script", "script"],
+            ["explain", "script"],
+            ["explain", "script", "--line", "2"],
+            ["serve", *path_words(folder), *count_words(0, 0, 0), "--journal", "journal"],
+        ):
+            (folder / "plain").write_text("open a card\na getresources\n")
+            wanted = run(PROGRAM, *words, "--topology", file, cwd=folder)
+            expect(f"status and error output of {words}", (wanted.returncode, wanted.stderr), (0, ""))
+            reading, writing = os.pipe()
+            os.write(writing, file.read_bytes())
+            os.close(writing)
+            ran = run(PROGRAM, *words, "--topology", f"/dev/fd/{reading}", cwd=folder, pass_fds=[reading])
+            os.close(reading)
+            expect_end(ran, 0, "", wanted.stdout)
+
     def test_files_that_check_themselves(self):
         for name in ("rows", "linux"):
             files = scripts(name)
@@ -286,8 +348,9 @@ class ProgramTests(FolderCase):
         cause = (
             f"ERROR {malformed}:3: column 1: `fly` is no label from a to z, and none of limits, open, open2 and close"
         )
-        expect_end(run_program("check", quiet), 0, "", "0 passed, 0 failed\n")
-        expect_end(run_program("check", met, quiet, met), 0, "", "4 passed, 0 failed\n")
+        silent = f"{quiet}: no expected answers\n"
+        expect_end(run_program("check", quiet), 4, "", silent + "0 passed, 1 failed\n")
+        expect_end(run_program("check", met, quiet, met), 4, "", silent + "4 passed, 1 failed\n")
         expect_end(run_program("check", met, unmet, met), 4, "", differences + "4 passed, 3 failed\n")
         expect_told(
             run_program("check", malformed, unmet, met), 2, [cause], stopped + differences + "2 passed, 4 failed\n"

@@ -37,6 +37,6 @@ status_by fault = option_map_or fault_status fault 0
 abbrev pub line_by : Option Fault → List ℕ
 line_by fault = option_map_or fault_line fault []
 
--- 2 where a file is malformed, 4 where an expectation isn't met, and else 0
+-- 2 where a file is malformed, 4 where an expectation isn't met or a file has none, and else 0
 abbrev pub checks_status : Totals → ℕ
 checks_status totals = if nat_lt 0 totals.malformed then 2 else (if nat_lt 0 totals.failed then 4 else 0)

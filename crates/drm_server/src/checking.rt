@@ -8,12 +8,12 @@ ghost use Rattle.drm_server.specs.Outcomes as outcomes;
 
 use crate::command_line::{AskedDevice, Checking};
 use crate::commands::explain_command;
-use crate::devices::asked_setup;
+use crate::devices::{TopologyText, asked_setup, read_asked};
 use crate::faults::Fault;
 use crate::files::LoggedRead;
 use crate::outcomes::{Outcome, outcome_of_checks, outcome_of_fault, script_fault};
 use crate::visible::Visible;
-use drm_checks::{Report, Totals, check_on, write_malformed, write_totals};
+use drm_checks::{Report, Totals, check_on, write_malformed, write_silent, write_totals};
 use drm_runs::ScriptEnd;
 use drm_script::Malformed;
 use drm_streams::{FromRead, ToWrite, Written};
@@ -61,9 +61,10 @@ fn check_file<R: Input + Files + Print + AllocGlobal + Log>(
     rt: &R,
     alloc: Global,
     asked: AskedDevice<'_>,
+    topology: Option<&TopologyText<'_>>,
     path: &str,
 ) -> Result<(Report, Option<Malformed>), Fault> {
-    let setup = asked_setup(rt, asked)?;
+    let setup = asked_setup(rt, asked.limits, topology)?;
     let mut sink = ToWrite::new(Visible::new(io::writer(rt)));
     if path == INPUT {
         let mut source = FromRead::new(LoggedRead::new(rt, path, rt.reader()));
@@ -110,16 +111,28 @@ pub(crate) fn tell_end<R: Print + Log>(
     }
 }
 
-/// Checks each file, and tells on standard output how many expectations are met and how many aren't.
+/// Prints the name of a file that has no expectation.
+fn tell_silent<R: Print>(rt: &R, path: &str, report: &Report) -> Result<(), Fault> {
+    if !report.expects_nothing() {
+        return Ok(());
+    }
+    let mut sink = ToWrite::new(Visible::new(io::writer(rt)));
+    let mut turns = MOST_TURNS;
+    fault_of(write_silent(path, &mut sink, &mut turns))
+}
+
+/// Checks each file, and prints how many expectations are met, and how many are not or are missing.
 fn check_files<R: Input + Files + Print + AllocGlobal + Log>(
     rt: &R,
     alloc: Global,
     checking: &Checking<'_>,
 ) -> Result<Totals, Fault> {
     let mut totals = Totals::new();
+    let topology = read_asked(rt, checking.device)?;
     for path in checking.files.as_slice() {
-        let (report, cause) = check_file(rt, alloc, checking.device, path)?;
+        let (report, cause) = check_file(rt, alloc, checking.device, topology.as_ref(), path)?;
         tell_end(rt, path, &report.end, cause)?;
+        tell_silent(rt, path, &report)?;
         totals = totals.add(&report);
     }
     let mut sink = ToWrite::new(io::writer(rt));

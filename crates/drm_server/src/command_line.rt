@@ -10,6 +10,48 @@ use std::alloc::{AllocError, Global};
 /// How many connections each listener may be told to accept.
 const MOST_CONNECTIONS: u64 = 64;
 
+/// The exit statuses of all commands.
+const STATUS: &str = "\
+Exit status:
+  0  done
+  1  a fault outside: a file, a socket, memory or a thread
+  2  a malformed script or topology
+  3  a refused command line
+  4  check: an expectation is not met, or a file has none";
+
+/// The exit statuses of `run`.
+const RUN_STATUS: &str = "\
+Exit status:
+  0  the script ended
+  1  the script, the journal or standard output failed, or no memory
+  2  a line of the script or of the topology is malformed
+  3  a refused command line";
+
+/// The exit statuses of `check`.
+const CHECK_STATUS: &str = "\
+Exit status:
+  0  all expectations are met, and each file has one
+  1  a file or standard output failed, or no memory
+  2  a file or the topology is malformed
+  3  a refused command line
+  4  an expectation is not met, or a file has none";
+
+/// The exit statuses of `explain`.
+const EXPLAIN_STATUS: &str = "\
+Exit status:
+  0  explained
+  1  the script or standard output failed, or no memory
+  2  a line of the script or of the topology is malformed
+  3  a refused command line, or no such client or line";
+
+/// The exit statuses of `serve`.
+const SERVE_STATUS: &str = "\
+Exit status:
+  0  all connections ended, and the device is listed
+  1  a socket, the journal or standard output failed, or no memory or thread
+  2  a line of the topology is malformed
+  3  a refused command line";
+
 /// A device as the command line asks for it.
 #[derive(Clone, Copy, Debug, PartialEq, Eq)]
 pub(crate) struct AskedDevice<'a> {
@@ -22,6 +64,8 @@ pub(crate) struct AskedDevice<'a> {
 /// How to run a script.
 #[derive(Clone, Copy, Debug, PartialEq, Eq)]
 pub(crate) struct Running<'a> {
+    /// The file of the script, if it is not on standard input.
+    pub(crate) path: Option<&'a str>,
     pub(crate) device: AskedDevice<'a>,
     /// Where what was noted is written at the end.
     pub(crate) journal: Option<&'a str>,
@@ -151,6 +195,7 @@ fn check_command<'a>(alloc: Global) -> Result<Command<'a>, Error> {
         .about(
             "Runs the scripts in files, each on a device of its own, and tells which answers are not those that they expect",
         )
+        .after_help(CHECK_STATUS)
         .arg(update)?
         .arg(topology(alloc))?
         .arg(script_limits(alloc))?
@@ -188,6 +233,7 @@ fn explain_command<'a>(alloc: Global) -> Result<Command<'a>, Error> {
         .about(
             "Runs the script in a file, and tells for each client and lease by which of its steps it has what it has",
         )
+        .after_help(EXPLAIN_STATUS)
         .arg(file)?
         .arg(client)?
         .arg(line)?
@@ -202,6 +248,7 @@ fn serve_command<'a>(alloc: Global) -> Result<Command<'a>, Error> {
         .about(
             "Serves connections on three Unix sockets, and lists what the device then holds on standard output, also after a fault",
         )
+        .after_help(SERVE_STATUS)
         .arg(path(alloc, "card", "The socket of primary clients"))?
         .arg(path(alloc, "render", "The socket of render clients"))?
         .arg(path(alloc, "root", "The socket of primary clients that are root"))?
@@ -240,8 +287,15 @@ fn serve_command<'a>(alloc: Global) -> Result<Command<'a>, Error> {
 }
 
 fn run_command<'a>(alloc: Global) -> Result<Command<'a>, Error> {
+    let file = Arg::new(alloc, "FILE")
+        .value_parser(ValueParser::NonEmptyString)
+        .help("The script; - is standard input, which is also the default");
     let command = Command::new(alloc, "run")
-        .about("Runs a script from standard input, and writes its answers to standard output")
+        .about(
+            "Runs a script from a file or standard input, and writes its answers to standard output",
+        )
+        .after_help(RUN_STATUS)
+        .arg(file)?
         .arg(topology(alloc))?
         .arg(script_limits(alloc))?
         .arg(journal(alloc))?;
@@ -253,6 +307,7 @@ fn command<'a>(alloc: Global) -> Result<Command<'a>, Error> {
         .bin_name("drm_server")?
         .version("2.0.0")
         .about("A display and buffer server with the access rules of the Linux DRM interface")
+        .after_help(STATUS)
         .subcommand_required(true)
         .subcommand(run_command(alloc)?)?
         .subcommand(check_command(alloc)?)?
@@ -270,6 +325,7 @@ fn device_of<'a>(matches: &ArgMatches<'a>) -> AskedDevice<'a> {
 
 fn running_of<'a>(matches: &ArgMatches<'a>) -> Running<'a> {
     Running {
+        path: matches.get_str("FILE"),
         device: device_of(matches),
         journal: matches.get_str("journal"),
     }

@@ -28,49 +28,67 @@ pub(crate) fn asked_limits<R: Log>(rt: &R, numbers: Option<&str>) -> Result<Limi
     Ok(limits)
 }
 
-/// The topology of a file.
-fn topology_of<R: Files + AllocGlobal + Log>(rt: &R, path: &str) -> Result<Topology, Fault> {
-    let text = read_whole(rt, rt.alloc(), path)?;
-    match read_topology(text.as_slice()) {
+/// The text of a topology's file. It is read once, so that it can be a pipe.
+#[derive(Drop)]
+pub(crate) struct TopologyText<'a> {
+    pub(crate) path: &'a str,
+    text: Vec<u8>,
+}
+
+/// Reads the file of the topology, if there is one. Limits that can't be used are refused before.
+pub(crate) fn read_asked<'a, R: Files + AllocGlobal + Log>(
+    rt: &R,
+    asked: AskedDevice<'a>,
+) -> Result<Option<TopologyText<'a>>, Fault> {
+    asked_limits(rt, asked.limits)?;
+    match asked.topology {
+        Some(path) => {
+            let text = read_whole(rt, rt.alloc(), path)?;
+            Ok(Some(TopologyText { path, text }))
+        }
+        None => Ok(None),
+    }
+}
+
+/// Returns the topology of a file, or the test topology. If a line can't be used, the cause is logged.
+pub(crate) fn asked_topology<R: Log>(
+    rt: &R,
+    file: Option<&TopologyText<'_>>,
+) -> Result<Topology, Fault> {
+    let Some(file) = file else {
+        return Ok(test_topology());
+    };
+    match read_topology(file.text.as_slice()) {
         Ok(topology) => Ok(topology),
         Err(line) => {
+            let path = file.path;
             error!(rt; "{path}:{}: {}", line.number, line.cause);
             Err(Fault::ScriptLine(line.number))
         }
     }
 }
 
-/// The topology of a file, or the test topology.
-pub(crate) fn asked_topology<R: Files + AllocGlobal + Log>(
-    rt: &R,
-    path: Option<&str>,
-) -> Result<Topology, Fault> {
-    match path {
-        Some(path) => topology_of(rt, path),
-        None => Ok(test_topology()),
-    }
-}
-
 /// What a device of a script begins with.
-pub(crate) fn asked_setup<R: Files + AllocGlobal + Log>(
+pub(crate) fn asked_setup<R: Log>(
     rt: &R,
-    asked: AskedDevice<'_>,
+    limits: Option<&str>,
+    file: Option<&TopologyText<'_>>,
 ) -> Result<Setup, Fault> {
-    let limits = asked_limits(rt, asked.limits)?;
-    let topology = asked_topology(rt, asked.topology)?;
+    let limits = asked_limits(rt, limits)?;
+    let topology = asked_topology(rt, file)?;
     Ok(Setup::new(topology, limits))
 }
 
 /// An empty device with these limits, and the topology of a file, or the test topology.
-pub(crate) fn asked_device<R: Files + AllocGlobal + Log>(
+pub(crate) fn asked_device<R: Log>(
     rt: &R,
     alloc: Global,
-    topology: Option<&str>,
+    file: Option<&TopologyText<'_>>,
     limits: Limits,
 ) -> Result<Device, Fault>
     requires { are_in_range limits ≡ true }
 {
-    let topology = asked_topology(rt, topology)?;
+    let topology = asked_topology(rt, file)?;
     Setup::new(topology, limits)
         .make(alloc)
         .ok_or(Fault::Memory)

@@ -5,10 +5,10 @@ ghost use Rattle.drm_table.specs.Limits.{are_in_range};
 
 use crate::checking::check;
 use crate::command_line::{Asked, Serving, is_memory, read_words};
-use crate::devices::{asked_device, asked_limits};
+use crate::devices::{TopologyText, asked_device, asked_limits, read_asked};
 use crate::explaining::explain_script;
 use crate::faults::{Fault, FaultLine};
-use crate::journal::{JournalFile, create_asked, write_noted};
+use crate::journal::{FilesRead, JournalFile, create_asked, write_noted};
 use crate::listing::list_audit;
 use crate::outcomes::{Outcome, outcome_of_fault, outcome_of_listing};
 use crate::running::run;
@@ -42,7 +42,7 @@ fn list<R: Print>(rt: &R, device: &Device) -> Outcome {
 fn write_and_list<R: Print + Files + AllocGlobal + Log>(
     rt: &R,
     alloc: Global,
-    topology: Option<&str>,
+    topology: Option<&TopologyText<'_>>,
     journal: Option<JournalFile<'_, R::File>>,
     limits: Limits,
     ended: &Ended,
@@ -68,11 +68,15 @@ fn serve_and_list<R: Input + Print + Files + Net + AllocGlobal + Log + Wait + Th
     serving: Serving<'_>,
 ) -> Result<Outcome, Fault> {
     let limits = asked_limits(rt, serving.device.limits)?;
-    let topology = serving.device.topology;
-    let device = asked_device(rt, alloc, topology, limits)?;
-    let journal = create_asked(rt, serving.journal, topology)?;
+    let topology = read_asked(rt, serving.device)?;
+    let device = asked_device(rt, alloc, topology.as_ref(), limits)?;
+    let read = FilesRead {
+        topology: serving.device.topology,
+        script: None,
+    };
+    let journal = create_asked(rt, serving.journal, read)?;
     let ended = serve_device(rt, alloc, device, serving)?;
-    write_and_list(rt, alloc, topology, journal, limits, &ended)
+    write_and_list(rt, alloc, topology.as_ref(), journal, limits, &ended)
 }
 
 /// Serves connections.

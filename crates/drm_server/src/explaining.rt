@@ -2,7 +2,7 @@
 
 use crate::checking::{INPUT, fault_of, open, tell_end};
 use crate::command_line::Explaining;
-use crate::devices::{asked_setup, asked_topology};
+use crate::devices::{TopologyText, asked_setup, asked_topology, read_asked};
 use crate::faults::{Fault, FaultLine};
 use crate::files::LoggedRead;
 use crate::outcomes::{Outcome, outcome_of_fault};
@@ -66,13 +66,14 @@ fn json_of(alloc: Global, explanation: Explanation, only: Option<u64>) -> Result
 }
 
 /// What is told of a recording.
-fn text_of<R: Files + AllocGlobal + Log>(
+fn text_of<R: Log>(
     rt: &R,
     alloc: Global,
     explaining: &Explaining<'_>,
+    topology: Option<&TopologyText<'_>>,
     recording: &Recording,
 ) -> Result<String, Fault> {
-    let topology = asked_topology(rt, explaining.device.topology)?;
+    let topology = asked_topology(rt, topology)?;
     let labels = &recording.labels;
     let only = only_of(rt, explaining, labels)?;
     let explanation = explain(alloc, &recording.ledger, &topology, labels, only).map_err(
@@ -109,10 +110,11 @@ fn json_of_answer(alloc: Global, row: &AnswerRow) -> Result<String, Fault> {
 }
 
 /// What is told of the answer of one line.
-fn text_of_answer<R: Files + AllocGlobal + Log>(
+fn text_of_answer<R: Log>(
     rt: &R,
     alloc: Global,
     explaining: &Explaining<'_>,
+    topology: Option<&TopologyText<'_>>,
     number: u64,
     recording: Recording,
 ) -> Result<String, Fault> {
@@ -126,7 +128,7 @@ fn text_of_answer<R: Files + AllocGlobal + Log>(
     let Some(line) = last else {
         return Err(no_answer(rt, explaining.path, number, lines));
     };
-    let topology = asked_topology(rt, explaining.device.topology)?;
+    let topology = asked_topology(rt, topology)?;
     let row = match explain_answer(alloc, &ledger, &topology, &labels, limits, line) {
         Ok(row) => row,
         Err(_) => return Err(Fault::Memory),
@@ -155,15 +157,16 @@ fn write_text<R: Print>(rt: &R, text: &str) -> Result<(), Fault> {
 }
 
 /// What there is to tell of a script.
-fn told_of<R: Files + Print + AllocGlobal + Log>(
+fn told_of<R: Log>(
     rt: &R,
     alloc: Global,
     explaining: &Explaining<'_>,
+    topology: Option<&TopologyText<'_>>,
     recording: Recording,
 ) -> Result<String, Fault> {
     match explaining.line {
-        Some(number) => text_of_answer(rt, alloc, explaining, number, recording),
-        None => text_of(rt, alloc, explaining, &recording),
+        Some(number) => text_of_answer(rt, alloc, explaining, topology, number, recording),
+        None => text_of(rt, alloc, explaining, topology, &recording),
     }
 }
 
@@ -172,9 +175,10 @@ fn record_asked<R: Input + Files + AllocGlobal + Log>(
     rt: &R,
     alloc: Global,
     explaining: &Explaining<'_>,
+    topology: Option<&TopologyText<'_>>,
 ) -> Result<Result<Recording, Stop>, Fault> {
     let Explaining { path, line, .. } = *explaining;
-    let setup = asked_setup(rt, explaining.device)?;
+    let setup = asked_setup(rt, explaining.device.limits, topology)?;
     if path == INPUT {
         let mut source = FromRead::new(LoggedRead::new(rt, path, rt.reader()));
         return Ok(record(alloc, setup, &mut source, MOST_TURNS, line));
@@ -189,11 +193,13 @@ fn record_and_tell<R: Input + Files + Print + AllocGlobal + Log>(
     alloc: Global,
     explaining: &Explaining<'_>,
 ) -> Result<Outcome, Fault> {
-    let recording = match record_asked(rt, alloc, explaining)? {
+    let topology = read_asked(rt, explaining.device)?;
+    let topology = topology.as_ref();
+    let recording = match record_asked(rt, alloc, explaining, topology)? {
         Ok(recording) => recording,
         Err(stop) => return Ok(outcome_of_stop(rt, explaining.path, stop)),
     };
-    let text = told_of(rt, alloc, explaining, recording)?;
+    let text = told_of(rt, alloc, explaining, topology, recording)?;
     write_text(rt, text.as_str())?;
     Ok(Outcome {
         status: 0,

@@ -3,7 +3,7 @@
 ghost use Rattle.std.specs.Prelude.{◌≡◌, true};
 ghost use Rattle.drm_table.specs.Limits.{are_in_range};
 
-use crate::devices::asked_device;
+use crate::devices::{TopologyText, asked_device};
 use crate::faults::Fault;
 use crate::files::write_fault;
 use drm_device::{Device, Limits};
@@ -35,19 +35,38 @@ pub(crate) struct JournalFile<'a, F: Drop> {
     file: F,
 }
 
-/// Creates the file of a journal, or empties it, so that nothing is asked if that can't be done. It is opened this once. The file of
-/// the topology is refused, since it would be emptied before it is read.
+/// The files that a journal must not replace.
+#[derive(Clone, Copy, Debug, PartialEq, Eq)]
+pub(crate) struct FilesRead<'a> {
+    pub(crate) topology: Option<&'a str>,
+    pub(crate) script: Option<&'a str>,
+}
+
+/// Refuses a journal in the place of a file that is read, which is a `kind`.
+fn refuse_same<R: Files + Log>(
+    rt: &R,
+    path: &str,
+    other: Option<&str>,
+    kind: &str,
+) -> Result<(), Fault> {
+    match other {
+        Some(other) if is_same_file(rt, path, other) => {
+            error!(rt; "{path}: the journal would replace the {kind}");
+            Err(Fault::CommandLine)
+        }
+        _ => Ok(()),
+    }
+}
+
+/// Creates the file of a journal, or empties it, so that nothing is asked if that can't be done. It is opened this once. The files
+/// that are read are refused, since the journal would empty them.
 pub(crate) fn create_journal<'a, R: Files + Log>(
     rt: &R,
     path: &'a str,
-    topology: Option<&str>,
+    read: FilesRead<'_>,
 ) -> Result<JournalFile<'a, R::File>, Fault> {
-    if let Some(topology) = topology {
-        if is_same_file(rt, path, topology) {
-            error!(rt; "{path}: the journal would replace the topology");
-            return Err(Fault::CommandLine);
-        }
-    }
+    refuse_same(rt, path, read.topology, "topology")?;
+    refuse_same(rt, path, read.script, "script")?;
     match fs::create(rt, path) {
         Ok(file) => Ok(JournalFile { path, file }),
         Err(reason) => Err(write_fault(rt, path, &reason)),
@@ -58,10 +77,10 @@ pub(crate) fn create_journal<'a, R: Files + Log>(
 pub(crate) fn create_asked<'a, R: Files + Log>(
     rt: &R,
     path: Option<&'a str>,
-    topology: Option<&str>,
+    read: FilesRead<'_>,
 ) -> Result<Option<JournalFile<'a, R::File>>, Fault> {
     match path {
-        Some(path) => Ok(Some(create_journal(rt, path, topology)?)),
+        Some(path) => Ok(Some(create_journal(rt, path, read)?)),
         None => Ok(None),
     }
 }
@@ -95,7 +114,7 @@ pub(crate) fn write_noted<R: Files + AllocGlobal + Log>(
     rt: &R,
     alloc: Global,
     journal: Option<JournalFile<'_, R::File>>,
-    topology: Option<&str>,
+    topology: Option<&TopologyText<'_>>,
     limits: Limits,
     events: &[Event],
 ) -> Result<(), Fault>

@@ -80,8 +80,8 @@ pub fn outcome_of_listing(end: &ListEnd) -> Outcome
     outcome_by(listing_fault(end))
 }
 
-/// What `drm_server check` ends with, by what its files came to: status 0 where all expectations are met, 4 where one isn't,
-/// and 2 where a file is malformed (own).
+/// What `drm_server check` ends with, by what its files came to: status 0 if all expectations are met and each file has
+/// one, 4 if not, and 2 if a file is malformed (own).
 pub fn outcome_of_checks(totals: &Totals) -> Outcome
     ensures status { result.status ≡ checks_status totals.now }
     ensures line { result.line ≡ [] }

@@ -1,12 +1,16 @@
 //! Running a script.
 
+ghost use Rattle.std.specs.Prelude.{◌≡◌};
+ghost use Rattle.drm_streams.specs.Streams.{no_calls};
+
+use crate::checking::{INPUT, open};
 use crate::command_line::Running;
-use crate::devices::asked_setup;
+use crate::devices::{TopologyText, asked_setup, read_asked};
 use crate::faults::Fault;
-use crate::journal::{JournalFile, create_asked, write_noted};
+use crate::journal::{FilesRead, JournalFile, create_asked, write_noted};
 use crate::outcomes::{Outcome, outcome_of, outcome_of_fault};
 use drm_runs::{Interpreter, ScriptEnd, Setup, run_on};
-use drm_streams::{FromRead, ToWrite};
+use drm_streams::{FromRead, Source, ToWrite};
 use log::{Log, error};
 use std::alloc::Global;
 use std::io;
@@ -19,7 +23,7 @@ const MOST_TURNS: u64 = 1_000_000;
 fn write_asked<R: Files + AllocGlobal + Log>(
     rt: &R,
     alloc: Global,
-    running: Running<'_>,
+    topology: Option<&TopologyText<'_>>,
     journal: Option<JournalFile<'_, R::File>>,
     interpreter: &Interpreter,
 ) -> Result<(), Fault> {
@@ -27,44 +31,66 @@ fn write_asked<R: Files + AllocGlobal + Log>(
         Some(device) => device.journal(),
         None => &[],
     };
-    let topology = running.device.topology;
     let limits = interpreter.limits();
     write_noted(rt, alloc, journal, topology, limits, events)
 }
 
-/// Runs the script on standard input, and writes what its device noted where that is asked for. Where a line can't be used, the
+/// Runs the script of a source, and writes what its device noted where that is asked for. Where a line can't be used, the
 /// cause is logged, and what was asked before is written.
-fn run_and_write<R: Input + Print + Files + AllocGlobal + Log>(
+fn run_and_write<R: Print + Files + AllocGlobal + Log, S: Source>(
     rt: &R,
     alloc: Global,
     setup: Setup,
-    running: Running<'_>,
+    topology: Option<&TopologyText<'_>>,
     journal: Option<JournalFile<'_, R::File>>,
-) -> (ScriptEnd, Result<(), Fault>) {
-    let mut source = FromRead::new(rt.reader());
+    source: &mut S,
+) -> (ScriptEnd, Result<(), Fault>)
+    requires { (S.trace source.old).counts ≡ no_calls }
+{
     let mut sink = ToWrite::new(io::writer(rt));
-    let ran = run_on(alloc, setup, &mut source, &mut sink, MOST_TURNS);
+    let ran = run_on(alloc, setup, source, &mut sink, MOST_TURNS);
     if let (ScriptEnd::Malformed(number), Some(cause)) = (ran.end, ran.cause) {
         error!(rt; "line {number}: {cause}");
     }
-    let written = write_asked(rt, alloc, running, journal, &ran.interpreter);
+    let written = write_asked(rt, alloc, topology, journal, &ran.interpreter);
     (ran.end, written)
 }
 
-/// Runs the script on standard input, on a device as it is asked for.
+/// Runs a script on a device as it is asked for, after the file of its journal was created.
+fn run_source<R: Print + Files + AllocGlobal + Log, S: Source>(
+    rt: &R,
+    alloc: Global,
+    running: Running<'_>,
+    source: &mut S,
+) -> Result<Outcome, Fault>
+    requires { (S.trace source.old).counts ≡ no_calls }
+{
+    let topology = read_asked(rt, running.device)?;
+    let topology = topology.as_ref();
+    let setup = asked_setup(rt, running.device.limits, topology)?;
+    let read = FilesRead {
+        topology: running.device.topology,
+        script: running.path,
+    };
+    let journal = create_asked(rt, running.journal, read)?;
+    let (end, written) = run_and_write(rt, alloc, setup, topology, journal, source);
+    written?;
+    Ok(outcome_of(&end))
+}
+
+/// Runs the script of a file, or of standard input.
 fn run_asked<R: Input + Print + Files + AllocGlobal + Log>(
     rt: &R,
     alloc: Global,
     running: Running<'_>,
 ) -> Result<Outcome, Fault> {
-    let setup = asked_setup(rt, running.device)?;
-    let journal = create_asked(rt, running.journal, running.device.topology)?;
-    let (end, written) = run_and_write(rt, alloc, setup, running, journal);
-    written?;
-    Ok(outcome_of(&end))
+    match running.path {
+        None | Some(INPUT) => { run_source(rt, alloc, running, &mut FromRead::new(rt.reader())) }
+        Some(path) => run_source(rt, alloc, running, &mut open(rt, path)?),
+    }
 }
 
-/// Runs the script on standard input.
+/// Runs the script of a file, or of standard input.
 pub(crate) fn run<R: Input + Print + Files + AllocGlobal + Log>(
     rt: &R,
     alloc: Global,

@@ -1,7 +1,7 @@
 //! Writing into files what is answered.
 
 use crate::command_line::{AskedDevice, Checking};
-use crate::devices::asked_setup;
+use crate::devices::{TopologyText, asked_setup, read_asked};
 use crate::faults::{Fault, FaultLine};
 use crate::files::{read_whole, replace_text, write_fault};
 use crate::outcomes::{Outcome, outcome_of_fault};
@@ -15,9 +15,10 @@ fn update_file<R: Files + AllocGlobal + Log>(
     rt: &R,
     alloc: Global,
     asked: AskedDevice<'_>,
+    topology: Option<&TopologyText<'_>>,
     path: &str,
 ) -> Result<(), Fault> {
-    let setup = asked_setup(rt, asked)?;
+    let setup = asked_setup(rt, asked.limits, topology)?;
     let text = read_whole(rt, alloc, path)?;
     let updated = match update_script(alloc, setup, text.as_slice()) {
         Ok(updated) => updated,
@@ -37,18 +38,29 @@ fn update_file<R: Files + AllocGlobal + Log>(
 }
 
 /// Updates each file, up to the first that can't be.
+fn update_files<R: Files + AllocGlobal + Log>(
+    rt: &R,
+    alloc: Global,
+    checking: &Checking<'_>,
+) -> Result<(), Fault> {
+    let topology = read_asked(rt, checking.device)?;
+    for path in checking.files.as_slice() {
+        update_file(rt, alloc, checking.device, topology.as_ref(), path)?;
+    }
+    Ok(())
+}
+
+/// Updates each file, up to the first that can't be.
 pub(crate) fn update<R: Files + AllocGlobal + Log>(
     rt: &R,
     alloc: Global,
     checking: &Checking<'_>,
 ) -> Outcome {
-    for path in checking.files.as_slice() {
-        if let Err(fault) = update_file(rt, alloc, checking.device, path) {
-            return outcome_of_fault(fault);
-        }
-    }
-    Outcome {
-        status: 0,
-        line: FaultLine::empty(),
+    match update_files(rt, alloc, checking) {
+        Ok(()) => Outcome {
+            status: 0,
+            line: FaultLine::empty(),
+        },
+        Err(fault) => outcome_of_fault(fault),
     }
 }
