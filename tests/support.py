@@ -173,6 +173,26 @@ def server(
         started.communicate()
 
 
+@contextlib.contextmanager
+def lasting_server(folder: pathlib.Path, *words: Word) -> Iterator[Started]:
+    """A server that accepts any number of connections, with these options; `stopped` ends it. It is killed if the test did not end it."""
+    given: List[Word] = [PROGRAM, "serve", *path_words(folder), "--until-ended", *words]
+    pipes: Dict[str, Any] = {"stdin": subprocess.PIPE, "stdout": subprocess.PIPE, "stderr": subprocess.PIPE}
+    started: Started = subprocess.Popen(given, text=True, **pipes)
+    try:
+        yield started
+    finally:
+        if started.poll() is None:
+            started.kill()
+            started.communicate()
+
+
+def stopped(started: Started) -> Ran:
+    """Ends a server by the end of its standard input, and waits for it."""
+    output, error = started.communicate("", timeout=SECONDS)
+    return subprocess.CompletedProcess(started.args, started.returncode, output, error)
+
+
 def end_of(started: Started) -> Ran:
     """Waits for a server that ends by itself."""
     output, error = started.communicate(timeout=SECONDS)

@@ -20,6 +20,7 @@ from support import (  # noqa: E402
     end_of,
     expect,
     expect_end,
+    expect_told,
     retry,
     run,
     run_program,
@@ -466,7 +467,8 @@ class DocumentsTests(FolderCase):
             # the opening, 99,998 requests, and the closing
             expect("how many are carried out", sizes.count(14), most - 2)
             client.close()
-            expect_end(end_of(started), 0, "", "device 0 0 0 100000\n")
+            told = "the journal is full: requests are answered with fault 50 (the last number of --limits is the most steps)"
+            expect_told(end_of(started), 0, [f"ERROR {told}"], "device 0 0 0 100000\n")
 
     def test_files_of_sockets_have_the_permissions_of_the_umask(self):
         folder = self.folder

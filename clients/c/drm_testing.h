@@ -43,13 +43,13 @@ struct zirkoshe_server_options {
     const char *limits;   /* the eight numbers of a script's limits line */
     const char *journal;  /* the file for the requests and answers, which is written at the end */
     unsigned cards;       /* how many connections each socket accepts in total, 0 to 64 */
-    unsigned renders;
+    unsigned renders;     /* if all three are 0: any number, and at most 64 at once */
     unsigned roots;
 };
 
-/* The options by default, as an initializer: 16 connections on each socket. */
+/* The options by default, as an initializer: any number of connections on each socket. */
 /* clang-format off */
-#define ZIRKOSHE_SERVER_DEFAULTS {NULL, NULL, NULL, NULL, 16, 16, 16}
+#define ZIRKOSHE_SERVER_DEFAULTS {NULL, NULL, NULL, NULL, 0, 0, 0}
 /* clang-format on */
 
 /* A running server, and the paths of its sockets. */
@@ -76,6 +76,23 @@ static inline void zirkoshe_add_option(struct zirkoshe_words *words, const char 
     }
 }
 
+/* Whether the server counts connections. */
+static inline bool zirkoshe_is_counted(const struct zirkoshe_server_options *options)
+{
+    return options->cards != 0 || options->renders != 0 || options->roots != 0;
+}
+
+static inline void zirkoshe_add_counts(struct zirkoshe_words *words,
+                                       const struct zirkoshe_server_options *options)
+{
+    snprintf(words->count[0], sizeof words->count[0], "%u", options->cards);
+    snprintf(words->count[1], sizeof words->count[1], "%u", options->renders);
+    snprintf(words->count[2], sizeof words->count[2], "%u", options->roots);
+    zirkoshe_add_option(words, "--cards", words->count[0]);
+    zirkoshe_add_option(words, "--renders", words->count[1]);
+    zirkoshe_add_option(words, "--roots", words->count[2]);
+}
+
 /* The command line of a server. */
 static inline void zirkoshe_server_command(struct zirkoshe_words *words,
                                            const struct zirkoshe_server *server,
@@ -88,17 +105,13 @@ static inline void zirkoshe_server_command(struct zirkoshe_words *words,
         program = getenv("DRM_SERVER_PROGRAM");
     words->word[0] = program == NULL || program[0] == '\0' ? "drm_server" : program;
     words->word[1] = "serve";
-    words->word[2] = "--until-input-ends";
+    words->word[2] = zirkoshe_is_counted(options) ? "--until-input-ends" : "--until-ended";
     words->length = 3;
-    snprintf(words->count[0], sizeof words->count[0], "%u", options->cards);
-    snprintf(words->count[1], sizeof words->count[1], "%u", options->renders);
-    snprintf(words->count[2], sizeof words->count[2], "%u", options->roots);
     zirkoshe_add_option(words, "--card", server->card);
-    zirkoshe_add_option(words, "--cards", words->count[0]);
     zirkoshe_add_option(words, "--render", server->render);
-    zirkoshe_add_option(words, "--renders", words->count[1]);
     zirkoshe_add_option(words, "--root", server->root);
-    zirkoshe_add_option(words, "--roots", words->count[2]);
+    if (zirkoshe_is_counted(options))
+        zirkoshe_add_counts(words, options);
     zirkoshe_add_option(words, "--topology", options->topology);
     zirkoshe_add_option(words, "--limits", options->limits);
     zirkoshe_add_option(words, "--journal", options->journal);
@@ -220,9 +233,11 @@ static inline int zirkoshe_server_end(struct zirkoshe_server *server)
 static inline bool zirkoshe_server_listens(const struct zirkoshe_server *server,
                                            const struct zirkoshe_server_options *options)
 {
-    return (options->cards == 0 || zirkoshe_is_listening(server->card))
-           && (options->renders == 0 || zirkoshe_is_listening(server->render))
-           && (options->roots == 0 || zirkoshe_is_listening(server->root));
+    bool is_any = !zirkoshe_is_counted(options);
+
+    return ((options->cards == 0 && !is_any) || zirkoshe_is_listening(server->card))
+           && ((options->renders == 0 && !is_any) || zirkoshe_is_listening(server->render))
+           && ((options->roots == 0 && !is_any) || zirkoshe_is_listening(server->root));
 }
 
 /* Waits until the server listens, and uses up none of its connections; 0 or a negative errno. */

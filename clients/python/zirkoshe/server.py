@@ -32,7 +32,7 @@ from .client import PathLike
 PACKAGE = pathlib.Path(__file__).resolve().parent
 CLASSES = ("card", "render", "root")
 
-#: How many connections a socket accepts by default.
+#: How many connections a socket accepts if only others are counted.
 COUNT = 16
 START_SECONDS = 60.0
 #: A server writes its journal at its end, if it has one.
@@ -99,19 +99,21 @@ def find_library() -> str:
 class Server:
     """A running server. The paths of its sockets are `card`, `render` and `root`.
 
-    `cards`, `renders` and `roots` are how many connections each socket accepts in
-    total, 0 to 64. `topology` is a file, and `limits` the eight numbers of a script's
-    limits line. With `journal` the server writes the requests and answers to that file
-    at its end, as a script for `drm_server check` and `drm_server explain`.
+    It accepts any number of connections, at most 64 at once on each socket. If `cards`,
+    `renders` or `roots` are given, they are how many connections that socket accepts in
+    total, 0 to 64, and the other sockets accept 16. `topology` is a file, and `limits`
+    the eight numbers of a script's limits line. With `journal` the server writes the
+    requests and answers to that file at its end, as a script for `drm_server check` and
+    `drm_server explain`.
     """
 
     def __init__(
         self,
         *,
         program: Optional[PathLike] = None,
-        cards: int = COUNT,
-        renders: int = COUNT,
-        roots: int = COUNT,
+        cards: Optional[int] = None,
+        renders: Optional[int] = None,
+        roots: Optional[int] = None,
         topology: Optional[PathLike] = None,
         limits: Optional[str] = None,
         journal: Optional[PathLike] = None,
@@ -122,13 +124,13 @@ class Server:
         self._log: Optional[IO[bytes]] = None
         self._process: "Optional[subprocess.Popen[bytes]]" = None
         self.card, self.render, self.root = map(self._path, CLASSES)
-        counts = dict(zip(CLASSES, (cards, renders, roots)))
+        counts = _counts_of(cards, renders, roots)
         named = {"topology": topology, "limits": limits, "journal": journal}
         options = {name: value for name, value in named.items() if value is not None}
         try:
             self._start(program, counts, options)
             self._wait_until_it_listens(
-                self._path(name) for name, count in counts.items() if count > 0
+                self._path(name) for name in CLASSES if counts.get(name) != 0
             )
         except BaseException:
             self._kill()
@@ -227,9 +229,11 @@ class Server:
                 "shorter one"
             )
         command = [os.fspath(program) if program is not None else find_program()]
-        command += ["serve", "--until-input-ends"]
+        command += ["serve", "--until-input-ends" if counts else "--until-ended"]
+        for name in CLASSES:
+            command += [f"--{name}", self._path(name)]
         for name, count in counts.items():
-            command += [f"--{name}", self._path(name), f"--{name}s", str(count)]
+            command += [f"--{name}s", str(count)]
         for name, value in options.items():
             command += [f"--{name}", os.fspath(value)]
         self._log = open(self._path("log"), "w+b")
@@ -281,6 +285,14 @@ class Server:
         if self._log is not None:
             self._log.close()
         shutil.rmtree(self.folder, ignore_errors=True)
+
+
+def _counts_of(*counts: Optional[int]) -> Dict[str, int]:
+    """Returns how many connections each socket accepts, or nothing for any number."""
+    if all(count is None for count in counts):
+        return {}
+    chosen = (COUNT if count is None else count for count in counts)
+    return dict(zip(CLASSES, chosen))
 
 
 def listening() -> List[bytes]:

@@ -28,7 +28,7 @@ use std::time::{Duration, Instant};
 
 /// The classes of sockets.
 const CLASSES: [&str; 3] = ["card", "render", "root"];
-/// How many connections a socket accepts by default.
+/// How many connections a socket accepts if only others are counted.
 const COUNT: u32 = 16;
 /// How long a server may take to start, and to end: at its end it writes its journal.
 const MOST_WAIT: Duration = Duration::from_secs(60);
@@ -42,7 +42,8 @@ const LISTENS: u32 = 0x10000;
 #[must_use]
 pub struct ServerBuilder {
     program: Option<PathBuf>,
-    counts: [u32; 3],
+    /// Without counts, a server accepts any number of connections.
+    counts: Option<[u32; 3]>,
     options: Vec<(&'static str, OsString)>,
 }
 
@@ -54,22 +55,27 @@ impl ServerBuilder {
         self
     }
 
-    /// Sets how many connections the card socket accepts in total, 0 to 64.
-    pub fn cards(mut self, count: u32) -> ServerBuilder {
-        self.counts[0] = count;
+    fn count(mut self, place: usize, count: u32) -> ServerBuilder {
+        self.counts.get_or_insert([COUNT; 3])[place] = count;
         self
     }
 
-    /// Sets how many connections the render socket accepts in total, 0 to 64.
-    pub fn renders(mut self, count: u32) -> ServerBuilder {
-        self.counts[1] = count;
-        self
+    /// Sets how many connections the card socket accepts in total, 0 to 64. The other sockets
+    /// accept 16 then, unless they are set too.
+    pub fn cards(self, count: u32) -> ServerBuilder {
+        self.count(0, count)
     }
 
-    /// Sets how many connections the root socket accepts in total, 0 to 64.
-    pub fn roots(mut self, count: u32) -> ServerBuilder {
-        self.counts[2] = count;
-        self
+    /// Sets how many connections the render socket accepts in total, as [`ServerBuilder::cards`]
+    /// does.
+    pub fn renders(self, count: u32) -> ServerBuilder {
+        self.count(1, count)
+    }
+
+    /// Sets how many connections the root socket accepts in total, as [`ServerBuilder::cards`]
+    /// does.
+    pub fn roots(self, count: u32) -> ServerBuilder {
+        self.count(2, count)
     }
 
     /// Sets the file of the topology.
@@ -105,10 +111,20 @@ impl ServerBuilder {
             return Err(io::Error::new(ErrorKind::InvalidInput, text));
         }
         let mut command = Command::new(program);
-        command.args(["serve", "--until-input-ends"]);
-        for (path, (class, count)) in server.paths.iter().zip(CLASSES.iter().zip(self.counts)) {
+        command.arg("serve");
+        for (path, class) in server.paths.iter().zip(CLASSES) {
             command.arg(format!("--{class}")).arg(path);
-            command.args([format!("--{class}s"), count.to_string()]);
+        }
+        match self.counts {
+            None => {
+                command.arg("--until-ended");
+            }
+            Some(counts) => {
+                command.arg("--until-input-ends");
+                for (class, count) in CLASSES.iter().zip(counts) {
+                    command.args([format!("--{class}s"), count.to_string()]);
+                }
+            }
         }
         for (name, value) in &self.options {
             command.arg(format!("--{name}")).arg(value);
@@ -119,7 +135,7 @@ impl ServerBuilder {
             .stdout(Stdio::piped())
             .stderr(log);
         server.process = Some(command.spawn()?);
-        server.wait_until_it_listens(self.counts)?;
+        server.wait_until_it_listens(self.counts.unwrap_or([COUNT; 3]))?;
         Ok(server)
     }
 }
@@ -137,12 +153,13 @@ impl Server {
     pub fn builder() -> ServerBuilder {
         ServerBuilder {
             program: None,
-            counts: [COUNT; 3],
+            counts: None,
             options: Vec::new(),
         }
     }
 
-    /// Starts a server with the options by default: 16 connections on each socket.
+    /// Starts a server with the options by default: it accepts any number of connections, at most
+    /// 64 at once on each socket.
     ///
     /// # Errors
     ///

@@ -78,11 +78,20 @@ pub(crate) struct Checking<'a> {
     pub(crate) device: AskedDevice<'a>,
 }
 
+/// How many connections a server accepts.
+#[derive(Clone, Copy, Debug, PartialEq, Eq)]
+pub(crate) enum Accepts {
+    /// These on each listener.
+    Counted(Counts),
+    /// Any number, until it is told to end.
+    AnyNumber,
+}
+
 /// Where to listen, and how many connections to accept there.
 #[derive(Clone, Copy, Debug, PartialEq, Eq)]
 pub(crate) struct Serving<'a> {
     pub(crate) paths: Paths<'a>,
-    pub(crate) counts: Counts,
+    pub(crate) accepts: Accepts,
     /// Whether the end of standard input ends it.
     pub(crate) ends_with_input: bool,
     /// Whether it logs the sockets that it listens on.
@@ -244,6 +253,14 @@ fn explain_command<'a>(alloc: Global) -> Result<Command<'a>, Error> {
 }
 
 fn serve_command<'a>(alloc: Global) -> Result<Command<'a>, Error> {
+    let until_ended = flag(
+        alloc,
+        "until-ended",
+        "Accepts any number of connections, at most 64 at once on each socket, until standard input ends",
+    )
+    .conflicts_with("cards")?
+    .conflicts_with("renders")?
+    .conflicts_with("roots")?;
     let command = Command::new(alloc, "serve")
         .about(
             "Serves connections on three Unix sockets, and lists what the device then holds on standard output, also after a fault",
@@ -267,6 +284,7 @@ fn serve_command<'a>(alloc: Global) -> Result<Command<'a>, Error> {
             "roots",
             "How many connections of primary clients that are root are accepted, from 0 to 64",
         ))?
+        .arg(until_ended)?
         .arg(flag(
             alloc,
             "until-input-ends",
@@ -342,10 +360,16 @@ fn serving_of<'a>(matches: &ArgMatches<'a>) -> Option<Serving<'a>> {
         renders: matches.get_one("renders")?,
         roots: matches.get_one("roots")?,
     };
+    let goes_on = matches.get_flag("until-ended");
+    let accepts = if goes_on {
+        Accepts::AnyNumber
+    } else {
+        Accepts::Counted(counts)
+    };
     Some(Serving {
         paths,
-        counts,
-        ends_with_input: matches.get_flag("until-input-ends"),
+        accepts,
+        ends_with_input: goes_on || matches.get_flag("until-input-ends"),
         is_verbose: matches.get_flag("verbose"),
         device: device_of(matches),
         journal: matches.get_str("journal"),

@@ -24,7 +24,7 @@ mod visible;
 mod words;
 
 pub use drm_connections::{Counts, OpenConnections, class_word};
-pub use drm_listeners::{ServeFault, serve_all, serve_until_told};
+pub use drm_listeners::{ServeFault, Unserved, serve_all, serve_until_ended, serve_until_told};
 pub use drm_runs::{
     Ran, ScriptEnd, Setup, run_on, run_script, run_with_cause, scripts_are_answered,
 };

@@ -1,14 +1,14 @@
 //! Serving a device on three sockets.
 
-use crate::command_line::Serving;
+use crate::command_line::{Accepts, Serving};
 use crate::ending::end_with_input;
 use crate::faults::Fault;
 use crate::sockets::{Listeners, Sockets, bind_all};
-use drm_connections::{Counts, OpenConnections};
+use drm_connections::{MOST_AT_ONCE, OpenConnections};
 use drm_device::Device;
-use drm_listeners::{ServeFault, Unserved, serve_keeping};
+use drm_listeners::{ServeFault, Unserved, serve_keeping, serve_until_ended};
 use log::{Log, error, info};
-use std::alloc::Global;
+use std::alloc::{AllocError, Global};
 use std::net::Net;
 use std::os::unix::net::UnixStream;
 use std::rt::Files;
@@ -18,7 +18,17 @@ use std::thread::{JoinHandle, Scope, Threads};
 
 /// Logs where the server listens, and how many connections it accepts there.
 fn log_sockets<R: Log>(rt: &R, serving: &Serving<'_>) {
-    let Serving { paths, counts, .. } = *serving;
+    let paths = serving.paths;
+    let Accepts::Counted(counts) = serving.accepts else {
+        for (name, path) in [
+            ("card", paths.card),
+            ("render", paths.render),
+            ("root", paths.root),
+        ] {
+            info!(rt; "{name}: {path} accepts {MOST_AT_ONCE} at once");
+        }
+        return;
+    };
     info!(rt; "card: {} accepts {} in all", paths.card, counts.cards);
     info!(rt; "render: {} accepts {} in all", paths.render, counts.renders);
     info!(rt; "root: {} accepts {} in all", paths.root, counts.roots);
@@ -29,7 +39,7 @@ fn log_sockets<R: Log>(rt: &R, serving: &Serving<'_>) {
 struct Task {
     device: Device,
     listeners: Listeners,
-    counts: Counts,
+    accepts: Accepts,
 }
 
 /// Returns why a task was not begun, with its device.
@@ -40,7 +50,7 @@ fn unbegun(fault: ServeFault, task: Task) -> Unserved {
     }
 }
 
-/// Serves the connections until all have ended.
+/// Serves the connections until all have ended, or until told to end.
 fn serve_all_of<R: Log + Wait + Threads + Sync>(
     rt: &R,
     alloc: Global,
@@ -50,11 +60,30 @@ fn serve_all_of<R: Log + Wait + Threads + Sync>(
     let Task {
         device,
         listeners,
-        counts,
+        accepts,
     } = task;
     let Listeners { card, render, root } = listeners;
-    let (device, _sessions) = serve_keeping(rt, alloc, device, card, render, root, counts, open)?;
-    Ok(device)
+    match accepts {
+        Accepts::Counted(counts) => {
+            let (device, _sessions) = serve_keeping(
+                rt, alloc, device, card, render, root, counts, open,
+            )?;
+            Ok(device)
+        }
+        Accepts::AnyNumber => serve_until_ended(rt, alloc, device, card, render, root, open),
+    }
+}
+
+/// Returns room for the connections that are open at once. `ended` is a connection that was closed at the other end.
+fn open_of(
+    alloc: Global,
+    accepts: Accepts,
+    ended: Option<UnixStream>,
+) -> Result<OpenConnections, AllocError> {
+    match accepts {
+        Accepts::Counted(counts) => OpenConnections::new(alloc, counts, ended),
+        Accepts::AnyNumber => OpenConnections::until_ended(alloc),
+    }
 }
 
 /// A connection of two ends, where there may be one more.
@@ -155,7 +184,7 @@ fn serve_until_input_ends<R: Input + Net + Log + Wait + Threads + Sync>(
         Ok(ends) => ends,
         Err(fault) => return Err(unbegun(fault, task)),
     };
-    match OpenConnections::new(alloc, task.counts, Some(ended)) {
+    match open_of(alloc, task.accepts, Some(ended)) {
         Ok(open) => serve_beside_input(rt, alloc, task, &open, served),
         Err(_) => Err(unbegun(ServeFault::NoMemory, task)),
     }
@@ -171,7 +200,7 @@ fn serve_listeners<R: Input + Net + Log + Wait + Threads + Sync>(
     if ends_with_input {
         return serve_until_input_ends(rt, alloc, task);
     }
-    match OpenConnections::new(alloc, task.counts, None) {
+    match open_of(alloc, task.accepts, None) {
         Ok(open) => serve_all_of(rt, alloc, task, &open),
         Err(_) => Err(unbegun(ServeFault::NoMemory, task)),
     }
@@ -204,7 +233,7 @@ pub(crate) fn serve_device<R: Input + Files + Net + Log + Wait + Threads + Sync>
     let task = Task {
         device,
         listeners,
-        counts: serving.counts,
+        accepts: serving.accepts,
     };
     match serve_listeners(rt, alloc, task, serving.ends_with_input) {
         Ok(device) => Ok(Ended {

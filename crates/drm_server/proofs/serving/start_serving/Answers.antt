@@ -16,11 +16,12 @@ use Rattle.drm_listeners.proofs.serve_faults.ServeFault.TheSendSync as fault
 use Rattle.drm_listeners.specs.contracts.serving.Unserved as unserved
 use Rattle.drm_connections.proofs.open_connections.OpenConnections.TheSendSync as crossing
 use Rattle.drm_connections.specs.contracts.open_connections.OpenConnections as open_connections
+use Rattle.drm_server.proofs.command_line.Accepts.TheSendSync as accepts
 use Rattle.drm_server.specs.contracts.serving.Task as task
 use Rattle.drm_server.proofs.serving.start_serving.Goals as goal
 
 task_send : IsSend task.the_row
-task_send = recorded_send _ _ _ task.the_type.to_one (struct_send (shape task.the_type) (device_send, (search (crosses, sendable) depth 20, (search (crosses, sendable) depth 20, tt))))
+task_send = recorded_send _ _ _ task.the_type.to_one (struct_send (shape task.the_type) (device_send, (search (crosses, sendable) depth 20, (accepts.the_field_send, tt))))
 
 unserved_send : IsSend unserved.the_row
 unserved_send = recorded_send _ _ _ unserved.the_type.to_one (struct_send (shape unserved.the_type) (fault.the_field_send, (device_send, tt)))
