@@ -1,1 +1,2 @@
+mod FactLemmas
 mod ReportLemmas

@@ -1,3 +1,5 @@
+pub mod Facts
 pub mod Leases
 pub mod Reports
+pub mod Searches
 pub mod Withdrawals

@@ -1,6 +1,6 @@
 //! Explaining the answer of a line.
 
-ghost use Rattle.std.specs.Prelude.{◌≡◌, IfOk, None, Some, is_none};
+ghost use Rattle.std.specs.Prelude.{◌≡◌, All, IfOk, None, Some, is_none};
 ghost use Rattle.std.specs.Option.{option_map};
 ghost use Rattle.drm_model.specs.Run.{DeviceValue, journaled_in, rows_of};
 ghost use Rattle.drm_model.specs.Verdict.{verdict};
@@ -8,6 +8,7 @@ ghost use Rattle.drm_table.specs.Rules.{apart_number, rule_number};
 ghost use Rattle.drm_table.specs.declared.events.Event.{Event};
 ghost use Rattle.drm_table.specs.declared.rules.Rule.{Rule};
 ghost use Rattle.drm_history.specs.History as past;
+ghost use Rattle.drm_refusals.specs.Facts as facts;
 ghost use Rattle.drm_refusals.specs.Reports as reports;
 
 use crate::denials::reasons;
@@ -15,7 +16,7 @@ use crate::remedies::{remedy, remedy_apart};
 use crate::room::full_journal;
 use crate::rows::AnswerRow;
 use crate::scene::Scene;
-use drm_explanations::{At, Explanation, Labels, Name, at, explain};
+use drm_explanations::{Labels, Name, at};
 use drm_modes::Topology;
 use drm_rights::{Ledger, Step};
 use drm_table::{Answer, Apart, Event, Limits};
@@ -29,17 +30,8 @@ pub struct Line {
     pub apart: Option<Apart>,
 }
 
-/// The lines of a text, which are sentences.
-fn sentences(alloc: Global, text: &str) -> Result<Vec<String>, AllocError> {
-    let mut lines = Vec::new(alloc);
-    for line in text.lines() {
-        lines.push(String::from_str(alloc, line)?)?;
-    }
-    Ok(lines)
-}
-
-/// The client that asked: none where a client was to be opened, or the label stands for nobody.
-fn caller_of(step: &Step) -> Option<u64> {
+/// Returns the caller's client; none if the step opens a client, or its label represents nobody.
+pub(crate) fn caller_of(step: &Step) -> Option<u64> {
     let client = match &step.event {
         Event::Open(_) => 0,
         Event::Ask(client, _) => u64::from(*client),
@@ -60,11 +52,12 @@ fn apart_row(
     ensures carried_out { IfOk result (λ row. row.is_carried_out ≡ is_none row.rule) }
     ensures line { IfOk result (λ row. row.line ≡ line.number) }
     ensures answer { IfOk result (λ row. row.answer ≡ line.answer) }
+    ensures facts { IfOk result (λ row. All (facts.Holds scene.entry.topology.now scene.entry.limits scene.entry.ledger.now) row.facts.items) }
 {
-    let mut text = String::new(alloc);
-    if apart == Apart::JournalFull {
-        full_journal(scene, &mut text)?;
-    }
+    let found = match apart {
+        Apart::JournalFull => full_journal(alloc, scene)?,
+        _ => Vec::new(alloc),
+    };
     Ok(AnswerRow {
         line: line.number,
         asked: None,
@@ -72,7 +65,7 @@ fn apart_row(
         answer: line.answer,
         is_carried_out: false,
         rule: Some(apart.number()),
-        facts: sentences(alloc, text.as_str())?,
+        facts: found,
         passes_if: Some(remedy_apart(apart)),
     })
 }
@@ -81,6 +74,7 @@ fn apart_row(
 fn step_row(
     alloc: Global,
     scene: Scene<'_>,
+    labels: &Labels,
     line: Line,
     step: &Step,
 ) -> Result<AnswerRow, AllocError>
@@ -89,9 +83,10 @@ fn step_row(
     ensures carried_out { IfOk result (λ row. row.is_carried_out ≡ is_none row.rule) }
     ensures line { IfOk result (λ row. row.line ≡ line.number) }
     ensures answer { IfOk result (λ row. row.answer ≡ line.answer) }
+    ensures facts { IfOk result (λ row. All (facts.Holds scene.entry.topology.now scene.entry.limits scene.entry.ledger.now) row.facts.items) }
 {
     let steps = scene.ledger.steps();
-    let label = caller_of(step).and_then(|client| Name::of(scene.labels, client).label());
+    let label = caller_of(step).and_then(|client| Name::of(labels, client).label());
     let mut row = AnswerRow {
         line: line.number,
         asked: at(steps, steps.len() as u64),
@@ -103,11 +98,9 @@ fn step_row(
         passes_if: None,
     };
     if let Answer::Denied(rule) = &step.answer {
-        let mut text = String::new(alloc);
-        reasons(alloc, scene, &step.event, *rule, &mut text)?;
+        row.facts = reasons(alloc, scene, &step.event, *rule)?;
         row.is_carried_out = false;
         row.rule = Some(rule.number());
-        row.facts = sentences(alloc, text.as_str())?;
         row.passes_if = Some(remedy(*rule));
     }
     Ok(row)
@@ -133,79 +126,18 @@ pub fn explain_answer(
     ensures carried_out { IfOk result (λ row. row.is_carried_out ≡ is_none row.rule) }
     ensures line { IfOk result (λ row. row.line ≡ line.number) }
     ensures answer { IfOk result (λ row. row.answer ≡ line.answer) }
+    ensures facts { IfOk result (λ row. All (facts.Holds topology.now limits ledger.now) row.facts.items) }
 {
-    let only = ledger
-        .steps()
-        .last()
-        .and_then(|step| caller_of(step))
-        .unwrap_or(0);
-    let explanation: Explanation = explain(alloc, ledger, topology, labels, Some(only))?;
     let scene = Scene {
         ledger,
-        explanation: &explanation,
         topology,
-        labels,
         limits,
     };
     match line.apart {
         Some(apart) => apart_row(alloc, scene, line, apart),
         None => match ledger.steps().last() {
-            Some(step) => step_row(alloc, scene, line, step),
+            Some(step) => step_row(alloc, scene, labels, line, step),
             None => apart_row(alloc, scene, line, Apart::NoMemory),
         },
     }
-}
-
-/// The word of a call, or what stands for one without a row.
-fn call_words(call: &'static str) -> &'static str {
-    if call.is_empty() {
-        "a call without a row"
-    } else {
-        call
-    }
-}
-
-/// Puts which step a line is, and who asked what.
-fn asked_words(asked: At, labels: &Labels, text: &mut String) -> Result<(), AllocError> {
-    let At { step, client, call } = asked;
-    let call = call_words(call);
-    write!(text, " is step {step}, {call}")?;
-    if call == "open" {
-        return Ok(());
-    }
-    if client == 0 {
-        return text.push_str(" by a label that stands for nobody");
-    }
-    let name = Name::of(labels, client);
-    write!(text, " by {name}")
-}
-
-/// The row as lines: which step the line is and what it was answered, the facts behind a denial, and what would have let it pass.
-/// Where memory is refused there are no lines.
-pub fn lines_of_answer(
-    alloc: Global,
-    row: &AnswerRow,
-    labels: &Labels,
-) -> Result<String, AllocError> {
-    let mut text = String::new(alloc);
-    let line = row.line;
-    write!(text, "line {line}")?;
-    if let Some(asked) = row.asked {
-        asked_words(asked, labels, &mut text)?;
-    }
-    let answer = row.answer.as_str();
-    let done = if row.is_carried_out {
-        ", which was carried out"
-    } else {
-        ""
-    };
-    writeln!(text, "{done}: {answer}")?;
-    for fact in &row.facts {
-        let fact = fact.as_str();
-        writeln!(text, "{fact}")?;
-    }
-    if let Some(condition) = row.passes_if {
-        writeln!(text, "it would pass if {condition}")?;
-    }
-    Ok(text)
 }

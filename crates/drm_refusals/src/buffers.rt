@@ -1,16 +1,18 @@
-//! Handles, names and tokens that are not there.
+//! Handles and names that are missing.
 
+ghost use Rattle.std.specs.Prelude.{All, IfOk, IfSome};
+ghost use Rattle.drm_refusals.specs.Facts as facts;
+
+use crate::collecting::{only, with};
+use crate::facts::{Fact, HandleFact, PublishedFact};
 use crate::scene::{Scene, first_steps};
-use crate::withdrawals::{last_taking, withdrawn};
-use drm_explanations::{At, at};
-use drm_rights::{Key, Step, Trail, handles_of, last_publishing};
+use crate::searching::{Search, last};
+use drm_explanations::at;
+use drm_rights::{Key, Ledger, Step, Trail, handles_of, last_publishing};
 use drm_table::{Answer, Call, Event};
 use std::alloc::{AllocError, Global};
 
-/// How many handles of a client are told.
-const MOST_HANDLES: usize = 16;
-
-/// The handle that a call names.
+/// Returns the handle that a call names.
 fn handle_in(call: &Call) -> Option<u32> {
     match call {
         Call::GemClose { handle } => Some(*handle),
@@ -24,60 +26,66 @@ fn handle_in(call: &Call) -> Option<u32> {
     }
 }
 
-/// Puts which handles a client holds, the first of them.
-fn held_line(
-    alloc: Global,
-    scene: Scene<'_>,
-    client: u64,
-    text: &mut String,
-) -> Result<(), AllocError> {
-    let name = scene.name(client);
-    let held = handles_of(alloc, scene.ledger.steps(), client)?;
-    let count = held.len();
-    if count == 0 {
-        return writeln!(text, "{name} holds no handle");
+/// Returns why a client does not hold a handle.
+fn lacked(ledger: &Ledger, client: u64, handle: u32) -> Option<HandleFact>
+    ensures { IfSome result (facts.HandleHolds ledger.now) }
+{
+    let steps = ledger.steps();
+    let number = u64::from(handle);
+    let given = last(
+        steps,
+        Search::Gives {
+            client,
+            handle: number,
+        },
+    );
+    let Some(given) = given else {
+        return Some(HandleFact::NeverGiven { client, handle });
+    };
+    let taken = last(
+        steps,
+        Search::Takes {
+            client,
+            handle: number,
+        },
+    )?;
+    if taken < given {
+        return None;
     }
-    write!(text, "{name} holds {count} of its own: ")?;
-    for (place, one) in held.iter().enumerate() {
-        if place == MOST_HANDLES {
-            text.push_str(", ..")?;
-            break;
-        }
-        let between = if place == 0 { "" } else { ", " };
-        let handle = one.handle;
-        write!(text, "{between}{handle}")?;
-    }
-    text.push_str("\n")
+    let by = at(steps, taken)?;
+    Some(HandleFact::GaveBack { client, handle, by })
 }
 
-/// Puts why a client doesn't hold the handle of a call.
+/// Returns which handles a client holds.
+fn held(alloc: Global, ledger: &Ledger, client: u64) -> Result<HandleFact, AllocError>
+    ensures { IfOk result (facts.HandleHolds ledger.now) }
+{
+    let held = handles_of(alloc, ledger.steps(), client)?;
+    Ok(HandleFact::Holds { client, held })
+}
+
+/// Returns why a client does not hold the handle of a call, and which it holds.
 pub(crate) fn no_handle(
     alloc: Global,
     scene: Scene<'_>,
     client: u64,
     call: &Call,
-    text: &mut String,
-) -> Result<(), AllocError> {
+) -> Result<Vec<Fact>, AllocError>
+    ensures { IfOk result (λ found. All (facts.Holds scene.entry.topology.now scene.entry.limits scene.entry.ledger.now) found.items) }
+{
     let Some(handle) = handle_in(call) else {
-        return Ok(());
+        return Ok(Vec::new(alloc));
     };
-    let name = scene.name(client);
-    let steps = scene.ledger.steps();
-    let taken = last_taking(steps, client, u64::from(handle)).and_then(|number| at(steps, number));
-    match taken {
-        Some(At { step, call, .. }) => writeln!(
-            text,
-            "{name} does not hold handle {handle}: it gave it back at step {step} ({call})"
-        )?,
-        None => writeln!(
-            text,
-            "{name} does not hold handle {handle}: no step gave it that"
-        )?,
-    }
-    held_line(alloc, scene, client, text)
+    let missing = match lacked(scene.ledger, client, handle) {
+        Some(fact) => Some(Fact::Handle(fact)),
+        None => None,
+    };
+    let found = only(alloc, scene, missing)?;
+    let held = held(alloc, scene.ledger, client)?;
+    with(scene, found, Some(Fact::Handle(held)))
 }
 
-/// Whether a step gave back a handle of an object, which stood behind so many others.
+/// Returns whether a step gave back a handle of an object, after the first `before` steps.
 fn gives_back(
     alloc: Global,
     trail: &Trail,
@@ -104,7 +112,7 @@ fn gives_back(
     }
 }
 
-/// The last step that gave back a handle of an object.
+/// Returns the last step that gave back a handle of an object.
 fn last_giving_back(alloc: Global, trail: &Trail, object: u64) -> Result<Option<u64>, AllocError> {
     let steps = trail.steps();
     let mut before = steps.len();
@@ -117,58 +125,35 @@ fn last_giving_back(alloc: Global, trail: &Trail, object: u64) -> Result<Option<
     Ok(None)
 }
 
-/// Puts why no object has a name.
-pub(crate) fn no_name(
-    alloc: Global,
-    scene: Scene<'_>,
-    name: u32,
-    text: &mut String,
-) -> Result<(), AllocError> {
-    let steps = scene.ledger.steps();
-    let Some(named) = last_publishing(steps, Key::Name(u64::from(name))) else {
-        return writeln!(text, "no buffer has name {name}: no step gave one that");
+/// Returns why no object has a name.
+fn unnamed(alloc: Global, ledger: &Ledger, name: u32) -> Result<Option<PublishedFact>, AllocError>
+    ensures { IfOk result (λ fact. IfSome fact (facts.PublishedHolds ledger.now)) }
+{
+    let trail = ledger.trail();
+    let steps = trail.steps();
+    let key = Key::Name(u64::from(name));
+    let Some(named) = last_publishing(steps, key) else {
+        return Ok(Some(PublishedFact::Never { key }));
     };
-    let trail = scene.ledger.trail();
-    let Some(object) = trail.object_of(named.past, named.client, named.handle) else {
-        return Ok(());
+    let Some(buffer) = trail.object_of(named.past, named.client, named.handle) else {
+        return Ok(None);
     };
-    let by = scene.name(named.client);
-    let step = named.past as u64 + 1;
-    write!(
-        text,
-        "no buffer has name {name}: buffer {object} had it since {by} named it at step {step}, up to its last handle"
-    )?;
-    match last_giving_back(alloc, trail, object)?.and_then(|number| at(steps, number)) {
-        Some(At { step, client, call }) => {
-            let by = scene.name(client);
-            writeln!(text, ", which went at step {step} ({call} by {by})")
-        }
-        None => text.push_str("\n"),
-    }
+    let last = last_giving_back(alloc, trail, buffer)?.and_then(|number| at(steps, number));
+    Ok(Some(PublishedFact::Named {
+        name,
+        buffer,
+        client: named.client,
+        step: named.past as u64 + 1,
+        last,
+    }))
 }
 
-/// Puts why a token isn't open, or is another's.
-pub(crate) fn no_token(scene: Scene<'_>, token: u32, text: &mut String) -> Result<(), AllocError> {
-    let steps = scene.ledger.steps();
-    let key = Key::Token(u64::from(token));
-    let Some(exported) = last_publishing(steps, key) else {
-        return writeln!(text, "token {token} is not open: no step gave it");
-    };
-    let by = scene.name(exported.client);
-    let step = exported.past as u64 + 1;
-    match withdrawn(steps, exported, key).and_then(|number| at(steps, number)) {
-        Some(closed) => {
-            let At { client, call, .. } = closed;
-            let last = closed.step;
-            let closer = scene.name(client);
-            writeln!(
-                text,
-                "token {token} is not open: {by} exported it at step {step}, and it was closed at step {last} ({call} by {closer})"
-            )
-        }
-        None => writeln!(
-            text,
-            "token {token} is {by}'s, which exported it at step {step}"
-        ),
+/// Returns why no object has a name.
+pub(crate) fn no_name(alloc: Global, scene: Scene<'_>, name: u32) -> Result<Vec<Fact>, AllocError>
+    ensures { IfOk result (λ found. All (facts.Holds scene.entry.topology.now scene.entry.limits scene.entry.ledger.now) found.items) }
+{
+    match unnamed(alloc, scene.ledger, name)? {
+        Some(fact) => only(alloc, scene, Some(Fact::Published(fact))),
+        None => Ok(Vec::new(alloc)),
     }
 }

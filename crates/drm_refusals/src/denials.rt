@@ -1,231 +1,278 @@
 //! The facts behind a denial.
 
-use crate::buffers::{no_handle, no_name, no_token};
-use crate::framebuffers::no_framebuffer;
+ghost use Rattle.std.specs.Prelude.{◌≡◌, All, IfOk, IfSome, Some};
+ghost use Rattle.drm_authority.specs.Magics.{magic_in};
+ghost use Rattle.drm_refusals.specs.Facts as facts;
+
+use crate::buffers::{no_handle, no_name};
+use crate::collecting::{only, with};
+use crate::facts::{ClientFact, Fact, MagicFact, RequestFact};
 use crate::leasing::{
     bad_shape, leased_out, no_lease_token, no_lessee, not_leasable, other_lessee, repeated,
 };
+use crate::publications::{framebuffer_fact, no_token};
 use crate::room::{full, full_of_clients};
-use crate::scene::{Scene, tell, tell_own_lease};
+use crate::scene::Scene;
 use crate::screens::{bad_route, no_mode_object};
+use crate::searching::{Search, last};
 use crate::sizes::{bad_cap, bad_size};
 use drm_explanations::{Subject, closed_at};
-use drm_rights::Authentication;
+use drm_rights::Ledger;
 use drm_table::{Call, CallKind, Event, Opening, Rule};
 use std::alloc::{AllocError, Global};
 
-/// Puts why a client isn't open.
-fn absent(scene: Scene<'_>, client: u64, text: &mut String) -> Result<(), AllocError> {
-    let steps = scene.ledger.steps();
-    if client == 0 {
-        return text.push_str("no client was opened as the label that asks\n");
+/// Returns why a client is not open.
+fn closed_or_never(ledger: &Ledger, client: u64) -> Option<ClientFact>
+    ensures { IfSome result (facts.ClientHolds ledger.now) }
+{
+    let steps = ledger.steps();
+    if let Some(step) = closed_at(steps, client) {
+        return Some(ClientFact::Closed { client, step });
     }
-    let name = scene.name(client);
-    match closed_at(steps, client) {
-        Some(step) => writeln!(text, "{name} is not open: it closed at step {step}"),
-        None => writeln!(text, "{name} is not open: no step opened it"),
+    match last(steps, Search::Opens { client }) {
+        Some(_) => None,
+        None => Some(ClientFact::NeverOpened { client }),
     }
 }
 
-/// Puts which number or layout no row has.
-fn unknown(call: &Call, text: &mut String) -> Result<(), AllocError> {
+/// Returns why the caller is not open.
+fn absent(scene: Scene<'_>, client: u64) -> Option<Fact>
+    ensures { IfSome result (facts.Holds scene.entry.topology.now scene.entry.limits scene.entry.ledger.now) }
+{
+    if client == 0 {
+        return Some(Fact::Request(RequestFact::NoCaller));
+    }
+    match closed_or_never(scene.ledger, client) {
+        Some(fact) => Some(Fact::Client(fact)),
+        None => None,
+    }
+}
+
+/// Returns which number or layout no call has.
+fn unknown(call: &Call) -> RequestFact
+    ensures { facts.RequestHolds result }
+{
     let number = call.number();
     match CallKind::of_number(number) {
-        Some(kind) => {
-            let word = str::from_utf8(kind.word()).unwrap_or("");
-            writeln!(
-                text,
-                "number {number} is that of {word}, which has other fields"
-            )
-        }
-        None => writeln!(text, "no row of the table of calls has number {number}"),
+        Some(kind) => RequestFact::OtherFields { number, kind },
+        None => RequestFact::NoCall { number },
     }
 }
 
-/// Puts how a client stands to the device's master.
-fn standing(
-    alloc: Global,
-    scene: Scene<'_>,
-    client: u64,
-    text: &mut String,
-) -> Result<(), AllocError> {
-    tell(alloc, scene, Subject::Current(client), text)?;
-    tell(alloc, scene, Subject::Master(client), text)?;
-    tell(alloc, scene, Subject::Device, text)
-}
-
-/// Puts who spent a magic, or that it went otherwise.
-fn spent_magic(
-    scene: Scene<'_>,
-    holder: u64,
-    magic: u32,
-    text: &mut String,
-) -> Result<(), AllocError> {
-    let name = scene.name(holder);
-    if let Some(step) = closed_at(scene.ledger.steps(), holder) {
-        return writeln!(
-            text,
-            "magic {magic} went as {name}, whose it was, closed at step {step}"
-        );
+/// Returns who spent a magic that was last told to a client, or that it is that client's no longer.
+fn spent(ledger: &Ledger, master: u64, magic: u32, client: u64) -> MagicFact
+    requires { magic_in ledger.now master magic ≡ Some client }
+    ensures { facts.MagicHolds ledger.now result }
+{
+    if let Some(step) = closed_at(ledger.steps(), client) {
+        return MagicFact::OfClosed {
+            master,
+            magic,
+            client,
+            step,
+        };
     }
-    match scene.ledger.authentication(holder) {
-        Some(told) if told.magic == u64::from(magic) => {
-            let Authentication { step, by, .. } = told;
-            let by = scene.name(by);
-            writeln!(
-                text,
-                "magic {magic} is {name}'s, and {by} spent it at step {step} (auth_magic)"
-            )
-        }
-        _ => writeln!(text, "magic {magic} is not {name}'s any more, or is spent"),
+    match ledger.authentication(client) {
+        Some(told) if told.magic == u64::from(magic) => MagicFact::Spent {
+            magic,
+            client,
+            by: told.by,
+            step: told.step,
+        },
+        _ => MagicFact::Lost {
+            master,
+            magic,
+            client,
+        },
     }
 }
 
-/// Puts why no client has a magic of a client's master unspent.
-fn no_magic(
-    scene: Scene<'_>,
-    client: u64,
-    call: &Call,
-    text: &mut String,
-) -> Result<(), AllocError> {
-    let Call::AuthMagic { magic } = call else {
-        return Ok(());
-    };
-    let master = scene.ledger.master_of(client).unwrap_or(0);
-    match scene.ledger.client_of(master, u64::from(*magic)) {
-        Some(holder) => spent_magic(scene, holder, *magic, text),
-        None => writeln!(
-            text,
-            "no client of master {master} was told magic {magic} (get_magic)"
-        ),
+/// Returns why no client of the caller's master has a magic unspent.
+fn no_magic(ledger: &Ledger, client: u64, magic: u32) -> MagicFact
+    ensures { facts.MagicHolds ledger.now result }
+{
+    let master = ledger.master_of(client).unwrap_or(0);
+    match ledger.client_of(master, u64::from(magic)) {
+        Some(holder) => spent(ledger, master, magic, holder),
+        None => MagicFact::Unknown { master, magic },
     }
 }
 
-/// Puts why the framebuffer of a call isn't there.
-fn framebuffer_of(scene: Scene<'_>, call: &Call, text: &mut String) -> Result<(), AllocError> {
+/// Returns the fact of a call's magic.
+fn magic_fact(scene: Scene<'_>, client: u64, call: &Call) -> Option<Fact>
+    ensures { IfSome result (facts.Holds scene.entry.topology.now scene.entry.limits scene.entry.ledger.now) }
+{
     match call {
-        Call::SetCrtc { framebuffer, .. } => no_framebuffer(scene, *framebuffer, text),
-        Call::SetPlane { framebuffer, .. } => no_framebuffer(scene, *framebuffer, text),
-        Call::GetFb { framebuffer } => no_framebuffer(scene, *framebuffer, text),
-        Call::RmFb { framebuffer } => no_framebuffer(scene, *framebuffer, text),
-        _ => Ok(()),
+        Call::AuthMagic { magic } => { Some(Fact::Magic(no_magic(scene.ledger, client, *magic))) }
+        _ => None,
     }
 }
 
-/// Puts the facts behind the denial of a call by the flags of its row, or by what its caller is.
+/// Returns why the framebuffer of a call is missing.
+fn framebuffer_of(scene: Scene<'_>, call: &Call) -> Option<Fact>
+    ensures { IfSome result (facts.Holds scene.entry.topology.now scene.entry.limits scene.entry.ledger.now) }
+{
+    match call {
+        Call::SetCrtc { framebuffer, .. } => framebuffer_fact(scene, *framebuffer),
+        Call::SetPlane { framebuffer, .. } => framebuffer_fact(scene, *framebuffer),
+        Call::GetFb { framebuffer } => framebuffer_fact(scene, *framebuffer),
+        Call::RmFb { framebuffer } => framebuffer_fact(scene, *framebuffer),
+        _ => None,
+    }
+}
+
+/// Returns the lease of a client's master as a subject.
+fn own_lease(ledger: &Ledger, client: u64) -> Option<Subject> {
+    let master = ledger.master_of(client)?;
+    Some(Subject::Lease(master))
+}
+
+/// Returns the facts of what the caller is, for a denial by the flags of the row or by the caller's master.
 fn by_caller(
     alloc: Global,
     scene: Scene<'_>,
     client: u64,
     rule: Rule,
-    text: &mut String,
-) -> Result<(), AllocError> {
-    match rule {
-        Rule::NoClient => absent(scene, client, text),
-        Rule::Auth => tell(alloc, scene, Subject::Authentication(client), text),
-        Rule::Master | Rule::NotCurrent => standing(alloc, scene, client, text),
-        Rule::MasterPerm => {
-            tell(alloc, scene, Subject::Client(client), text)?;
-            tell(alloc, scene, Subject::Master(client), text)
-        }
-        Rule::MasterBusy => {
-            tell(alloc, scene, Subject::Current(client), text)?;
-            tell(alloc, scene, Subject::Device, text)
-        }
-        Rule::IsLessee | Rule::SubLease => {
-            tell(alloc, scene, Subject::Master(client), text)?;
-            tell_own_lease(alloc, scene, client, text)
-        }
-        _ => tell(alloc, scene, Subject::Client(client), text),
-    }
+) -> Result<Vec<Fact>, AllocError>
+    ensures { IfOk result (λ found. All (facts.Holds scene.entry.topology.now scene.entry.limits scene.entry.ledger.now) found.items) }
+{
+    let subjects = match rule {
+        Rule::NoClient => return only(alloc, scene, absent(scene, client)),
+        Rule::Auth => [Some(Subject::Authentication(client)), None, None],
+        Rule::Master | Rule::NotCurrent => [
+            Some(Subject::Current(client)),
+            Some(Subject::Master(client)),
+            Some(Subject::Device),
+        ],
+        Rule::MasterPerm => [
+            Some(Subject::Client(client)),
+            Some(Subject::Master(client)),
+            None,
+        ],
+        Rule::MasterBusy => [Some(Subject::Current(client)), Some(Subject::Device), None],
+        Rule::IsLessee | Rule::SubLease => [
+            Some(Subject::Master(client)),
+            own_lease(scene.ledger, client),
+            None,
+        ],
+        _ => [Some(Subject::Client(client)), None, None],
+    };
+    told(alloc, scene, subjects)
 }
 
-/// Puts the facts behind the denial of a lease's making or revocation.
+/// Returns the lines of the explanation about these subjects.
+fn told(
+    alloc: Global,
+    scene: Scene<'_>,
+    subjects: [Option<Subject>; 3],
+) -> Result<Vec<Fact>, AllocError>
+    ensures { IfOk result (λ found. All (facts.Holds scene.entry.topology.now scene.entry.limits scene.entry.ledger.now) found.items) }
+{
+    let mut found = Vec::new(alloc);
+    for subject in subjects {
+        if let Some(subject) = subject {
+            found = with(scene, found, Some(Fact::Told(subject)))?;
+        }
+    }
+    Ok(found)
+}
+
+/// Returns the facts behind the denial of a lease's creation or revocation.
 fn by_lease(
     alloc: Global,
     scene: Scene<'_>,
     client: u64,
     call: &Call,
     rule: Rule,
-    text: &mut String,
-) -> Result<(), AllocError> {
+) -> Result<Vec<Fact>, AllocError>
+    ensures { IfOk result (λ found. All (facts.Holds scene.entry.topology.now scene.entry.limits scene.entry.ledger.now) found.items) }
+{
     match (call, rule) {
-        (Call::CreateLease { ids }, Rule::NotLeasable) => not_leasable(scene, ids.ids(), text),
-        (Call::CreateLease { ids }, Rule::Repeated) => repeated(ids.ids(), text),
-        (Call::CreateLease { ids }, Rule::LeaseShape) => bad_shape(scene, client, ids.ids(), text),
+        (Call::CreateLease { ids }, Rule::NotLeasable) => not_leasable(alloc, scene, ids.ids()),
+        (Call::CreateLease { ids }, Rule::Repeated) => repeated(alloc, scene, ids.ids()),
+        (Call::CreateLease { ids }, Rule::LeaseShape) => {
+            bad_shape(alloc, scene, client, ids.ids())
+        }
         (Call::CreateLease { ids }, Rule::LeasedOut) => {
-            leased_out(alloc, scene, client, ids.ids(), text)
+            leased_out(alloc, scene, client, ids.ids())
         }
         (Call::RevokeLease { lessee }, Rule::NoLessee) => {
-            no_lessee(alloc, scene, client, *lessee, text)
+            no_lessee(alloc, scene, client, *lessee)
         }
         (Call::RevokeLease { lessee }, Rule::NotYourLessee) => {
-            other_lessee(alloc, scene, client, *lessee, text)
+            other_lessee(alloc, scene, client, *lessee)
         }
-        _ => by_caller(alloc, scene, client, rule, text),
+        _ => by_caller(alloc, scene, client, rule),
     }
 }
 
-/// Puts the facts behind the denial of a call.
+/// Returns the facts behind the denial of a call that names a handle, a name or a token.
+fn by_name(alloc: Global, scene: Scene<'_>, call: &Call) -> Result<Vec<Fact>, AllocError>
+    ensures { IfOk result (λ found. All (facts.Holds scene.entry.topology.now scene.entry.limits scene.entry.ledger.now) found.items) }
+{
+    match call {
+        Call::GemOpen { name } => no_name(alloc, scene, *name),
+        Call::PrimeFdToHandle { token } => no_token(alloc, scene, *token),
+        Call::TokenClose { token } => no_token(alloc, scene, *token),
+        _ => Ok(Vec::new(alloc)),
+    }
+}
+
+/// Returns the facts behind the denial of a call.
 fn by_call(
     alloc: Global,
     scene: Scene<'_>,
     client: u64,
     call: &Call,
     rule: Rule,
-    text: &mut String,
-) -> Result<(), AllocError> {
+) -> Result<Vec<Fact>, AllocError>
+    ensures { IfOk result (λ found. All (facts.Holds scene.entry.topology.now scene.entry.limits scene.entry.ledger.now) found.items) }
+{
     match rule {
-        Rule::Unknown | Rule::Layout => unknown(call, text),
-        Rule::NoHandle | Rule::NoHandleToClose => no_handle(alloc, scene, client, call, text),
-        Rule::NoName => match call {
-            Call::GemOpen { name } => no_name(alloc, scene, *name, text),
-            _ => Ok(()),
-        },
-        Rule::NoToken => match call {
-            Call::PrimeFdToHandle { token } => no_token(scene, *token, text),
-            Call::TokenClose { token } => no_token(scene, *token, text),
-            _ => Ok(()),
-        },
-        Rule::NoMagic => no_magic(scene, client, call, text),
-        Rule::NoModeObject => no_mode_object(alloc, scene, client, call, text),
-        Rule::NoFb => framebuffer_of(scene, call, text),
-        Rule::BadSize => bad_size(scene, client, call, text),
-        Rule::BadRoute => bad_route(scene, call, text),
-        Rule::BadCap => bad_cap(call, text),
-        Rule::Full => full(alloc, scene, client, call, text),
-        _ => by_lease(alloc, scene, client, call, rule, text),
+        Rule::Unknown | Rule::Layout => { only(alloc, scene, Some(Fact::Request(unknown(call)))) }
+        Rule::NoHandle | Rule::NoHandleToClose => no_handle(alloc, scene, client, call),
+        Rule::NoName | Rule::NoToken => by_name(alloc, scene, call),
+        Rule::NoMagic => only(alloc, scene, magic_fact(scene, client, call)),
+        Rule::NoModeObject => no_mode_object(alloc, scene, client, call),
+        Rule::NoFb => only(alloc, scene, framebuffer_of(scene, call)),
+        Rule::BadSize => bad_size(alloc, scene, client, call),
+        Rule::BadRoute => bad_route(alloc, scene, call),
+        Rule::BadCap => bad_cap(alloc, scene, call),
+        Rule::Full => full(alloc, scene, client, call),
+        _ => by_lease(alloc, scene, client, call, rule),
     }
 }
 
-/// Puts the facts behind the denial of an opening.
+/// Returns the facts behind the denial of an opening.
 fn by_opening(
     alloc: Global,
     scene: Scene<'_>,
     opening: &Opening,
     rule: Rule,
-    text: &mut String,
-) -> Result<(), AllocError> {
+) -> Result<Vec<Fact>, AllocError>
+    ensures { IfOk result (λ found. All (facts.Holds scene.entry.topology.now scene.entry.limits scene.entry.ledger.now) found.items) }
+{
     match (opening, rule) {
         (Opening::Lease { token, .. }, Rule::NoLeaseToken) => {
-            no_lease_token(alloc, scene, *token, text)
+            no_lease_token(alloc, scene, *token)
         }
-        (_, Rule::Full) => full_of_clients(scene, text),
-        _ => Ok(()),
+        (_, Rule::Full) => full_of_clients(alloc, scene),
+        _ => Ok(Vec::new(alloc)),
     }
 }
 
-/// Puts the facts behind a denial, a line each.
+/// Returns the facts behind a denial.
 pub(crate) fn reasons(
     alloc: Global,
     scene: Scene<'_>,
     event: &Event,
     rule: Rule,
-    text: &mut String,
-) -> Result<(), AllocError> {
+) -> Result<Vec<Fact>, AllocError>
+    ensures { IfOk result (λ found. All (facts.Holds scene.entry.topology.now scene.entry.limits scene.entry.ledger.now) found.items) }
+{
     match event {
-        Event::Open(opening) => by_opening(alloc, scene, opening, rule, text),
-        Event::Ask(client, call) => by_call(alloc, scene, u64::from(*client), call, rule, text),
-        Event::Close(client) => absent(scene, u64::from(*client), text),
+        Event::Open(opening) => by_opening(alloc, scene, opening, rule),
+        Event::Ask(client, call) => by_call(alloc, scene, u64::from(*client), call, rule),
+        Event::Close(client) => only(alloc, scene, absent(scene, u64::from(*client))),
     }
 }

@@ -1,111 +1,181 @@
-//! Leases that can't be made, revoked or redeemed.
+//! Leases that can't be created, revoked or redeemed.
 
-ghost use Rattle.std.specs.Prelude.{◌≡◌};
+ghost use Rattle.std.specs.Prelude.{◌≡◌, All, IfOk, IfSome};
 ghost use Rattle.drm_rights.specs.Leases as lending;
 ghost use Rattle.drm_rights.specs.Leases.{leases_in};
+ghost use Rattle.drm_refusals.specs.Facts as facts;
 ghost use Rattle.drm_refusals.specs.Leases.{lease_meant};
 
-use crate::framebuffers::no_framebuffer;
-use crate::scene::{Scene, tell};
+use crate::collecting::{only, with};
+use crate::facts::{Fact, LeaseFact, ModeObjectFact, RequestFact};
+use crate::publications::framebuffer_fact;
+use crate::scene::Scene;
 use drm_explanations::Subject;
 use drm_modes::Kind;
 use drm_rights::{Lease, Ledger};
 use std::alloc::{AllocError, Global};
 
-/// Puts which ids can't be leased: those of encoders and framebuffers.
+/// Returns why an id can't be leased: it is that of an encoder or a framebuffer.
+fn unleasable(scene: Scene<'_>, id: u32) -> Option<Fact>
+    ensures { IfSome result (facts.Holds scene.entry.topology.now scene.entry.limits scene.entry.ledger.now) }
+{
+    match scene.topology.kind(id) {
+        Some(Kind::Encoder) => Some(Fact::ModeObject(ModeObjectFact::Encoder { id })),
+        Some(_) => None,
+        None => framebuffer_fact(scene, id),
+    }
+}
+
+/// Returns which ids can't be leased.
 pub(crate) fn not_leasable(
+    alloc: Global,
     scene: Scene<'_>,
     ids: &[u32],
-    text: &mut String,
-) -> Result<(), AllocError> {
+) -> Result<Vec<Fact>, AllocError>
+    ensures { IfOk result (λ found. All (facts.Holds scene.entry.topology.now scene.entry.limits scene.entry.ledger.now) found.items) }
+{
+    let mut found = Vec::new(alloc);
     for id in ids {
-        match scene.topology.kind(*id) {
-            Some(Kind::Encoder) => writeln!(text, "mode object {id} is an encoder")?,
-            Some(_) => {}
-            None => no_framebuffer(scene, *id, text)?,
-        }
+        found = with(scene, found, unleasable(scene, *id))?;
     }
-    Ok(())
+    Ok(found)
 }
 
-/// Puts which ids stand twice.
-pub(crate) fn repeated(ids: &[u32], text: &mut String) -> Result<(), AllocError> {
+/// Returns whether an id is also before this place in the list.
+fn is_repeated(ids: &[u32], place: usize, id: u32) -> bool {
+    let before = ids.get(..place).unwrap_or(&[]);
+    before.contains(&id)
+}
+
+/// Returns which ids are in the list twice.
+pub(crate) fn repeated(
+    alloc: Global,
+    scene: Scene<'_>,
+    ids: &[u32],
+) -> Result<Vec<Fact>, AllocError>
+    ensures { IfOk result (λ found. All (facts.Holds scene.entry.topology.now scene.entry.limits scene.entry.ledger.now) found.items) }
+{
+    let mut found = Vec::new(alloc);
     for (place, id) in ids.iter().enumerate() {
-        let before = ids.get(..place).unwrap_or(&[]);
-        if before.contains(id) {
-            writeln!(text, "id {id} stands twice")?;
+        let id = *id;
+        if is_repeated(ids, place, id) {
+            found = with(
+                scene,
+                found,
+                Some(Fact::Request(RequestFact::Repeated { id })),
+            )?;
         }
     }
-    Ok(())
+    Ok(found)
 }
 
-/// Whether one of the ids is that of a mode object of a kind.
+/// Returns whether one of the ids is that of a mode object of a kind.
 fn has_kind(scene: Scene<'_>, ids: &[u32], kind: Kind) -> bool {
     ids.iter().any(|id| scene.topology.is_of_kind(kind, *id))
 }
 
-/// Puts what a lease lacks.
+/// Returns that no plane is among the ids for a client with universal planes on.
+fn lacks_plane(scene: Scene<'_>, client: u64, ids: &[u32]) -> Option<Fact>
+    ensures { IfSome result (facts.Holds scene.entry.topology.now scene.entry.limits scene.entry.ledger.now) }
+{
+    if scene.ledger.has_universal(client) && !has_kind(scene, ids, Kind::Plane) {
+        Some(Fact::Lease(LeaseFact::LacksPlane { client }))
+    } else {
+        None
+    }
+}
+
+/// Returns what a lease lacks.
 pub(crate) fn bad_shape(
+    alloc: Global,
     scene: Scene<'_>,
     client: u64,
     ids: &[u32],
-    text: &mut String,
-) -> Result<(), AllocError> {
+) -> Result<Vec<Fact>, AllocError>
+    ensures { IfOk result (λ found. All (facts.Holds scene.entry.topology.now scene.entry.limits scene.entry.ledger.now) found.items) }
+{
+    let mut found = Vec::new(alloc);
     if !has_kind(scene, ids, Kind::Crtc) {
-        text.push_str("no CRTC is among the ids\n")?;
+        found = with(scene, found, Some(Fact::Request(RequestFact::LacksCrtc)))?;
     }
     if !has_kind(scene, ids, Kind::Connector) {
-        text.push_str("no connector is among the ids\n")?;
-    }
-    if scene.ledger.has_universal(client) && !has_kind(scene, ids, Kind::Plane) {
-        let name = scene.name(client);
-        writeln!(
-            text,
-            "no plane is among the ids, and {name} has universal planes on"
+        found = with(
+            scene,
+            found,
+            Some(Fact::Request(RequestFact::LacksConnector)),
         )?;
     }
-    Ok(())
+    with(scene, found, lacks_plane(scene, client, ids))
 }
 
-/// Puts which of these ids a lease has.
+/// Returns that a lease has a mode object, if it does.
+fn lent(scene: Scene<'_>, lease: Lease, id: u32) -> Option<Fact>
+    ensures { IfSome result (facts.Holds scene.entry.topology.now scene.entry.limits scene.entry.ledger.now) }
+{
+    if scene.ledger.is_granted(scene.topology, lease.master, id) {
+        Some(Fact::Lease(LeaseFact::LeasedOut { id, lease }))
+    } else {
+        None
+    }
+}
+
+/// Adds which of these ids a lease has.
 fn lent_of(
     scene: Scene<'_>,
+    found: Vec<Fact>,
     lease: Lease,
     ids: &[u32],
-    text: &mut String,
-) -> Result<bool, AllocError> {
-    let mut some = false;
+) -> Result<Vec<Fact>, AllocError>
+    requires { All (facts.Holds scene.topology.now scene.limits scene.ledger.now) found.items }
+    ensures { IfOk result (λ more. All (facts.Holds scene.entry.topology.now scene.entry.limits scene.entry.ledger.now) more.items) }
+{
+    let mut found = found;
     for id in ids {
-        if scene.ledger.lends(scene.topology, lease.master, *id) {
-            let Lease { id: lessee, .. } = lease;
-            writeln!(text, "mode object {id} is leased out to lessee {lessee}")?;
-            some = true;
-        }
+        found = with(scene, found, lent(scene, lease, *id))?;
     }
-    Ok(some)
+    Ok(found)
 }
 
-/// Puts which direct lessees of a client's master have what it names, or what comes along with that.
+/// Adds what a lease has of what a client names, or of what comes along with that.
+fn lent_by(
+    scene: Scene<'_>,
+    found: Vec<Fact>,
+    client: u64,
+    lease: Lease,
+    ids: &[u32],
+) -> Result<Vec<Fact>, AllocError>
+    requires { All (facts.Holds scene.topology.now scene.limits scene.ledger.now) found.items }
+    ensures { IfOk result (λ more. All (facts.Holds scene.entry.topology.now scene.entry.limits scene.entry.ledger.now) more.items) }
+{
+    let before = found.len();
+    let along = scene.topology.planes_of(ids);
+    let mut found = lent_of(scene, found, lease, ids)?;
+    if !scene.ledger.has_universal(client) {
+        found = lent_of(scene, found, lease, along.ids())?;
+    }
+    if found.len() == before {
+        return Ok(found);
+    }
+    with(scene, found, Some(Fact::Told(Subject::Lease(lease.master))))
+}
+
+/// Returns which direct lessees of a client's master have what it names, or what comes along with that.
 pub(crate) fn leased_out(
     alloc: Global,
     scene: Scene<'_>,
     client: u64,
     ids: &[u32],
-    text: &mut String,
-) -> Result<(), AllocError> {
+) -> Result<Vec<Fact>, AllocError>
+    ensures { IfOk result (λ found. All (facts.Holds scene.entry.topology.now scene.entry.limits scene.entry.ledger.now) found.items) }
+{
     let lessor = scene.ledger.master_of(client);
-    let along = scene.topology.planes_of(ids);
-    let brings = !scene.ledger.has_universal(client);
+    let mut found = Vec::new(alloc);
     for lease in scene.ledger.leases() {
-        if lease.lessor == lessor && scene.ledger.ended(lease.master).is_none() {
-            let named = lent_of(scene, *lease, ids, text)?;
-            let brought = brings && lent_of(scene, *lease, along.ids(), text)?;
-            if named || brought {
-                tell(alloc, scene, Subject::Lease(lease.master), text)?;
-            }
+        if lease.lessor == lessor {
+            found = lent_by(scene, found, client, *lease, ids)?;
         }
     }
-    Ok(())
+    Ok(found)
 }
 
 /// Returns the last lease that was answered an id under an owner.
@@ -127,44 +197,51 @@ fn lease_of_id(ledger: &Ledger, client: u64, id: u32) -> Option<Lease>
     lease_under(ledger.leases(), owner, id)
 }
 
-/// Puts why there is no lessee of an id.
+/// Returns why no lessee has an id.
 pub(crate) fn no_lessee(
     alloc: Global,
     scene: Scene<'_>,
     client: u64,
-    id: u32,
-    text: &mut String,
-) -> Result<(), AllocError> {
-    match lease_of_id(scene.ledger, client, id) {
-        Some(lease) => tell(alloc, scene, Subject::Lease(lease.master), text),
-        None => {
-            writeln!(
-                text,
-                "there is no lessee {id}: no lease under the same owner was answered that"
-            )
-        }
-    }
+    lessee: u32,
+) -> Result<Vec<Fact>, AllocError>
+    ensures { IfOk result (λ found. All (facts.Holds scene.entry.topology.now scene.entry.limits scene.entry.ledger.now) found.items) }
+{
+    let fact = match lease_of_id(scene.ledger, client, lessee) {
+        Some(lease) => Fact::Told(Subject::Lease(lease.master)),
+        None => Fact::Lease(LeaseFact::NoLessee { client, lessee }),
+    };
+    only(alloc, scene, Some(fact))
 }
 
-/// Puts whose a lessee is.
+/// Returns whose a lessee is, if its lessor is known.
+fn lessor_fact(scene: Scene<'_>, client: u64, lessee: u32) -> Option<Fact>
+    ensures { IfSome result (facts.Holds scene.entry.topology.now scene.entry.limits scene.entry.ledger.now) }
+{
+    let lease = lease_of_id(scene.ledger, client, lessee)?;
+    let lessor = lease.lessor?;
+    let master = scene.ledger.master_of(client)?;
+    Some(Fact::Lease(LeaseFact::OtherLessor {
+        client,
+        lessee,
+        lessor,
+        master,
+    }))
+}
+
+/// Returns whose a lessee is, and its lease.
 pub(crate) fn other_lessee(
     alloc: Global,
     scene: Scene<'_>,
     client: u64,
-    id: u32,
-    text: &mut String,
-) -> Result<(), AllocError> {
-    let Some(lease) = lease_of_id(scene.ledger, client, id) else {
-        return Ok(());
+    lessee: u32,
+) -> Result<Vec<Fact>, AllocError>
+    ensures { IfOk result (λ found. All (facts.Holds scene.entry.topology.now scene.entry.limits scene.entry.ledger.now) found.items) }
+{
+    let Some(lease) = lease_of_id(scene.ledger, client, lessee) else {
+        return Ok(Vec::new(alloc));
     };
-    if let (Some(lessor), Some(own)) = (lease.lessor, scene.ledger.master_of(client)) {
-        let name = scene.name(client);
-        writeln!(
-            text,
-            "the lessor of lessee {id} is master {lessor}, and the master of {name} is {own}"
-        )?;
-    }
-    tell(alloc, scene, Subject::Lease(lease.master), text)
+    let found = only(alloc, scene, lessor_fact(scene, client, lessee))?;
+    with(scene, found, Some(Fact::Told(Subject::Lease(lease.master))))
 }
 
 /// Returns the last lease that was answered a token.
@@ -179,24 +256,24 @@ fn lease_of_token(ledger: &Ledger, token: u32) -> Option<Lease>
         .find(|lease| lease.token == u64::from(token))
 }
 
-/// Puts why a lease token isn't open.
+/// Returns why a lease token is not open.
 pub(crate) fn no_lease_token(
     alloc: Global,
     scene: Scene<'_>,
     token: u32,
-    text: &mut String,
-) -> Result<(), AllocError> {
+) -> Result<Vec<Fact>, AllocError>
+    ensures { IfOk result (λ found. All (facts.Holds scene.entry.topology.now scene.entry.limits scene.entry.ledger.now) found.items) }
+{
     match lease_of_token(scene.ledger, token) {
         Some(lease) => {
-            writeln!(
-                text,
-                "lease token {token} is not open: it is spent, or its lease has ended"
-            )?;
-            tell(alloc, scene, Subject::Lease(lease.master), text)
+            let used = Fact::Lease(LeaseFact::TokenUsed { token });
+            let found = only(alloc, scene, Some(used))?;
+            with(scene, found, Some(Fact::Told(Subject::Lease(lease.master))))
         }
-        None => writeln!(
-            text,
-            "lease token {token} is not open: no lease was answered it"
+        None => only(
+            alloc,
+            scene,
+            Some(Fact::Lease(LeaseFact::TokenUnknown { token })),
         ),
     }
 }

@@ -3,16 +3,26 @@
 
 mod answering;
 mod buffers;
+mod collecting;
 mod denials;
-mod framebuffers;
+mod facts;
 mod leasing;
+mod publications;
 mod remedies;
 mod room;
 mod rows;
 mod scene;
 mod screens;
+mod searching;
+mod sentences;
 mod sizes;
 mod withdrawals;
+mod writing;
 
-pub use answering::{Line, explain_answer, lines_of_answer};
-pub use rows::AnswerRow;
+pub use answering::{Line, explain_answer};
+pub use facts::{
+    ClientFact, Fact, HandleFact, LeaseFact, LimitFact, MagicFact, ModeObjectFact, PublishedFact,
+    Quantity, RequestFact, SizeFact,
+};
+pub use rows::{AnswerRow, WrittenAnswer};
+pub use writing::{lines_of_answer, write_answer};

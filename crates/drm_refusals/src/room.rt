@@ -1,11 +1,16 @@
 //! Limits that are reached.
 
+ghost use Rattle.std.specs.Prelude.{All, IfOk, IfSome};
+ghost use Rattle.drm_refusals.specs.Facts as facts;
+
+use crate::collecting::only;
+use crate::facts::{Fact, LimitFact};
 use crate::scene::Scene;
 use drm_rights::{Step, handles_of};
 use drm_table::{Answer, Call};
 use std::alloc::{AllocError, Global};
 
-/// How many clients are open after these steps.
+/// Returns how many clients are open after these steps.
 fn open_clients(steps: &[Step]) -> u64 {
     let mut count: u64 = 0;
     for step in steps {
@@ -18,78 +23,85 @@ fn open_clients(steps: &[Step]) -> u64 {
     count
 }
 
-/// Puts that as many clients are open as may be.
-pub(crate) fn full_of_clients(scene: Scene<'_>, text: &mut String) -> Result<(), AllocError> {
+/// Returns that as many clients are open as the limit allows.
+pub(crate) fn full_of_clients(alloc: Global, scene: Scene<'_>) -> Result<Vec<Fact>, AllocError>
+    ensures { IfOk result (λ found. All (facts.Holds scene.entry.topology.now scene.entry.limits scene.entry.ledger.now) found.items) }
+{
     let count = open_clients(scene.ledger.steps());
     let most = scene.limits.clients;
-    writeln!(text, "{count} clients are open, and the limit is {most}")
-}
-
-/// Puts that a client has as many handles as it may, or that as many objects are there.
-fn full_of_handles(
-    alloc: Global,
-    scene: Scene<'_>,
-    client: u64,
-    text: &mut String,
-) -> Result<(), AllocError> {
-    let name = scene.name(client);
-    let count = handles_of(alloc, scene.ledger.steps(), client)?.len();
-    let most = scene.limits.handles;
-    if count as u64 >= u64::from(most) {
-        return writeln!(
-            text,
-            "{name} holds {count} handles, and the limit is {most}"
-        );
-    }
-    let objects = scene.limits.objects;
-    writeln!(
-        text,
-        "{objects} objects are there, which is the limit; those that a token or a framebuffer alone keeps count too"
+    only(
+        alloc,
+        scene,
+        Some(Fact::Limit(LimitFact::Clients { count, most })),
     )
 }
 
-/// Puts which limit a call has reached.
+/// Returns that a client has as many handles as the limit allows, or that there are as many objects.
+fn full_of_handles(alloc: Global, scene: Scene<'_>, client: u64) -> Result<LimitFact, AllocError>
+    ensures { IfOk result (facts.LimitHolds scene.entry.limits scene.entry.ledger.now) }
+{
+    let count = handles_of(alloc, scene.ledger.steps(), client)?.len() as u64;
+    let most = scene.limits.handles;
+    if count >= u64::from(most) {
+        return Ok(LimitFact::Handles {
+            client,
+            count,
+            most,
+        });
+    }
+    Ok(LimitFact::Objects {
+        most: scene.limits.objects,
+    })
+}
+
+/// Returns which limit a call has reached.
+fn limit_of(
+    alloc: Global,
+    scene: Scene<'_>,
+    client: u64,
+    call: &Call,
+) -> Result<LimitFact, AllocError>
+    ensures { IfOk result (facts.LimitHolds scene.entry.limits scene.entry.ledger.now) }
+{
+    let limits = scene.limits;
+    match call {
+        Call::GemFlink { .. } => Ok(LimitFact::Names { most: limits.names }),
+        Call::PrimeHandleToFd { .. } => Ok(LimitFact::Tokens {
+            most: limits.tokens,
+        }),
+        Call::AddFb { .. } => Ok(LimitFact::Framebuffers {
+            most: limits.framebuffers,
+        }),
+        Call::CreateLease { .. } => Ok(LimitFact::Leases {
+            lessees: limits.lessees,
+            tokens: limits.tokens,
+        }),
+        _ => full_of_handles(alloc, scene, client),
+    }
+}
+
+/// Returns which limit a call has reached.
 pub(crate) fn full(
     alloc: Global,
     scene: Scene<'_>,
     client: u64,
     call: &Call,
-    text: &mut String,
-) -> Result<(), AllocError> {
-    let limits = scene.limits;
-    match call {
-        Call::GemFlink { .. } => {
-            let most = limits.names;
-            writeln!(text, "all names are given, 1 to {most}")
-        }
-        Call::PrimeHandleToFd { .. } => {
-            let most = limits.tokens;
-            writeln!(text, "all PRIME tokens are open, 1 to {most}")
-        }
-        Call::AddFb { .. } => {
-            let most = limits.framebuffers;
-            writeln!(text, "{most} framebuffers are there, which is the limit")
-        }
-        Call::CreateLease { .. } => {
-            let ids = limits.lessees;
-            let tokens = limits.tokens;
-            writeln!(
-                text,
-                "all lessee ids of the owner are given, 1 to {ids}, or all lease tokens are open, 1 to {tokens}"
-            )
-        }
-        _ => full_of_handles(alloc, scene, client, text),
-    }
+) -> Result<Vec<Fact>, AllocError>
+    ensures { IfOk result (λ found. All (facts.Holds scene.entry.topology.now scene.entry.limits scene.entry.ledger.now) found.items) }
+{
+    let limit = limit_of(alloc, scene, client, call)?;
+    only(alloc, scene, Some(Fact::Limit(limit)))
 }
 
-/// Puts how much of the journal is used.
-pub(crate) fn full_journal(scene: Scene<'_>, text: &mut String) -> Result<(), AllocError> {
+/// Returns how much of the journal is used.
+pub(crate) fn full_journal(alloc: Global, scene: Scene<'_>) -> Result<Vec<Fact>, AllocError>
+    ensures { IfOk result (λ found. All (facts.Holds scene.entry.topology.now scene.entry.limits scene.entry.ledger.now) found.items) }
+{
     let steps = scene.ledger.steps();
-    let used = steps.len();
-    let most = scene.limits.journal;
-    let count = open_clients(steps);
-    writeln!(
-        text,
-        "the journal has {used} steps of {most}, and each of {count} open clients keeps a place for its closing"
-    )
+    let journal = LimitFact::Journal {
+        used: steps.len() as u64,
+        most: scene.limits.journal,
+        clients: open_clients(steps),
+    };
+    only(alloc, scene, Some(Fact::Limit(journal)))
 }

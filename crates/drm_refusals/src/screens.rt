@@ -1,81 +1,97 @@
 //! Mode objects that a client doesn't see, and those that a CRTC can't drive.
 
-use crate::framebuffers::no_framebuffer;
-use crate::scene::{Scene, tell, tell_own_lease};
+ghost use Rattle.std.specs.Prelude.{All, IfOk, IfSome};
+ghost use Rattle.drm_refusals.specs.Facts as facts;
+
+use crate::collecting::{only, with};
+use crate::facts::{Fact, ModeObjectFact, RequestFact};
+use crate::publications::framebuffer_fact;
+use crate::scene::Scene;
 use drm_explanations::Subject;
 use drm_modes::Kind;
 use drm_table::Call;
 use std::alloc::{AllocError, Global};
 
-/// The word for a kind, with its article.
-fn kind_words(kind: Kind) -> &'static str {
-    match kind {
-        Kind::Crtc => "a CRTC",
-        Kind::Plane => "a plane",
-        Kind::Encoder => "an encoder",
-        Kind::Connector => "a connector",
+/// Returns that a client's master does not control a mode object, if it doesn't. All clients see encoders.
+fn uncontrolled(scene: Scene<'_>, client: u64, id: u32, kind: Kind) -> Option<ModeObjectFact>
+    ensures { IfSome result (facts.ModeObjectHolds scene.entry.topology.now scene.entry.ledger.now) }
+{
+    if kind == Kind::Encoder || scene.ledger.controls(scene.topology, client, id) {
+        None
+    } else {
+        Some(ModeObjectFact::NotControlled { client, id, kind })
     }
 }
 
-/// Whether a client's master controls a mode object; all clients see encoders.
-fn is_controlled(scene: Scene<'_>, client: u64, id: u32, kind: Kind) -> bool {
-    kind == Kind::Encoder || scene.ledger.controls(scene.topology, client, id)
+/// Returns that a client with universal planes off does not see a primary or a cursor plane, if it is one.
+fn hidden(scene: Scene<'_>, client: u64, plane: u32) -> Option<ModeObjectFact>
+    ensures { IfSome result (facts.ModeObjectHolds scene.entry.topology.now scene.entry.ledger.now) }
+{
+    let crtc = scene.topology.crtc_of_plane(plane)?;
+    if scene.ledger.has_universal(client) {
+        return None;
+    }
+    Some(ModeObjectFact::Hidden {
+        client,
+        plane,
+        crtc,
+    })
 }
 
-/// Puts why a client doesn't see a mode object of a kind, or of any; nothing where it does.
+/// Returns that no mode object has an id, or that the mode object is of another kind than the call requires.
+fn other_kind(scene: Scene<'_>, id: u32, wanted: Option<Kind>) -> Option<ModeObjectFact>
+    ensures { IfSome result (facts.ModeObjectHolds scene.entry.topology.now scene.entry.ledger.now) }
+{
+    let Some(kind) = scene.topology.kind(id) else {
+        let count = scene.topology.object_count();
+        return Some(ModeObjectFact::Nothing { id, count });
+    };
+    match wanted {
+        Some(wanted) if wanted != kind => Some(ModeObjectFact::OfKind { id, kind, wanted }),
+        _ => None,
+    }
+}
+
+/// Returns the fact of the lease of a client's master, if that is a lessee.
+fn own_lease(scene: Scene<'_>, client: u64) -> Option<Fact>
+    ensures { IfSome result (facts.Holds scene.entry.topology.now scene.entry.limits scene.entry.ledger.now) }
+{
+    let master = scene.ledger.master_of(client)?;
+    Some(Fact::Told(Subject::Lease(master)))
+}
+
+/// Adds why a client doesn't see a mode object of a kind, or of any; nothing if it does.
 fn unseen(
-    alloc: Global,
     scene: Scene<'_>,
+    found: Vec<Fact>,
     client: u64,
     id: u32,
     wanted: Option<Kind>,
-    text: &mut String,
-) -> Result<(), AllocError> {
+) -> Result<Vec<Fact>, AllocError>
+    requires { All (facts.Holds scene.topology.now scene.limits scene.ledger.now) found.items }
+    ensures { IfOk result (λ more. All (facts.Holds scene.entry.topology.now scene.entry.limits scene.entry.ledger.now) more.items) }
+{
+    if let Some(fact) = other_kind(scene, id, wanted) {
+        return with(scene, found, Some(Fact::ModeObject(fact)));
+    }
     let Some(kind) = scene.topology.kind(id) else {
-        let count = scene.topology.object_count();
-        return writeln!(
-            text,
-            "there is no mode object {id}: their ids are 1 to {count}"
-        );
+        return Ok(found);
     };
-    let is = kind_words(kind);
-    if let Some(other) = wanted {
-        if other != kind {
-            let wants = kind_words(other);
-            return writeln!(text, "mode object {id} is {is}, and not {wants}");
+    if let Some(fact) = uncontrolled(scene, client, id, kind) {
+        let found = with(scene, found, Some(Fact::ModeObject(fact)))?;
+        return with(scene, found, own_lease(scene, client));
+    }
+    match hidden(scene, client, id) {
+        Some(fact) => {
+            let found = with(scene, found, Some(Fact::ModeObject(fact)))?;
+            with(
+                scene,
+                found,
+                Some(Fact::Told(Subject::UniversalPlanes(client))),
+            )
         }
+        None => Ok(found),
     }
-    let name = scene.name(client);
-    if !is_controlled(scene, client, id, kind) {
-        writeln!(
-            text,
-            "{name} does not see mode object {id}, {is}: its master's lease does not have it"
-        )?;
-        return tell_own_lease(alloc, scene, client, text);
-    }
-    unseen_plane(alloc, scene, client, id, text)
-}
-
-/// Puts why a client with universal planes off doesn't see a primary or a cursor plane; nothing of any other mode object.
-fn unseen_plane(
-    alloc: Global,
-    scene: Scene<'_>,
-    client: u64,
-    id: u32,
-    text: &mut String,
-) -> Result<(), AllocError> {
-    let Some(crtc) = scene.topology.crtc_of_plane(id) else {
-        return Ok(());
-    };
-    if scene.ledger.has_universal(client) {
-        return Ok(());
-    }
-    let name = scene.name(client);
-    writeln!(
-        text,
-        "{name} does not see plane {id}: it is the primary or the cursor plane of CRTC {crtc}"
-    )?;
-    tell(alloc, scene, Subject::UniversalPlanes(client), text)
 }
 
 /// The mode objects that a call names, each with the kind that it has to be of, in the order of the tests.
@@ -105,72 +121,85 @@ fn named_by(call: &Call) -> [Option<(u32, Kind)>; 2] {
     }
 }
 
-/// Puts why a client doesn't see one of the mode objects that a call names.
+/// Returns why a client doesn't see one of the mode objects that a call names.
 pub(crate) fn no_mode_object(
     alloc: Global,
     scene: Scene<'_>,
     client: u64,
     call: &Call,
-    text: &mut String,
-) -> Result<(), AllocError> {
+) -> Result<Vec<Fact>, AllocError>
+    ensures { IfOk result (λ found. All (facts.Holds scene.entry.topology.now scene.entry.limits scene.entry.ledger.now) found.items) }
+{
     if let Call::CreateLease { ids } = call {
-        return unseen_of(alloc, scene, client, ids.ids(), text);
+        return unseen_of(alloc, scene, client, ids.ids());
     }
+    let mut found = Vec::new(alloc);
     for named in named_by(call) {
         if let Some((id, kind)) = named {
-            unseen(alloc, scene, client, id, Some(kind), text)?;
+            found = unseen(scene, found, client, id, Some(kind))?;
         }
     }
-    Ok(())
+    Ok(found)
 }
 
-/// Puts why a client doesn't see some of the ids of a lease, of which those above the mode objects may be framebuffers.
+/// Returns why a client doesn't see some of the ids of a lease, of which those above the mode objects may be framebuffers.
 fn unseen_of(
     alloc: Global,
     scene: Scene<'_>,
     client: u64,
     ids: &[u32],
-    text: &mut String,
-) -> Result<(), AllocError> {
+) -> Result<Vec<Fact>, AllocError>
+    ensures { IfOk result (λ found. All (facts.Holds scene.entry.topology.now scene.entry.limits scene.entry.ledger.now) found.items) }
+{
+    let mut found = Vec::new(alloc);
     for id in ids {
-        if scene.topology.kind(*id).is_none() && *id > scene.topology.object_count() {
-            no_framebuffer(scene, *id, text)?;
+        let id = *id;
+        if scene.topology.kind(id).is_none() && id > scene.topology.object_count() {
+            found = with(scene, found, framebuffer_fact(scene, id))?;
         } else {
-            unseen(alloc, scene, client, *id, None, text)?;
+            found = unseen(scene, found, client, id, None)?;
         }
     }
-    Ok(())
+    Ok(found)
 }
 
-/// Puts why a CRTC can't be shown by a connector or a plane.
-pub(crate) fn bad_route(
-    scene: Scene<'_>,
-    call: &Call,
-    text: &mut String,
-) -> Result<(), AllocError> {
-    match call {
+/// Returns why a CRTC can't be shown by a connector or a plane.
+fn route_fact(scene: Scene<'_>, call: &Call) -> Option<Fact>
+    ensures { IfSome result (facts.Holds scene.entry.topology.now scene.entry.limits scene.entry.ledger.now) }
+{
+    match *call {
         Call::SetCrtc {
             crtc,
             framebuffer,
             connector,
         } => {
-            if (*framebuffer == 0) != (*connector == 0) {
-                return writeln!(
-                    text,
-                    "the framebuffer is {framebuffer} and the connector {connector}: just one of them is 0"
-                );
+            if (framebuffer == 0) != (connector == 0) {
+                return Some(Fact::Request(RequestFact::HalfRoute {
+                    framebuffer,
+                    connector,
+                }));
             }
-            match scene.topology.encoder_of(*connector) {
-                Some(encoder) => writeln!(
-                    text,
-                    "CRTC {crtc} is no possible one of encoder {encoder}, which connector {connector} has"
-                ),
-                None => Ok(()),
-            }
+            let encoder = scene.topology.encoder_of(connector)?;
+            Some(Fact::ModeObject(ModeObjectFact::EncoderOf {
+                crtc,
+                connector,
+                encoder,
+            }))
         }
         Call::SetPlane { plane, crtc, .. } => {
-            writeln!(text, "CRTC {crtc} is no possible one of plane {plane}")
+            Some(Fact::Request(RequestFact::PlaneRoute { crtc, plane }))
         }
-        _ => Ok(()),
+        _ => None,
     }
+}
+
+/// Returns why a CRTC can't be shown by a connector or a plane.
+pub(crate) fn bad_route(
+    alloc: Global,
+    scene: Scene<'_>,
+    call: &Call,
+) -> Result<Vec<Fact>, AllocError>
+    ensures { IfOk result (λ found. All (facts.Holds scene.entry.topology.now scene.entry.limits scene.entry.ledger.now) found.items) }
+{
+    only(alloc, scene, route_fact(scene, call))
 }

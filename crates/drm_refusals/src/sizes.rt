@@ -1,32 +1,66 @@
 //! Numbers that are out of their ranges.
 
+ghost use Rattle.std.specs.Prelude.{◌≡◌, All, IfOk, IfSome};
+ghost use Rattle.drm_refusals.specs.Facts as facts;
+
+use crate::collecting::{only, with};
+use crate::facts::{Fact, Quantity, RequestFact, SizeFact};
 use crate::scene::Scene;
 use drm_rights::step_at;
 use drm_table::{Answer, Call};
-use std::alloc::AllocError;
+use std::alloc::{AllocError, Global};
 
-/// The greatest size of a buffer in bytes, width and height in pixels, and bits of a pixel.
-const MOST_BYTES: u64 = 68_719_476_736;
-
-const MOST_PIXELS: u32 = 65_535;
-
-const MOST_BITS: u32 = 64;
-
-/// Puts a number that isn't in its range.
-fn out_of_range(what: &str, number: u32, most: u32, text: &mut String) -> Result<(), AllocError> {
-    if 1 <= number && number <= most {
-        return Ok(());
+/// Returns the greatest value of a number.
+fn most_of(what: Quantity) -> u64
+    ensures { result ≡ facts.most_of what }
+{
+    match what {
+        Quantity::Size => 68_719_476_736,
+        Quantity::Width => 65_535,
+        Quantity::Height => 65_535,
+        Quantity::Bits => 64,
     }
-    writeln!(text, "the {what} is {number}, and not 1 to {most}")
 }
 
-fn shape(width: u32, height: u32, bpp: u32, text: &mut String) -> Result<(), AllocError> {
-    out_of_range("width", width, MOST_PIXELS, text)?;
-    out_of_range("height", height, MOST_PIXELS, text)?;
-    out_of_range("number of bits of a pixel", bpp, MOST_BITS, text)
+/// Returns that a number is out of its range, if it is.
+fn out_of_range(what: Quantity, number: u64) -> Option<SizeFact>
+    ensures { IfSome result facts.SizeHolds }
+{
+    let most = most_of(what);
+    if 1 <= number && number <= most {
+        return None;
+    }
+    Some(SizeFact::OutOfRange { what, number, most })
 }
 
-/// The bytes of the buffer that a client's handle is of.
+fn range_fact(scene: Scene<'_>, what: Quantity, number: u64) -> Option<Fact>
+    ensures { IfSome result (facts.Holds scene.entry.topology.now scene.entry.limits scene.entry.ledger.now) }
+{
+    match out_of_range(what, number) {
+        Some(fact) => Some(Fact::Size(fact)),
+        None => None,
+    }
+}
+
+/// Returns which numbers of a picture are out of their ranges.
+fn shape(
+    alloc: Global,
+    scene: Scene<'_>,
+    width: u32,
+    height: u32,
+    bpp: u32,
+) -> Result<Vec<Fact>, AllocError>
+    ensures { IfOk result (λ found. All (facts.Holds scene.entry.topology.now scene.entry.limits scene.entry.ledger.now) found.items) }
+{
+    let width = range_fact(scene, Quantity::Width, u64::from(width));
+    let height = range_fact(scene, Quantity::Height, u64::from(height));
+    let bits = range_fact(scene, Quantity::Bits, u64::from(bpp));
+    let found = only(alloc, scene, width)?;
+    let found = with(scene, found, height)?;
+    with(scene, found, bits)
+}
+
+/// Returns the bytes of the buffer of a client's handle.
 fn size_of(scene: Scene<'_>, client: u64, handle: u32) -> Option<u64> {
     let steps = scene.ledger.steps();
     let trail = scene.ledger.trail();
@@ -38,82 +72,79 @@ fn size_of(scene: Scene<'_>, client: u64, handle: u32) -> Option<u64> {
     }
 }
 
-/// Puts where a framebuffer's lines don't fit its pixels, or its buffer.
-fn lines_fit(
-    scene: Scene<'_>,
-    client: u64,
-    call: &Call,
-    text: &mut String,
-) -> Result<(), AllocError> {
-    let Call::AddFb {
-        width,
-        height,
-        pitch,
-        bpp,
-        handle,
-    } = call
-    else {
-        return Ok(());
-    };
-    let least = u64::from(*width).saturating_mul((u64::from(*bpp).saturating_add(7)) / 8);
-    if u64::from(*pitch) < least {
-        writeln!(
-            text,
-            "the pitch is {pitch} bytes, and the pixels of a line take {least}"
-        )?;
-    }
-    let wanted = u64::from(*pitch).saturating_mul(u64::from(*height));
-    match size_of(scene, client, *handle) {
-        Some(size) if wanted > size => {
-            writeln!(
-                text,
-                "{height} lines of {pitch} bytes are {wanted}, and the buffer of handle {handle} has {size}"
-            )
-        }
-        _ => Ok(()),
+/// Returns that the bytes of a line don't hold its pixels, if they don't.
+fn short_pitch(scene: Scene<'_>, width: u32, bpp: u32, pitch: u32) -> Option<Fact>
+    ensures { IfSome result (facts.Holds scene.entry.topology.now scene.entry.limits scene.entry.ledger.now) }
+{
+    let least = u64::from(width).saturating_mul((u64::from(bpp).saturating_add(7)) / 8);
+    if u64::from(pitch) < least {
+        Some(Fact::Size(SizeFact::ShortPitch { pitch, least }))
+    } else {
+        None
     }
 }
 
-/// Puts which numbers of a call are out of their ranges.
+/// Returns that the buffer of a handle doesn't hold the lines of a framebuffer, if it doesn't.
+fn short_buffer(scene: Scene<'_>, client: u64, handle: u32, height: u32, pitch: u32) -> Option<Fact>
+    ensures { IfSome result (facts.Holds scene.entry.topology.now scene.entry.limits scene.entry.ledger.now) }
+{
+    let needed = u64::from(pitch).saturating_mul(u64::from(height));
+    let size = size_of(scene, client, handle)?;
+    if size < needed {
+        Some(Fact::Size(SizeFact::ShortBuffer {
+            height,
+            pitch,
+            needed,
+            handle,
+            size,
+        }))
+    } else {
+        None
+    }
+}
+
+/// Returns which numbers of a call are out of their ranges.
 pub(crate) fn bad_size(
+    alloc: Global,
     scene: Scene<'_>,
     client: u64,
     call: &Call,
-    text: &mut String,
-) -> Result<(), AllocError> {
-    match call {
-        Call::BufCreate { size } => {
-            writeln!(text, "the size is {size} bytes, and not 1 to {MOST_BYTES}")
-        }
-        Call::CreateDumb { width, height, bpp } => shape(*width, *height, *bpp, text),
+) -> Result<Vec<Fact>, AllocError>
+    ensures { IfOk result (λ found. All (facts.Holds scene.entry.topology.now scene.entry.limits scene.entry.ledger.now) found.items) }
+{
+    match *call {
+        Call::BufCreate { size } => only(alloc, scene, range_fact(scene, Quantity::Size, size)),
+        Call::CreateDumb { width, height, bpp } => shape(alloc, scene, width, height, bpp),
         Call::AddFb {
             width,
             height,
+            pitch,
             bpp,
-            ..
+            handle,
         } => {
-            shape(*width, *height, *bpp, text)?;
-            lines_fit(scene, client, call, text)
+            let found = shape(alloc, scene, width, height, bpp)?;
+            let found = with(scene, found, short_pitch(scene, width, bpp, pitch))?;
+            with(
+                scene,
+                found,
+                short_buffer(scene, client, handle, height, pitch),
+            )
         }
-        _ => Ok(()),
+        _ => Ok(Vec::new(alloc)),
     }
 }
 
-/// Puts which capability, or value of one, there isn't.
-pub(crate) fn bad_cap(call: &Call, text: &mut String) -> Result<(), AllocError> {
-    match call {
-        Call::GetCap { cap } => {
-            writeln!(
-                text,
-                "there is no capability {cap} to be told: there are 1 and 5"
-            )
-        }
-        Call::SetClientCap { cap, value } => {
-            writeln!(
-                text,
-                "there is no value {value} of capability {cap} to be set: there are 0 and 1 of capability 2"
-            )
-        }
-        _ => Ok(()),
-    }
+/// Returns which capability, or value of one, does not exist.
+pub(crate) fn bad_cap(alloc: Global, scene: Scene<'_>, call: &Call) -> Result<Vec<Fact>, AllocError>
+    ensures { IfOk result (λ found. All (facts.Holds scene.entry.topology.now scene.entry.limits scene.entry.ledger.now) found.items) }
+{
+    let fact = match *call {
+        Call::GetCap { cap } => Some(Fact::Request(RequestFact::NoCapability { capability: cap })),
+        Call::SetClientCap { cap, value } => Some(Fact::Request(RequestFact::NoValue {
+            capability: cap,
+            value,
+        })),
+        _ => None,
+    };
+    only(alloc, scene, fact)
 }

@@ -1,8 +1,7 @@
 //! Steps that took back what a client had.
 
 ghost use Rattle.std.specs.Prelude.{◌≡◌, ◌<◌, ◌+◌, length};
-ghost use Rattle.drm_history.specs.Steps.{takes};
-ghost use Rattle.drm_rights.specs.Passing.{first_step_after, last_step};
+ghost use Rattle.drm_rights.specs.Passing.{first_step_after};
 ghost use Rattle.drm_rights.specs.Steps.{entry_of, history_of, key_of};
 ghost use Rattle.drm_refusals.specs.Withdrawals as specs;
 
@@ -52,17 +51,4 @@ pub(crate) fn withdrawn(steps: &[Step], published: LastPublishing, key: Key) -> 
         }
     }
     None
-}
-
-/// Returns the number of the last step that took the client's handle.
-pub(crate) fn last_taking(steps: &[Step], client: u64, handle: u64) -> Option<u64>
-    ensures { result ≡ last_step (λ step. takes step client handle) (history_of steps.now) }
-{
-    let mut last = None;
-    for (place, step) in steps.iter().enumerate() {
-        if step.takes(client, handle) {
-            last = Some(place as u64 + 1);
-        }
-    }
-    last
 }

@@ -1,4 +1,4 @@
-mod HistoryLemmas
+pub mod HistoryLemmas
 mod ChainLemmas
 mod StepLemmas
 mod NoteLemmas

@@ -8,7 +8,7 @@ use crate::files::LoggedRead;
 use crate::outcomes::{Outcome, outcome_of_fault};
 use crate::recording::{Recording, record};
 use drm_explanations::{Explanation, Labels, explain, lines_of};
-use drm_refusals::{AnswerRow, explain_answer, lines_of_answer};
+use drm_refusals::{WrittenAnswer, explain_answer, lines_of_answer, write_answer};
 use drm_runs::Stop;
 use drm_script::Label;
 use drm_streams::{FromRead, ToWrite, put_all};
@@ -100,9 +100,9 @@ fn no_answer<R: Log>(rt: &R, path: &str, number: u64, lines: u64) -> Fault {
     Fault::CommandLine
 }
 
-/// The row as JSON, with a line end.
-fn json_of_answer(alloc: Global, row: &AnswerRow) -> Result<String, Fault> {
-    let Ok(mut text) = serde_json::to_string_pretty(alloc, row) else {
+/// Returns the answer as JSON, with a line end.
+fn json_of_answer(alloc: Global, answer: &WrittenAnswer) -> Result<String, Fault> {
+    let Ok(mut text) = serde_json::to_string_pretty(alloc, answer) else {
         return Err(Fault::Memory);
     };
     text.push('\n').map_err(|_| Fault::Memory)?;
@@ -133,10 +133,14 @@ fn text_of_answer<R: Log>(
         Ok(row) => row,
         Err(_) => return Err(Fault::Memory),
     };
+    let answer = match write_answer(alloc, &ledger, &topology, &labels, row) {
+        Ok(answer) => answer,
+        Err(_) => return Err(Fault::Memory),
+    };
     if explaining.is_json {
-        return json_of_answer(alloc, &row);
+        return json_of_answer(alloc, &answer);
     }
-    lines_of_answer(alloc, &row, &labels).map_err(|_| Fault::Memory)
+    lines_of_answer(alloc, &answer, &labels).map_err(|_| Fault::Memory)
 }
 
 /// The outcome of a script that could not be recorded: a malformed one is told of as a check tells it.

@@ -1,0 +1,244 @@
+//! The facts that explain a denial.
+
+use drm_explanations::{At, Subject};
+use drm_modes::Kind;
+use drm_rights::{Held, Key, Lease};
+use drm_table::CallKind;
+
+/// A fact that explains a denial. Clients and masters are named by the numbers of their steps.
+#[derive(PartialEq, Eq, Debug, Drop)]
+pub enum Fact {
+    Client(ClientFact),
+    Handle(HandleFact),
+    Published(PublishedFact),
+    Magic(MagicFact),
+    Lease(LeaseFact),
+    ModeObject(ModeObjectFact),
+    Size(SizeFact),
+    Limit(LimitFact),
+    Request(RequestFact),
+    /// The line of the explanation about a subject.
+    Told(Subject),
+}
+
+/// A client that is not open.
+#[derive(Clone, Copy, PartialEq, Eq, Debug)]
+pub enum ClientFact {
+    /// The step closed the client.
+    Closed { client: u64, step: u64 },
+    /// No step opened the client.
+    NeverOpened { client: u64 },
+}
+
+/// The handles of a client.
+#[derive(PartialEq, Eq, Debug, Drop)]
+pub enum HandleFact {
+    /// The client gave the handle back, and no later step assigned it.
+    GaveBack { client: u64, handle: u32, by: At },
+    /// No step assigned the client this handle.
+    NeverGiven { client: u64, handle: u32 },
+    /// The client holds these handles, in rising order, and no other.
+    Holds { client: u64, held: Vec<Held> },
+}
+
+/// A name, a PRIME token or a framebuffer.
+#[derive(Clone, Copy, PartialEq, Eq, Debug)]
+pub enum PublishedFact {
+    /// No step published anything under the key.
+    Never {
+        key: Key,
+    },
+    /// The step was the last that gave the name, to this buffer. `last` is a later step that removed a handle of the buffer.
+    Named {
+        name: u32,
+        buffer: u64,
+        client: u64,
+        step: u64,
+        last: Option<At>,
+    },
+    /// The client published under the key, and nothing withdrew it.
+    Published {
+        key: Key,
+        client: u64,
+        step: u64,
+    },
+    /// The client published under the key, and `by` is the first later step that withdrew it.
+    Withdrawn {
+        key: Key,
+        client: u64,
+        step: u64,
+        by: At,
+    },
+}
+
+/// A magic of a master.
+#[derive(Clone, Copy, PartialEq, Eq, Debug)]
+pub enum MagicFact {
+    /// The master's magic was last told to a client, which the step closed.
+    OfClosed {
+        master: u64,
+        magic: u32,
+        client: u64,
+        step: u64,
+    },
+    /// The step of `by` spent the client's magic.
+    Spent {
+        magic: u32,
+        client: u64,
+        by: u64,
+        step: u64,
+    },
+    /// The master's magic was last told to the client.
+    Lost {
+        master: u64,
+        magic: u32,
+        client: u64,
+    },
+    /// The master's magic was told to no client.
+    Unknown {
+        master: u64,
+        magic: u32,
+    },
+}
+
+/// A lease, or what one lacks.
+#[derive(Clone, Copy, PartialEq, Eq, Debug)]
+pub enum LeaseFact {
+    /// The client has universal planes on.
+    LacksPlane {
+        client: u64,
+    },
+    /// The lease has not ended, and has the mode object.
+    LeasedOut {
+        id: u32,
+        lease: Lease,
+    },
+    /// No lease under the owner of the client's master was answered the id.
+    NoLessee {
+        client: u64,
+        lessee: u32,
+    },
+    /// The lessor of the lessee is not the client's master.
+    OtherLessor {
+        client: u64,
+        lessee: u32,
+        lessor: u64,
+        master: u64,
+    },
+    /// A lease was answered the token.
+    TokenUsed {
+        token: u32,
+    },
+    /// No lease was answered the token.
+    TokenUnknown {
+        token: u32,
+    },
+}
+
+/// A mode object that is not of the right kind, or that the client does not see.
+#[derive(Clone, Copy, PartialEq, Eq, Debug)]
+pub enum ModeObjectFact {
+    /// No mode object has the id. The ids are 1 to `count`.
+    Nothing {
+        id: u32,
+        count: u32,
+    },
+    /// The mode object is of another kind than the call requires.
+    OfKind {
+        id: u32,
+        kind: Kind,
+        wanted: Kind,
+    },
+    Encoder {
+        id: u32,
+    },
+    /// The client's master does not control the mode object.
+    NotControlled {
+        client: u64,
+        id: u32,
+        kind: Kind,
+    },
+    /// The plane is the primary or the cursor plane of the CRTC, and the client has universal planes off.
+    Hidden {
+        client: u64,
+        plane: u32,
+        crtc: u32,
+    },
+    /// The connector has the encoder.
+    EncoderOf {
+        crtc: u32,
+        connector: u32,
+        encoder: u32,
+    },
+}
+
+/// A number of a request.
+#[derive(Clone, Copy, PartialEq, Eq, Debug)]
+pub enum Quantity {
+    /// The bytes of a buffer.
+    Size,
+    /// Pixels.
+    Width,
+    /// Pixels.
+    Height,
+    /// The bits of a pixel.
+    Bits,
+}
+
+/// A number that is out of its range.
+#[derive(Clone, Copy, PartialEq, Eq, Debug)]
+pub enum SizeFact {
+    /// The number is 0, or greater than `most`.
+    OutOfRange {
+        what: Quantity,
+        number: u64,
+        most: u64,
+    },
+    /// The pitch is less than the bytes of a line of pixels.
+    ShortPitch {
+        pitch: u32,
+        least: u64,
+    },
+    /// The buffer has fewer bytes than the lines need.
+    ShortBuffer {
+        height: u32,
+        pitch: u32,
+        needed: u64,
+        handle: u32,
+        size: u64,
+    },
+}
+
+/// A limit that is reached.
+#[derive(Clone, Copy, PartialEq, Eq, Debug)]
+pub enum LimitFact {
+    Clients { count: u64, most: u32 },
+    /// The client has this number of handles, which is the limit at least.
+    Handles { client: u64, count: u64, most: u32 },
+    Objects { most: u32 },
+    Names { most: u32 },
+    Tokens { most: u32 },
+    Framebuffers { most: u32 },
+    Leases { lessees: u32, tokens: u32 },
+    /// The journal has this number of steps.
+    Journal { used: u64, most: u32, clients: u64 },
+}
+
+/// What is wrong with the request itself.
+#[derive(Clone, Copy, PartialEq, Eq, Debug)]
+pub enum RequestFact {
+    /// No client was opened as the label of the caller.
+    NoCaller,
+    /// The number is that of a call with other fields.
+    OtherFields { number: u16, kind: CallKind },
+    /// No call has the number.
+    NoCall { number: u16 },
+    Repeated { id: u32 },
+    LacksCrtc,
+    LacksConnector,
+    /// Just one of the framebuffer and the connector is 0.
+    HalfRoute { framebuffer: u32, connector: u32 },
+    PlaneRoute { crtc: u32, plane: u32 },
+    NoCapability { capability: u64 },
+    NoValue { capability: u64, value: u64 },
+}

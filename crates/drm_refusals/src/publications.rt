@@ -1,0 +1,61 @@
+//! PRIME tokens and framebuffers that are missing, or another client's.
+
+ghost use Rattle.std.specs.Prelude.{All, IfOk, IfSome};
+ghost use Rattle.drm_refusals.specs.Facts as facts;
+
+use crate::collecting::only;
+use crate::facts::{Fact, PublishedFact};
+use crate::scene::Scene;
+use crate::withdrawals::withdrawn;
+use drm_explanations::at;
+use drm_rights::{Key, Ledger, last_publishing};
+use std::alloc::{AllocError, Global};
+
+/// Returns which step published under a key, and which withdrew that.
+fn publication(ledger: &Ledger, key: Key) -> Option<PublishedFact>
+    ensures { IfSome result (facts.PublishedHolds ledger.now) }
+{
+    let steps = ledger.steps();
+    let Some(published) = last_publishing(steps, key) else {
+        return Some(PublishedFact::Never { key });
+    };
+    let client = published.client;
+    let step = published.past as u64 + 1;
+    let Some(number) = withdrawn(steps, published, key) else {
+        return Some(PublishedFact::Published { key, client, step });
+    };
+    let by = at(steps, number)?;
+    Some(PublishedFact::Withdrawn {
+        key,
+        client,
+        step,
+        by,
+    })
+}
+
+fn publication_fact(scene: Scene<'_>, key: Key) -> Option<Fact>
+    ensures { IfSome result (facts.Holds scene.entry.topology.now scene.entry.limits scene.entry.ledger.now) }
+{
+    match publication(scene.ledger, key) {
+        Some(fact) => Some(Fact::Published(fact)),
+        None => None,
+    }
+}
+
+/// Returns why a PRIME token is not open, or whose it is.
+pub(crate) fn no_token(alloc: Global, scene: Scene<'_>, token: u32) -> Result<Vec<Fact>, AllocError>
+    ensures { IfOk result (λ found. All (facts.Holds scene.entry.topology.now scene.entry.limits scene.entry.ledger.now) found.items) }
+{
+    only(
+        alloc,
+        scene,
+        publication_fact(scene, Key::Token(u64::from(token))),
+    )
+}
+
+/// Returns why a framebuffer is missing, or whose it is.
+pub(crate) fn framebuffer_fact(scene: Scene<'_>, framebuffer: u32) -> Option<Fact>
+    ensures { IfSome result (facts.Holds scene.entry.topology.now scene.entry.limits scene.entry.ledger.now) }
+{
+    publication_fact(scene, Key::Framebuffer(u64::from(framebuffer)))
+}
