@@ -1,6 +1,9 @@
 //! The answer of a line, written out.
 
-ghost use Rattle.std.specs.Prelude.{◌≡◌, IfOk};
+ghost use Rattle.std.specs.Prelude.{◌≡◌, ◌++◌, IfOk, OnOk};
+ghost use Rattle.std.specs.Option.{option_map};
+ghost use Rattle.std.specs.String.{string_bytes};
+ghost use Rattle.drm_refusals.specs.Texts as texts;
 
 use crate::answering::caller_of;
 use crate::rows::{AnswerRow, WrittenAnswer};
@@ -63,7 +66,7 @@ pub fn write_answer(
     })
 }
 
-/// The word of a call, or what stands for one without a row.
+/// Returns the word of a call, or what represents one without a row.
 fn call_words(call: &'static str) -> &'static str {
     if call.is_empty() {
         "a call without a row"
@@ -72,7 +75,7 @@ fn call_words(call: &'static str) -> &'static str {
     }
 }
 
-/// Puts which step a line is, and who asked what.
+/// Puts which step a line is, with its call and its caller.
 fn asked_words(asked: At, labels: &Labels, text: &mut String) -> Result<(), AllocError> {
     let At { step, client, call } = asked;
     let call = call_words(call);
@@ -87,18 +90,12 @@ fn asked_words(asked: At, labels: &Labels, text: &mut String) -> Result<(), Allo
     write!(text, " by {name}")
 }
 
-/// The row as lines: which step the line is and what it was answered, the facts behind a denial, and what would have let it pass.
-/// Where memory is refused there are no lines.
-pub fn lines_of_answer(
-    alloc: Global,
-    row: &WrittenAnswer,
-    labels: &Labels,
-) -> Result<String, AllocError> {
-    let mut text = String::new(alloc);
+/// Puts the first line: which step the line is, and what it was answered.
+fn put_answer(row: &WrittenAnswer, labels: &Labels, text: &mut String) -> Result<(), AllocError> {
     let line = row.line;
     write!(text, "line {line}")?;
     if let Some(asked) = row.asked {
-        asked_words(asked, labels, &mut text)?;
+        asked_words(asked, labels, text)?;
     }
     let answer = row.answer.as_str();
     let done = if row.is_carried_out {
@@ -106,13 +103,46 @@ pub fn lines_of_answer(
     } else {
         ""
     };
-    writeln!(text, "{done}: {answer}")?;
-    for fact in &row.facts {
-        let fact = fact.as_str();
-        writeln!(text, "{fact}")?;
+    writeln!(text, "{done}: {answer}")
+}
+
+/// Puts a line for each sentence.
+fn put_sentences(sentences: &[String], text: &mut String) -> Result<(), AllocError>
+    ensures { OnOk result (string_bytes text.new ≡ string_bytes text.old ++ texts.lines sentences.now) }
+{
+    for sentence in sentences {
+        text.push_str(sentence.as_str())?;
+        text.push_str("\n")?;
     }
-    if let Some(condition) = row.passes_if {
-        writeln!(text, "it would pass if {condition}")?;
-    }
+    Ok(())
+}
+
+/// Puts the condition under which the rule would pass, if there is one.
+fn put_condition(passes_if: Option<&'static str>, text: &mut String) -> Result<(), AllocError>
+    ensures { OnOk result (string_bytes text.new ≡ string_bytes text.old ++ texts.condition_line (option_map (λ words. words.now) passes_if.entry)) }
+{
+    let Some(condition) = passes_if else {
+        return Ok(());
+    };
+    writeln!(text, "it would pass if {condition}")
+}
+
+/// Returns the answer as lines: which step the line is and what it was answered, the sentences of the facts, and the condition under
+/// which the rule would pass.
+///
+/// # Errors
+///
+/// `AllocError` if memory is refused.
+pub fn lines_of_answer(
+    alloc: Global,
+    answer: &WrittenAnswer,
+    labels: &Labels,
+) -> Result<String, AllocError>
+    ensures sentences { IfOk result (λ text. texts.EndsWith (texts.lines answer.now.facts.items ++ texts.condition_line (option_map (λ words. words.now) answer.now.passes_if)) (string_bytes text)) }
+{
+    let mut text = String::new(alloc);
+    put_answer(answer, labels, &mut text)?;
+    put_sentences(&answer.facts, &mut text)?;
+    put_condition(answer.passes_if, &mut text)?;
     Ok(text)
 }
