@@ -270,6 +270,21 @@ class LibdrmTests(FolderCase):
         expect("status", (ran.returncode, ran.stderr), (0, ""))
         expect("encoders", {int(words[0]): words[3] for words in section(ran.stdout, "Encoders")}, ENCODERS)
 
+    def test_with_server_has_a_render_node_only_on_request(self):
+        """As vkms has none. Programs that find one look for a renderer behind it."""
+        library()
+        asked = "echo ${DRM_SERVER_RENDER+variable}; ls /dev/dri; test -e /dev/dri/renderD128 && echo node"
+        given = {**os.environ, "DRM_SERVER_RENDER": "/inherited"}
+        for words, shown in (
+            ([], "\ncard0\n"),
+            (["--renders", "0"], "\ncard0\n"),
+            (["--render"], "variable\ncard0\nrenderD128\nnode\n"),
+            (["--renders", "2"], "variable\ncard0\nrenderD128\nnode\n"),
+            (["--render", "--renders", "0"], "\ncard0\n"),
+        ):
+            ran = run(REPOSITORY / "tools/with-server", "--libdrm", *words, "sh", "-c", asked, env=given)
+            expect(f"what a command finds with {words}", (ran.stdout, ran.stderr), (shown, ""))
+
     def test_drmdevice_finds_both_nodes(self):
         folder = self.folder
         want_program("drmdevice")
