@@ -15,6 +15,7 @@
 #include <stdlib.h>
 #include <string.h>
 #include <sys/epoll.h>
+#include <sys/prctl.h>
 #include <sys/select.h>
 #include <sys/time.h>
 #include <sys/wait.h>
@@ -62,15 +63,21 @@ static int open_card(int flags)
     return fd;
 }
 
-static uint32_t make_fb(int fd)
+static uint32_t make_fb_of(int fd, uint32_t width, uint32_t height, uint8_t depth)
 {
-    struct drm_mode_create_dumb dumb = {.width = 64, .height = 64, .bpp = 32};
+    uint8_t bits = depth == 24 ? 32 : depth;
+    struct drm_mode_create_dumb dumb = {.width = width, .height = height, .bpp = bits};
     uint32_t id = 0;
 
     if (drmIoctl(fd, DRM_IOCTL_MODE_CREATE_DUMB, &dumb) != 0
-        || drmModeAddFB(fd, 64, 64, 24, 32, dumb.pitch, dumb.handle, &id) != 0)
+        || drmModeAddFB(fd, width, height, depth, bits, dumb.pitch, dumb.handle, &id) != 0)
         exit(2);
     return id;
+}
+
+static uint32_t make_fb(int fd)
+{
+    return make_fb_of(fd, 64, 64, 24);
 }
 
 /* Lights a CRTC, and gives the framebuffer that it shows. */
@@ -155,7 +162,9 @@ static void show_frames(int frames)
     drmModeModeInfo mode = connector->modes[2];
     int64_t period = (int64_t)mode.htotal * mode.vtotal * MILLISECOND / mode.clock, first_time = 0,
             begun, end;
-    uint32_t fbs[] = {make_fb(fd), make_fb(fd)}, id = CONNECTOR, first = 0;
+    uint32_t fbs[] = {make_fb_of(fd, mode.hdisplay, mode.vdisplay, 24),
+                      make_fb_of(fd, mode.hdisplay, mode.vdisplay, 24)};
+    uint32_t id = CONNECTOR, first = 0;
 
     say("shows a frame", drmModeSetCrtc(fd, CRTC, fbs[0], 0, 0, &id, 1, &mode));
     begun = now();
@@ -191,6 +200,99 @@ static void flip_too_early(void)
     say("flips once it is told", drmModePageFlip(fd, CRTC, fb, 0, NULL));
     say("flips at once", drmModePageFlip(fd, CRTC, fb, DRM_MODE_PAGE_FLIP_EVENT, NULL));
     printf("events %d\n", told.count);
+}
+
+/* Sets a mode of 64 by 64 pixels from this corner of a framebuffer on. */
+static void set_at(const char *what, int fd, uint32_t crtc, uint32_t fb, uint32_t x, uint32_t y)
+{
+    drmModeModeInfo mode = mode_of(10);
+    uint32_t connector = CONNECTOR;
+
+    say(what, drmModeSetCrtc(fd, crtc, fb, x, y, &connector, 1, &mode));
+}
+
+/* Modes that are larger than what is left of the framebuffer */
+static void set_outside(void)
+{
+    int fd = open_card(O_NONBLOCK), other = open_card(O_NONBLOCK);
+    uint32_t fb = make_fb(fd), wide = make_fb_of(fd, 128, 64, 24), none = 999;
+    drmModeCrtc *found;
+    drmModeModeInfo mode = mode_of(10);
+
+    set_at("the whole of it", fd, CRTC, fb, 0, 0);
+    set_at("a column outside", fd, CRTC, fb, 1, 0);
+    set_at("a row outside", fd, CRTC, fb, 0, 1);
+    set_at("the right half", fd, CRTC, wide, 64, 0);
+    found = drmModeGetCrtc(fd, CRTC);
+    printf("from %u, %u\n", found->x, found->y);
+    drmModeFreeCrtc(found);
+    set_at("a column further", fd, CRTC, wide, 65, 0);
+    set_at("too small", fd, CRTC, make_fb_of(fd, 63, 64, 24), 0, 0);
+    set_at("too low", fd, CRTC, make_fb_of(fd, 64, 63, 24), 0, 0);
+    set_at("too far", fd, CRTC, fb, 65536, 0);
+    set_at("too far, and no CRTC", fd, CONNECTOR, fb, 0, 65536);
+    set_at("no CRTC", fd, CONNECTOR, fb, 1, 0);
+    set_at("no framebuffer", fd, CRTC, none, 1, 0);
+    set_at("who isn't master", other, CRTC, fb, 1, 0);
+    set_at("who isn't master, and too far", other, CRTC, fb, 65536, 0);
+    say("no connector", drmModeSetCrtc(fd, CRTC, fb, 1, 0, &none, 1, &mode));
+    say("the framebuffer that it shows, outside",
+        drmModeSetCrtc(fd, CRTC, (uint32_t)-1, 65, 0, &none, 1, &mode));
+}
+
+/* The framebuffer of another process, which this one knows nothing of. That lives as long as this.
+ */
+static uint32_t fb_of_another(uint32_t width)
+{
+    int ids[2];
+    uint32_t id = 0;
+
+    if (pipe(ids) != 0)
+        exit(2);
+    if (fork() == 0) {
+        prctl(PR_SET_PDEATHSIG, SIGKILL);
+        id = make_fb_of(open_card(O_NONBLOCK), width, 64, 24);
+        if (write(ids[1], &id, sizeof id) != sizeof id)
+            _exit(2);
+        pause();
+    }
+    if (read(ids[0], &id, sizeof id) != sizeof id)
+        exit(2);
+    return id;
+}
+
+/* Flips to what is too small, or has another format */
+static void flip_outside(void)
+{
+    int fd = open_card(O_NONBLOCK), other = open_card(O_NONBLOCK);
+    uint32_t fb = make_fb(fd), wide = make_fb_of(fd, 128, 64, 24),
+             small = make_fb_of(fd, 63, 64, 24);
+    struct drm_mode_create_dumb dumb = {.width = 64, .height = 64, .bpp = 32};
+
+    set_at("sets", fd, CRTC, fb, 0, 0);
+    say("flips to a larger one", drmModePageFlip(fd, CRTC, wide, DRM_MODE_PAGE_FLIP_EVENT, NULL));
+    await(fd);
+    say("too small", drmModePageFlip(fd, CRTC, small, 0, NULL));
+    say("too low", drmModePageFlip(fd, CRTC, make_fb_of(fd, 64, 63, 24), 0, NULL));
+    say("another format", drmModePageFlip(fd, CRTC, make_fb_of(fd, 64, 64, 16), 0, NULL));
+    say("another format, too small",
+        drmModePageFlip(fd, CRTC, make_fb_of(fd, 63, 64, 16), 0, NULL));
+    say("with alpha", drmModePageFlip(fd, CRTC, make_fb_of(fd, 64, 64, 32), 0, NULL));
+    say("who isn't master", drmModePageFlip(other, CRTC, small, 0, NULL));
+    say("flips", drmModePageFlip(fd, CRTC, fb, DRM_MODE_PAGE_FLIP_EVENT, NULL));
+    say("too small before it completes", drmModePageFlip(fd, CRTC, small, 0, NULL));
+    await(fd);
+    set_at("sets the right half", fd, CRTC, wide, 64, 0);
+    say("too small for that", drmModePageFlip(fd, CRTC, fb, 0, NULL));
+    set_at("sets", fd, CRTC, fb, 0, 0);
+    say("another process's",
+        drmModePageFlip(fd, CRTC, fb_of_another(64), DRM_MODE_PAGE_FLIP_EVENT, NULL));
+    await(fd);
+    say("another process's, too small", drmModePageFlip(fd, CRTC, fb_of_another(63), 0, NULL));
+    set_at("sets another process's", fd, CRTC, fb_of_another(64), 0, 0);
+    set_at("sets another process's, outside", fd, CRTC, fb_of_another(64), 1, 0);
+    drmIoctl(fd, DRM_IOCTL_MODE_CREATE_DUMB, &dumb);
+    printf("handles %u\n", dumb.handle);
 }
 
 /* What flips are refused by, of a master and of another client */
@@ -566,6 +668,7 @@ static const struct {
     {"vblanks", wait_for_vblanks}, {"queues", queue_vblanks},  {"waits", wait_in_each_way},
     {"reads", read_events},        {"fork", fork_between},     {"ends", lose_events},
     {"cursors", keep_cursors},     {"modes", tell_modes},      {"beside", wait_beside_a_thread},
+    {"views", set_outside},        {"sizes", flip_outside},
 };
 
 int main(int count, char **words)

@@ -376,6 +376,58 @@ neither: done
 """,
         )
 
+    def test_mode_is_in_its_framebuffer(self):
+        """As drm_crtc_check_viewport has it: else ENOSPC, after the tests of caller, CRTC and framebuffer, before those of connectors."""
+        frames(
+            self.folder,
+            "views",
+            """\
+the whole of it: done
+a column outside: ENOSPC
+a row outside: ENOSPC
+the right half: done
+from 64, 0
+a column further: ENOSPC
+too small: ENOSPC
+too low: ENOSPC
+too far: ERANGE
+too far, and no CRTC: ERANGE
+no CRTC: ENOENT
+no framebuffer: ENOENT
+who isn't master: EACCES
+who isn't master, and too far: EACCES
+no connector: ENOSPC
+the framebuffer that it shows, outside: ENOSPC
+""",
+        )
+
+    def test_flip_keeps_size_and_format(self):
+        """As drm_mode_page_flip_ioctl has it: ENOSPC before EINVAL, and both before EBUSY for a flip that isn't complete."""
+        frames(
+            self.folder,
+            "sizes",
+            """\
+sets: done
+flips to a larger one: done
+too small: ENOSPC
+too low: ENOSPC
+another format: EINVAL
+another format, too small: ENOSPC
+with alpha: EINVAL
+who isn't master: EACCES
+flips: done
+too small before it completes: ENOSPC
+sets the right half: done
+too small for that: ENOSPC
+sets: done
+another process's: done
+another process's, too small: ENOSPC
+sets another process's: done
+sets another process's, outside: ENOSPC
+handles 8
+""",
+        )
+
     def test_mode_that_was_set_is_told(self):
         folder = self.folder
         frames(folder, "modes", "dark: mode 0; lit: mode 1, 25 ms\n")

@@ -56,10 +56,11 @@ answer answer_page_flip, answer_cursor;
 answer lacks_support, lacks_object, lacks_dirty, lacks_gamma_size, lacks_gamma;
 
 /* formats.c: the bits of a pixel in a format, or 0; the format that stands for so many bits, or 0;
- * all formats */
+ * the format that ADDFB means by bits and depth, or 0; all formats */
 uint32_t bits_of_format(uint32_t format);
 uint32_t depth_of_bits(uint32_t bits);
 uint32_t format_of_bits(uint32_t bits);
+uint32_t format_of_depth(uint32_t bits, uint32_t depth);
 const uint32_t *all_formats(uint32_t *count);
 
 /* modes.c: the modes that stand in for those of a monitor; the first is preferred */

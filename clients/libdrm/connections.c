@@ -3,6 +3,7 @@
 #include "connections.h"
 
 #include "crtcs.h"
+#include "framebuffers.h"
 #include "others.h"
 
 #include <dirent.h>
@@ -444,6 +445,7 @@ int connection_close(struct connection *connection, int fd)
     if (is_last_here) {
         buffers_clear(&connection->buffers);
         events_end(&connection->events);
+        framebuffers_end(connection);
     }
     result = libc_close(fd);
     connection_unlock(connection, &before);

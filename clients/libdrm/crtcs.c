@@ -12,10 +12,11 @@ struct crtc {
     uint32_t id; /* 0 where the place is free */
     uint32_t connector_id;
     bool is_lit;
-    bool is_sure; /* no call of this process since can have darkened it */
+    bool is_sure;   /* no call of this process since can have darkened it */
+    bool is_viewed; /* the view is what this process set, and not a guess */
     int64_t flip_due;
     struct blanking blanking;
-    struct drm_mode_modeinfo mode;
+    struct view view;
 };
 
 /* Taken while a connection is held alone, so that no handler of signals comes in between, and no
@@ -81,7 +82,7 @@ static void begin(struct crtc *crtc, const struct drm_mode_modeinfo *mode)
 
     if (crtc->is_lit)
         crtc->blanking.count = last_vblank(&crtc->blanking, now).sequence;
-    crtc->mode = *mode;
+    crtc->view.mode = *mode;
     crtc->blanking.begin = now;
     crtc->blanking.period = period_of(mode);
     crtc->is_lit = true;
@@ -97,6 +98,7 @@ static void end(struct crtc *crtc)
     last = last_vblank(&crtc->blanking, time_now());
     crtc->blanking.count = last.sequence;
     crtc->is_lit = false;
+    crtc->is_viewed = false;
     crtc->flip_due = 0;
     events_hasten(crtc->id, last.sequence, last.time);
 }
@@ -111,24 +113,39 @@ void crtc_is_seen(uint32_t crtc_id, bool is_lit)
     if (!is_lit)
         end(crtc);
     else if (!crtc->is_lit)
-        begin(crtc, crtc->mode.clock != 0 ? &crtc->mode : all_modes(&count));
+        begin(crtc, crtc->view.mode.clock != 0 ? &crtc->view.mode : all_modes(&count));
     crtc->is_sure = true;
     pthread_mutex_unlock(&turn);
 }
 
-void crtc_is_lit(uint32_t crtc_id, const struct drm_mode_modeinfo *mode, uint32_t connector_id)
+void crtc_is_lit(uint32_t crtc_id, const struct view *view, uint32_t connector_id)
 {
     struct crtc *crtc;
 
     pthread_mutex_lock(&turn);
     crtc = find(crtc_id);
     crtc->connector_id = connector_id;
-    if (crtc->is_lit && memcmp(&crtc->mode, mode, sizeof *mode) != 0)
+    if (crtc->is_lit && memcmp(&crtc->view.mode, &view->mode, sizeof view->mode) != 0)
         end(crtc);
     if (!crtc->is_lit)
-        begin(crtc, mode);
+        begin(crtc, &view->mode);
+    crtc->view = *view;
+    crtc->is_viewed = true;
     crtc->is_sure = true;
     pthread_mutex_unlock(&turn);
+}
+
+bool crtc_is_viewed(uint32_t crtc_id, struct view *view)
+{
+    struct crtc *crtc;
+    bool is_viewed;
+
+    pthread_mutex_lock(&turn);
+    crtc = find(crtc_id);
+    *view = crtc->view;
+    is_viewed = crtc->is_viewed;
+    pthread_mutex_unlock(&turn);
+    return is_viewed;
 }
 
 bool crtc_is_surely_lit(uint32_t crtc_id)
@@ -158,7 +175,7 @@ struct drm_mode_modeinfo crtc_mode(uint32_t crtc_id)
     struct drm_mode_modeinfo mode;
 
     pthread_mutex_lock(&turn);
-    mode = find(crtc_id)->mode;
+    mode = find(crtc_id)->view.mode;
     pthread_mutex_unlock(&turn);
     return mode;
 }

@@ -25,6 +25,13 @@ struct vblank {
     int64_t time;
 };
 
+/* What this process set a CRTC to: a mode, the corner of the framebuffer that it shows, and that
+ * framebuffer's format, or 0 */
+struct view {
+    struct drm_mode_modeinfo mode;
+    uint32_t x, y, format;
+};
+
 /* The last vertical blanking at a time, and the one of a number; times that no clock reaches are
  * the last one that it has. */
 struct vblank last_vblank(const struct blanking *blanking, int64_t now);
@@ -37,8 +44,11 @@ bool has_passed(uint64_t sequence, uint64_t wanted);
  * a dark one comes at once. */
 void crtc_is_seen(uint32_t crtc_id, bool is_lit);
 
-/* Notes that this process lit it in this mode, with this connector. */
-void crtc_is_lit(uint32_t crtc_id, const struct drm_mode_modeinfo *mode, uint32_t connector_id);
+/* Notes that this process lit it in this way, with this connector. */
+void crtc_is_lit(uint32_t crtc_id, const struct view *view, uint32_t connector_id);
+
+/* Returns whether this process set it, and to what, as far as it knows. */
+bool crtc_is_viewed(uint32_t crtc_id, struct view *view);
 
 /* Whether it shows something, as the server last said, and no call of this process since can have
  * darkened it. Another client can. */

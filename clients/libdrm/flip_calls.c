@@ -3,6 +3,33 @@
 #include "answers.h"
 
 #include "crtcs.h"
+#include "framebuffers.h"
+
+/* What is wrong with another framebuffer on a CRTC that this process set: what is shown must be in
+ * it, and the format must stay. */
+static int refuse_framebuffer(const struct view *view, const struct framebuffer *framebuffer)
+{
+    if (!framebuffer_contains(framebuffer, view->x, view->y, view->mode.hdisplay,
+                              view->mode.vdisplay))
+        return -ENOSPC;
+    return view->format != 0 && framebuffer->format != 0 && view->format != framebuffer->format
+               ? -EINVAL
+               : 0;
+}
+
+/* The same, once the framebuffer is found. */
+static int refuse_shown(struct connection *connection,
+                        const struct drm_mode_crtc_page_flip_target *flip)
+{
+    struct framebuffer framebuffer;
+    struct view view;
+    int failed =
+        flip->fb_id == 0 ? -ENOENT : framebuffer_find(connection, flip->fb_id, &framebuffer);
+
+    if (failed || !crtc_is_viewed(flip->crtc_id, &view))
+        return failed;
+    return refuse_framebuffer(&view, &framebuffer);
+}
 
 /* What the core and the driver refuse. The caller is the current master where it refuses nothing,
  * or else the server says so. */
@@ -26,8 +53,9 @@ static int refuse_flip(struct connection *connection,
         return -EINVAL;
     if (fb_id == 0)
         return -EBUSY;
-    if (flip->fb_id == 0)
-        return -ENOENT;
+    failed = refuse_shown(connection, flip);
+    if (failed)
+        return failed;
     if ((flip->flags & DRM_MODE_PAGE_FLIP_EVENT) && !events_have_room(&connection->events))
         return -ENOMEM;
     return crtc_flips(flip->crtc_id) ? -EBUSY : 0;
@@ -103,12 +131,23 @@ static void complete(struct connection *connection,
     events_add(&connection->events, &event, next.sequence, next.time);
 }
 
+/* Whether this process knows the framebuffer, and nothing against it. */
+static bool is_expected_to_fit(const struct drm_mode_crtc_page_flip_target *flip)
+{
+    struct framebuffer framebuffer;
+    struct view view;
+
+    return framebuffer_is_known(flip->fb_id, &framebuffer)
+           && (!crtc_is_viewed(flip->crtc_id, &view)
+               || refuse_framebuffer(&view, &framebuffer) == 0);
+}
+
 /* Whether a flip is refused by nothing that this process knows: then SETCRTC alone decides. */
 static bool is_expected_to_flip(struct connection *connection,
                                 const struct drm_mode_crtc_page_flip_target *flip)
 {
     return (flip->flags & ~(uint32_t)DRM_MODE_PAGE_FLIP_EVENT) == 0 && flip->sequence == 0
-           && flip->fb_id != 0 && crtc_is_surely_lit(flip->crtc_id)
+           && is_expected_to_fit(flip) && crtc_is_surely_lit(flip->crtc_id)
            && crtc_connector(flip->crtc_id) != 0 && !crtc_flips(flip->crtc_id)
            && (!(flip->flags & DRM_MODE_PAGE_FLIP_EVENT) || events_have_room(&connection->events));
 }

@@ -70,6 +70,17 @@ uint32_t depth_of_bits(uint32_t bits)
     return at < COUNT ? formats[at].depth : bits;
 }
 
+uint32_t format_of_depth(uint32_t bits, uint32_t depth)
+{
+    size_t at;
+
+    for (at = 0; at < COUNT; at++) {
+        if (formats[at].bits == bits && formats[at].depth == depth)
+            return formats[at].format;
+    }
+    return 0;
+}
+
 const uint32_t *all_formats(uint32_t *count)
 {
     static uint32_t all[COUNT];

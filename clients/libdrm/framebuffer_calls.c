@@ -2,13 +2,18 @@
 #include "answers.h"
 
 #include "crtcs.h"
+#include "framebuffers.h"
 
 int answer_add_fb(struct connection *connection, void *argument)
 {
     struct drm_mode_fb_cmd *fb = argument;
+    struct framebuffer added = {fb->width, fb->height, format_of_depth(fb->bpp, fb->depth)};
+    int failed = zirkoshe_drmModeAddFB(&connection->client, fb->width, fb->height, fb->pitch,
+                                       fb->bpp, fb->handle, &fb->fb_id);
 
-    return zirkoshe_drmModeAddFB(&connection->client, fb->width, fb->height, fb->pitch, fb->bpp,
-                                 fb->handle, &fb->fb_id);
+    if (!failed)
+        framebuffer_is_added(connection, fb->fb_id, &added);
+    return failed;
 }
 
 /* Whether the server can say what is asked for: one plane from the object's front, and no modifier.
@@ -27,12 +32,17 @@ static bool is_plain(const struct drm_mode_fb_cmd2 *fb)
 int answer_add_fb2(struct connection *connection, void *argument)
 {
     struct drm_mode_fb_cmd2 *fb = argument;
+    struct framebuffer added = {fb->width, fb->height, fb->pixel_format};
     uint32_t bits = bits_of_format(fb->pixel_format);
+    int failed;
 
     if (bits == 0 || !is_plain(fb))
         return -EINVAL;
-    return zirkoshe_drmModeAddFB(&connection->client, fb->width, fb->height, fb->pitches[0], bits,
-                                 fb->handles[0], &fb->fb_id);
+    failed = zirkoshe_drmModeAddFB(&connection->client, fb->width, fb->height, fb->pitches[0], bits,
+                                   fb->handles[0], &fb->fb_id);
+    if (!failed)
+        framebuffer_is_added(connection, fb->fb_id, &added);
+    return failed;
 }
 
 /* Asks for a framebuffer. A handle that comes with it is a new one, whose memory is as long as the
@@ -88,8 +98,11 @@ int answer_get_fb2(struct connection *connection, void *argument)
 int answer_rm_fb(struct connection *connection, void *argument)
 {
     const uint32_t *fb_id = argument;
+    int failed = zirkoshe_drmModeRmFB(&connection->client, *fb_id);
 
     /* what shows it becomes dark */
     crtcs_are_unsure();
-    return zirkoshe_drmModeRmFB(&connection->client, *fb_id);
+    if (!failed)
+        framebuffer_is_removed(*fb_id);
+    return failed;
 }

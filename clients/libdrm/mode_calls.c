@@ -2,10 +2,13 @@
 #include "answers.h"
 
 #include "crtcs.h"
+#include "framebuffers.h"
 
 /* the sizes of framebuffers, which are the server's */
 #define LEAST_SIDE 1
 #define MOST_SIDE 65535
+/* how far the corner of a view may be from the framebuffer's, which is the core's */
+#define MOST_CORNER 0xFFFFu
 
 int answer_get_resources(struct connection *connection, void *argument)
 {
@@ -31,11 +34,12 @@ int answer_get_resources(struct connection *connection, void *argument)
     return failed;
 }
 
-/* A CRTC that shows something is told to do so from its corner, in the mode that this process set,
- * or else in the preferred one. */
+/* A CRTC that shows something is told to do so from the corner and in the mode that this process
+ * set, or else from 0, 0 in the preferred one. */
 int answer_get_crtc(struct connection *connection, void *argument)
 {
     struct drm_mode_crtc *crtc = argument;
+    struct view view;
     uint32_t fb_id;
     int failed = zirkoshe_drmModeGetCrtc(&connection->client, crtc->crtc_id, &fb_id);
 
@@ -44,6 +48,10 @@ int answer_get_crtc(struct connection *connection, void *argument)
     crtc_is_seen(crtc->crtc_id, fb_id != 0);
     crtc->fb_id = fb_id;
     crtc->x = crtc->y = 0;
+    if (crtc_is_viewed(crtc->crtc_id, &view)) {
+        crtc->x = view.x;
+        crtc->y = view.y;
+    }
     crtc->gamma_size = 0;
     crtc->mode_valid = fb_id != 0;
     memset(&crtc->mode, 0, sizeof crtc->mode);
@@ -52,13 +60,20 @@ int answer_get_crtc(struct connection *connection, void *argument)
     return 0;
 }
 
-/* What the core refuses before the driver is asked comes after its tests of the caller, and of the
- * CRTC. */
-static int refuse(struct zirkoshe_client *client, uint32_t crtc_id, int error)
+/* What the core refuses first comes after its test of the caller, */
+static int refuse_first(struct zirkoshe_client *client, int error)
 {
     struct zirkoshe_ids lessees;
-    uint32_t fb_id;
     int failed = zirkoshe_drmModeListLessees(client, &lessees);
+
+    return failed ? failed : error;
+}
+
+/* and what it refuses before the driver is asked also after its test of the CRTC. */
+static int refuse(struct zirkoshe_client *client, uint32_t crtc_id, int error)
+{
+    uint32_t fb_id;
+    int failed = refuse_first(client, 0);
 
     if (!failed)
         failed = zirkoshe_drmModeGetCrtc(client, crtc_id, &fb_id);
@@ -82,17 +97,36 @@ static int find_fb(struct zirkoshe_client *client, const struct drm_mode_crtc *c
     return failed;
 }
 
-/* The server takes one connector at most, and no mode: that is kept here. */
+/* drm_crtc_check_viewport. What the framebuffer's absence is refused by, the server says. */
+static bool is_outside(struct connection *connection, const struct drm_mode_crtc *crtc,
+                       uint32_t fb_id, struct view *view)
+{
+    struct framebuffer shown;
+
+    *view = (struct view){crtc->mode, crtc->x, crtc->y, 0};
+    if (fb_id == 0 || framebuffer_find(connection, fb_id, &shown) != 0)
+        return false;
+    view->format = shown.format;
+    return !framebuffer_contains(&shown, crtc->x, crtc->y, crtc->mode.hdisplay,
+                                 crtc->mode.vdisplay);
+}
+
+/* The server takes one connector at most, and no mode and no corner: these are kept here. */
 int answer_set_crtc(struct connection *connection, void *argument)
 {
     const struct drm_mode_crtc *crtc = argument;
     struct zirkoshe_client *client = &connection->client;
     uint32_t connector_id = 0, fb_id;
+    struct view view;
     int failed;
 
+    if (crtc->x > MOST_CORNER || crtc->y > MOST_CORNER)
+        return refuse_first(client, -ERANGE);
     failed = find_fb(client, crtc, &fb_id);
     if (failed)
         return failed;
+    if (is_outside(connection, crtc, fb_id, &view))
+        return refuse(client, crtc->crtc_id, -ENOSPC);
     if (crtc->count_connectors > 1)
         return refuse(client, crtc->crtc_id, -EINVAL);
     if (crtc->count_connectors == 1 && crtc->set_connectors_ptr == 0)
@@ -102,7 +136,7 @@ int answer_set_crtc(struct connection *connection, void *argument)
                sizeof connector_id);
     failed = zirkoshe_drmModeSetCrtc(client, crtc->crtc_id, fb_id, connector_id);
     if (!failed && fb_id != 0)
-        crtc_is_lit(crtc->crtc_id, &crtc->mode, connector_id);
+        crtc_is_lit(crtc->crtc_id, &view, connector_id);
     else if (!failed)
         crtc_is_seen(crtc->crtc_id, false);
     return failed;

@@ -1,0 +1,104 @@
+/* What this process knows of framebuffers. */
+#include "framebuffers.h"
+
+#include <stdlib.h>
+
+struct added {
+    uint64_t owner; /* the cookie of the connection that added it, or 0 */
+    struct framebuffer framebuffer;
+};
+
+/* Taken while a connection is held, as the turn of CRTCs is. */
+static pthread_mutex_t turn = PTHREAD_MUTEX_INITIALIZER;
+static struct added *all; /* by their ids, which are the lowest that are free */
+static uint32_t room;
+
+/* Makes room for an id. Without memory the framebuffer stays unknown. */
+static bool has_room(uint32_t fb_id)
+{
+    uint32_t more = room > 0 ? room : 64;
+    struct added *grown;
+
+    while (more <= fb_id && more < UINT32_MAX / 2)
+        more *= 2;
+    if (fb_id < room)
+        return true;
+    grown = fb_id < more ? realloc(all, more * sizeof *all) : NULL;
+    if (grown == NULL)
+        return false;
+    memset(grown + room, 0, (more - room) * sizeof *all);
+    all = grown;
+    room = more;
+    return true;
+}
+
+void framebuffer_is_added(const struct connection *connection, uint32_t fb_id,
+                          const struct framebuffer *framebuffer)
+{
+    pthread_mutex_lock(&turn);
+    if (has_room(fb_id))
+        all[fb_id] = (struct added){connection->cookie, *framebuffer};
+    pthread_mutex_unlock(&turn);
+}
+
+void framebuffer_is_removed(uint32_t fb_id)
+{
+    pthread_mutex_lock(&turn);
+    if (fb_id < room)
+        all[fb_id].owner = 0;
+    pthread_mutex_unlock(&turn);
+}
+
+void framebuffers_end(const struct connection *connection)
+{
+    uint32_t at;
+
+    pthread_mutex_lock(&turn);
+    for (at = 0; at < room; at++) {
+        if (all[at].owner == connection->cookie)
+            all[at].owner = 0;
+    }
+    pthread_mutex_unlock(&turn);
+}
+
+bool framebuffer_is_known(uint32_t fb_id, struct framebuffer *framebuffer)
+{
+    bool is_known;
+
+    pthread_mutex_lock(&turn);
+    is_known = fb_id < room && all[fb_id].owner != 0;
+    if (is_known)
+        *framebuffer = all[fb_id].framebuffer;
+    pthread_mutex_unlock(&turn);
+    return is_known;
+}
+
+/* The server creates a handle for a caller that is current or root. It is closed again. If there is
+ * no room for one, any size may be the framebuffer's. */
+int framebuffer_find(struct connection *connection, uint32_t fb_id, struct framebuffer *framebuffer)
+{
+    struct zirkoshe_client *client = &connection->client;
+    struct zirkoshe_fb found;
+    int failed;
+
+    if (framebuffer_is_known(fb_id, framebuffer))
+        return 0;
+    failed = zirkoshe_drmModeGetFB(client, fb_id, &found);
+    if (failed && client->rule == ZIRKOSHE_RULE_FULL) {
+        client->rule = 0;
+        *framebuffer = (struct framebuffer){UINT32_MAX, UINT32_MAX, 0};
+        return 0;
+    }
+    if (!failed && found.handle != 0)
+        failed = zirkoshe_drmCloseBufferHandle(client, found.handle);
+    if (!failed)
+        *framebuffer = (struct framebuffer){found.width, found.height, 0};
+    return failed;
+}
+
+bool framebuffer_contains(const struct framebuffer *framebuffer, uint32_t x, uint32_t y,
+                          uint32_t width, uint32_t height)
+{
+    return width <= framebuffer->width && x <= framebuffer->width - width
+           && height <= framebuffer->height && y <= framebuffer->height - height;
+}

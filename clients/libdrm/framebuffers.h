@@ -1,0 +1,34 @@
+/* What this process knows of framebuffers: those that it added, with the format, which the server
+ * does not keep.
+ *
+ * Only the client that added a framebuffer can remove it. So what is known holds until this process
+ * removes it or closes that connection, unless another process that shares the connection does.
+ */
+#ifndef ZIRKOSHE_LIBDRM_FRAMEBUFFERS_H
+#define ZIRKOSHE_LIBDRM_FRAMEBUFFERS_H
+
+#include "connections.h"
+
+struct framebuffer {
+    uint32_t width, height;
+    uint32_t format; /* 0 if it is not known */
+};
+
+/* Notes that a connection added or removed a framebuffer, or is closed. */
+void framebuffer_is_added(const struct connection *connection, uint32_t fb_id,
+                          const struct framebuffer *framebuffer);
+void framebuffer_is_removed(uint32_t fb_id);
+void framebuffers_end(const struct connection *connection);
+
+/* Returns whether this process added it. */
+bool framebuffer_is_known(uint32_t fb_id, struct framebuffer *framebuffer);
+
+/* Finds any framebuffer, by the server if it is not known; 0, or a negative errno. */
+int framebuffer_find(struct connection *connection, uint32_t fb_id,
+                     struct framebuffer *framebuffer);
+
+/* Returns whether it contains a rectangle, as drm_framebuffer_check_src_coords does. */
+bool framebuffer_contains(const struct framebuffer *framebuffer, uint32_t x, uint32_t y,
+                          uint32_t width, uint32_t height);
+
+#endif
