@@ -324,6 +324,19 @@ class LibdrmTests(FolderCase):
         expect("what is told", ran.stderr, LEASE_TRACE)
         expect("what it says", ran.stdout, LEASE_SAYS)
 
+    def test_requests_are_told_as_far_as_is_wanted(self):
+        """The program turns universal planes on first."""
+        folder = self.folder
+        program = compiled("tests/libdrm_calls.c")
+        script = "open a card\na get_cap 1\na gem_close 9\na getcrtc 1\na get_cap 999\n"
+        failed = ["GEM_CLOSE: denied 22 NoHandleToClose 22", "GET_CAP: denied 41 BadCap 22"]
+        every = ["SET_CLIENT_CAP: done", "GET_CAP: done", failed[0], "MODE_GETCRTC: done", failed[1]]
+        with served(folder):
+            for wanted, told_of in (("", []), ("1", failed), ("all", every)):
+                given = environment(folder, DRM_SERVER_TRACE=wanted)
+                ran = run(program, input=script, stdin=None, env=given)
+                expect(f"what is told with {wanted!r}", ran.stderr.splitlines(), told_of)
+
     def test_worked_rows_hold_over_libdrm(self):
         folder = self.folder
         program = compiled("tests/libdrm_calls.c")
