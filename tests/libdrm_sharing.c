@@ -412,6 +412,57 @@ static void ask_after_a_kill(void)
 }
 
 /* Calls that the server doesn't have, by their errnos, of a master and of another client. */
+/* What a caller is refused, or 0. */
+static int error_of(int failed)
+{
+    return failed < 0 ? (failed == -1 ? errno : -failed) : 0;
+}
+
+static int ioctl_of(int fd, unsigned long request, void *argument)
+{
+    return drmIoctl(fd, request, argument) == 0 ? 0 : errno;
+}
+
+/* What a client may do: see the CRTC, name a buffer, and darken the CRTC. */
+static void say_what_it_may(int fd)
+{
+    struct drm_mode_create_dumb dumb = {.width = 64, .height = 64, .bpp = 32};
+    struct drm_gem_flink name = {0};
+    drmModeCrtc *crtc = drmModeGetCrtc(fd, 1);
+    int failed = ioctl_of(fd, DRM_IOCTL_MODE_CREATE_DUMB, &dumb);
+
+    name.handle = dumb.handle;
+    printf("sees %d, creates %d, names %d, sets %d\n", crtc != NULL, failed,
+           ioctl_of(fd, DRM_IOCTL_GEM_FLINK, &name),
+           error_of(drmModeSetCrtc(fd, 1, 0, 0, 0, NULL, 0, NULL)));
+    drmModeFreeCrtc(crtc);
+}
+
+/* A lease of nothing is a second client of the same master. */
+static void lease_nothing(int master, int other)
+{
+    uint32_t ids[2] = {0, 0}, id;
+    int fd = drmModeCreateLease(master, NULL, 0, O_CLOEXEC, &ids[0]), second;
+    drmModeLesseeListRes *lessees;
+
+    printf("leases nothing %d, closed at exec %d\n", fd >= 0, fcntl(fd, F_GETFD) == FD_CLOEXEC);
+    say_what_it_may(fd);
+    second = drmModeCreateLease(master, NULL, 0, 0, &ids[1]);
+    printf("again %d, closed at exec %d, another id %d\n", second >= 0,
+           fcntl(second, F_GETFD) == FD_CLOEXEC, ids[0] != ids[1]);
+    lessees = drmModeListLessees(master);
+    printf("lessees %d\n", (int)lessees->count);
+    drmFree(lessees);
+    printf("revokes %d %d, by another %d, no lease %d\n", drmModeRevokeLease(master, ids[0]),
+           drmModeRevokeLease(master, ids[1]), error_of(drmModeRevokeLease(other, ids[0])),
+           error_of(drmModeRevokeLease(master, ids[1] + 1)));
+    say_what_it_may(fd);
+    close(fd);
+    say_what_it_may(master);
+    printf("who isn't master %d\n", error_of(drmModeCreateLease(other, NULL, 0, 0, &id)));
+    printf("unknown flag %d\n", error_of(drmModeCreateLease(master, NULL, 0, O_APPEND, &id)));
+}
+
 static void call_what_lacks(int fd)
 {
     struct drm_mode_crtc_lut gamma = {.crtc_id = 1, .gamma_size = 256};
@@ -462,6 +513,10 @@ int main(int count, char **words)
         call_what_lacks(master);
         call_what_lacks(other);
         call_what_lacks(render);
+    } else if (strcmp(what, "nothing") == 0) {
+        int master = open_node(CARD), other = open_node(CARD);
+
+        lease_nothing(master, other);
     } else
         return 2;
     return 0;

@@ -5,6 +5,7 @@ Each test is a function of a folder of its own. The last line is `N passed, M fa
 its headers, or no such program, a test is skipped, and told so. Standard library only.
 """
 import contextlib
+import errno
 import json
 import os
 import pathlib
@@ -414,6 +415,24 @@ after closing one of two: master 1, other 0
 child: master 1
 after the child's end: master 1
 after it was replaced: other is master 1, and it is the render node
+""",
+        )
+
+    def test_lease_of_nothing_is_a_second_client(self):
+        """Which the caller authenticated, and which isn't current."""
+        expect(
+            "what it finds",
+            sharing(self.folder, "nothing"),
+            f"""\
+leases nothing 1, closed at exec 1
+sees 1, creates 0, names 0, sets {errno.EACCES}
+again 1, closed at exec 0, another id 1
+lessees 0
+revokes 0 0, by another {errno.EACCES}, no lease {errno.ENOENT}
+sees 1, creates 0, names 0, sets {errno.EACCES}
+sees 1, creates 0, names 0, sets 0
+who isn't master {errno.EACCES}
+unknown flag {errno.EINVAL}
 """,
         )
 

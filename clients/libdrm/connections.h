@@ -38,6 +38,7 @@ struct connection {
     bool is_sent;        /* this process has sent it away, and it may still be under way */
     unsigned known_at;   /* the age of the standings at which the caller was current, or 0 */
     uint32_t known_crtc; /* a CRTC that the caller saw then, or 0 */
+    uint32_t leases_of_nothing; /* how many the caller made */
     struct buffers buffers;
     struct events events;
     struct zirkoshe_client

@@ -159,15 +159,17 @@ static int ask(struct connection *connection, int fd, const struct row *row, voi
     return connection_let_go(connection, fd, failed);
 }
 
-/* Tells who wants to know what failed: by a rule of the server, or in this library (0), with the
- * errno. */
+/* Reports a request on standard error: a failure by a rule of the server or in this library (0),
+ * with the errno, if DRM_SERVER_TRACE is set, and a success if it is `all`. */
 static void trace(const char *name, uint32_t rule, int error)
 {
     const char *wanted = getenv("DRM_SERVER_TRACE");
 
-    if (wanted == NULL || wanted[0] == '\0')
+    if (wanted == NULL || wanted[0] == '\0' || (error == 0 && strcmp(wanted, "all") != 0))
         return;
-    if (rule != 0)
+    if (error == 0)
+        dprintf(STDERR_FILENO, "%s: done\n", name);
+    else if (rule != 0)
         dprintf(STDERR_FILENO, "%s: denied %u %s %d\n", name, (unsigned)rule,
                 zirkoshe_rule_name(rule), error);
     else
@@ -199,8 +201,7 @@ int carry_out(struct connection *connection, int fd, uint32_t request, void *arg
     if (request & row->request & IOC_IN)
         memcpy(&held, argument, size);
     failed = ask(connection, fd, row, &held);
-    if (failed)
-        trace(row->name, connection_refused_by(), -failed);
+    trace(row->name, failed ? connection_refused_by() : 0, -failed);
     if (request & row->request & IOC_OUT)
         memcpy(argument, &held, size);
     return failed;
