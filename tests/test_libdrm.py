@@ -152,6 +152,31 @@ print("the connection is there")
 """
 
 
+# A program in Python that lists the nodes that libudev finds, each with its seat.
+NODES = """
+import ctypes
+udev = ctypes.CDLL("libudev.so.1")
+
+def call(name, *arguments, result=ctypes.c_void_p):
+    called = getattr(udev, name)
+    called.restype = result
+    return called(*(each if isinstance(each, bytes) else ctypes.c_void_p(each) for each in arguments))
+
+context = call("udev_new")
+listed = call("udev_enumerate_new", context)
+call("udev_enumerate_add_match_subsystem", listed, b"drm")
+call("udev_enumerate_scan_devices", listed)
+entry = call("udev_enumerate_get_list_entry", listed)
+while entry:
+    path = call("udev_list_entry_get_name", entry)
+    device = call("udev_device_new_from_syspath", context, path)
+    node = call("udev_device_get_devnode", device, result=ctypes.c_char_p)
+    seat = call("udev_device_get_property_value", device, b"ID_SEAT", result=ctypes.c_char_p)
+    print(node.decode(), seat.decode())
+    entry = call("udev_list_entry_get_next", entry)
+"""
+
+
 # A program in Python that has a connection by libdrm's path, and makes another one by the socket itself.
 BESIDE = """
 import os
@@ -285,6 +310,31 @@ class LibdrmTests(FolderCase):
         ):
             ran = run(REPOSITORY / "tools/with-server", "--libdrm", *words, "sh", "-c", asked, env=given)
             expect(f"what a command finds with {words}", (ran.stdout, ran.stderr), (shown, ""))
+
+    def test_libudev_finds_the_nodes_on_their_seat(self):
+        want_program("umockdev-run")
+        library()
+        for words, found in (
+            ([], "/dev/dri/card0 seat0\n"),
+            (["--render"], "/dev/dri/card0 seat0\n/dev/dri/renderD128 seat0\n"),
+            (["--render", "--seat", "seat9"], "/dev/dri/card0 seat9\n/dev/dri/renderD128 seat9\n"),
+        ):
+            ran = run(REPOSITORY / "tools/with-server", "--libdrm", "--udev", *words, sys.executable, "-c", NODES)
+            expect(f"what libudev finds with {words}", (ran.returncode, ran.stdout, ran.stderr), (0, found, ""))
+
+    def test_command_under_umockdev_is_as_any_other(self):
+        """Its status, its folder for temporary files, and that no file is left."""
+        want_program("umockdev-run")
+        library()
+        given = {**os.environ, "TMPDIR": str(self.folder)}
+        asked = "echo $TMPDIR; modetest -M zirkoshe -e > encoders; exit 7"
+        ran = run(REPOSITORY / "tools/with-server", "--libdrm", "--udev", "sh", "-c", asked, env=given, cwd=self.folder)
+        expect("what it prints", (ran.returncode, ran.stdout), (7, f"{self.folder}\n"))
+        expect("files", [path.name for path in self.folder.iterdir()], ["encoders"])
+        for words, status in ((["sh", "-c", "kill -9 $$"], 137), (["no-such-command"], 127)):
+            ran = run(REPOSITORY / "tools/with-server", "--libdrm", "--udev", *words, env=given)
+            expect(f"status of {words}", ran.returncode, status)
+        expect("files", [path.name for path in self.folder.iterdir()], ["encoders"])
 
     def test_drmdevice_finds_both_nodes(self):
         folder = self.folder

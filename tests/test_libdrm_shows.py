@@ -86,6 +86,17 @@ exec sleep {SHOWING} && swaymsg exit
 """
 
 
+# What runs beside weston: a program shows frames, and then weston is to end.
+WESTON = f"""\
+weston --backend=drm-backend.so --use-pixman --drm-device=card0 --seat=seat9 --continue-without-input --socket=shown &
+weston=$!
+while kill -0 $weston && ! [ -S shown ]; do sleep 0.1; done
+WAYLAND_DISPLAY=shown timeout {SHOWING} weston-presentation-shm > frames
+kill $weston
+wait $weston
+"""
+
+
 @contextlib.contextmanager
 def seated(given):
     """A seatd that gives the card to somebody who isn't root, and the words by which a program is run as that one."""
@@ -517,6 +528,21 @@ handles 8
             ran = ran_by("tinywl", "-s", "weston-simple-shm & sleep 2; kill $PPID")
         expect("modes that are set", ran.stderr.count("Modesetting with '1920x1080@60000mHz'"), 2)
         expect("what is an error to it", re.findall(r".*\[ERROR\].*", ran.stderr), [])
+
+    def test_weston_shows_frames(self):
+        """On both outputs, which each CRTC drives. On a seat other than seat0 it needs no virtual terminal."""
+        for name in ("weston", "weston-presentation-shm", "umockdev-run"):
+            want_program(name)
+        library()
+        self.folder.chmod(0o700)
+        words = ["--udev", "--seat", "seat9", "--topology", REPOSITORY / "examples/topologies/laptop.topology"]
+        given = {**os.environ, "XDG_RUNTIME_DIR": str(self.folder)}
+        ran = run(REPOSITORY / "tools/with-server", "--libdrm", *words, "sh", "-c", WESTON, env=given, cwd=self.folder)
+        expect("status", ran.returncode, 0)
+        expect(
+            "outputs", re.findall(r"Output '(Virtual-\d)' enabled", ran.stdout + ran.stderr), ["Virtual-8", "Virtual-9"]
+        )
+        expect("that frames are shown", (self.folder / "frames").read_text("utf-8").count("\n") > SHOWING, True)
 
     def test_weston_comes_to_its_session(self):
         """It wants logind or a launcher of its own, and ends where there is neither, before it opens a device."""

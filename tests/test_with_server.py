@@ -258,6 +258,27 @@ class WithServerTests(FolderCase):
             expect_end(run(program, "--libdrm", "echo", "run", env=within(folder)), 125, f"with-server: {error}\n", "")
             expect_nothing_left(folder)
 
+    def test_with_server_that_has_no_umockdev(self):
+        program = repository_with(self.folder, 'echo "$0"\n')
+        builder = self.folder / "clients/libdrm/build"
+        builder.parent.mkdir(parents=True)
+        builder.write_text("#!/bin/sh\necho /library.so\n")
+        builder.chmod(0o755)
+        given = within(self.folder, PATH=str(self.folder))
+        ran = run(sys.executable, program, "--libdrm", "--udev", "echo", "run", env=given)
+        reason = "there is no umockdev-run, which --udev needs (Debian package umockdev)"
+        expect_end(ran, 125, f"with-server: {reason}\n", "")
+        expect_nothing_left(self.folder)
+
+    def test_with_server_refuses_words_of_udev(self):
+        for words, reason in (
+            (["--udev", "true"], "--udev needs --libdrm"),
+            (["--libdrm", "--udev", "--seat", "a/b", "true"], "'a/b' is no name of a seat"),
+        ):
+            ran = run(WITH_SERVER, *words, env=within(self.folder))
+            expect(f"{words}", (ran.returncode, ran.stdout), (2, ""))
+            expect("the reason", ran.stderr.endswith(f"with-server: error: {reason}\n"), True)
+
     def test_with_server_whose_path_is_too_long(self):
         folder = self.folder
         long = folder / (100 * "l")
