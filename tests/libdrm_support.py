@@ -57,9 +57,9 @@ def wait_until(holds):
 
 
 @contextlib.contextmanager
-def served(folder, cards=64, renders=8, roots=8):
+def served(folder, cards=64, renders=8, roots=8, more=()):
     """A server in this folder, once it listens."""
-    with server(folder, cards, renders, roots) as started:
+    with server(folder, cards, renders, roots, more=more) as started:
         wait_until(lambda: all((folder / name).exists() for name in CLASSES))
         connect(folder / "root").close()
         yield started

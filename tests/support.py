@@ -148,11 +148,15 @@ def count_words(cards: int, renders: int, roots: int) -> List[str]:
 
 @contextlib.contextmanager
 def server(
-    folder: pathlib.Path, *counts: int, limits: Iterable[Tuple[int, int]] = (), **options: Any
+    folder: pathlib.Path,
+    *counts: int,
+    limits: Iterable[Tuple[int, int]] = (),
+    more: Iterable[Word] = (),
+    **options: Any,
 ) -> Iterator[Started]:
     """A server on the three sockets of a folder, which is killed where the test didn't let it end.
 
-    A limit is a resource and how much of it the server may have.
+    A limit is a resource and how much of it the server may have. More words of the command line may follow.
     """
 
     def prepare() -> None:
@@ -163,7 +167,7 @@ def server(
 
     pipes = {"stdin": subprocess.DEVNULL, "stdout": subprocess.PIPE, "stderr": subprocess.PIPE}
     given: Dict[str, Any] = {**pipes, "text": True, "preexec_fn": prepare, **options}
-    words: List[Word] = [PROGRAM, "serve", *path_words(folder), *count_words(*counts)]
+    words: List[Word] = [PROGRAM, "serve", *path_words(folder), *count_words(*counts), *more]
     started: Started = subprocess.Popen(words, **given)
     try:
         yield started

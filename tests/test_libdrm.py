@@ -59,13 +59,13 @@ CAPABILITIES = {
     "ASYNC_PAGE_FLIP": 0,
     "CURSOR_WIDTH": 64,
     "CURSOR_HEIGHT": 64,
-    "ADDFB2_MODIFIERS": 0,
+    "ADDFB2_MODIFIERS": 1,
     "PAGE_FLIP_TARGET": 0,
     "CRTC_IN_VBLANK_EVENT": 1,
     "SYNCOBJ": 0,
     "SYNCOBJ_TIMELINE": 0,
 }
-CLIENT_CAPABILITIES = {"STEREO_3D", "UNIVERSAL_PLANES", "ASPECT_RATIO"}
+CLIENT_CAPABILITIES = {"STEREO_3D", "UNIVERSAL_PLANES", "ATOMIC", "ASPECT_RATIO", "WRITEBACK_CONNECTORS"}
 
 LEASE_SAYS = """\
 owner: leases an output: done
@@ -488,14 +488,14 @@ unknown flag {errno.EINVAL}
 
     def test_calls_that_are_lacking(self):
         """By the errnos of the kernel's core for a driver without them, of a master, of another client, and of a render client. Flips
-        and vertical blanking are those of a dark CRTC."""
+        and vertical blanking are those of a dark CRTC, and commits those of a client without the capability."""
         folder = self.folder
         expect(
             "errnos",
             sharing(folder, "lacks"),
             """\
-atomic -95, flip -16, cursor 0, dirty -38, gamma -22 -38, vblank -22, blob -95, object -95
-atomic -13, flip -13, cursor -13, dirty -13, gamma -22 -13, vblank -22, blob -95, object -95
+atomic -22, flip -16, cursor 0, dirty -38, gamma -22 -38, vblank -22, blob 0, object -95
+atomic -13, flip -13, cursor -13, dirty -13, gamma -22 -13, vblank -22, blob 0, object -95
 atomic -13, flip -13, cursor -13, dirty -13, gamma -13 -13, vblank -13, blob -13, object -95
 """,
         )

@@ -491,7 +491,6 @@ handles 8
                 "--no-config",
                 "--no-audio",
                 "--vo=drm",
-                "--drm-atomic=no",
                 f"--length={SHOWING}",
                 "av://lavfi:testsrc=size=320x240:rate=30",
                 env=environment(folder),

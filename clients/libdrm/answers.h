@@ -36,10 +36,14 @@ answer answer_get_resources, answer_get_crtc, answer_set_crtc, answer_get_encode
 /* framebuffer_calls.c */
 answer answer_add_fb, answer_add_fb2, answer_get_fb, answer_get_fb2, answer_rm_fb;
 
-/* property_calls.c: what stands in for properties */
+/* property_calls.c: properties and their blobs */
 answer answer_get_object_properties, answer_get_property, answer_set_object_property,
-    answer_set_connector_property;
-int give_connector_properties(struct drm_mode_get_connector *connector);
+    answer_set_connector_property, answer_create_blob, answer_get_blob, answer_destroy_blob;
+int give_connector_properties(struct connection *connection,
+                              struct drm_mode_get_connector *connector);
+
+/* atomic_calls.c; a commit holds the connection itself, and not while it waits */
+free_answer answer_atomic;
 
 /* lease_calls.c; the making of a lease holds the connection itself, since it opens another one */
 answer answer_list_lessees, answer_get_lease, answer_revoke_lease;
@@ -53,7 +57,10 @@ free_answer answer_wait_vblank;
 answer answer_page_flip, answer_cursor;
 
 /* lacking_calls.c: what a driver answers that lacks the call */
-answer lacks_support, lacks_object, lacks_dirty, lacks_gamma_size, lacks_gamma;
+answer lacks_support, lacks_dirty, lacks_gamma_size, lacks_gamma;
+
+/* ioctls.c: that the caller is current, which the server is asked once; 0, or a negative errno */
+int permit_master(struct connection *connection);
 
 /* formats.c: the bits of a pixel in a format, or 0; the format that stands for so many bits, or 0;
  * the format that ADDFB means by bits and depth, or 0; all formats */

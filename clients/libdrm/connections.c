@@ -2,6 +2,7 @@
  * how they end. */
 #include "connections.h"
 
+#include "blobs.h"
 #include "crtcs.h"
 #include "framebuffers.h"
 #include "others.h"
@@ -165,6 +166,7 @@ int connection_open(enum node node, bool is_lease, uint32_t token, int flags)
     fd = connection->client.socket;
     connection->client.socket = -1;
     connection->cookie = cookie_of(fd);
+    connection->is_lessee = is_lease;
     set_mark(fd, MARK_OURS);
     fcntl(fd, F_SETFD, flags & O_CLOEXEC ? FD_CLOEXEC : 0);
     fcntl(fd, F_SETFL, flags & O_NONBLOCK);
@@ -372,6 +374,16 @@ void connection_is_found_current(struct connection *connection)
     connection->known_at = atomic_load(&standings_age);
 }
 
+bool connection_knows_topology(const struct connection *connection)
+{
+    return connection->topology_at == atomic_load(&standings_age);
+}
+
+void connection_has_topology(struct connection *connection)
+{
+    connection->topology_at = atomic_load(&standings_age);
+}
+
 void standings_changed(void)
 {
     if (atomic_fetch_add(&standings_age, 1) == UINT_MAX)
@@ -398,6 +410,8 @@ int connection_let_go(struct connection *connection, int fd, int failed)
     refused_by = rule_of(&connection->client, failed);
     if (failed)
         connection->known_at = 0;
+    if (failed && connection->client.rule != 0)
+        connection->topology_at = 0;
     if (duplicate < 0) {
         /* the client gave it up: what comes late could be taken for the answer to another call */
         if (cookie_of(fd) == connection->cookie)
@@ -446,6 +460,7 @@ int connection_close(struct connection *connection, int fd)
         buffers_clear(&connection->buffers);
         events_end(&connection->events);
         framebuffers_end(connection);
+        blobs_end(connection);
     }
     result = libc_close(fd);
     connection_unlock(connection, &before);

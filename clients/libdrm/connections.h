@@ -24,6 +24,7 @@
 
 #include "buffers.h"
 #include "events.h"
+#include "topologies.h"
 
 enum node { NODE_CARD, NODE_RENDER, NODE_ROOT };
 
@@ -39,6 +40,10 @@ struct connection {
     unsigned known_at;   /* the age of the standings at which the caller was current, or 0 */
     uint32_t known_crtc; /* a CRTC that the caller saw then, or 0 */
     uint32_t leases_of_nothing; /* how many the caller made */
+    bool is_lessee;             /* it was opened by a lease */
+    bool is_atomic;             /* the program has the capability */
+    unsigned topology_at; /* the age of the standings at which the topology was asked for, or 0 */
+    struct topology topology;
     struct buffers buffers;
     struct events events;
     struct zirkoshe_client
@@ -84,6 +89,10 @@ bool connection_is_current(const struct connection *connection);
 
 /* Notes that the server has said so. */
 void connection_is_found_current(struct connection *connection);
+
+/* Whether what the caller sees is known, likewise, and notes that it is. */
+bool connection_knows_topology(const struct connection *connection);
+void connection_has_topology(struct connection *connection);
 
 /* Notes that a call of this process can have changed who is current, or what a caller sees. */
 void standings_changed(void);

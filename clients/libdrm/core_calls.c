@@ -1,6 +1,8 @@
 /* Answers of the core: the driver, its capabilities, masters and magics. */
 #include "answers.h"
 
+#include "crtcs.h"
+
 #include <stdlib.h>
 
 int give(uint64_t pointer, uint32_t *room, const void *items, uint32_t count, size_t size)
@@ -125,7 +127,7 @@ static int find_core_cap(uint64_t capability, uint64_t *value)
         {DRM_CAP_ASYNC_PAGE_FLIP, 0},
         {DRM_CAP_CURSOR_WIDTH, MOST_CURSOR_SIDE},
         {DRM_CAP_CURSOR_HEIGHT, MOST_CURSOR_SIDE},
-        {DRM_CAP_ADDFB2_MODIFIERS, 0},
+        {DRM_CAP_ADDFB2_MODIFIERS, 1},
         {DRM_CAP_PAGE_FLIP_TARGET, 0},
         {DRM_CAP_CRTC_IN_VBLANK_EVENT, 1},
         {DRM_CAP_SYNCOBJ, 0},
@@ -164,25 +166,46 @@ int answer_get_cap(struct connection *connection, void *argument)
 /* What the core does with a capability of a client that the server doesn't know. Layouts of stereo
  * and aspect ratios are told in modes alone, and those here have none.
  */
-static int set_core_cap(const struct drm_set_client_cap *cap)
+static int set_core_cap(const struct drm_set_client_cap *cap, bool is_atomic)
 {
     switch (cap->capability) {
     case DRM_CLIENT_CAP_STEREO_3D:
     case DRM_CLIENT_CAP_ASPECT_RATIO:
         return cap->value <= 1 ? 0 : -EINVAL;
-    case DRM_CLIENT_CAP_ATOMIC:
-        return -EOPNOTSUPP;
+    case DRM_CLIENT_CAP_WRITEBACK_CONNECTORS:
+        return is_atomic && cap->value <= 1 ? 0 : -EINVAL;
     default:
         return -EINVAL;
     }
 }
 
+/* Atomic clients see all planes. The core refuses the X server, whose commits are broken. */
+static int set_atomic(struct connection *connection, uint64_t value)
+{
+    int failed;
+
+    if (program_invocation_short_name[0] == 'X' && value == 1)
+        return -EOPNOTSUPP;
+    if (value > 2)
+        return -EINVAL;
+    failed =
+        zirkoshe_drmSetClientCap(&connection->client, DRM_CLIENT_CAP_UNIVERSAL_PLANES, value != 0);
+    if (!failed)
+        connection->is_atomic = value != 0;
+    return failed;
+}
+
 int answer_set_client_cap(struct connection *connection, void *argument)
 {
     const struct drm_set_client_cap *cap = argument;
-    int failed = zirkoshe_drmSetClientCap(&connection->client, cap->capability, cap->value);
+    int failed;
 
-    return failed && is_unknown_cap(connection) ? set_core_cap(cap) : failed;
+    /* the list of planes changes */
+    standings_changed();
+    if (cap->capability == DRM_CLIENT_CAP_ATOMIC)
+        return set_atomic(connection, cap->value);
+    failed = zirkoshe_drmSetClientCap(&connection->client, cap->capability, cap->value);
+    return failed && is_unknown_cap(connection) ? set_core_cap(cap, connection->is_atomic) : failed;
 }
 
 int answer_get_magic(struct connection *connection, void *argument)
@@ -202,6 +225,8 @@ int answer_auth_magic(struct connection *connection, void *argument)
 int answer_set_master(struct connection *connection, void *argument)
 {
     (void)argument;
+    /* another master may have changed what is shown */
+    crtcs_are_unsure();
     return zirkoshe_drmSetMaster(&connection->client);
 }
 

@@ -160,6 +160,16 @@ bool crtc_is_surely_lit(uint32_t crtc_id)
     return is_lit;
 }
 
+bool crtc_is_sure(uint32_t crtc_id)
+{
+    bool is_sure;
+
+    pthread_mutex_lock(&turn);
+    is_sure = find(crtc_id)->is_sure;
+    pthread_mutex_unlock(&turn);
+    return is_sure;
+}
+
 void crtcs_are_unsure(void)
 {
     size_t at;
@@ -207,14 +217,19 @@ void crtc_has_connector(uint32_t crtc_id, uint32_t connector_id)
     pthread_mutex_unlock(&turn);
 }
 
-bool crtc_flips(uint32_t crtc_id)
+int64_t crtc_flip_due(uint32_t crtc_id)
 {
-    bool flips;
+    int64_t due;
 
     pthread_mutex_lock(&turn);
-    flips = time_now() < find(crtc_id)->flip_due;
+    due = find(crtc_id)->flip_due;
     pthread_mutex_unlock(&turn);
-    return flips;
+    return due;
+}
+
+bool crtc_flips(uint32_t crtc_id)
+{
+    return time_now() < crtc_flip_due(crtc_id);
 }
 
 void crtc_flips_until(uint32_t crtc_id, int64_t due)

@@ -54,6 +54,9 @@ bool crtc_is_viewed(uint32_t crtc_id, struct view *view);
  * darkened it. Another client can. */
 bool crtc_is_surely_lit(uint32_t crtc_id);
 
+/* Whether no call of this process can have changed what it shows since the server last said so. */
+bool crtc_is_sure(uint32_t crtc_id);
+
 /* Notes that a call of this process can have darkened any CRTC, or that the server refused to flip
  * one. */
 void crtcs_are_unsure(void);
@@ -68,6 +71,7 @@ void crtc_has_connector(uint32_t crtc_id, uint32_t connector_id);
 
 /* Whether a flip of it is still to complete, and when the one that is now begun does so. */
 bool crtc_flips(uint32_t crtc_id);
+int64_t crtc_flip_due(uint32_t crtc_id);
 void crtc_flips_until(uint32_t crtc_id, int64_t due);
 
 #endif

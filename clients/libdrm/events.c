@@ -106,15 +106,20 @@ void events_end(struct events *events)
     let_go(&before);
 }
 
-bool events_have_room(struct events *events)
+bool events_have_room_for(struct events *events, unsigned count)
 {
     sigset_t before;
     bool has_room;
 
     hold(&before);
-    has_room = events->count < MOST_EVENTS;
+    has_room = events->count + count <= MOST_EVENTS;
     let_go(&before);
     return has_room;
+}
+
+bool events_have_room(struct events *events)
+{
+    return events_have_room_for(events, 1);
 }
 
 /* Writes number and time of a vertical blanking into an event, which is due at a time. */

@@ -49,6 +49,7 @@ void events_begin(struct events *events);
 void events_end(struct events *events);
 
 bool events_have_room(struct events *events);
+bool events_have_room_for(struct events *events, unsigned count);
 
 /* Adds an event whose kind and data are in place: that of the vertical blanking of this number and
  * time, at which it is due. */

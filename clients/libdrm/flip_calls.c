@@ -4,6 +4,7 @@
 
 #include "crtcs.h"
 #include "framebuffers.h"
+#include "states.h"
 
 /* What is wrong with another framebuffer on a CRTC that this process set: what is shown must be in
  * it, and the format must stay. */
@@ -121,6 +122,7 @@ static void complete(struct connection *connection,
     struct vblank next = vblank_of(&blanking, last_vblank(&blanking, time_now()).sequence + 1);
     struct event event = {0};
 
+    state_crtc_flips(flip->crtc_id, flip->fb_id);
     crtc_flips_until(flip->crtc_id, next.time);
     if (!(flip->flags & DRM_MODE_PAGE_FLIP_EVENT))
         return;

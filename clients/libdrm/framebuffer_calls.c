@@ -3,6 +3,7 @@
 
 #include "crtcs.h"
 #include "framebuffers.h"
+#include "states.h"
 
 int answer_add_fb(struct connection *connection, void *argument)
 {
@@ -16,17 +17,20 @@ int answer_add_fb(struct connection *connection, void *argument)
     return failed;
 }
 
-/* Whether the server can say what is asked for: one plane from the object's front, and no modifier.
- */
+/* Whether the server can say what is asked for: one plane from the object's front, and the linear
+ * modifier, which is 0. */
 static bool is_plain(const struct drm_mode_fb_cmd2 *fb)
 {
+    const uint32_t known = DRM_MODE_FB_INTERLACED | DRM_MODE_FB_MODIFIERS;
     size_t at;
 
     for (at = 1; at < 4; at++) {
-        if (fb->handles[at] != 0 || fb->pitches[at] != 0 || fb->offsets[at] != 0)
+        if (fb->handles[at] != 0 || fb->pitches[at] != 0 || fb->offsets[at] != 0
+            || fb->modifier[at] != 0)
             return false;
     }
-    return fb->offsets[0] == 0 && (fb->flags & ~(uint32_t)DRM_MODE_FB_INTERLACED) == 0;
+    return fb->offsets[0] == 0 && (fb->flags & ~known) == 0
+           && fb->modifier[0] == DRM_FORMAT_MOD_LINEAR;
 }
 
 int answer_add_fb2(struct connection *connection, void *argument)
@@ -80,6 +84,7 @@ int answer_get_fb2(struct connection *connection, void *argument)
 {
     struct drm_mode_fb_cmd2 *fb = argument;
     uint32_t fb_id = fb->fb_id;
+    struct framebuffer known = {0, 0, 0};
     struct zirkoshe_fb found;
     int failed = get_fb(connection, fb_id, &found);
 
@@ -89,7 +94,9 @@ int answer_get_fb2(struct connection *connection, void *argument)
     fb->fb_id = fb_id;
     fb->width = found.width;
     fb->height = found.height;
-    fb->pixel_format = format_of_bits(found.bpp);
+    framebuffer_is_known(fb_id, &known);
+    fb->pixel_format = known.format != 0 ? known.format : format_of_bits(found.bpp);
+    fb->flags = DRM_MODE_FB_MODIFIERS;
     fb->pitches[0] = found.pitch;
     fb->handles[0] = found.handle;
     return 0;
@@ -102,7 +109,9 @@ int answer_rm_fb(struct connection *connection, void *argument)
 
     /* what shows it becomes dark */
     crtcs_are_unsure();
-    if (!failed)
+    if (!failed) {
         framebuffer_is_removed(*fb_id);
+        state_fb_is_removed(*fb_id);
+    }
     return failed;
 }

@@ -1,6 +1,8 @@
 /* What this process knows of framebuffers. */
 #include "framebuffers.h"
 
+#include "states.h"
+
 #include <stdlib.h>
 
 struct added {
@@ -55,8 +57,10 @@ void framebuffers_end(const struct connection *connection)
 
     pthread_mutex_lock(&turn);
     for (at = 0; at < room; at++) {
-        if (all[at].owner == connection->cookie)
+        if (all[at].owner == connection->cookie) {
             all[at].owner = 0;
+            state_fb_is_removed(at);
+        }
     }
     pthread_mutex_unlock(&turn);
 }

@@ -61,7 +61,7 @@ static const struct row rows[] = {
     ROW(MODE_DETACHMODE, answer_nothing, WANTS_MASTER),
     ROW(MODE_GETPROPERTY, answer_get_property, WANTS_PRIMARY),
     ROW(MODE_SETPROPERTY, answer_set_connector_property, WANTS_MASTER),
-    ROW(MODE_GETPROPBLOB, lacks_object, WANTS_PRIMARY),
+    ROW(MODE_GETPROPBLOB, answer_get_blob, WANTS_PRIMARY),
     ROW(MODE_GETFB, answer_get_fb, WANTS_NOTHING),
     ROW(MODE_ADDFB, answer_add_fb, WANTS_NOTHING),
     ROW(MODE_RMFB, answer_rm_fb, WANTS_NOTHING),
@@ -77,9 +77,9 @@ static const struct row rows[] = {
     ROW(MODE_OBJ_GETPROPERTIES, answer_get_object_properties, WANTS_PRIMARY),
     ROW(MODE_OBJ_SETPROPERTY, answer_set_object_property, WANTS_MASTER),
     ROW(MODE_CURSOR2, answer_cursor, WANTS_MASTER),
-    ROW(MODE_ATOMIC, lacks_support, WANTS_MASTER),
-    ROW(MODE_CREATEPROPBLOB, lacks_support, WANTS_PRIMARY),
-    ROW(MODE_DESTROYPROPBLOB, lacks_object, WANTS_PRIMARY),
+    FREE_ROW(MODE_ATOMIC, answer_atomic, WANTS_PRIMARY),
+    ROW(MODE_CREATEPROPBLOB, answer_create_blob, WANTS_PRIMARY),
+    ROW(MODE_DESTROYPROPBLOB, answer_destroy_blob, WANTS_PRIMARY),
     ROW(SYNCOBJ_CREATE, lacks_support, WANTS_NOTHING),
     ROW(SYNCOBJ_DESTROY, lacks_support, WANTS_NOTHING),
     ROW(SYNCOBJ_HANDLE_TO_FD, lacks_support, WANTS_NOTHING),
@@ -127,12 +127,12 @@ static const struct row *row_of(uint32_t request)
 
 /* MODE_LIST_LESSEES changes nothing, and only a current caller may make it. (A page flip asks by
  * itself.) */
-static int permit(struct connection *connection, enum wants wants)
+int permit_master(struct connection *connection)
 {
     struct zirkoshe_ids lessees;
     int failed;
 
-    if (wants != WANTS_MASTER || connection_is_current(connection))
+    if (connection_is_current(connection))
         return 0;
     failed = zirkoshe_drmModeListLessees(&connection->client, &lessees);
     if (!failed)
@@ -153,7 +153,7 @@ static int ask(struct connection *connection, int fd, const struct row *row, voi
         return failed;
     buffers_close_tokens(connection, false);
     connection->client.rule = 0;
-    failed = permit(connection, row->wants);
+    failed = row->wants == WANTS_MASTER ? permit_master(connection) : 0;
     if (!failed)
         failed = row->answer(connection, argument);
     return connection_let_go(connection, fd, failed);

@@ -8,13 +8,6 @@ int lacks_support(struct connection *connection, void *argument)
     return -EOPNOTSUPP;
 }
 
-int lacks_object(struct connection *connection, void *argument)
-{
-    (void)connection;
-    (void)argument;
-    return -ENOENT;
-}
-
 /* The framebuffer of a CRTC that the caller sees. */
 static int shown(struct connection *connection, uint32_t crtc_id, uint32_t *fb_id)
 {

@@ -3,6 +3,7 @@
 
 #include "crtcs.h"
 #include "framebuffers.h"
+#include "states.h"
 
 /* the sizes of framebuffers, which are the server's */
 #define LEAST_SIDE 1
@@ -46,6 +47,7 @@ int answer_get_crtc(struct connection *connection, void *argument)
     if (failed)
         return failed;
     crtc_is_seen(crtc->crtc_id, fb_id != 0);
+    state_crtc_is_seen(crtc->crtc_id, fb_id);
     crtc->fb_id = fb_id;
     crtc->x = crtc->y = 0;
     if (crtc_is_viewed(crtc->crtc_id, &view)) {
@@ -111,6 +113,29 @@ static bool is_outside(struct connection *connection, const struct drm_mode_crtc
                                  crtc->mode.vdisplay);
 }
 
+/* Notes what a CRTC shows. Its primary plane covers it. */
+static void note_crtc(const struct drm_mode_crtc *crtc, uint32_t fb_id, const struct view *view,
+                      uint32_t connector_id)
+{
+    uint32_t width = crtc->mode.hdisplay, height = crtc->mode.vdisplay;
+    const struct plane_state primary = {
+        .crtc_id = crtc->crtc_id,
+        .fb_id = fb_id,
+        .crtc_w = width,
+        .crtc_h = height,
+        .src_x = crtc->x << 16,
+        .src_y = crtc->y << 16,
+        .src_w = width << 16,
+        .src_h = height << 16,
+    };
+
+    state_crtc_is_set(crtc->crtc_id, connector_id, fb_id != 0 ? &primary : NULL, &crtc->mode);
+    if (fb_id != 0)
+        crtc_is_lit(crtc->crtc_id, view, connector_id);
+    else
+        crtc_is_seen(crtc->crtc_id, false);
+}
+
 /* The server takes one connector at most, and no mode and no corner: these are kept here. */
 int answer_set_crtc(struct connection *connection, void *argument)
 {
@@ -135,10 +160,8 @@ int answer_set_crtc(struct connection *connection, void *argument)
         memcpy(&connector_id, (const void *)(uintptr_t)crtc->set_connectors_ptr,
                sizeof connector_id);
     failed = zirkoshe_drmModeSetCrtc(client, crtc->crtc_id, fb_id, connector_id);
-    if (!failed && fb_id != 0)
-        crtc_is_lit(crtc->crtc_id, &view, connector_id);
-    else if (!failed)
-        crtc_is_seen(crtc->crtc_id, false);
+    if (!failed)
+        note_crtc(crtc, fb_id, &view, connector_id);
     return failed;
 }
 
@@ -191,7 +214,7 @@ int answer_get_connector(struct connection *connection, void *argument)
         failed = give(connector->encoders_ptr, &connector->count_encoders, &encoder_id, 1,
                       sizeof encoder_id);
     if (!failed)
-        failed = give_connector_properties(connector);
+        failed = give_connector_properties(connection, connector);
     return failed;
 }
 
@@ -250,7 +273,23 @@ int answer_get_plane(struct connection *connection, void *argument)
 int answer_set_plane(struct connection *connection, void *argument)
 {
     const struct drm_mode_set_plane *plane = argument;
+    const struct plane_state state = {
+        .key = plane->plane_id,
+        .crtc_id = plane->fb_id != 0 ? plane->crtc_id : 0,
+        .fb_id = plane->fb_id,
+        .crtc_x = plane->crtc_x,
+        .crtc_y = plane->crtc_y,
+        .crtc_w = plane->crtc_w,
+        .crtc_h = plane->crtc_h,
+        .src_x = plane->src_x,
+        .src_y = plane->src_y,
+        .src_w = plane->src_w,
+        .src_h = plane->src_h,
+    };
+    int failed = zirkoshe_drmModeSetPlane(&connection->client, plane->plane_id, plane->crtc_id,
+                                          plane->fb_id);
 
-    return zirkoshe_drmModeSetPlane(&connection->client, plane->plane_id, plane->crtc_id,
-                                    plane->fb_id);
+    if (!failed)
+        state_plane_is_set(&state);
+    return failed;
 }

@@ -1,53 +1,21 @@
-/* Answers to requests of properties. There are two, which stand in for what each driver's planes
- * and connectors have.
- *
- * A plane's `type` stands in for its kind, which no call of the server tells, and a connector's
- * `DPMS` for its power. Both are the same at all times: setting DPMS is allowed to who may set
- * modes, and changes nothing.
- */
+/* Answers to requests of properties and of their blobs. */
 #include "answers.h"
 
-/* Their ids are above every id that the server gives. */
-enum { TYPE = 1000, DPMS = 1001 };
+#include "blobs.h"
+#include "properties.h"
+#include "states.h"
 
-static const struct drm_mode_property_enum types[] = {
-    {0, "Overlay"}, {1, "Primary"}, {2, "Cursor"}};
-static const struct drm_mode_property_enum powers[] = {
-    {0, "On"}, {1, "Standby"}, {2, "Suspend"}, {3, "Off"}};
-
-static const struct property {
-    uint32_t id;
-    uint32_t flags;
-    const char *name;
-    const struct drm_mode_property_enum *values;
-    uint32_t count;
-} properties[] = {
-    {TYPE, DRM_MODE_PROP_IMMUTABLE | DRM_MODE_PROP_ENUM, "type", types, 3},
-    {DPMS, DRM_MODE_PROP_ENUM, "DPMS", powers, 4},
-};
-
-/* Each CRTC's first plane is told to be a primary one, and each other an overlay. */
-static int find_type(struct zirkoshe_client *client, uint32_t plane_id, uint64_t *type)
-{
-    struct zirkoshe_ids planes;
-    struct zirkoshe_plane plane = {0, 0};
-    uint32_t before = 0, at;
-    int failed = zirkoshe_drmModeGetPlaneResources(client, &planes);
-
-    for (at = 0; !failed && at < planes.count && planes.ids[at] <= plane_id; at++) {
-        before |= plane.possible_crtcs;
-        failed = zirkoshe_drmModeGetPlane(client, planes.ids[at], &plane);
-    }
-    *type = (plane.possible_crtcs & ~before) != 0 ? 1 : 0;
-    return failed;
-}
+/* The most properties that an object has */
+#define MOST_PROPERTIES 16
+#define PRIMARY 1
 
 static bool may_be(uint32_t wanted, uint32_t kind)
 {
     return wanted == DRM_MODE_OBJECT_ANY || wanted == kind;
 }
 
-/* Which kind of object this is, of those that have properties: the one that is wanted, or any. */
+/* What kind of object has this id, of those that have properties: the one that is asked for, or
+ * any. */
 static int find_object(struct zirkoshe_client *client, uint32_t id, uint32_t wanted, uint32_t *kind)
 {
     struct zirkoshe_plane plane;
@@ -56,8 +24,11 @@ static int find_object(struct zirkoshe_client *client, uint32_t id, uint32_t wan
 
     if (may_be(wanted, *kind = DRM_MODE_OBJECT_PLANE))
         failed = zirkoshe_drmModeGetPlane(client, id, &plane);
-    if (failed && may_be(wanted, *kind = DRM_MODE_OBJECT_CRTC))
+    if (failed && may_be(wanted, *kind = DRM_MODE_OBJECT_CRTC)) {
         failed = zirkoshe_drmModeGetCrtc(client, id, &number);
+        if (!failed)
+            state_crtc_is_seen(id, number);
+    }
     if (failed && may_be(wanted, *kind = DRM_MODE_OBJECT_CONNECTOR))
         failed = zirkoshe_drmModeGetConnector(client, id, &number);
     /* an encoder is found, and has no properties */
@@ -67,83 +38,159 @@ static int find_object(struct zirkoshe_client *client, uint32_t id, uint32_t wan
     return failed;
 }
 
-static int give_one(struct drm_mode_obj_get_properties *given, uint32_t id, uint64_t value)
+static uint64_t plane_value(const struct plane_state *plane, enum property_id id)
 {
-    uint32_t room = given->count_props;
-    int failed = give(given->props_ptr, &given->count_props, &id, 1, sizeof id);
+    switch (id) {
+    case FB_ID:
+        return plane->fb_id;
+    case CRTC_ID:
+        return plane->crtc_id;
+    case SRC_X:
+        return plane->src_x;
+    case SRC_Y:
+        return plane->src_y;
+    case SRC_W:
+        return plane->src_w;
+    case SRC_H:
+        return plane->src_h;
+    case CRTC_X:
+        return (uint64_t)(int64_t)plane->crtc_x;
+    case CRTC_Y:
+        return (uint64_t)(int64_t)plane->crtc_y;
+    case CRTC_W:
+        return plane->crtc_w;
+    case CRTC_H:
+        return plane->crtc_h;
+    case IN_FORMATS:
+        return blob_of_formats();
+    default:
+        return 0;
+    }
+}
 
-    return failed ? failed : give(given->prop_values_ptr, &room, &value, 1, sizeof value);
+/* The value of a CRTC's or a connector's property. Power, link and use of a connector are always
+ * the first that there is. */
+static uint64_t other_value(struct state *state, uint32_t object_id, uint32_t kind,
+                            enum property_id id)
+{
+    if (kind == DRM_MODE_OBJECT_CONNECTOR)
+        return id == CRTC_ID ? state_of_connector(state, object_id)->crtc_id : 0;
+    if (id == ACTIVE)
+        return state_of_crtc(state, object_id)->is_active;
+    return id == MODE_ID ? state_of_crtc(state, object_id)->mode_id : 0;
+}
+
+/* The values of an object's properties. */
+static int find_values(struct connection *connection, uint32_t object_id, uint32_t kind,
+                       const enum property_id *ids, uint32_t count, uint64_t *values)
+{
+    const struct topology *topology;
+    const struct seen_plane *plane = NULL;
+    struct state state;
+    uint32_t at;
+    int failed = 0;
+
+    if (kind == DRM_MODE_OBJECT_PLANE) {
+        failed = topology_find(connection, &topology);
+        plane = failed ? NULL : topology_plane(topology, object_id);
+        failed = failed ? failed : plane == NULL ? -ENOENT : 0;
+    }
+    if (failed)
+        return failed;
+    state_copy(&state);
+    for (at = 0; at < count; at++) {
+        if (plane == NULL)
+            values[at] = other_value(&state, object_id, kind, ids[at]);
+        else if (ids[at] == TYPE)
+            values[at] = plane->primary_of != 0 ? PRIMARY : 0;
+        else
+            values[at] = plane_value(state_of_plane(&state, plane), ids[at]);
+    }
+    return 0;
+}
+
+static int give_properties(struct connection *connection, struct drm_mode_obj_get_properties *given,
+                           uint32_t kind)
+{
+    uint32_t count, room = given->count_props;
+    const enum property_id *ids = properties_of(kind, connection->is_atomic, &count);
+    uint32_t listed[MOST_PROPERTIES], at;
+    uint64_t values[MOST_PROPERTIES];
+    int failed = find_values(connection, given->obj_id, kind, ids, count, values);
+
+    if (failed)
+        return failed;
+    for (at = 0; at < count; at++)
+        listed[at] = ids[at];
+    failed = give(given->props_ptr, &given->count_props, listed, count, sizeof listed[0]);
+    return failed ? failed : give(given->prop_values_ptr, &room, values, count, sizeof values[0]);
 }
 
 int answer_get_object_properties(struct connection *connection, void *argument)
 {
     struct drm_mode_obj_get_properties *given = argument;
-    struct zirkoshe_client *client = &connection->client;
     uint32_t kind;
-    uint64_t type = 0;
-    int failed = find_object(client, given->obj_id, given->obj_type, &kind);
+    int failed = find_object(&connection->client, given->obj_id, given->obj_type, &kind);
 
-    if (failed)
-        return failed;
-    if (kind == DRM_MODE_OBJECT_CONNECTOR)
-        return give_one(given, DPMS, powers[0].value);
-    if (kind == DRM_MODE_OBJECT_PLANE) {
-        failed = find_type(client, given->obj_id, &type);
-        return failed ? failed : give_one(given, TYPE, type);
-    }
-    given->count_props = 0;
-    return 0;
+    return failed ? failed : give_properties(connection, given, kind);
 }
 
-int give_connector_properties(struct drm_mode_get_connector *connector)
+int give_connector_properties(struct connection *connection,
+                              struct drm_mode_get_connector *connector)
 {
     struct drm_mode_obj_get_properties given;
     int failed;
 
     memset(&given, 0, sizeof given);
+    given.obj_id = connector->connector_id;
     given.props_ptr = connector->props_ptr;
     given.prop_values_ptr = connector->prop_values_ptr;
     given.count_props = connector->count_props;
-    failed = give_one(&given, DPMS, powers[0].value);
+    failed = give_properties(connection, &given, DRM_MODE_OBJECT_CONNECTOR);
     connector->count_props = given.count_props;
     return failed;
 }
 
-static const struct property *find_property(uint32_t id)
+/* The values that a property's description has: the names' numbers, the ends of a range, or the
+ * kind of an object. */
+static uint32_t described_values(const struct property *property, uint64_t *values)
 {
-    size_t at;
+    uint32_t extended = property->flags & DRM_MODE_PROP_EXTENDED_TYPE, at;
 
-    for (at = 0; at < sizeof properties / sizeof properties[0]; at++) {
-        if (properties[at].id == id)
-            return &properties[at];
-    }
-    return NULL;
+    values[0] = property->least;
+    values[1] = property->most;
+    for (at = 0; at < property->count; at++)
+        values[at] = property->values[at].value;
+    if (property->flags & DRM_MODE_PROP_BLOB)
+        return 0;
+    return property->flags & DRM_MODE_PROP_ENUM ? property->count
+           : extended == DRM_MODE_PROP_OBJECT   ? 1
+                                                : 2;
 }
 
 int answer_get_property(struct connection *connection, void *argument)
 {
     struct drm_mode_get_property *asked = argument;
-    const struct property *found = find_property(asked->prop_id);
+    const struct property *found = property_find(asked->prop_id);
     uint64_t values[4];
-    uint32_t at;
     int failed;
 
     (void)connection;
     if (found == NULL)
         return -ENOENT;
-    for (at = 0; at < found->count; at++)
-        values[at] = found->values[at].value;
     asked->flags = found->flags;
     memset(asked->name, 0, sizeof asked->name);
     memcpy(asked->name, found->name, strlen(found->name));
-    failed = give(asked->values_ptr, &asked->count_values, values, found->count, sizeof values[0]);
+    failed = give(asked->values_ptr, &asked->count_values, values, described_values(found, values),
+                  sizeof values[0]);
     if (failed)
         return failed;
     return give(asked->enum_blob_ptr, &asked->count_enum_blobs, found->values, found->count,
                 sizeof *found->values);
 }
 
-/* What the core looks at in the setting of a property, of which DPMS alone can be set. */
+/* What the core looks at when a property is set by itself. DPMS and link-status can be set, and
+ * change nothing. */
 static int set_property(struct zirkoshe_client *client, uint32_t id, uint32_t kind,
                         uint32_t property, uint64_t value)
 {
@@ -151,8 +198,8 @@ static int set_property(struct zirkoshe_client *client, uint32_t id, uint32_t ki
 
     if (failed)
         return failed;
-    return kind == DRM_MODE_OBJECT_CONNECTOR && property == DPMS
-                   && value < sizeof powers / sizeof powers[0]
+    return kind == DRM_MODE_OBJECT_CONNECTOR && (property == DPMS || property == LINK_STATUS)
+                   && property_accepts(property_find(property), value)
                ? 0
                : -EINVAL;
 }
@@ -171,4 +218,40 @@ int answer_set_connector_property(struct connection *connection, void *argument)
 
     return set_property(&connection->client, asked->connector_id, DRM_MODE_OBJECT_CONNECTOR,
                         asked->prop_id, asked->value);
+}
+
+int answer_create_blob(struct connection *connection, void *argument)
+{
+    struct drm_mode_create_blob *asked = argument;
+
+    if (asked->length == 0 || asked->length > INT32_MAX)
+        return -EINVAL;
+    if (asked->data == 0)
+        return -EFAULT;
+    return blob_create(connection, (const void *)(uintptr_t)asked->data, asked->length,
+                       &asked->blob_id);
+}
+
+/* The bytes are returned if there is room for exactly these. */
+int answer_get_blob(struct connection *connection, void *argument)
+{
+    struct drm_mode_get_blob *asked = argument;
+    uint32_t size = blob_read(asked->blob_id, NULL, 0);
+
+    (void)connection;
+    if (size == 0)
+        return -ENOENT;
+    if (asked->length == size && asked->data == 0)
+        return -EFAULT;
+    if (asked->length == size)
+        blob_read(asked->blob_id, (void *)(uintptr_t)asked->data, size);
+    asked->length = size;
+    return 0;
+}
+
+int answer_destroy_blob(struct connection *connection, void *argument)
+{
+    const struct drm_mode_destroy_blob *asked = argument;
+
+    return blob_destroy(connection, asked->blob_id);
 }

@@ -1,0 +1,192 @@
+/* Answers to atomic commits. */
+#include "answers.h"
+
+#include "commits.h"
+#include "crtcs.h"
+
+#include <time.h>
+
+/* How long a commit waits for earlier ones at most, as the core does for each of them */
+#define MOST_WAIT ((int64_t)10 * SECOND)
+
+/* What is wrong with a commit before its objects are looked at. */
+static int refuse(const struct connection *connection, const struct drm_mode_atomic *asked)
+{
+    if (!connection->is_atomic || (asked->flags & ~(uint32_t)DRM_MODE_ATOMIC_FLAGS)
+        || asked->reserved != 0 || (asked->flags & DRM_MODE_PAGE_FLIP_ASYNC))
+        return -EINVAL;
+    return (asked->flags & DRM_MODE_ATOMIC_TEST_ONLY) && (asked->flags & DRM_MODE_PAGE_FLIP_EVENT)
+               ? -EINVAL
+               : 0;
+}
+
+/* The lists of a commit: objects, how many properties each has, and these with their values. */
+struct lists {
+    const uint32_t *objects, *counts, *properties;
+    const uint64_t *values;
+};
+
+static const void *list_at(uint64_t pointer)
+{
+    return (const void *)(uintptr_t)pointer;
+}
+
+/* Reads the next object with its properties, which begin at `*at`. */
+static int read_object(struct commit *commit, const struct lists *lists, uint32_t object,
+                       uint32_t *at)
+{
+    uint32_t id = lists->objects[object], end;
+    int failed = commit_add(commit, id);
+
+    if (failed)
+        return failed;
+    end = *at + lists->counts[object];
+    if (end != *at && (lists->properties == NULL || lists->values == NULL))
+        return -EFAULT;
+    for (; !failed && *at < end; ++*at)
+        failed = commit_set(commit, id, lists->properties[*at], lists->values[*at]);
+    return failed;
+}
+
+static int read_objects(struct commit *commit, const struct drm_mode_atomic *asked)
+{
+    const struct lists lists = {list_at(asked->objs_ptr), list_at(asked->count_props_ptr),
+                                list_at(asked->props_ptr), list_at(asked->prop_values_ptr)};
+    uint32_t object, at = 0;
+    int failed = 0;
+
+    if (asked->count_objs > 0 && (lists.objects == NULL || lists.counts == NULL))
+        return -EFAULT;
+    for (object = 0; !failed && object < asked->count_objs; object++)
+        failed = read_object(commit, &lists, object, &at);
+    return failed;
+}
+
+/* Each CRTC of a commit has an event, if one is requested. Without a CRTC none would come. */
+static int reserve_events(const struct commit *commit)
+{
+    unsigned count = (unsigned)__builtin_popcountll(commit->crtcs);
+
+    if (!commit->has_event)
+        return 0;
+    if (count == 0)
+        return -EINVAL;
+    return events_have_room_for(&commit->connection->events, count) ? 0 : -ENOMEM;
+}
+
+/* The time at which all CRTCs of the commit have completed their last flips, or 0. */
+static int64_t flips_due(const struct commit *commit)
+{
+    int64_t latest = 0, due;
+    uint32_t at;
+
+    for (at = 0; at < commit->topology->count_crtcs; at++) {
+        due = commit->crtcs >> at & 1 ? crtc_flip_due(commit->topology->crtcs[at]) : 0;
+        latest = due > latest ? due : latest;
+    }
+    return latest;
+}
+
+/* A CRTC that is lit completes at its next vertical blanking, and a dark one at once. */
+static void complete_crtc(const struct commit *commit, uint32_t crtc_id, uint64_t user_data)
+{
+    struct blanking blanking = crtc_blanking(crtc_id);
+    struct vblank vblank = {blanking.count, time_now()};
+    struct event event = {0};
+
+    if (crtc_is_surely_lit(crtc_id)) {
+        vblank = vblank_of(&blanking, last_vblank(&blanking, vblank.time).sequence + 1);
+        crtc_flips_until(crtc_id, vblank.time);
+    }
+    if (!commit->has_event)
+        return;
+    event.crtc_id = crtc_id;
+    event.told.base.type = DRM_EVENT_FLIP_COMPLETE;
+    event.told.base.length = sizeof event.told.vblank;
+    event.told.vblank.user_data = user_data;
+    events_add(&commit->connection->events, &event, vblank.sequence, vblank.time);
+}
+
+static void complete(const struct commit *commit, uint64_t user_data)
+{
+    uint32_t at;
+
+    for (at = 0; at < commit->topology->count_crtcs; at++) {
+        if (commit->crtcs >> at & 1)
+            complete_crtc(commit, commit->topology->crtcs[at], user_data);
+    }
+}
+
+/* Carries a commit out while the connection is held. `due` is when its CRTCs have completed what
+ * they were asked for, or 0. */
+static int carry_out_commit(struct connection *connection, const struct drm_mode_atomic *asked,
+                            int64_t *due)
+{
+    struct commit commit;
+    int failed = refuse(connection, asked);
+
+    *due = 0;
+    if (!failed)
+        failed = commit_begin(&commit, connection);
+    if (failed)
+        return failed;
+    commit.may_set_modes = (asked->flags & DRM_MODE_ATOMIC_ALLOW_MODESET) != 0;
+    commit.has_event = (asked->flags & DRM_MODE_PAGE_FLIP_EVENT) != 0;
+    failed = read_objects(&commit, asked);
+    if (!failed)
+        failed = reserve_events(&commit);
+    if (!failed)
+        failed = commit_check(&commit);
+    if (failed || (asked->flags & DRM_MODE_ATOMIC_TEST_ONLY))
+        return failed;
+    *due = flips_due(&commit);
+    if (*due > time_now())
+        return -EBUSY;
+    failed = commit_show(&commit);
+    if (failed) {
+        crtcs_are_unsure();
+        return failed;
+    }
+    complete(&commit, asked->user_data);
+    *due = flips_due(&commit);
+    return 0;
+}
+
+/* Waits for a time, as the core does in a commit that blocks: until a signal is handled. */
+static int wait_until(int64_t time)
+{
+    struct timespec until = {(time_t)(time / SECOND), (long)(time % SECOND)};
+    int cancel_state, failed;
+
+    pthread_setcancelstate(PTHREAD_CANCEL_DISABLE, &cancel_state);
+    failed = clock_nanosleep(CLOCK_MONOTONIC, TIMER_ABSTIME, &until, NULL);
+    pthread_setcancelstate(cancel_state, NULL);
+    return failed ? -EINTR : 0;
+}
+
+/* A commit that does not block is refused while an earlier one is not complete. One that does waits
+ * for that, and then until it is complete itself. */
+int answer_atomic(struct connection *connection, int fd, void *argument)
+{
+    const struct drm_mode_atomic *asked = argument;
+    bool blocks = !(asked->flags & DRM_MODE_ATOMIC_NONBLOCK), is_early;
+    int64_t due, most = time_now() + MOST_WAIT;
+    int failed;
+
+    do {
+        due = 0;
+        failed = connection_hold(connection, fd);
+        if (failed)
+            return failed;
+        failed = permit_master(connection);
+        if (!failed)
+            failed = carry_out_commit(connection, asked, &due);
+        failed = connection_let_go(connection, fd, failed);
+        is_early = failed == -EBUSY && blocks && due > time_now() && due < most;
+        if (is_early && wait_until(due))
+            return -EINTR;
+    } while (is_early);
+    if (!failed && blocks)
+        wait_until(due);
+    return failed;
+}

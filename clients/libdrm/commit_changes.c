@@ -1,0 +1,143 @@
+/* Showing an atomic commit: the calls by which the server shows what changed. */
+#include "commits.h"
+
+#include "blobs.h"
+#include "crtcs.h"
+#include "framebuffers.h"
+
+/* A CRTC or a plane that shows another framebuffer afterwards. */
+struct shown {
+    uint32_t crtc_id, fb_id, connector_id;
+};
+
+struct change {
+    uint32_t plane_id; /* 0 for the CRTC itself */
+    struct shown before, after;
+};
+
+struct changes {
+    unsigned count;
+    struct change all[MOST_OBJECTS];
+};
+
+/* What a plane shows: nothing while its CRTC is not active. */
+static struct shown shown_by(struct state *state, const struct seen_plane *seen)
+{
+    const struct plane_state *plane = state_of_plane(state, seen);
+    struct shown shown = {plane->crtc_id, 0, 0};
+    unsigned count;
+
+    if (plane->crtc_id != 0 && state_of_crtc(state, plane->crtc_id)->is_active)
+        shown.fb_id = plane->fb_id;
+    if (shown.fb_id != 0)
+        shown.connector_id = state_connector(state, plane->crtc_id, &count);
+    return shown;
+}
+
+/* A primary plane shows on its CRTC, which the server asks for with its connector. */
+static bool differ(const struct shown *before, const struct shown *after, bool is_primary)
+{
+    return before->fb_id != after->fb_id
+           || (after->fb_id != 0
+               && (is_primary ? before->connector_id != after->connector_id
+                              : before->crtc_id != after->crtc_id));
+}
+
+/* The changes to or from nothing, as far as `darkens` says. */
+static void find_changes(struct commit *commit, bool darkens, struct changes *changes)
+{
+    uint32_t at;
+
+    for (at = 0; at < commit->topology->count_planes; at++) {
+        const struct seen_plane *seen = &commit->topology->planes[at];
+        struct change change = {seen->primary_of != 0 ? 0 : seen->id,
+                                shown_by(&commit->before, seen), shown_by(&commit->after, seen)};
+
+        if (seen->primary_of != 0)
+            change.before.crtc_id = change.after.crtc_id = seen->primary_of;
+        if ((change.after.fb_id == 0) == darkens
+            && differ(&change.before, &change.after, seen->primary_of != 0))
+            changes->all[changes->count++] = change;
+    }
+}
+
+static int show(struct zirkoshe_client *client, uint32_t plane_id, const struct shown *shown)
+{
+    return plane_id == 0
+               ? zirkoshe_drmModeSetCrtc(client, shown->crtc_id, shown->fb_id, shown->connector_id)
+               : zirkoshe_drmModeSetPlane(client, plane_id, shown->crtc_id, shown->fb_id);
+}
+
+/* Takes back the first changes, the last of them first. The rule of the denial stays. */
+static void take_back(struct zirkoshe_client *client, const struct changes *changes, unsigned count)
+{
+    uint32_t rule = client->rule;
+
+    while (count-- > 0)
+        show(client, changes->all[count].plane_id, &changes->all[count].before);
+    client->rule = rule;
+}
+
+static int show_changes(struct zirkoshe_client *client, const struct changes *changes)
+{
+    unsigned at;
+    int failed = 0;
+
+    for (at = 0; !failed && at < changes->count; at++)
+        failed = show(client, changes->all[at].plane_id, &changes->all[at].after);
+    if (failed)
+        take_back(client, changes, at - 1);
+    return failed;
+}
+
+/* Notes for the older calls what a CRTC shows. */
+static void note_crtc(struct commit *commit, uint32_t crtc_id)
+{
+    const struct plane_state *plane = state_of_primary(&commit->after, crtc_id);
+    const struct crtc_state *crtc = state_of_crtc(&commit->after, crtc_id);
+    struct framebuffer framebuffer = {0, 0, 0};
+    struct view view = {crtc->mode, plane->src_x >> 16, plane->src_y >> 16, 0};
+    unsigned count;
+
+    if (!crtc->is_active || plane->fb_id == 0) {
+        crtc_is_seen(crtc_id, false);
+        return;
+    }
+    framebuffer_is_known(plane->fb_id, &framebuffer);
+    view.format = framebuffer.format;
+    crtc_is_lit(crtc_id, &view, state_connector(&commit->after, crtc_id, &count));
+}
+
+/* Modes are used by the state now, and those of before no more. */
+static void note(struct commit *commit)
+{
+    uint32_t at;
+
+    for (at = 0; at < commit->topology->count_crtcs; at++) {
+        uint32_t id = commit->topology->crtcs[at];
+        uint32_t before = state_of_crtc(&commit->before, id)->mode_id;
+        uint32_t after = state_of_crtc(&commit->after, id)->mode_id;
+
+        if (!(commit->crtcs >> at & 1))
+            continue;
+        if (before != after) {
+            blob_use(after);
+            blob_drop(before);
+        }
+        note_crtc(commit, id);
+    }
+    state_change(&commit->before, &commit->after);
+}
+
+int commit_show(struct commit *commit)
+{
+    struct changes changes = {0};
+    int failed;
+
+    find_changes(commit, true, &changes);
+    find_changes(commit, false, &changes);
+    failed = show_changes(&commit->connection->client, &changes);
+    if (!failed)
+        note(commit);
+    return failed;
+}

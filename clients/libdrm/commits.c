@@ -1,0 +1,222 @@
+/* Building an atomic commit: objects and their properties. */
+#include "commits.h"
+
+#include "blobs.h"
+#include "crtcs.h"
+#include "framebuffers.h"
+#include "properties.h"
+
+/* Asks what CRTCs show that this process is not sure of. */
+static int look_at_crtcs(struct connection *connection, const struct topology *topology)
+{
+    uint32_t at, fb_id;
+    int failed = 0;
+
+    for (at = 0; !failed && at < topology->count_crtcs; at++) {
+        uint32_t id = topology->crtcs[at];
+
+        if (crtc_is_sure(id))
+            continue;
+        failed = zirkoshe_drmModeGetCrtc(&connection->client, id, &fb_id);
+        if (failed)
+            return failed;
+        crtc_is_seen(id, fb_id != 0);
+        state_crtc_is_seen(id, fb_id);
+    }
+    return failed;
+}
+
+/* Gives each object that the caller sees a place, which is the same before and after. */
+static void place_objects(struct state *state, const struct topology *topology)
+{
+    uint32_t at;
+
+    for (at = 0; at < topology->count_planes; at++)
+        state_of_plane(state, &topology->planes[at]);
+    for (at = 0; at < topology->count_crtcs; at++) {
+        state_of_crtc(state, topology->crtcs[at]);
+        state_of_primary(state, topology->crtcs[at]);
+    }
+    for (at = 0; at < topology->count_connectors; at++)
+        state_of_connector(state, topology->connectors[at].id);
+}
+
+int commit_begin(struct commit *commit, struct connection *connection)
+{
+    int failed;
+
+    memset(commit, 0, sizeof *commit);
+    commit->connection = connection;
+    failed = topology_find(connection, &commit->topology);
+    if (!failed)
+        failed = look_at_crtcs(connection, commit->topology);
+    state_copy(&commit->before);
+    place_objects(&commit->before, commit->topology);
+    commit->after = commit->before;
+    return failed;
+}
+
+/* Puts a CRTC into the commit, if there is one. */
+static void add_crtc(struct commit *commit, uint32_t crtc_id)
+{
+    uint32_t at;
+
+    for (at = 0; at < commit->topology->count_crtcs; at++) {
+        if (commit->topology->crtcs[at] == crtc_id)
+            commit->crtcs |= (uint64_t)1 << at;
+    }
+}
+
+/* What a CRTC_ID may be: none, or a CRTC that the caller sees. A lessee, which a client from
+ * another process may be, is not told whether another one exists. */
+static int find_crtc(const struct commit *commit, uint64_t value)
+{
+    const struct connection *connection = commit->connection;
+
+    if (value == 0 || topology_has_crtc(commit->topology, (uint32_t)value))
+        return 0;
+    return connection->is_lessee || connection->is_received ? -EACCES : -EINVAL;
+}
+
+/* What an FB_ID may be: none, or a framebuffer of any client. */
+static int find_framebuffer(const struct commit *commit, uint64_t value)
+{
+    struct framebuffer framebuffer;
+    int failed =
+        value == 0 ? 0 : framebuffer_find(commit->connection, (uint32_t)value, &framebuffer);
+
+    return failed == -ENOENT ? -EINVAL : failed;
+}
+
+static int set_of_plane(struct commit *commit, const struct seen_plane *seen, enum property_id id,
+                        uint64_t value)
+{
+    struct plane_state *plane = state_of_plane(&commit->after, seen);
+    uint32_t *fields[] = {&plane->src_x, &plane->src_y, &plane->src_w, &plane->src_h};
+    int failed;
+
+    switch (id) {
+    case FB_ID:
+        failed = find_framebuffer(commit, value);
+        plane->fb_id = failed ? plane->fb_id : (uint32_t)value;
+        return failed;
+    case CRTC_ID:
+        failed = find_crtc(commit, value);
+        plane->crtc_id = failed ? plane->crtc_id : (uint32_t)value;
+        add_crtc(commit, plane->crtc_id);
+        return failed;
+    case CRTC_X:
+        plane->crtc_x = (int32_t)value;
+        return 0;
+    case CRTC_Y:
+        plane->crtc_y = (int32_t)value;
+        return 0;
+    case CRTC_W:
+        plane->crtc_w = (uint32_t)value;
+        return 0;
+    case CRTC_H:
+        plane->crtc_h = (uint32_t)value;
+        return 0;
+    default:
+        *fields[id - SRC_X] = (uint32_t)value;
+        return 0;
+    }
+}
+
+/* A mode is a blob of its size. */
+static int set_mode(struct crtc_state *crtc, uint32_t blob_id)
+{
+    struct drm_mode_modeinfo mode;
+
+    memset(&mode, 0, sizeof mode);
+    if (blob_id != 0 && blob_read(blob_id, &mode, sizeof mode) != sizeof mode)
+        return -EINVAL;
+    if (blob_id != 0 && (mode.hdisplay == 0 || mode.vdisplay == 0))
+        return -EINVAL;
+    crtc->mode_id = blob_id;
+    crtc->mode = mode;
+    return 0;
+}
+
+static int set_of_crtc(struct commit *commit, uint32_t crtc_id, enum property_id id, uint64_t value)
+{
+    struct crtc_state *crtc = state_of_crtc(&commit->after, crtc_id);
+
+    switch (id) {
+    case ACTIVE:
+        crtc->is_active = value != 0;
+        return 0;
+    case MODE_ID:
+        return set_mode(crtc, (uint32_t)value);
+    default: /* OUT_FENCE_PTR: there are no fences */
+        return value == 0 ? 0 : -EINVAL;
+    }
+}
+
+/* The CRTC that a connector leaves is in the commit too. */
+static int set_of_connector(struct commit *commit, uint32_t connector_id, enum property_id id,
+                            uint64_t value)
+{
+    struct connector_state *connector = state_of_connector(&commit->after, connector_id);
+    int failed;
+
+    if (id != CRTC_ID) /* the power has a call of its own */
+        return id == LINK_STATUS ? 0 : -EINVAL;
+    failed = find_crtc(commit, value);
+    if (failed)
+        return failed;
+    add_crtc(commit, connector->crtc_id);
+    connector->crtc_id = (uint32_t)value;
+    add_crtc(commit, connector->crtc_id);
+    return 0;
+}
+
+/* The kind of an object that the caller sees, and that has properties, or 0. */
+static uint32_t kind_of(const struct topology *topology, uint32_t object_id)
+{
+    if (topology_plane(topology, object_id) != NULL)
+        return DRM_MODE_OBJECT_PLANE;
+    if (topology_connector(topology, object_id) != NULL)
+        return DRM_MODE_OBJECT_CONNECTOR;
+    return topology_has_crtc(topology, object_id) ? DRM_MODE_OBJECT_CRTC : 0;
+}
+
+int commit_add(struct commit *commit, uint32_t object_id)
+{
+    const struct topology *topology = commit->topology;
+    const struct seen_plane *plane = topology_plane(topology, object_id);
+    const struct seen_connector *connector = topology_connector(topology, object_id);
+
+    if (plane != NULL) {
+        commit->planes |= (uint64_t)1 << (plane - topology->planes);
+        add_crtc(commit, state_of_plane(&commit->after, plane)->crtc_id);
+    } else if (connector != NULL) {
+        commit->connectors |= (uint64_t)1 << (connector - topology->connectors);
+        add_crtc(commit, state_of_connector(&commit->after, object_id)->crtc_id);
+    } else if (topology_has_crtc(topology, object_id)) {
+        add_crtc(commit, object_id);
+    } else {
+        return -ENOENT;
+    }
+    return 0;
+}
+
+int commit_set(struct commit *commit, uint32_t object_id, uint32_t property_id, uint64_t value)
+{
+    const struct topology *topology = commit->topology;
+    const struct property *property = property_find(property_id);
+    uint32_t kind = kind_of(topology, object_id);
+
+    if (property == NULL || !property_is_of(property_id, kind))
+        return -ENOENT;
+    if (!property_accepts(property, value))
+        return -EINVAL;
+    switch (kind) {
+    case DRM_MODE_OBJECT_PLANE:
+        return set_of_plane(commit, topology_plane(topology, object_id), property->id, value);
+    case DRM_MODE_OBJECT_CRTC:
+        return set_of_crtc(commit, object_id, property->id, value);
+    default:
+        return set_of_connector(commit, object_id, property->id, value);
+    }
+}

@@ -1,0 +1,33 @@
+/* An atomic commit: the state before it, the state after it, and what of the device is in it. */
+#ifndef ZIRKOSHE_LIBDRM_COMMITS_H
+#define ZIRKOSHE_LIBDRM_COMMITS_H
+
+#include "connections.h"
+#include "states.h"
+
+struct commit {
+    struct connection *connection;
+    const struct topology *topology;
+    struct state before, after;
+    uint64_t planes, crtcs, connectors; /* masks of positions in the topology: what is in it */
+    bool may_set_modes;
+    bool has_event;
+};
+
+/* Begins a commit of what the caller sees; 0, or a negative errno. */
+int commit_begin(struct commit *commit, struct connection *connection);
+
+/* Sets a property of an object, as drm_atomic_set_property does. */
+int commit_set(struct commit *commit, uint32_t object_id, uint32_t property_id, uint64_t value);
+
+/* Adds an object without a property. -ENOENT if the caller does not see it. */
+int commit_add(struct commit *commit, uint32_t object_id);
+
+/* Checks the state after the commit, as drm_atomic_check_only does, and the rules of the server. */
+int commit_check(struct commit *commit);
+
+/* Shows it, one call for each framebuffer that changes. If the server denies one, those before it
+ * are taken back. */
+int commit_show(struct commit *commit);
+
+#endif

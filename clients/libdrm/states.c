@@ -1,0 +1,201 @@
+/* What this process knows of what is shown. */
+#include "states.h"
+
+#include "answers.h"
+#include "blobs.h"
+
+#include <pthread.h>
+
+/* The key of a primary plane is that of its CRTC, with this bit. Ids of the server are smaller. */
+#define PRIMARY_OF 0x80000000u
+
+/* Taken while a connection is held. */
+static pthread_mutex_t turn = PTHREAD_MUTEX_INITIALIZER;
+static struct state now;
+
+/* A device has no more objects than places. If it had, the last place would be shared. */
+static struct plane_state *find_plane(struct state *state, uint32_t key)
+{
+    size_t at = 0;
+
+    while (at < MOST_OBJECTS - 1 && state->planes[at].key != key && state->planes[at].key != 0)
+        at++;
+    if (state->planes[at].key != key)
+        state->planes[at] = (struct plane_state){.key = key};
+    return &state->planes[at];
+}
+
+struct plane_state *state_of_plane(struct state *state, const struct seen_plane *plane)
+{
+    return find_plane(state, plane->primary_of != 0 ? PRIMARY_OF | plane->primary_of : plane->id);
+}
+
+struct plane_state *state_of_primary(struct state *state, uint32_t crtc_id)
+{
+    return find_plane(state, PRIMARY_OF | crtc_id);
+}
+
+struct crtc_state *state_of_crtc(struct state *state, uint32_t crtc_id)
+{
+    size_t at = 0;
+
+    while (at < MOST_OBJECTS - 1 && state->crtcs[at].id != crtc_id && state->crtcs[at].id != 0)
+        at++;
+    if (state->crtcs[at].id != crtc_id)
+        state->crtcs[at] = (struct crtc_state){.id = crtc_id};
+    return &state->crtcs[at];
+}
+
+struct connector_state *state_of_connector(struct state *state, uint32_t connector_id)
+{
+    size_t at = 0;
+
+    while (at < MOST_OBJECTS - 1 && state->connectors[at].id != connector_id
+           && state->connectors[at].id != 0)
+        at++;
+    if (state->connectors[at].id != connector_id)
+        state->connectors[at] = (struct connector_state){connector_id, 0};
+    return &state->connectors[at];
+}
+
+uint32_t state_connector(const struct state *state, uint32_t crtc_id, unsigned *count)
+{
+    uint32_t found = 0;
+    size_t at;
+
+    *count = 0;
+    for (at = 0; at < MOST_OBJECTS; at++) {
+        if (state->connectors[at].id == 0 || state->connectors[at].crtc_id != crtc_id)
+            continue;
+        if (*count == 0)
+            found = state->connectors[at].id;
+        ++*count;
+    }
+    return found;
+}
+
+void state_copy(struct state *state)
+{
+    pthread_mutex_lock(&turn);
+    *state = now;
+    pthread_mutex_unlock(&turn);
+}
+
+/* A state that was made of another one has its objects in the same places. */
+void state_change(const struct state *before, const struct state *after)
+{
+    size_t at;
+
+    pthread_mutex_lock(&turn);
+    for (at = 0; at < MOST_OBJECTS; at++) {
+        const struct plane_state *plane = &after->planes[at];
+        const struct crtc_state *crtc = &after->crtcs[at];
+        const struct connector_state *connector = &after->connectors[at];
+
+        if (plane->key != 0 && memcmp(plane, &before->planes[at], sizeof *plane) != 0)
+            *find_plane(&now, plane->key) = *plane;
+        if (crtc->id != 0 && memcmp(crtc, &before->crtcs[at], sizeof *crtc) != 0)
+            *state_of_crtc(&now, crtc->id) = *crtc;
+        if (connector->id != 0
+            && memcmp(connector, &before->connectors[at], sizeof *connector) != 0)
+            *state_of_connector(&now, connector->id) = *connector;
+    }
+    pthread_mutex_unlock(&turn);
+}
+
+/* Sets a mode, or none. */
+static void set_mode(struct crtc_state *crtc, const struct drm_mode_modeinfo *mode)
+{
+    crtc->is_active = mode != NULL;
+    if (mode != NULL && crtc->mode_id != 0 && memcmp(&crtc->mode, mode, sizeof *mode) == 0)
+        return;
+    blob_drop(crtc->mode_id);
+    crtc->mode_id = mode != NULL ? blob_of_mode(mode) : 0;
+    memset(&crtc->mode, 0, sizeof crtc->mode);
+    if (mode != NULL)
+        crtc->mode = *mode;
+}
+
+/* Takes all connectors from a CRTC. */
+static void unplug(struct state *state, uint32_t crtc_id)
+{
+    size_t at;
+
+    for (at = 0; at < MOST_OBJECTS; at++) {
+        if (state->connectors[at].crtc_id == crtc_id)
+            state->connectors[at].crtc_id = 0;
+    }
+}
+
+void state_crtc_is_set(uint32_t crtc_id, uint32_t connector_id, const struct plane_state *primary,
+                       const struct drm_mode_modeinfo *mode)
+{
+    struct plane_state *plane;
+
+    pthread_mutex_lock(&turn);
+    plane = state_of_primary(&now, crtc_id);
+    set_mode(state_of_crtc(&now, crtc_id), primary != NULL ? mode : NULL);
+    unplug(&now, crtc_id);
+    if (primary != NULL) {
+        uint32_t key = plane->key;
+
+        *plane = *primary;
+        plane->key = key;
+        state_of_connector(&now, connector_id)->crtc_id = crtc_id;
+    } else {
+        plane->crtc_id = plane->fb_id = 0;
+    }
+    pthread_mutex_unlock(&turn);
+}
+
+void state_crtc_flips(uint32_t crtc_id, uint32_t fb_id)
+{
+    pthread_mutex_lock(&turn);
+    state_of_primary(&now, crtc_id)->fb_id = fb_id;
+    pthread_mutex_unlock(&turn);
+}
+
+void state_plane_is_set(const struct plane_state *plane)
+{
+    pthread_mutex_lock(&turn);
+    *find_plane(&now, plane->key) = *plane;
+    pthread_mutex_unlock(&turn);
+}
+
+/* Another process's framebuffer is shown in the mode that this process set, or else in the
+ * preferred one. */
+void state_crtc_is_seen(uint32_t crtc_id, uint32_t fb_id)
+{
+    struct plane_state *plane;
+    struct crtc_state *crtc;
+    uint32_t count;
+
+    pthread_mutex_lock(&turn);
+    plane = state_of_primary(&now, crtc_id);
+    crtc = state_of_crtc(&now, crtc_id);
+    if (fb_id == 0 && crtc->is_active)
+        plane->fb_id = plane->crtc_id = 0;
+    if (fb_id != 0 && !crtc->is_active)
+        set_mode(crtc, crtc->mode_id != 0 ? &crtc->mode : all_modes(&count));
+    if (fb_id != 0 && plane->fb_id != fb_id) {
+        plane->fb_id = fb_id;
+        plane->crtc_id = crtc_id;
+        plane->crtc_w = crtc->mode.hdisplay;
+        plane->crtc_h = crtc->mode.vdisplay;
+        plane->src_w = plane->crtc_w << 16;
+        plane->src_h = plane->crtc_h << 16;
+    }
+    pthread_mutex_unlock(&turn);
+}
+
+void state_fb_is_removed(uint32_t fb_id)
+{
+    size_t at;
+
+    pthread_mutex_lock(&turn);
+    for (at = 0; at < MOST_OBJECTS; at++) {
+        if (now.planes[at].fb_id == fb_id)
+            now.planes[at].fb_id = now.planes[at].crtc_id = 0;
+    }
+    pthread_mutex_unlock(&turn);
+}

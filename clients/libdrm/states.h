@@ -1,0 +1,64 @@
+/* What this process knows of what is shown: the state of planes, CRTCs and connectors, as atomic
+ * commits and the older calls left it.
+ *
+ * The server keeps the framebuffers alone. All else is this process's own. A primary plane's state
+ * is found by its CRTC, since the older calls do not name the plane.
+ */
+#ifndef ZIRKOSHE_LIBDRM_STATES_H
+#define ZIRKOSHE_LIBDRM_STATES_H
+
+#include "topologies.h"
+
+#include <drm_mode.h>
+
+/* Sources are in 16.16 fixed point. */
+struct plane_state {
+    uint32_t key; /* 0 if the place is free */
+    uint32_t crtc_id, fb_id;
+    int32_t crtc_x, crtc_y;
+    uint32_t crtc_w, crtc_h;
+    uint32_t src_x, src_y, src_w, src_h;
+};
+
+struct crtc_state {
+    uint32_t id; /* 0 if the place is free */
+    bool is_active;
+    uint32_t mode_id; /* a blob, or 0 for no mode */
+    struct drm_mode_modeinfo mode;
+};
+
+struct connector_state {
+    uint32_t id; /* 0 if the place is free */
+    uint32_t crtc_id;
+};
+
+struct state {
+    struct plane_state planes[MOST_OBJECTS];
+    struct crtc_state crtcs[MOST_OBJECTS];
+    struct connector_state connectors[MOST_OBJECTS];
+};
+
+/* Return the state of an object, which is created if it is missing. */
+struct plane_state *state_of_plane(struct state *state, const struct seen_plane *plane);
+struct plane_state *state_of_primary(struct state *state, uint32_t crtc_id);
+struct crtc_state *state_of_crtc(struct state *state, uint32_t crtc_id);
+struct connector_state *state_of_connector(struct state *state, uint32_t connector_id);
+
+/* Returns the connector of a CRTC, or 0, and how many it has in `count`. */
+uint32_t state_connector(const struct state *state, uint32_t crtc_id, unsigned *count);
+
+/* Returns the state now, and changes what differs between two states. The connection is held
+ * meanwhile. */
+void state_copy(struct state *state);
+void state_change(const struct state *before, const struct state *after);
+
+/* Notes what the older calls changed: a MODE_SETCRTC or a flip, a MODE_SETPLANE, the framebuffer
+ * that the server reports for a CRTC, and that a framebuffer is removed. */
+void state_crtc_is_set(uint32_t crtc_id, uint32_t connector_id, const struct plane_state *primary,
+                       const struct drm_mode_modeinfo *mode);
+void state_crtc_flips(uint32_t crtc_id, uint32_t fb_id);
+void state_plane_is_set(const struct plane_state *plane);
+void state_crtc_is_seen(uint32_t crtc_id, uint32_t fb_id);
+void state_fb_is_removed(uint32_t fb_id);
+
+#endif
