@@ -75,25 +75,11 @@ def expect_rates(text, pattern):
     expect("rates that are too high", [rate for rate in rates if rate > MOST_RATE], [])
 
 
-# How many steps a compositor of wlroots makes at most before its first frame.
-START_OF_A_COMPOSITOR = 200
-
 # What sway is told: a program shows frames, and after a time it is to end.
 SWAY = f"""\
 xwayland disable
 exec weston-presentation-shm > frames
 exec sleep {SHOWING} && swaymsg exit
-"""
-
-
-# What runs beside weston: a program shows frames, and then weston is to end.
-WESTON = f"""\
-weston --backend=drm-backend.so --use-pixman --drm-device=card0 --seat=seat9 --continue-without-input --socket=shown &
-weston=$!
-while kill -0 $weston && ! [ -S shown ]; do sleep 0.1; done
-WAYLAND_DISPLAY=shown timeout {SHOWING} weston-presentation-shm > frames
-kill $weston
-wait $weston
 """
 
 
@@ -447,13 +433,6 @@ handles 8
         folder = self.folder
         frames(folder, "beside", "woken 0\n")
 
-    def test_modetest_flips_pages(self):
-        folder = self.folder
-        want_program("modetest")
-        with served(folder):
-            text = showing(folder, "modetest", "-M", "zirkoshe", "-s", "7@1:1024x768", "-v")
-        expect_rates(text, r"(?m)^freq: ([\d.]+)Hz$")
-
     def test_vbltest_counts_what_modetest_lights(self):
         folder = self.folder
         want_program("modetest")
@@ -475,48 +454,15 @@ handles 8
                 lighting.communicate("\n", timeout=SECONDS)
         expect_rates(text, r"(?m)^freq: ([\d.]+)Hz$")
 
-    def test_kmscube_shows_frames(self):
-        folder = self.folder
-        want_program("kmscube")
-        with served(folder):
-            text = showing(folder, "kmscube")
-        expect_rates(text, r"\(([\d.]+) fps\)")
-
-    def test_mpv_shows_frames(self):
-        folder = self.folder
-        want_program("mpv")
-        with served(folder):
-            ran = run(
-                "mpv",
-                "--no-config",
-                "--no-audio",
-                "--vo=drm",
-                f"--length={SHOWING}",
-                "av://lavfi:testsrc=size=320x240:rate=30",
-                env=environment(folder),
-            )
-        expect("status", ran.returncode, 0)
-        expect("that it comes to the end", "Exiting... (End of file)" in ran.stdout, True)
-
-    def test_sway_shows_frames(self):
-        folder = self.folder
+    def test_sway_shows_frames_by_a_seatd(self):
+        """Which opens the card and passes it on."""
         for name in ("sway", "swaymsg", "weston-presentation-shm"):
             want_program(name)
-        with compositor(folder) as (own, ran_by):
+        with compositor(self.folder) as (own, ran_by):
             (own / "config").write_text(SWAY, "utf-8")
             ran = ran_by("sway", "-c", own / "config")
         expect("status", ran.returncode, 0)
         expect("that frames are shown", (own / "frames").read_text("utf-8").count("\n") > SHOWING, True)
-
-    def test_cage_shows_frames(self):
-        folder = self.folder
-        for name in ("cage", "Xwayland", "weston-presentation-shm"):
-            want_program(name)
-        with compositor(folder) as (_, ran_by):
-            ran = ran_by("cage", "--", "sh", "-c", f"weston-presentation-shm & sleep {SHOWING}; kill $!")
-            steps = steps_until_now(folder)
-        expect("status", ran.returncode, 0)
-        expect("that frames are shown", steps > 10 * SHOWING + START_OF_A_COMPOSITOR, True)
 
     def test_tinywl_lights_its_outputs(self):
         """The compositor that wlroots' source has, which no package has: it is looked for in PATH."""
@@ -527,21 +473,6 @@ handles 8
             ran = ran_by("tinywl", "-s", "weston-simple-shm & sleep 2; kill $PPID")
         expect("modes that are set", ran.stderr.count("Modesetting with '1920x1080@60000mHz'"), 2)
         expect("what is an error to it", re.findall(r".*\[ERROR\].*", ran.stderr), [])
-
-    def test_weston_shows_frames(self):
-        """On both outputs, which each CRTC drives. On a seat other than seat0 it needs no virtual terminal."""
-        for name in ("weston", "weston-presentation-shm", "umockdev-run"):
-            want_program(name)
-        library()
-        self.folder.chmod(0o700)
-        words = ["--udev", "--seat", "seat9", "--topology", REPOSITORY / "examples/topologies/laptop.topology"]
-        given = {**os.environ, "XDG_RUNTIME_DIR": str(self.folder)}
-        ran = run(REPOSITORY / "tools/with-server", "--libdrm", *words, "sh", "-c", WESTON, env=given, cwd=self.folder)
-        expect("status", ran.returncode, 0)
-        expect(
-            "outputs", re.findall(r"Output '(Virtual-\d)' enabled", ran.stdout + ran.stderr), ["Virtual-8", "Virtual-9"]
-        )
-        expect("that frames are shown", (self.folder / "frames").read_text("utf-8").count("\n") > SHOWING, True)
 
     def test_weston_comes_to_its_session(self):
         """It wants logind or a launcher of its own, and ends where there is neither, before it opens a device."""
