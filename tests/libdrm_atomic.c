@@ -294,7 +294,7 @@ static void show(void)
 static void try_flags(void)
 {
     int fd = open_card(false), other, data;
-    uint32_t fb = make_fb(fd, 64), next = make_fb(fd, 64), mode = mode_blob(fd, 200);
+    uint32_t fb = make_fb(fd, 64), next = make_fb(fd, 64), mode = mode_blob(fd, 500);
     struct drm_mode_atomic empty = {.flags = 0}, reserved = {.reserved = 1};
     struct set flip = {PRIMARY, "FB_ID", next};
     int64_t begun;
@@ -325,7 +325,7 @@ static void try_flags(void)
            told.data == &data);
     begun = now();
     say("blocks", COMMIT(fd, 0, {PRIMARY, "FB_ID", fb}));
-    printf("for a frame: %d\n", now() - begun > 50 * (int64_t)MILLISECOND);
+    printf("for a frame: %d\n", now() - begun > 100 * (int64_t)MILLISECOND);
     say("flips at once", COMMIT(fd, DRM_MODE_ATOMIC_NONBLOCK, {PRIMARY, "FB_ID", next}));
     say("blocks until that is complete", COMMIT(fd, 0, {PRIMARY, "FB_ID", fb}));
     say("darkens with an event", COMMIT(fd, MODESET | EVENT, {CRTC, "ACTIVE", 0}));
