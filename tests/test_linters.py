@@ -25,6 +25,8 @@ PYTHON = CLIENTS / "python"
 TESTS = REPOSITORY / "tests"
 # what is no module, and so isn't found by its name
 COMMANDS = ("drm-client", "drm-audit")
+# likewise, seen from the tests
+TOOLS = ("all", "../bench/instructions")
 
 
 # Python
@@ -116,13 +118,13 @@ class LintersTests(FolderCase):
     """Runs the usual linters of each language over the clients and the tests, with the configuration that is beside them."""
 
     def test_tests_are_as_black_formats_them(self):
-        expect_clean(self.folder, "black", "--check", "--quiet", ".", "all", cwd=TESTS)
+        expect_clean(self.folder, "black", "--config", "pyproject.toml", "--check", "--quiet", ".", *TOOLS, cwd=TESTS)
 
     def test_imports_of_the_tests_are_as_isort_sorts_them(self):
-        expect_clean(self.folder, "isort", "--check-only", "--quiet", ".", "all", cwd=TESTS)
+        expect_clean(self.folder, "isort", "--settings-path", ".", "--check-only", "--quiet", ".", *TOOLS, cwd=TESTS)
 
     def test_tests_are_clean_by_flake8(self):
-        expect_clean(self.folder, "flake8", ".", "all", cwd=TESTS)
+        expect_clean(self.folder, "flake8", ".", *TOOLS, cwd=TESTS)
 
     def test_types_of_what_tests_share_are_clean_by_a_strict_mypy(self):
         expect_clean(self.folder, "mypy", "--cache-dir", self.folder / "cache", "support.py", cwd=TESTS)
@@ -159,7 +161,8 @@ class LintersTests(FolderCase):
 
     def test_rust_is_as_rustfmt_formats_it(self):
         want_program("rustfmt")
-        sources = [*(CLIENTS / "rust/src").glob("*.rs"), *(REPOSITORY / "tests").glob("*.rs")]
+        folders = (CLIENTS / "rust/src", REPOSITORY / "tests", REPOSITORY / "bench")
+        sources = [source for folder in folders for source in folder.glob("*.rs")]
         expect_end(run("rustfmt", "--edition", "2021", "--check", *sources), 0, "", "")
 
     def test_rust_is_clean_by_clippy(self):
@@ -167,8 +170,10 @@ class LintersTests(FolderCase):
         if shutil.which("cargo") is None or run("cargo", "clippy", "--version").returncode != 0:
             raise Skipped("there is no cargo clippy")
         crate = shutil.copytree(CLIENTS / "rust", folder / "crate")
-        (crate / "tests").mkdir()
-        shutil.copy(REPOSITORY / "tests/fixture.rs", crate / "tests")
+        for file in ("tests/fixture.rs", "bench/plain.rs"):
+            (crate / file).parent.mkdir()
+            shutil.copy(REPOSITORY / file, crate / file)
+        (crate / "bench").rename(crate / "examples")
         environment = {**os.environ, "CARGO_NET_OFFLINE": "true", "CARGO_TARGET_DIR": str(folder / "target")}
         ran = run("cargo", "clippy", "--quiet", "--all-targets", "--", "-D", "warnings", cwd=crate, env=environment)
         expect_end(ran, 0, "", "")
