@@ -218,6 +218,14 @@ def is_stopped(process):
     return set(states) == {"T"}
 
 
+def has_ended(process):
+    """Whether a process has ended, if nothing has waited for it either: then it has no command line."""
+    try:
+        return pathlib.Path(f"/proc/{process}/cmdline").read_bytes() == b""
+    except OSError:
+        return True
+
+
 def waits_for_an_answer(process):
     """Whether a process sleeps in poll, by the name of the kernel's function or, where that isn't told, by its state."""
     place = pathlib.Path(f"/proc/{process}/wchan").read_text()
@@ -335,6 +343,20 @@ class LibdrmTests(FolderCase):
             ran = run(REPOSITORY / "tools/with-server", "--libdrm", "--udev", *words, env=given)
             expect(f"status of {words}", ran.returncode, status)
         expect("files", [path.name for path in self.folder.iterdir()], ["encoders"])
+
+    def test_command_under_umockdev_that_does_not_end_is_killed(self):
+        want_program("umockdev-run")
+        library()
+        asked = "trap '' TERM; echo $$; while :; do sleep 1; done"
+        with subprocess.Popen(
+            [REPOSITORY / "tools/with-server", "--libdrm", "--udev", "sh", "-c", asked],
+            stdout=subprocess.PIPE,
+            text=True,
+        ) as started, ended_in_time(started):
+            asking = int(started.stdout.readline())
+            started.terminate()
+            expect("status", started.wait(SECONDS), 128 + signal.SIGKILL)
+        wait_until(lambda: has_ended(asking))
 
     def test_drmdevice_finds_both_nodes(self):
         folder = self.folder
