@@ -20,11 +20,11 @@ PROGRAM = "tests/libdrm_atomic.c"
 AUDITED = (6, 8, 9)
 
 
-def commits(folder, *words, text):
+def commits(folder, *words, text, topology=("--topology", TOPOLOGY)):
     """What the program of commits finds, and the lines of its journal."""
     library()
     journal = folder / "journal"
-    options = ["--libdrm", "--topology", TOPOLOGY, "--journal", journal]
+    options = ["--libdrm", *topology, "--journal", journal]
     ran = run(REPOSITORY / "tools/with-server", *options, compiled(PROGRAM), *words)
     expect("error output and status", (ran.stderr, ran.returncode), ("", 0))
     expect("what it finds", ran.stdout.splitlines(), text.splitlines())
@@ -180,6 +180,23 @@ MODE_ID: done
 """,
         )
 
+    def test_routes_that_are_refused(self):
+        """The server gets no call that it would deny."""
+        journal = commits(
+            self.folder,
+            "routes",
+            topology=(),
+            text="""\
+a connector of another CRTC: EINVAL
+a plane of another CRTC: EINVAL
+its own: done
+the second one's: done
+both connectors to the second: EINVAL
+""",
+        )
+        shown = [line[1:] for line in journal if line[1] == "setcrtc"]
+        expect("calls that show something", shown, ["setcrtc 1 9 7 -> done".split(), "setcrtc 2 9 8 -> done".split()])
+
     def test_lessee_commits_what_it_has(self):
         """An object outside the lease does not exist, and a CRTC outside cannot be a value. Nothing of such a commit is carried out."""
         commits(
@@ -242,6 +259,13 @@ CRTCs show 0 0, overlay shows 0
         more = {call: many[call] - few.get(call, 0) for call in many}
         expect("steps of 20 commits", {call: count for call, count in more.items() if count}, {"setcrtc": 40})
         expect("calls for the overlay plane", few["setplane"], 1)
+
+    def test_random_commits_are_whole_or_nothing(self):
+        """The library finds all that is wrong before the first call: the server denies none."""
+        text = "done 1, refused 1, changed by a refusal 0, other than the server shows 0\n"
+        journal = commits(self.folder, "random", 300, text=text)
+        shown = {(line[1], line[-1]) for line in journal if line[1] in ("setcrtc", "setplane")}
+        expect("calls that show something, and answers", shown, {("setcrtc", "done"), ("setplane", "done")})
 
     def test_blobs_are_kept_and_destroyed(self):
         commits(
