@@ -20,12 +20,12 @@ PROGRAM = "tests/libdrm_atomic.c"
 AUDITED = (6, 8, 9)
 
 
-def commits(folder, *words, text, topology=("--topology", TOPOLOGY)):
-    """What the program of commits finds, and the lines of its journal."""
+def commits(folder, *words, text, topology=("--topology", TOPOLOGY), program=PROGRAM):
+    """What a program of commits finds, and the lines of its journal."""
     library()
     journal = folder / "journal"
     options = ["--libdrm", *topology, "--journal", journal]
-    ran = run(REPOSITORY / "tools/with-server", *options, compiled(PROGRAM), *words)
+    ran = run(REPOSITORY / "tools/with-server", *options, compiled(program), *words)
     expect("error output and status", (ran.stderr, ran.returncode), ("", 0))
     expect("what it finds", ran.stdout.splitlines(), text.splitlines())
     return [line.split() for line in journal.read_text().splitlines() if not line.startswith(("limits", "#"))]
@@ -263,7 +263,7 @@ CRTCs show 0 0, overlay shows 0
     def test_random_commits_are_whole_or_nothing(self):
         """The library finds all that is wrong before the first call: the server denies none."""
         text = "done 1, refused 1, changed by a refusal 0, other than the server shows 0\n"
-        journal = commits(self.folder, "random", 300, text=text)
+        journal = commits(self.folder, 300, text=text, program="tests/libdrm_random.c")
         shown = {(line[1], line[-1]) for line in journal if line[1] in ("setcrtc", "setplane")}
         expect("calls that show something, and answers", shown, {("setcrtc", "done"), ("setplane", "done")})
 
