@@ -234,7 +234,7 @@ static void getplane(int fd, const uint64_t *words)
 
 static void setplane(int fd, const uint64_t *words)
 {
-    const uint32_t side = 64;
+    const uint32_t side = 1;
 
     done(drmModeSetPlane(fd, (uint32_t)words[0], (uint32_t)words[1], (uint32_t)words[2], 0, 0, 0,
                          side, side, 0, 0, side << 16, side << 16));

@@ -218,6 +218,7 @@ static void set_outside(void)
     uint32_t fb = make_fb(fd), wide = make_fb_of(fd, 128, 64, 24), none = 999;
     drmModeCrtc *found;
     drmModeModeInfo mode = mode_of(10);
+    uint32_t at;
 
     set_at("the whole of it", fd, CRTC, fb, 0, 0);
     set_at("a column outside", fd, CRTC, fb, 1, 0);
@@ -236,6 +237,18 @@ static void set_outside(void)
     set_at("who isn't master", other, CRTC, fb, 1, 0);
     set_at("who isn't master, and too far", other, CRTC, fb, 65536, 0);
     say("no connector", drmModeSetCrtc(fd, CRTC, fb, 1, 0, &none, 1, &mode));
+    for (at = 0; at < 2; at++)
+        say(at == 0 ? "a plane's source" : "outside",
+            drmModeSetPlane(fd, OTHER_PLANE, OTHER_CRTC, fb, 0, 0, 0, 64, 64, at, 0, 64 << 16,
+                            64 << 16));
+    say("outside, and no CRTC",
+        drmModeSetPlane(fd, OTHER_PLANE, CONNECTOR, fb, 0, 0, 0, 64, 64, 1, 0, 64 << 16, 64 << 16));
+    say("outside, on another CRTC",
+        drmModeSetPlane(fd, OTHER_PLANE, CRTC, fb, 0, 0, 0, 64, 64, 1, 0, 64 << 16, 64 << 16));
+    say("outside, and no plane",
+        drmModeSetPlane(fd, CONNECTOR, CRTC, fb, 0, 0, 0, 64, 64, 1, 0, 64 << 16, 64 << 16));
+    say("outside, by who isn't master", drmModeSetPlane(other, OTHER_PLANE, OTHER_CRTC, fb, 0, 0, 0,
+                                                        64, 64, 1, 0, 64 << 16, 64 << 16));
     say("the framebuffer that it shows, outside",
         drmModeSetCrtc(fd, CRTC, (uint32_t)-1, 65, 0, &none, 1, &mode));
 }

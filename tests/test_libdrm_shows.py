@@ -394,6 +394,12 @@ no framebuffer: ENOENT
 who isn't master: EACCES
 who isn't master, and too far: EACCES
 no connector: ENOSPC
+a plane's source: done
+outside: ENOSPC
+outside, and no CRTC: ENOENT
+outside, on another CRTC: EINVAL
+outside, and no plane: ENOENT
+outside, by who isn't master: EACCES
 the framebuffer that it shows, outside: ENOSPC
 """,
         )

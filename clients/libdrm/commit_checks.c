@@ -11,16 +11,6 @@ static bool overflows(int32_t position, uint32_t length)
     return length > INT32_MAX || (int64_t)position + (int64_t)length > INT32_MAX;
 }
 
-/* Sources are in 16.16 fixed point. */
-static bool is_inside(const struct plane_state *plane, const struct framebuffer *framebuffer)
-{
-    uint64_t width = (uint64_t)framebuffer->width << 16;
-    uint64_t height = (uint64_t)framebuffer->height << 16;
-
-    return plane->src_w <= width && plane->src_x <= width - plane->src_w && plane->src_h <= height
-           && plane->src_y <= height - plane->src_h;
-}
-
 /* drm_atomic_plane_check. A primary plane is shown on its own CRTC. */
 static int check_plane(const struct commit *commit, const struct seen_plane *seen,
                        const struct plane_state *before, const struct plane_state *after)
@@ -40,7 +30,8 @@ static int check_plane(const struct commit *commit, const struct seen_plane *see
     failed = framebuffer_find(commit->connection, after->fb_id, &framebuffer);
     if (failed)
         return failed == -ENOENT ? -EINVAL : failed;
-    if (!is_inside(after, &framebuffer))
+    if (!framebuffer_contains_source(&framebuffer, after->src_x, after->src_y, after->src_w,
+                                     after->src_h))
         return -ENOSPC;
     return before->crtc_id != 0 && before->crtc_id != after->crtc_id ? -EINVAL : 0;
 }

@@ -100,9 +100,22 @@ int framebuffer_find(struct connection *connection, uint32_t fb_id, struct frame
     return failed;
 }
 
+/* Whether a part of a side, from a position on, is inside it. */
+static bool is_inside(uint64_t position, uint64_t part, uint64_t side)
+{
+    return part <= side && position <= side - part;
+}
+
+bool framebuffer_contains_source(const struct framebuffer *framebuffer, uint64_t x, uint64_t y,
+                                 uint64_t width, uint64_t height)
+{
+    return is_inside(x, width, (uint64_t)framebuffer->width << 16)
+           && is_inside(y, height, (uint64_t)framebuffer->height << 16);
+}
+
 bool framebuffer_contains(const struct framebuffer *framebuffer, uint32_t x, uint32_t y,
                           uint32_t width, uint32_t height)
 {
-    return width <= framebuffer->width && x <= framebuffer->width - width
-           && height <= framebuffer->height && y <= framebuffer->height - height;
+    return framebuffer_contains_source(framebuffer, (uint64_t)x << 16, (uint64_t)y << 16,
+                                       (uint64_t)width << 16, (uint64_t)height << 16);
 }

@@ -27,7 +27,10 @@ bool framebuffer_is_known(uint32_t fb_id, struct framebuffer *framebuffer);
 int framebuffer_find(struct connection *connection, uint32_t fb_id,
                      struct framebuffer *framebuffer);
 
-/* Returns whether it contains a rectangle, as drm_framebuffer_check_src_coords does. */
+/* Returns whether it contains a rectangle in 16.16 fixed point, as drm_framebuffer_check_src_coords
+ * does, or one in pixels. */
+bool framebuffer_contains_source(const struct framebuffer *framebuffer, uint64_t x, uint64_t y,
+                                 uint64_t width, uint64_t height);
 bool framebuffer_contains(const struct framebuffer *framebuffer, uint32_t x, uint32_t y,
                           uint32_t width, uint32_t height);
 

@@ -269,7 +269,36 @@ int answer_get_plane(struct connection *connection, void *argument)
                 sizeof *formats);
 }
 
-/* Where on the CRTC, and what of the framebuffer, the server doesn't ask. */
+/* What a source outside its framebuffer is refused by: that is the last thing that the core checks.
+ */
+static int refuse_source(struct connection *connection, const struct drm_mode_set_plane *plane)
+{
+    const struct topology *topology;
+    const struct seen_plane *seen;
+    int failed = refuse_first(&connection->client, 0);
+
+    if (!failed)
+        failed = topology_find(connection, &topology);
+    if (failed)
+        return failed;
+    seen = topology_plane(topology, plane->plane_id);
+    if (seen == NULL || !topology_has_crtc(topology, plane->crtc_id))
+        return -ENOENT;
+    return topology_may_drive(topology, seen->possible_crtcs, plane->crtc_id) ? -ENOSPC : -EINVAL;
+}
+
+/* Whether the source is outside the framebuffer. If there is none, the server says so. */
+static bool has_source_outside(struct connection *connection,
+                               const struct drm_mode_set_plane *plane)
+{
+    struct framebuffer framebuffer;
+
+    return plane->fb_id != 0 && framebuffer_find(connection, plane->fb_id, &framebuffer) == 0
+           && !framebuffer_contains_source(&framebuffer, plane->src_x, plane->src_y, plane->src_w,
+                                           plane->src_h);
+}
+
+/* Where on the CRTC the framebuffer is shown, the server doesn't ask. */
 int answer_set_plane(struct connection *connection, void *argument)
 {
     const struct drm_mode_set_plane *plane = argument;
@@ -286,9 +315,12 @@ int answer_set_plane(struct connection *connection, void *argument)
         .src_w = plane->src_w,
         .src_h = plane->src_h,
     };
-    int failed = zirkoshe_drmModeSetPlane(&connection->client, plane->plane_id, plane->crtc_id,
-                                          plane->fb_id);
+    int failed;
 
+    if (has_source_outside(connection, plane))
+        return refuse_source(connection, plane);
+    failed = zirkoshe_drmModeSetPlane(&connection->client, plane->plane_id, plane->crtc_id,
+                                      plane->fb_id);
     if (!failed)
         state_plane_is_set(&state);
     return failed;
