@@ -5,6 +5,7 @@ ghost use Rattle.drm_files.specs.Files.{is_open_client};
 ghost use Rattle.drm_table.specs.declared.calls.Call.TheVariants.{GemClose, BufCreate, CreateDumb, DestroyDumb};
 ghost use Rattle.drm_model.specs.Buffers as model;
 ghost use Rattle.drm_state.specs.Invariants.{MeetsInvariants, StepPrecondition};
+ghost use Rattle.drm_state.specs.Places.{outcome};
 ghost use Rattle.drm_state.specs.Refinement.{RefinesCall, RefinesReply, MakesBuffer};
 
 use drm_gem::CreateFault;
@@ -29,25 +30,29 @@ pub fn create_dumb(
     step_number: u32,
     client: u32,
     pixels: Pixels,
-) -> Result<Answer, AllocError>
+    answer: &mut Answer,
+) -> Result<(), AllocError>
     requires precondition { StepPrecondition state.old step_number }
     requires open_client { is_open_client state.old.files client ≡ true }
-    ensures refines { RefinesCall state.old step_number client (CreateDumb pixels.width pixels.height pixels.bpp) result state.new }
+    ensures refines { RefinesCall state.old step_number client (CreateDumb pixels.width pixels.height pixels.bpp) (outcome result answer.new) state.new }
     ensures invariants { MeetsInvariants state.new }
 {
     if !is_dumb_shape(pixels.width, pixels.height, pixels.bpp) {
-        return Ok(Answer::Denied(Rule::BadSize));
+        *answer = Answer::Denied(Rule::BadSize);
+        return Ok(());
     }
     let pitch = dumb_pitch(pixels.width, pixels.bpp);
     let size = dumb_size(pitch, pixels.height);
     let Some(handle) = new_buffer(state, step_number, client, size)? else {
-        return Ok(Answer::Denied(Rule::Full));
+        *answer = Answer::Denied(Rule::Full);
+        return Ok(());
     };
-    Ok(Answer::Dumb {
+    *answer = Answer::Dumb {
         handle,
         pitch,
         size,
-    })
+    };
+    Ok(())
 }
 
 /// BUF_CREATE: a new object of so many bytes, rounded up to whole pages, and a handle of it. Where memory is refused
@@ -57,20 +62,24 @@ pub fn buf_create(
     step_number: u32,
     client: u32,
     size: u64,
-) -> Result<Answer, AllocError>
+    answer: &mut Answer,
+) -> Result<(), AllocError>
     requires precondition { StepPrecondition state.old step_number }
     requires open_client { is_open_client state.old.files client ≡ true }
-    ensures refines { RefinesCall state.old step_number client (BufCreate size) result state.new }
+    ensures refines { RefinesCall state.old step_number client (BufCreate size) (outcome result answer.new) state.new }
     ensures invariants { MeetsInvariants state.new }
 {
     if !is_buffer_size(size) {
-        return Ok(Answer::Denied(Rule::BadSize));
+        *answer = Answer::Denied(Rule::BadSize);
+        return Ok(());
     }
     let size = buffer_size(size);
     let Some(handle) = new_buffer(state, step_number, client, size)? else {
-        return Ok(Answer::Denied(Rule::Full));
+        *answer = Answer::Denied(Rule::Full);
+        return Ok(());
     };
-    Ok(Answer::Buffer { handle, size })
+    *answer = Answer::Buffer { handle, size };
+    Ok(())
 }
 
 /// Makes an object of so many bytes and a handle of it, and answers the handle; none where the client has every handle or

@@ -1,4 +1,3 @@
 pub mod Audits
 pub mod Device
-pub mod Places
 pub mod Replay

@@ -8,7 +8,7 @@ ghost use Rattle.drm_table.specs.Permit.{has_flag, render_allow};
 ghost use Rattle.drm_table.specs.Table.{flags_of};
 ghost use Rattle.drm_model.specs.Verdict as model;
 ghost use Rattle.drm_state.specs.Refinement.{Refines, RefinesCall, IsAdmission};
-ghost use Rattle.drm_device.specs.Places.{outcome};
+ghost use Rattle.drm_state.specs.Places.{outcome};
 
 use crate::families::{
     buffer_call, device_call, framebuffer_call, lease_call, master_call, mode_call, share_call,

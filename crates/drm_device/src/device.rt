@@ -156,7 +156,6 @@ impl Device {
             return;
         }
         let step_number = self.journal.len() as u32 + 1;
-        *outcome = Ok(Answer::Done);
         let Ok(()) = advance_at(&mut self.state, step_number, &event, outcome) else {
             *outcome = Err(Apart::NoMemory);
             return;

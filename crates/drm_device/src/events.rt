@@ -2,14 +2,30 @@
 
 ghost use Rattle.drm_state.specs.Invariants.{MeetsInvariants, StepPrecondition};
 ghost use Rattle.std.specs.Prelude.{Ok, Err, OnOk, IfOk, IfErr, IsOk};
-ghost use Rattle.drm_device.specs.Places.{outcome};
+ghost use Rattle.drm_state.specs.Places.{outcome};
 ghost use Rattle.drm_state.specs.Refinement.{Refines};
+ghost use Rattle.drm_table.specs.declared.events.Event.TheVariants.{Open};
 
 use crate::calls::ask;
 use drm_client_calls::{close, open};
 use drm_state::State;
-use drm_table::{Answer, Apart, Event};
+use drm_table::{Answer, Apart, Event, Opening};
 use std::alloc::AllocError;
+
+/// Answers an opening. Where memory is refused nothing changes. It is a function of its own, so that calls need not clear its place.
+fn opened(
+    state: &mut State,
+    step_number: u32,
+    opening: Opening,
+    answer: &mut Answer,
+) -> Result<(), AllocError>
+    requires { StepPrecondition state.old step_number }
+    ensures invariants { MeetsInvariants state.new }
+    ensures refines { Refines state.old step_number (Open opening) (outcome result answer.new) state.new }
+{
+    *answer = open(state, step_number, opening)?;
+    Ok(())
+}
 
 /// Answers an event for which the journal has room. Where memory is refused nothing changes.
 #[tactic(auto, using(drm_state::proofs::Refinements::is_done))]
@@ -24,10 +40,7 @@ pub fn advance(
     ensures refines { Refines state.old step_number event.now (outcome result answer.new) state.new }
 {
     match event {
-        Event::Open(opening) => {
-            *answer = open(state, step_number, *opening)?;
-            Ok(())
-        }
+        Event::Open(opening) => opened(state, step_number, *opening, answer),
         Event::Ask(client, call) => ask(state, step_number, *client, call, answer),
         Event::Close(client) => {
             *answer = close(state, *client);
@@ -44,13 +57,15 @@ pub fn advance_at(
     event: &Event,
     outcome: &mut Result<Answer, Apart>,
 ) -> Result<(), AllocError>
-    requires precondition { StepPrecondition state.old step_number }
-    requires place { IsOk outcome.old }
+    requires { StepPrecondition state.old step_number }
     ensures invariants { MeetsInvariants state.new }
     ensures ok { OnOk result (IfOk outcome.new (λ answer. Refines state.old step_number event.now (Ok answer) state.new)) }
     ensures answered { OnOk result (IsOk outcome.new) }
     ensures err { IfErr result (λ fault. Refines state.old step_number event.now (Err fault) state.new) }
 {
+    if outcome.is_err() {
+        *outcome = Ok(Answer::Done);
+    }
     match outcome {
         Ok(answer) => advance(state, step_number, event, answer),
         Err(_) => unreachable!(),

@@ -5,7 +5,7 @@ ghost use Rattle.drm_files.specs.Files.{is_open_client};
 ghost use Rattle.drm_state.specs.Callers.{IsPrimaryCaller};
 ghost use Rattle.drm_state.specs.Invariants.{MeetsInvariants, StepPrecondition};
 ghost use Rattle.drm_state.specs.Refinement.{RefinesCall};
-ghost use Rattle.drm_device.specs.Places.{outcome};
+ghost use Rattle.drm_state.specs.Places.{outcome};
 ghost use Rattle.drm_table.specs.Table.{family_of};
 ghost use Rattle.drm_table.specs.declared.rows.Family.TheVariants.{Device, Masters, Buffers, Sharing, Modes, Framebuffers, Leases};
 
@@ -87,10 +87,7 @@ pub fn master_call(
             *answer = auth_magic(state, caller, *magic);
             Ok(())
         }
-        Call::SetMaster => {
-            *answer = set_master(state, step_number, caller)?;
-            Ok(())
-        }
+        Call::SetMaster => { set_master(state, step_number, caller, answer) }
         Call::DropMaster => {
             *answer = drop_master(state, caller);
             Ok(())
@@ -123,18 +120,14 @@ pub fn buffer_call(
             *answer = gem_close(state, client, *handle);
             Ok(())
         }
-        Call::BufCreate { size } => {
-            *answer = buf_create(state, step_number, client, *size)?;
-            Ok(())
-        }
+        Call::BufCreate { size } => { buf_create(state, step_number, client, *size, answer) }
         Call::CreateDumb { width, height, bpp } => {
             let pixels = Pixels {
                 width: *width,
                 height: *height,
                 bpp: *bpp,
             };
-            *answer = create_dumb(state, step_number, client, pixels)?;
-            Ok(())
+            create_dumb(state, step_number, client, pixels, answer)
         }
         Call::StampWrite { handle, stamp } => {
             *answer = stamp_write(state, client, *handle, *stamp);
@@ -168,21 +161,13 @@ pub fn share_call(
     ensures invariants { MeetsInvariants state.new }
 {
     match call {
-        Call::GemFlink { handle } => {
-            *answer = gem_flink(state, step_number, client, *handle)?;
-            Ok(())
-        }
-        Call::GemOpen { name } => {
-            *answer = gem_open(state, step_number, client, *name)?;
-            Ok(())
-        }
+        Call::GemFlink { handle } => { gem_flink(state, step_number, client, *handle, answer) }
+        Call::GemOpen { name } => { gem_open(state, step_number, client, *name, answer) }
         Call::PrimeHandleToFd { handle } => {
-            *answer = prime_export(state, step_number, client, *handle)?;
-            Ok(())
+            prime_export(state, step_number, client, *handle, answer)
         }
         Call::PrimeFdToHandle { token } => {
-            *answer = prime_import(state, step_number, client, *token)?;
-            Ok(())
+            prime_import(state, step_number, client, *token, answer)
         }
         Call::TokenClose { token } => {
             *answer = token_close(state, client, *token);
@@ -268,10 +253,7 @@ pub fn framebuffer_call(
     ensures invariants { MeetsInvariants state.new }
 {
     match *call {
-        Call::GetFb { framebuffer } => {
-            *answer = get_fb(state, step_number, caller, framebuffer)?;
-            Ok(())
-        }
+        Call::GetFb { framebuffer } => { get_fb(state, step_number, caller, framebuffer, answer) }
         Call::AddFb {
             width,
             height,
@@ -285,8 +267,7 @@ pub fn framebuffer_call(
                 pitch,
                 bpp,
             };
-            *answer = add_fb(state, step_number, caller.client, shape, handle)?;
-            Ok(())
+            add_fb(state, step_number, caller.client, shape, handle, answer)
         }
         Call::RmFb { framebuffer } => {
             *answer = rm_fb(state, caller.client, framebuffer);
@@ -312,10 +293,7 @@ pub fn lease_call(
     ensures invariants { MeetsInvariants state.new }
 {
     match call {
-        Call::CreateLease { ids } => {
-            *answer = create_lease(state, step_number, caller, ids)?;
-            Ok(())
-        }
+        Call::CreateLease { ids } => { create_lease(state, step_number, caller, ids, answer) }
         Call::ListLessees => {
             *answer = list_lessees(state, caller);
             Ok(())

@@ -5,6 +5,7 @@ ghost use Rattle.drm_masters.specs.Masters.{is_option};
 ghost use Rattle.drm_table.specs.declared.calls.Call.TheVariants.{CreateLease, RevokeLease};
 ghost use Rattle.drm_state.specs.Callers.{IsPrimaryCaller};
 ghost use Rattle.drm_state.specs.Invariants.{MeetsInvariants, StepPrecondition};
+ghost use Rattle.drm_state.specs.Places.{outcome};
 ghost use Rattle.drm_state.specs.Refinement.{RefinesCall, RefinesReply};
 
 use drm_leases::LeaseFault;
@@ -21,10 +22,11 @@ pub fn create_lease(
     step_number: u32,
     caller: PrimaryCaller,
     ids: &IdList,
-) -> Result<Answer, AllocError>
+    answer: &mut Answer,
+) -> Result<(), AllocError>
     requires precondition { StepPrecondition state.old step_number }
     requires caller { IsPrimaryCaller state.old caller }
-    ensures refines { RefinesCall state.old step_number caller.client (CreateLease ids.now) result state.new }
+    ensures refines { RefinesCall state.old step_number caller.client (CreateLease ids.now) (outcome result answer.new) state.new }
     ensures invariants { MeetsInvariants state.new }
 {
     match state.leases.create(
@@ -38,12 +40,16 @@ pub fn create_lease(
         Ok(made) => {
             state.masters.laws();
             state.leases.laws();
-            Ok(Answer::Lease {
+            *answer = Answer::Lease {
                 id: made.id,
                 token: made.token,
-            })
+            };
+            Ok(())
         }
-        Err(LeaseFault::Denied(rule)) => Ok(Answer::Denied(rule)),
+        Err(LeaseFault::Denied(rule)) => {
+            *answer = Answer::Denied(rule);
+            Ok(())
+        }
         Err(LeaseFault::NoMemory) => Err(AllocError),
     }
 }

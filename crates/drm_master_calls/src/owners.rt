@@ -4,6 +4,7 @@ ghost use Rattle.std.specs.Prelude.{◌≡◌, true};
 ghost use Rattle.drm_table.specs.declared.calls.Call.TheVariants.{DropMaster, SetMaster};
 ghost use Rattle.drm_state.specs.Callers.{IsPrimaryCaller};
 ghost use Rattle.drm_state.specs.Invariants.{MeetsInvariants, StepPrecondition};
+ghost use Rattle.drm_state.specs.Places.{outcome};
 ghost use Rattle.drm_state.specs.Refinement.{RefinesCall, RefinesReply};
 
 use drm_masters::{SetDone, SetFault};
@@ -17,10 +18,11 @@ pub fn set_master(
     state: &mut State,
     step_number: u32,
     caller: PrimaryCaller,
-) -> Result<Answer, AllocError>
+    answer: &mut Answer,
+) -> Result<(), AllocError>
     requires precondition { StepPrecondition state.old step_number }
     requires caller { IsPrimaryCaller state.old caller }
-    ensures refines { RefinesCall state.old step_number caller.client SetMaster result state.new }
+    ensures refines { RefinesCall state.old step_number caller.client SetMaster (outcome result answer.new) state.new }
     ensures invariants { MeetsInvariants state.new }
 {
     match state
@@ -30,14 +32,22 @@ pub fn set_master(
         Ok(SetDone::Made) => {
             state.files.set_authenticated(caller.client);
             state.masters.laws();
-            Ok(Answer::Done)
+            *answer = Answer::Done;
+            Ok(())
         }
-        Ok(SetDone::Already) => Ok(Answer::Done),
+        Ok(SetDone::Already) => {
+            *answer = Answer::Done;
+            Ok(())
+        }
         Ok(SetDone::Again) => {
             state.masters.laws();
-            Ok(Answer::Done)
+            *answer = Answer::Done;
+            Ok(())
         }
-        Err(SetFault::Denied(rule)) => Ok(Answer::Denied(rule)),
+        Err(SetFault::Denied(rule)) => {
+            *answer = Answer::Denied(rule);
+            Ok(())
+        }
         Err(SetFault::NoMemory) => Err(AllocError),
     }
 }

@@ -8,6 +8,7 @@ ghost use Rattle.drm_model.specs.Buffers as buffers;
 ghost use Rattle.drm_model.specs.Modes as model;
 ghost use Rattle.drm_state.specs.Callers.{IsPrimaryCaller};
 ghost use Rattle.drm_state.specs.Invariants.{MeetsInvariants, StepPrecondition};
+ghost use Rattle.drm_state.specs.Places.{outcome};
 ghost use Rattle.drm_state.specs.Refinement.{RefinesCall, RefinesReply};
 
 use drm_modes::{AddFbFault, Shape};
@@ -23,22 +24,27 @@ pub fn get_fb(
     step_number: u32,
     caller: PrimaryCaller,
     framebuffer: u32,
-) -> Result<Answer, AllocError>
+    answer: &mut Answer,
+) -> Result<(), AllocError>
     requires precondition { StepPrecondition state.old step_number }
     requires caller { IsPrimaryCaller state.old caller }
-    ensures refines { RefinesCall state.old step_number caller.client (GetFb framebuffer) result state.new }
+    ensures refines { RefinesCall state.old step_number caller.client (GetFb framebuffer) (outcome result answer.new) state.new }
     ensures invariants { MeetsInvariants state.new }
 {
     let Some(row) = state.modes.fb(framebuffer) else {
-        return Ok(Answer::Denied(Rule::NoFb));
+        *answer = Answer::Denied(Rule::NoFb);
+        return Ok(());
     };
     if !gives_handle(caller) {
-        return Ok(framebuffer_answer(row.shape, 0));
+        *answer = framebuffer_answer(row.shape, 0);
+        return Ok(());
     }
     let Some(handle) = new_handle(state, step_number, caller.client, row.object, None)? else {
-        return Ok(Answer::Denied(Rule::Full));
+        *answer = Answer::Denied(Rule::Full);
+        return Ok(());
     };
-    Ok(framebuffer_answer(row.shape, handle))
+    *answer = framebuffer_answer(row.shape, handle);
+    Ok(())
 }
 
 /// MODE_ADDFB: makes a framebuffer of the caller over the object of its handle, and answers its id, the lowest that is free
@@ -50,28 +56,35 @@ pub fn add_fb(
     client: u32,
     shape: Shape,
     handle: u32,
-) -> Result<Answer, AllocError>
+    answer: &mut Answer,
+) -> Result<(), AllocError>
     requires precondition { StepPrecondition state.old step_number }
     requires open_client { is_open_client state.old.files client ≡ true }
-    ensures refines { RefinesCall state.old step_number client (AddFb shape.width shape.height shape.pitch shape.bpp handle) result state.new }
+    ensures refines { RefinesCall state.old step_number client (AddFb shape.width shape.height shape.pitch shape.bpp handle) (outcome result answer.new) state.new }
     ensures invariants { MeetsInvariants state.new }
 {
     let Some(object) = state.files.object_of(client, handle) else {
-        return Ok(Answer::Denied(Rule::NoHandle));
+        *answer = Answer::Denied(Rule::NoHandle);
+        return Ok(());
     };
     if !is_shape_over(shape, state.objects.size(object)) {
-        return Ok(Answer::Denied(Rule::BadSize));
+        *answer = Answer::Denied(Rule::BadSize);
+        return Ok(());
     }
     let framebuffer = match state.modes.addfb(client, shape, object) {
         Ok(framebuffer) => framebuffer,
-        Err(AddFbFault::Full) => return Ok(Answer::Denied(Rule::Full)),
+        Err(AddFbFault::Full) => {
+            *answer = Answer::Denied(Rule::Full);
+            return Ok(());
+        }
         Err(AddFbFault::NoMemory) => return Err(AllocError),
     };
     state.modes.laws();
     state.objects.refer(object);
-    Ok(Answer::Number {
+    *answer = Answer::Number {
         value: framebuffer as u64,
-    })
+    };
+    Ok(())
 }
 
 /// MODE_RMFB: the caller's framebuffer goes, what shows it goes dark, and its object goes with the last that refers to it

@@ -4,6 +4,7 @@ ghost use Rattle.std.specs.Prelude.{◌≡◌, true};
 ghost use Rattle.drm_files.specs.Files.{is_open_client};
 ghost use Rattle.drm_table.specs.declared.calls.Call.TheVariants.{GemFlink, GemOpen};
 ghost use Rattle.drm_state.specs.Invariants.{MeetsInvariants, StepPrecondition};
+ghost use Rattle.drm_state.specs.Places.{outcome};
 ghost use Rattle.drm_state.specs.Refinement.{RefinesCall};
 
 use drm_share::ShareFault;
@@ -18,26 +19,33 @@ pub fn gem_flink(
     step_number: u32,
     client: u32,
     handle: u32,
-) -> Result<Answer, AllocError>
+    answer: &mut Answer,
+) -> Result<(), AllocError>
     requires precondition { StepPrecondition state.old step_number }
     requires open_client { is_open_client state.old.files client ≡ true }
-    ensures refines { RefinesCall state.old step_number client (GemFlink handle) result state.new }
+    ensures refines { RefinesCall state.old step_number client (GemFlink handle) (outcome result answer.new) state.new }
     ensures invariants { MeetsInvariants state.new }
 {
     let Some(object) = state.files.object_of(client, handle) else {
-        return Ok(Answer::Denied(Rule::NoHandle));
+        *answer = Answer::Denied(Rule::NoHandle);
+        return Ok(());
     };
     if let Some(name) = state.names.name_of(object) {
-        return Ok(Answer::Number { value: name as u64 });
+        *answer = Answer::Number { value: name as u64 };
+        return Ok(());
     }
     let given = match state.names.give(object) {
         Ok(given) => given,
-        Err(ShareFault::Full) => return Ok(Answer::Denied(Rule::Full)),
+        Err(ShareFault::Full) => {
+            *answer = Answer::Denied(Rule::Full);
+            return Ok(());
+        }
         Err(ShareFault::NoMemory) => return Err(AllocError),
     };
-    Ok(Answer::Number {
+    *answer = Answer::Number {
         value: given as u64,
-    })
+    };
+    Ok(())
 }
 
 /// GEM_OPEN: a fresh handle of the object that has a global name. Where memory is refused nothing changes.
@@ -46,18 +54,22 @@ pub fn gem_open(
     step_number: u32,
     client: u32,
     name: u32,
-) -> Result<Answer, AllocError>
+    answer: &mut Answer,
+) -> Result<(), AllocError>
     requires precondition { StepPrecondition state.old step_number }
     requires open_client { is_open_client state.old.files client ≡ true }
-    ensures refines { RefinesCall state.old step_number client (GemOpen name) result state.new }
+    ensures refines { RefinesCall state.old step_number client (GemOpen name) (outcome result answer.new) state.new }
     ensures invariants { MeetsInvariants state.new }
 {
     let Some(object) = state.names.lookup(name) else {
-        return Ok(Answer::Denied(Rule::NoName));
+        *answer = Answer::Denied(Rule::NoName);
+        return Ok(());
     };
     let size = state.objects.size(object);
     let Some(handle) = new_handle(state, step_number, client, object, None)? else {
-        return Ok(Answer::Denied(Rule::Full));
+        *answer = Answer::Denied(Rule::Full);
+        return Ok(());
     };
-    Ok(Answer::Buffer { handle, size })
+    *answer = Answer::Buffer { handle, size };
+    Ok(())
 }

@@ -4,6 +4,7 @@ ghost use Rattle.std.specs.Prelude.{◌≡◌, true};
 ghost use Rattle.drm_files.specs.Files.{is_open_client};
 ghost use Rattle.drm_table.specs.declared.calls.Call.TheVariants.{PrimeHandleToFd, PrimeFdToHandle, TokenClose};
 ghost use Rattle.drm_state.specs.Invariants.{MeetsInvariants, StepPrecondition};
+ghost use Rattle.drm_state.specs.Places.{outcome};
 ghost use Rattle.drm_state.specs.Refinement.{RefinesCall, RefinesReply};
 
 use drm_share::ShareFault;
@@ -18,25 +19,31 @@ pub fn prime_export(
     step_number: u32,
     client: u32,
     handle: u32,
-) -> Result<Answer, AllocError>
+    answer: &mut Answer,
+) -> Result<(), AllocError>
     requires precondition { StepPrecondition state.old step_number }
     requires open_client { is_open_client state.old.files client ≡ true }
-    ensures refines { RefinesCall state.old step_number client (PrimeHandleToFd handle) result state.new }
+    ensures refines { RefinesCall state.old step_number client (PrimeHandleToFd handle) (outcome result answer.new) state.new }
     ensures invariants { MeetsInvariants state.new }
 {
     let Some(object) = state.files.object_of(client, handle) else {
-        return Ok(Answer::Denied(Rule::NoHandle));
+        *answer = Answer::Denied(Rule::NoHandle);
+        return Ok(());
     };
     let token = match state.tokens.export(client, object) {
         Ok(token) => token,
-        Err(ShareFault::Full) => return Ok(Answer::Denied(Rule::Full)),
+        Err(ShareFault::Full) => {
+            *answer = Answer::Denied(Rule::Full);
+            return Ok(());
+        }
         Err(ShareFault::NoMemory) => return Err(AllocError),
     };
     state.objects.refer(object);
     state.files.set_prime(client, handle, step_number);
-    Ok(Answer::Number {
+    *answer = Answer::Number {
         value: token as u64,
-    })
+    };
+    Ok(())
 }
 
 /// PRIME_FD_TO_HANDLE: the caller's handle of a token's object, which is the one with the least export order, or else a fresh
@@ -46,26 +53,31 @@ pub fn prime_import(
     step_number: u32,
     client: u32,
     token: u32,
-) -> Result<Answer, AllocError>
+    answer: &mut Answer,
+) -> Result<(), AllocError>
     requires precondition { StepPrecondition state.old step_number }
     requires open_client { is_open_client state.old.files client ≡ true }
-    ensures refines { RefinesCall state.old step_number client (PrimeFdToHandle token) result state.new }
+    ensures refines { RefinesCall state.old step_number client (PrimeFdToHandle token) (outcome result answer.new) state.new }
     ensures invariants { MeetsInvariants state.new }
 {
     let Some(object) = state.tokens.lookup(token) else {
-        return Ok(Answer::Denied(Rule::NoToken));
+        *answer = Answer::Denied(Rule::NoToken);
+        return Ok(());
     };
     let size = state.objects.size(object);
     if let Some(handle) = state.files.prime_handle(client, object) {
-        return Ok(Answer::Buffer { handle, size });
+        *answer = Answer::Buffer { handle, size };
+        return Ok(());
     }
     let Some(fresh) = new_handle(state, step_number, client, object, Some(step_number))? else {
-        return Ok(Answer::Denied(Rule::Full));
+        *answer = Answer::Denied(Rule::Full);
+        return Ok(());
     };
-    Ok(Answer::Buffer {
+    *answer = Answer::Buffer {
         handle: fresh,
         size,
-    })
+    };
+    Ok(())
 }
 
 /// TOKEN_CLOSE: the token goes, if the caller exported it, and the object with the last that refers to it (own). It takes no

@@ -3,3 +3,4 @@ pub mod Invariants
 pub mod Refinement
 pub mod Callers
 pub mod Seeing
+pub mod Places

@@ -4,7 +4,7 @@ use Rattle.drm_table.specs.Permit.{first_failing}
 use Rattle.drm_model.specs.Verdict.{admission_checks}
 use Rattle.drm_state.specs.Refinement.{Refines, RefinesCall, IsAdmission, IsRefined}
 use Rattle.drm_state.proofs.Refinements.{denied, unadmitted}
-use Rattle.drm_device.specs.Places.{outcome}
+use Rattle.drm_state.specs.Places.{outcome}
 use Rattle.drm_device.proofs.calls.ask.Goals as goal
 
 pub returns-in-Err-clause-refines : goal.returns-in-Err-clause-refines

@@ -13,8 +13,8 @@ pub returns-then-not-has_room-clause-step : goal.returns-then-not-has_room-claus
 unfolding Step
 returns-then-not-has_room-clause-step c = (not-false _ (sym c.has_room.ensures ∙ c.if-not-has_room.true), refl)
 
-pub advance_at-requires-clause-precondition : goal.advance_at-requires-clause-precondition
-advance_at-requires-clause-precondition c = precondition c.self.inside c.len.result c.self.invariant c.len.ensures
+pub advance_at-requires : goal.advance_at-requires
+advance_at-requires c = precondition c.self.inside c.len.result c.self.invariant c.len.ensures
 
 pub push_reserved-requires : goal.push_reserved-requires
 push_reserved-requires c =
