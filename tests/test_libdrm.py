@@ -18,6 +18,7 @@ import sys
 sys.dont_write_bytecode = True
 from support import (  # noqa: E402
     CLIENTS,
+    PROGRAM,
     REPOSITORY,
     SECONDS,
     FolderCase,
@@ -32,6 +33,7 @@ from support import (  # noqa: E402
 )
 
 from zirkoshe.constants import RULES  # noqa: E402
+from zirkoshe.server import Server  # noqa: E402
 
 from blocks import worked_rows  # noqa: E402
 from libdrm_support import COMPILER, LIBRARY, compiled, environment, library, said, served, wait_until  # noqa: E402
@@ -303,6 +305,15 @@ class LibdrmTests(FolderCase):
         ran = run(REPOSITORY / "tools/with-server", "--libdrm", "modetest", "-M", "zirkoshe", "-e")
         expect("status", (ran.returncode, ran.stderr), (0, ""))
         expect("encoders", {int(words[0]): words[3] for words in section(ran.stdout, "Encoders")}, ENCODERS)
+
+    def test_python_fixture_offers_a_render_node_only_on_request(self):
+        library()
+        asked = ["sh", "-c", "ls /dev/dri"]
+        with Server(program=PROGRAM) as server:
+            for more, shown in (({}, "card0\n"), ({"DRM_SERVER_RENDER": server.render}, "card0\nrenderD128\n")):
+                given = {"PATH": os.environ["PATH"], **server.libdrm_environment, **more}
+                ran = run(*asked, env=given)
+                expect(f"nodes with {sorted(more)}", (ran.stdout, ran.stderr, ran.returncode), (shown, "", 0))
 
     def test_with_server_has_a_render_node_only_on_request(self):
         """As vkms has none. Programs that find one look for a renderer behind it."""

@@ -260,10 +260,11 @@ class ServingTests(FolderCase):
         expect_no_sockets(self.folder)
 
     def test_sockets_are_logged(self):
-        with lasting_server(self.folder, "--verbose") as started:
-            for name in CLASSES:
-                told = f"INFO {name}: {self.folder / name} accepts {AT_ONCE} at once"
-                expect("what is logged", next_told(started), told)
+        with lasting_server(self.folder, "--verbose") as started, ended_in_time(started):
+            assert started.stderr is not None
+            logged = [told_by(started.stderr.readline()) for _ in CLASSES]
+            told = [f"INFO {name}: {self.folder / name} accepts {AT_ONCE} at once" for name in CLASSES]
+            expect("what is logged", logged, told)
             expect_end(stopped(started), 0, "", "device 0 0 0 0\n")
 
     def test_sockets_that_cannot_be_bound(self):

@@ -176,10 +176,14 @@ class Server:
         """The variables for an unchanged program that calls libdrm.
 
         They are those of `environment`, and LD_PRELOAD with the library that connects
-        the program's /dev/dri to this server.
+        the program's /dev/dri to this server. There is no DRM_SERVER_RENDER, so the
+        program finds a card and no render node. Many expect a GPU if they find one. Add
+        it from `environment` for a program that needs the node.
         """
         loaded = filter(None, (find_library(), os.environ.get("LD_PRELOAD")))
-        return {**self.environment, "LD_PRELOAD": " ".join(loaded)}
+        variables = {**self.environment, "LD_PRELOAD": " ".join(loaded)}
+        del variables["DRM_SERVER_RENDER"]
+        return variables
 
     def end(self) -> str:
         """Ends the server, and returns its listing. A second time it does nothing.

@@ -220,11 +220,10 @@ impl Checker {
     {
         self.number += 1;
         let (script, expected) = parts_of(line);
-        match self.interpreter.interpret(alloc, script) {
+        let mut outcome = Ok(Answer::Done);
+        match self.interpreter.interpret(alloc, script, &mut outcome) {
             LineResult::Unanswered => self.note(name, command, expected, &None, sink),
-            LineResult::Answered(answer) => {
-                self.note(name, command, expected, &Some(answer), sink)
-            },
+            LineResult::Answered => self.note(name, command, expected, &Some(outcome), sink),
             LineResult::Malformed(cause) => Some(Stop::malformed(self.number, cause)),
             LineResult::NoMemory => Some(Stop::of(ScriptEnd::NoMemory)),
         }

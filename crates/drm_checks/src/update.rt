@@ -47,9 +47,10 @@ fn use_line(
     if line.len() > LONGEST {
         return Err(UpdateFault::Malformed(number, Malformed::too_long()));
     }
-    match interpreter.interpret(alloc, script_of(line)) {
+    let mut outcome = Ok(Answer::Done);
+    match interpreter.interpret(alloc, script_of(line), &mut outcome) {
         LineResult::Unanswered => Ok(None),
-        LineResult::Answered(answer) => Ok(Some(answer)),
+        LineResult::Answered => Ok(Some(outcome)),
         LineResult::Malformed(cause) => Err(UpdateFault::Malformed(number, cause)),
         LineResult::NoMemory => Err(UpdateFault::NoMemory),
     }

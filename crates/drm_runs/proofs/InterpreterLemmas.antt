@@ -14,7 +14,7 @@ use Rattle.drm_runs.specs.Script.Place.{Made, Planned}
 use Rattle.drm_runs.specs.Script.Uses.{limited, asked}
 use Rattle.drm_runs.specs.Script.IsMisplaced.{late}
 use Rattle.drm_runs.specs.Script.WantsDevice.{limits as wants_limits}
-use Rattle.drm_runs.specs.Interpreter.{HasLimits, InterpreterState, Steps, Interprets, SetsLimits, place_of}
+use Rattle.drm_runs.specs.Interpreter.{HasLimits, InterpreterState, Steps, Interprets, SetsLimits, device_made, place_of}
 use Rattle.drm_runs.specs.declared.interpreter.LineResult.{LineResult}
 use Rattle.drm_runs.specs.declared.interpreter.LineResult.TheVariants as results
 
@@ -27,6 +27,15 @@ at_none d p s x e f h = subst (λ o. IsAt (place_of o p) x) (sym e) (subst (λ q
 pub nowhere : (d : Option DeviceValue) (p : Option Setting) → d ≡ None → IsNowhere (place_of d p)
 nowhere d None e = subst (λ o. IsNowhere (place_of o None)) (sym e) tt
 nowhere d (Some s) e = subst (λ o. IsNowhere (place_of o (Some s))) (sym e) tt
+
+-- a device that is not made
+pub not_made : (p : Option Setting) → device_made (place_of None p) ≡ None
+not_made None = refl
+not_made (Some s) = refl
+
+pub unmade : (d : Option DeviceValue) (p : Option Setting) → device_made (place_of d p) ≡ None → d ≡ None
+unmade None p h = refl
+unmade (Some x) p h = absurd (let e : Some x ≡ None = h in cc)
 
 pub planned_is : (d : Option DeviceValue) (p : Option Setting) (s : Setting) → d ≡ None → p ≡ Some s → place_of d p ≡ Planned s
 planned_is d p s e f = ap (λ o. place_of o p) e ∙ ap (place_of None) f
@@ -68,15 +77,15 @@ none_of (Some x) h = absurd (cc)
 
 -- a line of limits
 
-pub sets_interprets : (old new : InterpreterState) (line : List ℕ) (limits : Limits) (result : LineResult)
-    → reading_of line ≡ Some (readings.Limits limits) → SetsLimits old new limits result → Interprets old new line result
-sets_interprets old new line limits results.Unanswered h s =
+pub sets_interprets : (old new : InterpreterState) (line : List ℕ) (limits : Limits) (result : LineResult) (answer : Result Answer Apart)
+    → reading_of line ≡ Some (readings.Limits limits) → SetsLimits old new limits result → Interprets old new line result answer
+sets_interprets old new line limits results.Unanswered answer h s =
     let made : Place = Made (empty_device (limited_to s.0 limits)) in
     let used : Uses old.device old.labels line [] made old.labels = limited s.1 h in
     subst (λ o. Uses old.device old.labels line [] o new.labels) (sym s.2) (subst (λ m. Uses old.device old.labels line [] made m) (sym s.3) used)
-sets_interprets old new line limits (results.Answered result) h s = absurd s
-sets_interprets old new line limits (results.Malformed malformed) h s = (late s.1 h, s.2)
-sets_interprets old new line limits results.NoMemory h s = (s.0, wants_limits h, s.1, s.2)
+sets_interprets old new line limits results.Answered answer h s = absurd s
+sets_interprets old new line limits (results.Malformed malformed) answer h s = (late s.1 h, s.2)
+sets_interprets old new line limits results.NoMemory answer h s = (s.0, wants_limits h, s.1, s.2)
 
 -- a line that asks the device
 

@@ -37,19 +37,19 @@ HasLimits (Planned setting) limits = limits ≡ setting.limits
 HasLimits (Made device) limits = limits ≡ device.limits
 HasLimits Refused limits = Unit {0}
 
--- What came of a line: it was used; or it can't be used, and nothing has changed; or there was no memory for the device that it wants, and
--- there is none.
-abbrev pub Interprets : InterpreterState → InterpreterState → List ℕ → LineResult → Type 0
-Interprets old new line results.Unanswered = Uses old.device old.labels line [] new.device new.labels
-Interprets old new line (results.Answered result) = Uses old.device old.labels line (result ∷ []) new.device new.labels
-Interprets old new line (results.Malformed malformed) = IsMisplaced old.device line × (new ≡ old)
-Interprets old new line results.NoMemory = IsNowhere old.device × WantsDevice line × IsNowhere new.device × (new.labels ≡ old.labels)
+-- What came of a line: it was used, and its answer, if there is one, is in the place lent for it; or it can't be used, and nothing has
+-- changed; or there was no memory for the device that it wants, and there is none.
+abbrev pub Interprets : InterpreterState → InterpreterState → List ℕ → LineResult → Result Answer Apart → Type 0
+Interprets old new line results.Unanswered answer = Uses old.device old.labels line [] new.device new.labels
+Interprets old new line results.Answered answer = Uses old.device old.labels line (answer ∷ []) new.device new.labels
+Interprets old new line (results.Malformed malformed) answer = IsMisplaced old.device line × (new ≡ old)
+Interprets old new line results.NoMemory answer = IsNowhere old.device × WantsDevice line × IsNowhere new.device × (new.labels ≡ old.labels)
 
 -- what came of a line of limits
 abbrev pub SetsLimits : InterpreterState → InterpreterState → Limits → LineResult → Type 0
 SetsLimits old new limits results.Unanswered =
     (setting : Setting) × (old.device ≡ Planned setting) × (new.device ≡ Made (empty_device (limited_to setting limits))) × (new.labels ≡ old.labels)
-SetsLimits old new limits (results.Answered result) = ⊥
+SetsLimits old new limits results.Answered = ⊥
 SetsLimits old new limits (results.Malformed malformed) = (made : DeviceValue) × (old.device ≡ Made made) × (new ≡ old)
 SetsLimits old new limits results.NoMemory = IsNowhere old.device × IsNowhere new.device × (new.labels ≡ old.labels)
 
@@ -62,7 +62,7 @@ pub record Steps (old new : InterpreterState) (binds : Option ℕ) (event : Even
   pub device : new.device ≡ Made after
   pub labels : new.labels ≡ bound old.labels binds result
 
--- what came of an event that a line asks for
-abbrev pub Asks : InterpreterState → InterpreterState → Option ℕ → Event → Option (Result Answer Apart) → Type 0
-Asks old new binds event (Some result) = Steps old new binds event result
-Asks old new binds event None = IsNowhere old.device × IsNowhere new.device × (new.labels ≡ old.labels)
+-- what came of an event that a line asks for: it was done, and its answer is in its place; or there was no memory for the device
+abbrev pub Asks : InterpreterState → InterpreterState → Option ℕ → Event → Option (Unit {0}) → Result Answer Apart → Type 0
+Asks old new binds event (Some done) answer = Steps old new binds event answer
+Asks old new binds event None answer = IsNowhere old.device × IsNowhere new.device × (new.labels ≡ old.labels)

@@ -8,12 +8,12 @@ use std::alloc::Global;
 use std::marker::Model;
 
 /// What a line came to (own).
-#[derive(Drop)]
+#[derive(Clone, Copy, Debug, PartialEq, Eq)]
 pub enum LineResult {
     /// No answer: it says nothing, or made the device with its limits.
     Unanswered,
-    /// The device's answer.
-    Answered(Result<Answer, Apart>),
+    /// The device answered. The answer is in the place that was lent for it.
+    Answered,
     /// It can't be used here: it is malformed, or sets limits where the device is made already. Nothing has changed.
     Malformed(Malformed),
     /// It wants a device where none is made yet, and there was no memory for it. No later line makes one.
@@ -117,21 +117,43 @@ impl Interpreter {
         }
     }
 
+    /// Makes the device, which isn't there, and its first step; none if there is no memory to make it. It is a function of its own, so
+    /// that later steps need not clear its places.
+    fn first_step(
+        &mut self,
+        alloc: Global,
+        event: Event,
+        outcome: &mut Result<Answer, Apart>,
+    ) -> Option<()>
+        requires unmade { device_made self.old.device ≡ None }
+        ensures some { IfSome result (λ _. (before : DeviceValue) × (after : DeviceValue) × IsAt self.old.device before × StepsOn before event outcome.new after × (self.new.device ≡ Made after)) }
+        ensures labels { self.new.labels ≡ self.old.labels }
+        ensures none { IfNone result (IsNowhere self.old.device × IsNowhere self.new.device) }
+    {
+        let setup = self.planned.take()?;
+        let mut device = setup.make(alloc)?;
+        device.step_at(event, outcome);
+        self.device = Some(device);
+        Some(())
+    }
+
     /// One step of the device, which is made if it isn't there; none if there is no memory to make it.
-    fn step(&mut self, alloc: Global, event: Event) -> Option<Result<Answer, Apart>>
-        ensures some { IfSome result (λ outcome. (before : DeviceValue) × (after : DeviceValue) × IsAt self.old.device before × StepsOn before event outcome after × (self.new.device ≡ Made after)) }
+    fn step(
+        &mut self,
+        alloc: Global,
+        event: Event,
+        outcome: &mut Result<Answer, Apart>,
+    ) -> Option<()>
+        ensures some { IfSome result (λ _. (before : DeviceValue) × (after : DeviceValue) × IsAt self.old.device before × StepsOn before event outcome.new after × (self.new.device ≡ Made after)) }
         ensures labels { self.new.labels ≡ self.old.labels }
         ensures none { IfNone result (IsNowhere self.old.device × IsNowhere self.new.device) }
     {
         match &mut self.device {
-            Some(device) => Some(device.step(event)),
-            None => {
-                let setup = self.planned.take()?;
-                let mut device = setup.make(alloc)?;
-                let outcome = device.step(event);
-                self.device = Some(device);
-                Some(outcome)
+            Some(device) => {
+                device.step_at(event, outcome);
+                Some(())
             }
+            None => self.first_step(alloc, event, outcome),
         }
     }
 
@@ -141,27 +163,35 @@ impl Interpreter {
         alloc: Global,
         binds: Option<Label>,
         event: Event,
-    ) -> Option<Result<Answer, Apart>>
-        ensures { Asks self.old self.new binds event result }
+        outcome: &mut Result<Answer, Apart>,
+    ) -> Option<()>
+        ensures { Asks self.old self.new binds event result outcome.new }
     {
-        let outcome = self.step(alloc, event)?;
-        self.bind(binds, &outcome);
-        Some(outcome)
+        self.step(alloc, event, outcome)?;
+        self.bind(binds, outcome);
+        Some(())
     }
 
     /// Asks what a command says; none if there is no memory for the device.
-    fn perform(&mut self, alloc: Global, command: Command) -> Option<Result<Answer, Apart>>
-        ensures { Asks self.old self.new (label_bound command) (event_of self.old.labels command) result }
+    fn perform(
+        &mut self,
+        alloc: Global,
+        command: Command,
+        outcome: &mut Result<Answer, Apart>,
+    ) -> Option<()>
+        ensures { Asks self.old self.new (label_bound command) (event_of self.old.labels command) result outcome.new }
     {
         match command {
-            Command::Open { label, opening } => self.ask(alloc, Some(label), Event::Open(opening)),
+            Command::Open { label, opening } => {
+                self.ask(alloc, Some(label), Event::Open(opening), outcome)
+            }
             Command::Close { label } => {
                 let client = self.client(label);
-                self.ask(alloc, None, Event::Close(client))
+                self.ask(alloc, None, Event::Close(client), outcome)
             }
             Command::Ask { label, call } => {
                 let client = self.client(label);
-                self.ask(alloc, None, Event::Ask(client, call))
+                self.ask(alloc, None, Event::Ask(client, call), outcome)
             }
         }
     }
@@ -185,9 +215,15 @@ impl Interpreter {
         LineResult::Unanswered
     }
 
-    /// Reads a line, which is given without its end, and asks what it says.
-    pub fn interpret(&mut self, alloc: Global, line: &[u8]) -> LineResult
-        ensures { Interprets self.old self.new line.now result }
+    /// Reads a line, which is given without its end, and asks what it says. The answer is written to a place of the caller's, so that it
+    /// is moved less.
+    pub fn interpret(
+        &mut self,
+        alloc: Global,
+        line: &[u8],
+        outcome: &mut Result<Answer, Apart>,
+    ) -> LineResult
+        ensures { Interprets self.old self.new line.now result outcome.new }
     {
         let reading = match read_line(line) {
             Ok(reading) => reading,
@@ -196,8 +232,8 @@ impl Interpreter {
         match reading {
             Reading::Skipped => LineResult::Unanswered,
             Reading::Limits(limits) => self.limit(alloc, limits, line),
-            Reading::Says(command) => match self.perform(alloc, command) {
-                Some(answer) => LineResult::Answered(answer),
+            Reading::Says(command) => match self.perform(alloc, command, outcome) {
+                Some(()) => LineResult::Answered,
                 None => LineResult::NoMemory,
             },
         }

@@ -8,7 +8,7 @@ use crate::devices::Setup;
 use crate::interpreter::Interpreter;
 use crate::reader::{LineReader, NextLine};
 use crate::stops::{ScriptEnd, Stop};
-use crate::writing::{LineEnd, use_line};
+use crate::writing::{Desk, LineEnd, use_line};
 use drm_script::Malformed;
 use drm_streams::{Sink, Source};
 use std::alloc::Global;
@@ -52,8 +52,8 @@ impl Run {
         }
     }
 
-    /// Uses the line that is held. Gives how the run ends, where it doesn't go on.
-    fn use_held<K: Sink>(&mut self, alloc: Global, sink: &mut K) -> Option<Stop>
+    /// Uses the line that is held; its answer is made on the desk. Gives how the run ends, where it doesn't go on.
+    fn use_held<K: Sink>(&mut self, alloc: Global, desk: &mut Desk, sink: &mut K) -> Option<Stop>
         requires number { self.old.number + 1 < 2 ^ 64 }
         requires sink_calls { (K.trace sink.old).counts.calls + self.old.turns < 2 ^ 48 }
         ensures number { self.new.number ≡ self.old.number + 1 }
@@ -62,12 +62,19 @@ impl Run {
     {
         self.number += 1;
         let line = self.reader.line();
-        let used = use_line(&mut self.interpreter, alloc, line, sink, &mut self.turns);
+        let used = use_line(
+            &mut self.interpreter,
+            alloc,
+            line,
+            desk,
+            sink,
+            &mut self.turns,
+        );
         stop(used, self.number)
     }
 
     /// Uses what stands behind the last line end, if anything does.
-    fn use_last<K: Sink>(&mut self, alloc: Global, sink: &mut K) -> Stop
+    fn use_last<K: Sink>(&mut self, alloc: Global, desk: &mut Desk, sink: &mut K) -> Stop
         requires number { self.old.number + 1 < 2 ^ 64 }
         requires sink_calls { (K.trace sink.old).counts.calls + self.old.turns < 2 ^ 48 }
         ensures { UsesLast self.old self.new (K.trace sink.old) (K.trace sink.new) result }
@@ -75,7 +82,7 @@ impl Run {
         if self.reader.line().is_empty() {
             return Stop::of(ScriptEnd::Done);
         }
-        self.use_held(alloc, sink)
+        self.use_held(alloc, desk, sink)
             .unwrap_or(Stop::of(ScriptEnd::Done))
     }
 
@@ -84,14 +91,15 @@ impl Run {
         &mut self,
         alloc: Global,
         source: &mut S,
+        desk: &mut Desk,
         sink: &mut K,
     ) -> Option<Stop>
         requires countable { IsCountable self.old (S.trace source.old) (K.trace sink.old) }
         ensures { Advances self.old self.new (S.trace source.old) (S.trace source.new) (K.trace sink.old) (K.trace sink.new) result }
     {
         match self.reader.next_line(source, &mut self.turns) {
-            NextLine::Line => self.use_held(alloc, sink),
-            NextLine::End => Some(self.use_last(alloc, sink)),
+            NextLine::Line => self.use_held(alloc, desk, sink),
+            NextLine::End => Some(self.use_last(alloc, desk, sink)),
             NextLine::TooLong => Some(Stop::malformed(self.number + 1, Malformed::too_long())),
             NextLine::ReadFault => Some(Stop::of(ScriptEnd::ReadFault)),
             NextLine::TurnsUsed => Some(Stop::of(ScriptEnd::TurnsUsed)),
@@ -159,8 +167,9 @@ pub fn run_on<S: Source, K: Sink>(
     ensures told { is_some result.cause ≡ is_malformed result.end }
 {
     let mut run = Run::new(setup, turns);
+    let mut desk = Desk::new();
     'lines: loop {
-        if let Some(stop) = run.use_next(alloc, source, sink) {
+        if let Some(stop) = run.use_next(alloc, source, &mut desk, sink) {
             return Ran {
                 end: stop.end(),
                 cause: stop.cause(),

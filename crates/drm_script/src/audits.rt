@@ -78,5 +78,5 @@ pub fn audit_line(kind: AuditKind, row: &AuditRow) -> LineText
     text.push_str(" ");
     push_numbers(&mut text, row);
     text.push_str("\n");
-    LineText::new(text)
+    LineText::of(text)
 }

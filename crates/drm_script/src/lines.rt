@@ -109,14 +109,36 @@ fn push_outcome(text: &mut ArrayString<LINE>, outcome: &Result<Answer, Apart>)
     }
 }
 
-/// The line of an answer, with its end (own).
+impl LineText {
+    /// Writes the line of an answer, with its end (own), in place of what stands there. Whoever writes many lines moves them less so
+    /// than with [`line_of`]. Does not allocate.
+    ///
+    /// ```rust
+    /// text.write(&Ok(Answer::Done));
+    /// assert!(text.as_bytes() == b"done\n");
+    /// ```
+    pub fn write(&mut self, outcome: &Result<Answer, Apart>)
+        ensures line { self.new ≡ answer_line outcome.now }
+        ensures nonempty { 0 < length self.new }
+        ensures fits { length self.new ≤ LINE }
+    {
+        self.text.clear();
+        push_outcome(&mut self.text, outcome);
+        self.text.push_str("\n");
+    }
+}
+
+/// Returns the line of an answer, with its end (own). Does not allocate.
+///
+/// ```rust
+/// assert!(line_of(&Ok(Answer::Done)).as_bytes() == b"done\n");
+/// ```
 pub fn line_of(outcome: &Result<Answer, Apart>) -> LineText
     ensures line { result ≡ answer_line outcome.now }
     ensures nonempty { 0 < length result }
     ensures fits { length result ≤ LINE }
 {
-    let mut text = ArrayString::new();
-    push_outcome(&mut text, outcome);
-    text.push_str("\n");
-    LineText::new(text)
+    let mut line = LineText::new();
+    line.write(outcome);
+    line
 }

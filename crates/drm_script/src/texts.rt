@@ -1,6 +1,6 @@
 //! The text of a line, and the numbers in it.
 
-ghost use Rattle.std.specs.Prelude.{◌≡◌, ◌≤◌, ◌+◌, ◌++◌, length, decimal};
+ghost use Rattle.std.specs.Prelude.{◌≡◌, ◌≤◌, ◌+◌, ◌++◌, [], length, decimal};
 ghost use Rattle.arrayvec.specs.ArrayString.{array_string_len};
 
 use arrayvec::ArrayString;
@@ -12,7 +12,7 @@ pub const LINE: usize = 4_096;
 /// A line with its end. Contracts see its bytes.
 #[derive(Drop)]
 pub struct LineText {
-    text: ArrayString<LINE>,
+    pub(crate) text: ArrayString<LINE>,
 }
 
 impl Model for LineText {
@@ -24,8 +24,22 @@ impl Model for LineText {
 }
 
 impl LineText {
+    /// Returns a place for lines, with nothing in it yet. Does not allocate.
+    ///
+    /// ```rust
+    /// let mut text = LineText::new();
+    /// assert!(text.as_bytes().is_empty());
+    /// ```
+    pub fn new() -> LineText
+        ensures { result ≡ [] }
+    {
+        LineText {
+            text: ArrayString::new(),
+        }
+    }
+
     /// The line of a text, which has its end.
-    pub(crate) fn new(text: ArrayString<LINE>) -> LineText
+    pub(crate) fn of(text: ArrayString<LINE>) -> LineText
         ensures { result ≡ text.bytes }
     {
         LineText { text }

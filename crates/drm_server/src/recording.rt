@@ -102,9 +102,10 @@ impl Recorder {
     {
         self.lines = self.lines.saturating_add(1);
         let line = script_of(self.reader.line());
-        match self.interpreter.interpret(alloc, line) {
+        let mut outcome = Ok(Answer::Done);
+        match self.interpreter.interpret(alloc, line, &mut outcome) {
             LineResult::Unanswered => None,
-            LineResult::Answered(answer) => match self.keep(alloc, answer) {
+            LineResult::Answered => match self.keep(alloc, outcome) {
                 Ok(()) => None,
                 Err(_) => Some(Stop::of(ScriptEnd::NoMemory)),
             },

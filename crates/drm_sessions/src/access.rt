@@ -26,6 +26,16 @@ pub trait Access {
         ensures answers { answers self.old event result self.new }
         ensures opening { AnswersOpening event result }
         ensures few { FitsOneFrame result };
+
+    /// Answers one event as [`call`](Access::call) does, and writes what came of it to a place of the caller's. A session has one
+    /// such place for all its requests, so that an answer is moved less.
+    fn call_at(&mut self, event: Event, outcome: &mut Result<Answer, Apart>)
+        ensures answers { answers self.old event outcome.new self.new }
+        ensures opening { AnswersOpening event outcome.new }
+        ensures few { FitsOneFrame outcome.new }
+    {
+        *outcome = self.call(event);
+    }
 }
 
 /// What is called before each request of a client is carried out.

@@ -32,6 +32,10 @@ impl Access for Alone<'_> {
     fn call(&mut self, event: Event) -> Result<Answer, Apart> {
         self.0.step(event)
     }
+
+    fn call_at(&mut self, event: Event, outcome: &mut Result<Answer, Apart>) {
+        self.0.step_at(event, outcome);
+    }
 }
 
 /// One session whose results are steps of the device that the access was lent.

@@ -15,7 +15,7 @@ use crate::reading::next_message;
 use crate::writing::write_answer;
 use drm_frames::AnswerText;
 use drm_streams::{Sink, Source};
-use drm_table::{Call, Event};
+use drm_table::{Answer, Apart, Call, Event};
 
 /// How the requests ended, and how many were noted.
 #[derive(Clone, Copy, Debug)]
@@ -31,12 +31,19 @@ struct Answered {
     wrote: Result<(), SessionEnd>,
 }
 
-// Makes a call, and writes its answer; its frame is made in the text.
+/// Where the answers of a session are made, one after the other.
+#[derive(Drop)]
+struct Desk {
+    outcome: Result<Answer, Apart>,
+    text: AnswerText,
+}
+
+// Makes a call, and writes its answer, which is made on the desk.
 fn answer_call<A: Access, K: Sink>(
     access: &mut A,
     sink: &mut K,
     turns: &mut u64,
-    text: &mut AnswerText,
+    desk: &mut Desk,
     client: u32,
     call: Call,
 ) -> Answered
@@ -48,10 +55,10 @@ fn answer_call<A: Access, K: Sink>(
         turns.old turns.new
         × (0 < length (answer_text outcome)) }
 {
-    let outcome = access.call(Event::Ask(client, call));
-    text.write(&outcome);
-    let wrote = write_answer(sink, text.as_slice(), turns);
-    let steps = if outcome.is_ok() { 1 } else { 0 };
+    access.call_at(Event::Ask(client, call), &mut desk.outcome);
+    desk.text.write(&desk.outcome);
+    let wrote = write_answer(sink, desk.text.as_slice(), turns);
+    let steps = if desk.outcome.is_ok() { 1 } else { 0 };
     Answered { steps, wrote }
 }
 
@@ -78,7 +85,10 @@ pub(crate) fn answer_requests<A: Access, G: Gate, S: Source, K: Sink>(
         (K.trace sink.old).counts (K.trace sink.new).counts }
     ensures few { result.steps ≤ turns.old + 1 }
 {
-    let mut text = AnswerText::new();
+    let mut desk = Desk {
+        outcome: Ok(Answer::Done),
+        text: AnswerText::new(),
+    };
     let mut steps = 0;
     'asking: loop {
         let call = match next_message::<Call, S>(source, inbox, turns) {
@@ -86,7 +96,7 @@ pub(crate) fn answer_requests<A: Access, G: Gate, S: Source, K: Sink>(
             Err(end) => return Stopped { end, steps },
         };
         gate.before(client);
-        let answered = answer_call(access, sink, turns, &mut text, client, call);
+        let answered = answer_call(access, sink, turns, &mut desk, client, call);
         steps += answered.steps;
         if let Err(end) = answered.wrote {
             return Stopped { end, steps };

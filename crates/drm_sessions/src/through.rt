@@ -81,6 +81,11 @@ impl<R: Wait> Access for Through<'_, R> {
     fn call(&mut self, event: Event) -> Result<Answer, Apart> {
         self.shared.call(self.rt, &mut self.participant, event)
     }
+
+    fn call_at(&mut self, event: Event, outcome: &mut Result<Answer, Apart>) {
+        self.shared
+            .call_at(self.rt, &mut self.participant, event, outcome);
+    }
 }
 
 /// A session that was served through a participant.

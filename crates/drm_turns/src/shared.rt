@@ -366,16 +366,47 @@ impl SharedDevice {
             × (participant.new.journaled ≡ participant.old.journaled + entries_of result) }
         ensures worn { result ≡ Err Worn → participant.old.number ≡ 1 → participant.old.outstanding ≡ 0 → participant.old.drawn ≡ 2 ^ 64 - 1 }
     {
+        let mut outcome = Err(Apart::Worn);
+        self.call_at(rt, participant, event, &mut outcome);
+        outcome
+    }
+
+    /// Answers one event as [`call`](SharedDevice::call) does, and writes what came of it to a place of the caller's, so that an answer
+    /// is moved less.
+    ///
+    /// ```rust
+    /// let mut outcome = Err(Apart::Worn);
+    /// shared.call_at(&rt, &mut participant, Event::Ask(1, Call::Version), &mut outcome);
+    /// assert!(outcome == Ok(Answer::Version { major: 1, minor: 0, patch: 0 }));
+    /// ```
+    pub fn call_at<R: Wait>(
+        &self,
+        rt: &R,
+        participant: &mut Seat,
+        event: Event,
+        outcome: &mut Result<Answer, Apart>,
+    )
+        requires own { participant.old.table ≡ self.now }
+        ensures extends { Extends participant.old participant.new }
+        ensures merged { participant.new.merged ≡ participant.old.merged }
+        ensures unchanged { Unchanged participant.old participant.new }
+        ensures ok { IfOk outcome.new (λ answer. Commits participant.old event answer participant.new) }
+        ensures err { IfErr outcome.new (λ apart. Aborts participant.old event apart participant.new) }
+        ensures turn { Answered (device_at participant.new.origin participant.new.seen) event outcome.new }
+        ensures few { FitsOneFrame outcome.new }
+        ensures counts { (participant.new.drawn ≡ participant.old.drawn + tickets_of outcome.new)
+            × (participant.new.journaled ≡ participant.old.journaled + entries_of outcome.new) }
+        ensures worn { outcome.new ≡ Err Worn → participant.old.number ≡ 1 → participant.old.outstanding ≡ 0 → participant.old.drawn ≡ 2 ^ 64 - 1 }
+    {
         let place = &mut participant.place;
         self.schedule_before_turn(rt);
         let Some(ticket) = self.draw(rt, place) else {
-            return Err(Apart::Worn);
+            *outcome = Err(Apart::Worn);
+            return;
         };
         self.wait_turn(rt, place, ticket);
-        let mut outcome = Err(Apart::Worn);
-        self.step_in_turn(place, event, &mut outcome);
+        self.step_in_turn(place, event, outcome);
         self.pass(place);
-        outcome
     }
 
     /// A further participant, of a number of its own, which has seen as much. The participant that it is split off counts one more that
@@ -478,7 +509,7 @@ impl SharedDevice {
     ///
     /// ```rust
     /// let Ok(device) = shared.close(participant) else { return };
-    /// assert!(device.journal().len() == 2);
+    /// assert!(device.journal().len() == 3);
     /// ```
     pub fn close(self, participant: Seat) -> Result<Device, TurnOut>
         requires own { participant.table ≡ self }
@@ -507,7 +538,7 @@ impl SharedDevice {
     /// The length of the history at some moment. It waits for nobody.
     ///
     /// ```rust
-    /// assert!(shared.peek_count() == 2);
+    /// assert!(shared.peek_count() == 3);
     /// ```
     pub fn peek_count(&self) -> u64 {
         self.table.shared.peek(COUNT)

@@ -1,7 +1,7 @@
 //! The examples of `drm_turns`, made by `tools/doc_examples` of its doc comments.
 
 use drm_device::{Device, Limits, Topology};
-use drm_table::{Answer, Event, Opening};
+use drm_table::{Answer, Apart, Call, Event, Opening};
 use drm_turns::{NoMemory, SharedDevice, Sharing, TurnOut};
 
 #[test]
@@ -55,15 +55,30 @@ fn shared_device_shared(rt: HostRuntime) {
     assert!(rt; shared.peek_count() == 0);
     let opening = Event::Open(Opening::Render);
     assert!(rt; shared.call(&rt, &mut participant, opening) == Ok(Answer::Opened { client: 1 }));
+    let mut outcome = Err(Apart::Worn);
+    shared.call_at(
+        &rt,
+        &mut participant,
+        Event::Ask(1, Call::Version),
+        &mut outcome,
+    );
+    assert!(rt;
+        outcome
+            == Ok(Answer::Version {
+                major: 1,
+                minor: 0,
+                patch: 0
+            })
+    );
     let mut other = shared.split(&mut participant);
     let closing = Event::Close(1);
     assert!(rt; shared.call(&rt, &mut other, closing) == Ok(Answer::Closed));
     shared.join(&mut participant, other);
     let note = shared.note(&mut participant);
     shared.meet(&mut participant, note);
-    assert!(rt; shared.peek_count() == 2);
+    assert!(rt; shared.peek_count() == 3);
     let Ok(device) = shared.close(participant) else {
         panic!(rt; "refused")
     };
-    assert!(rt; device.journal().len() == 2);
+    assert!(rt; device.journal().len() == 3);
 }

@@ -7,4 +7,4 @@ pub returns-in-Unanswered : goal.returns-in-Unanswered
 returns-in-Unanswered g c = ([], c.in-Unanswered.ensures, WriteCost-none _ _)
 
 pub returns-in-Answered : goal.returns-in-Answered
-returns-in-Answered g c = answered_uses _ _ _ c.in-Answered.answer _ _ _ _ _ c.in-Answered.ensures c.write_line.ensures
+returns-in-Answered g c = answered_uses _ _ _ c.interpret.new.outcome _ _ _ _ _ c.in-Answered.ensures c.write_line.ensures

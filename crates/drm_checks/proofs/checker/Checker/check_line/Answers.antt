@@ -7,7 +7,7 @@ pub returns-in-Unanswered : goal.returns-in-Unanswered
 returns-in-Unanswered g c = used_line _ _ _ _ _ _ _ None _ _ _ c.parts_of.ensures.script c.parts_of.ensures.expected c.in-Unanswered.ensures c.note.ensures
 
 pub returns-in-Answered : goal.returns-in-Answered
-returns-in-Answered g c = used_line _ _ _ _ _ _ _ (Some c.in-Answered.answer) _ _ _ c.parts_of.ensures.script c.parts_of.ensures.expected c.in-Answered.ensures c.note-in-Answered.ensures
+returns-in-Answered g c = used_line _ _ _ _ _ _ _ (Some c.interpret.new.outcome) _ _ _ c.parts_of.ensures.script c.parts_of.ensures.expected c.in-Answered.ensures c.note-in-Answered.ensures
 
 pub returns-in-Malformed : goal.returns-in-Malformed
 returns-in-Malformed g c =

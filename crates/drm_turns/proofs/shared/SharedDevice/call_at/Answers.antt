@@ -10,9 +10,9 @@ use Rattle.drm_turns.specs.Turns.{Turn}
 use Rattle.drm_turns.specs.Participants.{ParticipantView, entries_of}
 use Rattle.drm_turns.specs.ParticipantFields.{participant_view_of}
 use Rattle.drm_turns.proofs.Held.{commits, answered, aborts, not_worn, turn_entries, turn_tickets, turned}
-use Rattle.drm_turns.proofs.shared.SharedDevice.call.Given.{Over}
-use Rattle.drm_turns.proofs.shared.SharedDevice.call.Goals as goal
-use Rattle.drm_turns.proofs.shared.SharedDevice.call.Goals.{After-pass}
+use Rattle.drm_turns.proofs.shared.SharedDevice.call_at.Given.{Over}
+use Rattle.drm_turns.proofs.shared.SharedDevice.call_at.Goals as goal
+use Rattle.drm_turns.proofs.shared.SharedDevice.call_at.Goals.{After-pass}
 
 -- the participant's view in its turn
 its_turn : (g : Over) (c : After-pass g) → let v = c.participant.inside.place.me.0 in
