@@ -26,7 +26,7 @@ TESTS = REPOSITORY / "tests"
 # what is no module, and so isn't found by its name
 COMMANDS = ("drm-client", "drm-audit")
 # likewise, seen from the tests
-TOOLS = ("all", "../bench/instructions")
+TOOLS = ("all", "../bench/instructions", "../tools/check")
 
 
 # Python
@@ -128,6 +128,7 @@ class LintersTests(FolderCase):
 
     def test_types_of_what_tests_share_are_clean_by_a_strict_mypy(self):
         expect_clean(self.folder, "mypy", "--cache-dir", self.folder / "cache", "support.py", cwd=TESTS)
+        expect_clean(self.folder, "mypy", "--cache-dir", self.folder / "cache", "../tools/check", cwd=TESTS)
 
     def test_python_is_as_black_formats_it(self):
         folder = self.folder
