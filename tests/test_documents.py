@@ -36,7 +36,7 @@ from blocks import blocks_of, commands_of, documents, is_answer, tables_of, work
 from pictures import expect_picture  # noqa: E402
 
 # what commands of the documents find at the top of the repository, where they are run
-TOP = ("bench", "clients", "crates", "drm_server", "examples", "tools")
+TOP = ("bench", "clients", "crates", "drm_server", "examples", "tools", "zirkoshe")
 
 # The examples whose answers tests/test_program.py doesn't have.
 EXAMPLES = {
@@ -342,6 +342,8 @@ def trial_of(block, before):
         "listing": lambda folder: expect_listing(folder, before[-1], block),
         "python": lambda folder: expect_excerpt(block),
         "sh": lambda folder: expect_excerpt(block),
+        "yaml": lambda folder: expect_excerpt(block),
+        "dockerfile": lambda folder: expect_excerpt(block),
         "text": lambda folder: expect_drawing(block),
     }
     return kinds.get(block.language(), lambda folder: expect_known(block))
