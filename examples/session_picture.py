@@ -12,7 +12,7 @@ import sys
 sys.dont_write_bytecode = True
 sys.path.insert(0, str(pathlib.Path(__file__).resolve().parent.parent / "clients/python"))
 from zirkoshe import DEFAULT_TIMEOUT, Client, ClientError  # noqa: E402  (it is in clients/python)
-from zirkoshe.audit import graph_of, read_audit, svg  # noqa: E402
+from zirkoshe.audit import formed, read_audit  # noqa: E402
 
 
 def show(card: str, root: str) -> str:
@@ -30,7 +30,7 @@ def show(card: str, root: str) -> str:
             lessee.setcrtc(2, overlay, 8)
             lessee.prime_import(token)
             lessee.setplane(4, 2, framebuffer)
-            return svg(graph_of(read_audit(root, DEFAULT_TIMEOUT)))
+            return formed(read_audit(root, DEFAULT_TIMEOUT), "svg")
 
 
 def main() -> int:

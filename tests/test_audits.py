@@ -6,6 +6,7 @@ Each test is a function of a folder of its own. The last line is `N passed, M fa
 import contextlib
 import json
 import re
+import shlex
 import shutil
 import socket
 import subprocess
@@ -32,7 +33,10 @@ from support import (  # noqa: E402
     server,
     wait_until,
     wait_until_it_listens,
+    want_program,
 )
+
+from zirkoshe.graph import LOOKS  # noqa: E402
 
 from hostile import answering  # noqa: E402
 from pictures import expect_picture  # noqa: E402
@@ -82,12 +86,13 @@ DEVICE = {
         {"id": number, "kind": kind}
         for number, kind in ((1, "CRTC"), (2, "CRTC"), (3, "plane"), (4, "plane"), (7, "connector"), (8, "connector"))
     ],
+    # by the test topology: encoder 5 has both CRTCs, encoder 6 has CRTC 2
+    "routes": [{"connector": 7, "crtcs": [1, 2]}, {"connector": 8, "crtcs": [2]}],
 }
 ARROWS = [
     ("master 7", "master 1"),
     ("client 1", "master 1"),
     ("client 8", "master 7"),
-    ("client 14", "master 1"),
     ("client 1", "buffer 2"),
     ("client 8", "buffer 9"),
     ("client 12", "buffer 2"),
@@ -95,7 +100,19 @@ ARROWS = [
     ("framebuffer 10", "buffer 9"),
     ("CRTC 1", "framebuffer 9"),
     ("CRTC 2", "framebuffer 10"),
+    ("connector 7", "CRTC 1"),
+    ("connector 7", "CRTC 2"),
+    ("connector 8", "CRTC 2"),
 ]
+OF_THE_AUDITOR = ("client 14", "master 1")
+COLUMNS = {
+    "Masters": ["master 1", "master 7"],
+    "Clients": ["client 1", "client 8", "client 12"],
+    "Buffers": ["buffer 2", "buffer 9"],
+    "Framebuffers": ["framebuffer 9", "framebuffer 10"],
+    "CRTCs and planes": ["CRTC 1", "CRTC 2", "plane 3", "plane 4"],
+    "Connectors": ["connector 7", "connector 8"],
+}
 
 
 def ask_all(client, *calls):
@@ -132,6 +149,20 @@ def audited(folder, form):
             client.close()
     expect("error output and status", (ran.stderr, ran.returncode), ("", 0))
     return ran.stdout
+
+
+def arrows_of(graph):
+    """The arrows of a graph, without the chains that no picture shows."""
+    lines = [line for line in graph.splitlines() if "style=invis" not in line]
+    return sorted(match.groups() for match in map(re.compile(r' *"([^"]+)" -> "([^"]+)"').match, lines) if match)
+
+
+def places_by_graphviz(graph):
+    """The middle of each box by its title, as Graphviz places it."""
+    ran = run("dot", "-Tplain", stdin=None, input=graph)
+    expect("status and what it says", (ran.returncode, ran.stderr), (0, ""))
+    rows = [shlex.split(line) for line in ran.stdout.replace("\\\n", "").splitlines()]
+    return {row[1]: (float(row[2]), float(row[3])) for row in rows if row[0] == "node"}
 
 
 # what shows it again at each change
@@ -211,6 +242,7 @@ class AuditsTests(FolderCase):
             ["10", "8", "9"],
             ["1", "1", "1", "23"],
             ["3", "plane"],
+            ["7", "1,", "2"],
         ):
             expect(f"row {row}", row in found, True)
 
@@ -218,14 +250,38 @@ class AuditsTests(FolderCase):
         folder = self.folder
         found = audited(folder, ["--dot"])
         expect("the first line", found.splitlines()[0], "digraph audit {")
-        expect("arrows", found.count(" -> "), len(ARROWS))
-        for start, end in ARROWS:
-            expect(f"an arrow from {start} to {end}", f'"{start}" -> "{end}"' in found, True)
+        expect("arrows", arrows_of(found), sorted(ARROWS))
+
+    def test_graph_has_the_columns_and_colours_of_the_picture(self):
+        want_program("dot")
+        graph = audited(self.folder, ["--dot"])
+        places = places_by_graphviz(graph)
+        lefts = [[places[title][0] for title in (head, *titles)] for head, titles in COLUMNS.items()]
+        expect("columns whose boxes are not in one", [column for column in lefts if len(set(column)) != 1], [])
+        expect("the order of the columns", lefts, sorted(lefts))
+        heights = [[places[title][1] for title in (head, *titles)] for head, titles in COLUMNS.items()]
+        expect("the order in each", heights, [sorted(column, reverse=True) for column in heights])
+        fills = dict(re.findall(r'"([^"]+)" \[label=.*fillcolor="(#[0-9a-f]{6})"', graph))
+        for title, look in (("master 1", "master"), ("client 8", "client"), ("plane 3", "dark"), ("CRTC 1", "output")):
+            expect(f"the colour of {title}", fills[title], LOOKS[look][0])
+        expect("boxes with a colour", sorted(fills), sorted(sum(COLUMNS.values(), [])))
+
+    def test_auditor_is_in_pictures_that_ask_for_it(self):
+        graph = audited(self.folder, ["--dot", "--auditor"])
+        expect("arrows", arrows_of(graph), sorted([*ARROWS, OF_THE_AUDITOR]))
+
+    def test_auditor_of_an_empty_device(self):
+        """Its client became the master, and a picture has neither of them."""
+        with server(self.folder, 0, 0, 2):
+            wait_until_it_listens(self.folder / "root")
+            plain, whole = (run(AUDIT, self.folder / "root", "--dot", *more).stdout for more in ([], ["--auditor"]))
+        boxes = re.compile(r'^    "((?:client|master) \d+)" \[', re.MULTILINE)
+        expect("clients and masters", (boxes.findall(plain), len(boxes.findall(whole))), ([], 2))
 
     def test_audit_as_a_picture(self):
         folder = self.folder
-        # two masters, four clients, two buffers, two framebuffers, and four CRTCs and planes
-        expect_picture(audited(folder, ["--svg"]), 14, len(ARROWS))
+        # two masters, three clients, two buffers, two framebuffers, four CRTCs and planes, and two connectors
+        expect_picture(audited(folder, ["--svg"]), 15, len(ARROWS))
 
     def test_picture_of_many_rows(self):
         """More rows than a page has, of clients, buffers and handles; and a lessee without a lease."""
@@ -244,9 +300,9 @@ class AuditsTests(FolderCase):
             for client in [*clients, lessee]:
                 client.close()
         expect("error output and status", (ran.stderr, ran.returncode), ("", 0))
-        # 3 masters, 21 clients, 39 buffers, 19 framebuffers, 4 CRTCs and planes; 2 lessees, 21 clients' masters, 41 handles,
-        # 19 framebuffers, 2 that are shown
-        expect_picture(ran.stdout, 3 + 21 + 39 + 19 + 4, 2 + 21 + 41 + 19 + 2)
+        # 3 masters, 20 clients, 39 buffers, 19 framebuffers, 4 CRTCs and planes, 2 connectors; 2 lessees, 20 clients' masters,
+        # 41 handles, 19 framebuffers, 2 that are shown, 3 routes
+        expect_picture(ran.stdout, 3 + 20 + 39 + 19 + 4 + 2, 2 + 20 + 41 + 19 + 2 + 3)
 
     def test_audit_is_refused(self):
         folder = self.folder
@@ -263,15 +319,15 @@ class AuditsTests(FolderCase):
     def test_watch_shows_each_change(self):
         folder = self.folder
         shown = folder / "shown.svg"
-        with server(folder, 1, 0, 1) as started, watching(folder, "--svg", "--into", shown) as watch:
+        with server(folder, 1, 0, 1) as started, watching(folder, "--svg", "--auditor", "--into", shown) as watch:
             seen_in(shown, "client 1")
             owner = connect(folder / "card")
             # who watches was the first, and is no master all the same
             ask_all(owner, "set_master", "create_dumb 64 64 32", "addfb 64 64 256 32 1", "setcrtc 1 9 7")
-            # two clients and their masters, a buffer, a framebuffer, CRTCs and planes; two clients' masters, a handle, a framebuffer
-            # and what is shown
-            seen_in(shown, '<path class="arrow"', 5)
-            expect_picture(shown.read_text(), 2 + 2 + 1 + 1 + 4, 5)
+            # two clients and their masters, a buffer, a framebuffer, CRTCs and planes, connectors; two clients' masters, a handle,
+            # a framebuffer, what is shown, and three routes
+            seen_in(shown, '<path class="arrow"', 5 + 3)
+            expect_picture(shown.read_text(), 2 + 2 + 1 + 1 + 4 + 2, 5 + 3)
             owner.close()
             started.kill()
             expect_end(end_of(watch), 0, "", "")
@@ -292,8 +348,8 @@ class AuditsTests(FolderCase):
                 expect("the clients now", len(found["clients"]), 2)
                 steps = other.audit(10, 0)[0].d
                 most = (time.monotonic() - begun) / float(INTERVAL)
-                # 26 steps of its own at first, then at most one in an interval, then those of what is new
-                expect(f"whether {steps} steps are too many", steps < 26 + most + 20, True)
+                # 31 steps of its own at first, then at most one in an interval, then those of what is new
+                expect(f"whether {steps} steps are too many", steps < 31 + most + 20, True)
 
     def test_watch_is_refused(self):
         folder = self.folder
@@ -336,7 +392,8 @@ class AuditsTests(FolderCase):
                     told = next_live(live)
                     texts = [change["text"] for change in told["changes"]]
                 expect("the handle", "handle 1 of client" in " ".join(texts), True)
-                expect_picture(told["svg"], 2 + 2 + 1 + 1 + 4, 5)
+                # without the client of the watch, and its master
+                expect_picture(told["svg"], 1 + 1 + 1 + 1 + 4 + 2, 4 + 3)
                 owner.close()
                 while "framebuffer 9 was removed" not in texts:
                     texts = [change["text"] for change in next_live(live)["changes"]]

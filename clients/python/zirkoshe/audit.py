@@ -1,6 +1,6 @@
 """Reads the audit of a server over its root socket, and prints it.
 
-    python3 -m zirkoshe.audit SOCKET [--json | --dot | --svg]
+    python3 -m zirkoshe.audit SOCKET [--json | --dot | --svg] [--auditor]
 
 It prints tables, JSON, or a graph in DOT or SVG: the clients, the masters and lessees,
 the buffers with their names, tokens and framebuffers, what each CRTC and plane shows,
@@ -9,7 +9,8 @@ and which client may set it.
 An audit is read page by page, 16 rows of one kind at a time, and each page is a step of
 the server's journal. Another client may make a step between two pages, so the rows of a
 busy server need not be those of one moment. The audit has its own client, which is
-among the rows. If the device has no master, that client becomes its master.
+among the rows. Pictures do not show it without --auditor. If the device has no master,
+that client becomes its master.
 """
 
 import argparse
@@ -58,6 +59,7 @@ __all__ = [
     "plain",
     "read_audit",
     "reason_of",
+    "routes_by",
     "svg",
     "tables",
 ]
@@ -77,8 +79,25 @@ def read_kind(client: Client, number: int, row_type: Type[Any]) -> List[Any]:
     raise ProtocolError(f"there is no end of the rows of kind {number}")
 
 
-def audit_by(client: Client) -> Audit:
-    """Returns the audit of a root client.
+def routes_by(client: Client) -> Dict[int, List[int]]:
+    """Returns the possible CRTCs of each connector that a client sees.
+
+    They are the same as long as the server runs. It takes two steps for each connector,
+    and one more.
+    """
+    resources = client.getresources()
+    masks = {
+        number: client.getencoder(client.getconnector(number))
+        for number in resources.connectors
+    }
+    return {
+        number: [crtc for bit, crtc in enumerate(resources.crtcs) if mask >> bit & 1]
+        for number, mask in masks.items()
+    }
+
+
+def audit_by(client: Client, routes: Optional[Dict[int, List[int]]] = None) -> Audit:
+    """Returns the audit of a root client, with these routes if they are known.
 
     The audit lists all planes: a client with universal planes off turns them on for a
     moment, which is two more steps.
@@ -104,7 +123,10 @@ def audit_by(client: Client) -> Audit:
         *((number, "connector") for number in resources.connectors),
     ]
     return Audit(
-        auditor=client.opened.client, mode_objects=dict(sorted(found)), **kinds
+        auditor=client.opened.client,
+        mode_objects=dict(sorted(found)),
+        routes=routes_by(client) if routes is None else routes,
+        **kinds,
     )
 
 
@@ -128,6 +150,9 @@ def plain(audit: Audit) -> Dict[str, Any]:
     found["device"] = found["device"][0] if found["device"] else None
     found["mode_objects"] = [
         {"id": number, "kind": kind} for number, kind in audit.mode_objects.items()
+    ]
+    found["routes"] = [
+        {"connector": number, "crtcs": crtcs} for number, crtcs in audit.routes.items()
     ]
     return found
 
@@ -174,7 +199,10 @@ def tables(audit: Audit) -> str:
             )
         )
     outputs = [(str(number), kind) for number, kind in audit.mode_objects.items()]
-    return "\n\n".join([*parts, table("mode objects", ("id", "kind"), outputs)])
+    routes = [(str(number), listed(crtcs)) for number, crtcs in audit.routes.items()]
+    parts.append(table("mode objects", ("id", "kind"), outputs))
+    parts.append(table("connectors", ("connector", "possible CRTCs"), routes))
+    return "\n\n".join(parts)
 
 
 def parse(arguments: Optional[Sequence[str]]) -> argparse.Namespace:
@@ -201,6 +229,11 @@ def parse(arguments: Optional[Sequence[str]]) -> argparse.Namespace:
             help=f"print it {what}",
         )
     parser.add_argument(
+        "--auditor",
+        action="store_true",
+        help="show the client of the audit in a picture, too",
+    )
+    parser.add_argument(
         "--timeout",
         type=float,
         default=DEFAULT_TIMEOUT,
@@ -210,13 +243,17 @@ def parse(arguments: Optional[Sequence[str]]) -> argparse.Namespace:
     return parser.parse_args(arguments)
 
 
-def formed(audit: Audit, form: Optional[str]) -> str:
-    """Returns the audit in a form: json, dot or svg, and otherwise tables."""
+def formed(audit: Audit, form: Optional[str], with_auditor: bool = False) -> str:
+    """Returns the audit in a form: json, dot or svg, and otherwise tables.
+
+    The pictures dot and svg are without the client that read the audit by default.
+    """
     if form == "json":
         return json.dumps(plain(audit), indent=2)
-    if form == "dot":
-        return dot(graph_of(audit))
-    return svg(graph_of(audit)) if form == "svg" else tables(audit)
+    if form not in ("dot", "svg"):
+        return tables(audit)
+    graph = graph_of(audit if with_auditor else audit.without_auditor())
+    return dot(graph) if form == "dot" else svg(graph)
 
 
 def main(arguments: Optional[Sequence[str]] = None) -> int:
@@ -224,7 +261,7 @@ def main(arguments: Optional[Sequence[str]] = None) -> int:
     parsed = parse(arguments)
     try:
         audit = read_audit(parsed.path, parsed.timeout)
-        print(formed(audit, parsed.form), flush=True)
+        print(formed(audit, parsed.form, parsed.auditor), flush=True)
     except KeyboardInterrupt:
         return 130
     except Refusal as refusal:

@@ -3,7 +3,7 @@
 `graph_of` makes the graph of an audit, `dot` its text for Graphviz, `svg` a picture.
 """
 
-from typing import Dict, List, NamedTuple, Tuple
+from typing import Dict, List, NamedTuple, Sequence, Tuple
 from xml.sax.saxutils import escape
 
 from .rows import Audit, ClientRow, MasterRow, ObjectRow, flag_words
@@ -91,13 +91,32 @@ def buffer_box(audit: Audit, row: ObjectRow) -> Box:
     return Box(f"buffer {row.object}", tuple(lines), "buffer")
 
 
+def listed_numbers(first: str, numbers: List[int]) -> List[str]:
+    """Returns numbers after a word, which has an s if there are several."""
+    plural = "s" if len(numbers) > 1 else ""
+    return wrap(first + plural, list(map(str, numbers)))
+
+
+def connector_box(audit: Audit, number: int) -> Box:
+    """Returns the box of a connector."""
+    users = [row.client for row in audit.clients if number in audit.may_use(row)]
+    routes = audit.routes.get(number, [])
+    lines = listed_numbers("possible CRTC", routes) if routes else ["no possible CRTC"]
+    lines += (
+        listed_numbers("may be used by client", users)
+        if users
+        else ["may be used by nobody"]
+    )
+    return Box(audit.name_of(number), tuple(lines), "connector")
+
+
 def output_box(audit: Audit, number: int) -> Box:
     """Returns the box of a CRTC or plane."""
-    setters = [str(row.client) for row in audit.clients if number in audit.may_set(row)]
+    setters = [row.client for row in audit.clients if number in audit.may_set(row)]
     shown = [row.framebuffer for row in audit.shown if row.mode_object == number]
     lines = [f"shows framebuffer {shown[0]}" if shown else "dark"]
     lines += (
-        wrap("may be set by client" + ("s" if len(setters) > 1 else ""), setters)
+        listed_numbers("may be set by client", setters)
         if setters
         else ["may be set by nobody"]
     )
@@ -119,6 +138,7 @@ def graph_of(audit: Audit) -> Graph:
             for row in audit.framebuffers
         ],
         [output_box(audit, number) for number in audit.outputs()],
+        [connector_box(audit, number) for number in audit.routes],
     )
     arrows = [
         Arrow(f"master {row.master}", f"master {row.lessor}")
@@ -142,31 +162,81 @@ def graph_of(audit: Audit) -> Graph:
         Arrow(audit.name_of(row.mode_object), f"framebuffer {row.framebuffer}")
         for row in audit.shown
     ]
+    arrows += [
+        Arrow(audit.name_of(number), audit.name_of(crtc))
+        for number, crtcs in audit.routes.items()
+        for crtc in crtcs
+    ]
     there = {box.title for column in columns for box in column}
     # rows of two moments may name what no longer exists
     arrows = [arrow for arrow in arrows if arrow.start in there and arrow.end in there]
     return Graph(
-        ("Masters", "Clients", "Buffers", "Framebuffers", "CRTCs and planes"),
+        (
+            "Masters",
+            "Clients",
+            "Buffers",
+            "Framebuffers",
+            "CRTCs and planes",
+            "Connectors",
+        ),
         columns,
         arrows,
     )
 
 
+#: The fill and the border of each look.
+LOOKS = {
+    "master": ("#fdf0d5", "#c98a1b"),
+    "client": ("#dbeafe", "#3b6fb6"),
+    "auditor": ("#f3f4f6", "#9aa3af"),
+    "buffer": ("#e7defa", "#7a5bb8"),
+    "framebuffer": ("#fbe0ea", "#bb4c7c"),
+    "output": ("#d8f3dc", "#3c8a55"),
+    "dark": ("#e5e7eb", "#6b7280"),
+    "connector": ("#cffafe", "#1f7f92"),
+}
+#: The colour of arrows and heads.
+INK = "#4b5563"
+
+
 def dot(graph: Graph) -> str:
-    """Returns the graph for Graphviz."""
+    """Returns the graph for Graphviz, with the columns and colours of the picture."""
     lines = [
         "digraph audit {",
         "    rankdir=LR;",
-        '    node [shape=box, fontname="sans-serif"];',
+        "    ranksep=0.8;",
+        '    node [shape=box, style="rounded,filled", fontname="sans-serif"];',
+        "    edge [constraint=false, "
+        f'fontname="sans-serif", fontsize=12, color="{INK}"];',
     ]
-    for column in graph.columns:
-        names = "; ".join(f'"{box.title}"' for box in column)
-        lines += [f"    {{ rank=same; {names} }}"] if column else []
-        lines += [
-            f'    "{box.title}" [label="' + "\\n".join([box.title, *box.lines]) + '"];'
-            for box in column
-        ]
-    return "\n".join([*lines, *map(dot_arrow, graph.arrows), "}"])
+    for head, column in zip(graph.heads, graph.columns):
+        lines += [f'    "{head}" [shape=plaintext, style="", fontcolor="{INK}"];']
+        lines += map(dot_box, column)
+        lines += dot_column([head, *(box.title for box in column)])
+    return "\n".join(
+        [*lines, *dot_order(graph.heads), *map(dot_arrow, graph.arrows), "}"]
+    )
+
+
+def dot_column(titles: Sequence[str]) -> List[str]:
+    """Returns the lines of a column for Graphviz: its boxes are in this order."""
+    names = "; ".join(f'"{title}"' for title in titles)
+    return [f"    {{ rank=same; {names} }}", *dot_order(titles)]
+
+
+def dot_order(titles: Sequence[str]) -> List[str]:
+    """Returns the line that has Graphviz place boxes in order, without arrows."""
+    chain = " -> ".join(f'"{title}"' for title in titles)
+    hidden = "style=invis, constraint=true"
+    return [f"    {chain} [{hidden}];"] if len(titles) > 1 else []
+
+
+def dot_box(box: Box) -> str:
+    """Returns the line of a box for Graphviz."""
+    fill, border = LOOKS[box.look]
+    label = "\\l".join([box.title, *box.lines, ""])
+    look = f'fillcolor="{fill}", color="{border}"'
+    return f'    "{box.title}" [label="{label}", {look}];'
 
 
 def dot_arrow(arrow: Arrow) -> str:
@@ -182,16 +252,6 @@ UNORDERED = ("Buffers", "Framebuffers")
 MARGIN, TOP, GAP_X, GAP_Y, PAD, LINE, TITLE = 56, 64, 76, 22, 12, 18, 24
 #: The width of a letter in the sizes 12 and 14: the most on the average of a line.
 LETTER, TITLE_LETTER = 7.0, 8.8
-#: The fill and the border of each look.
-LOOKS = {
-    "master": ("#fdf0d5", "#c98a1b"),
-    "client": ("#dbeafe", "#3b6fb6"),
-    "auditor": ("#f3f4f6", "#9aa3af"),
-    "buffer": ("#e7defa", "#7a5bb8"),
-    "framebuffer": ("#fbe0ea", "#bb4c7c"),
-    "output": ("#d8f3dc", "#3c8a55"),
-    "dark": ("#e5e7eb", "#6b7280"),
-}
 
 
 class Place(NamedTuple):

@@ -236,9 +236,13 @@ class Server(http.server.ThreadingHTTPServer):
 
 
 class Page:
-    """The page. Port 0 is any free port."""
+    """The page. Port 0 is any free port.
 
-    def __init__(self, port: int) -> None:
+    Its picture is without the client that reads the audits by default.
+    """
+
+    def __init__(self, port: int, with_auditor: bool = False) -> None:
+        self._with_auditor = with_auditor
         self._turn = threading.Condition()
         self._number = 0
         self._has_ended = False
@@ -297,6 +301,6 @@ class Page:
             "is_new": True,
             "has_ended": self._has_ended,
             "journal": self._audit.device[0].journal,
-            "svg": formed(self._audit, "svg"),
+            "svg": formed(self._audit, "svg", self._with_auditor),
             "changes": [change._asdict() for change in self._changes],
         }

@@ -108,7 +108,11 @@ FLAGS = tuple(
 
 
 class Audit(NamedTuple):
-    """The rows of all kinds, the client that read them, and each mode object's kind."""
+    """The rows of all kinds, the client that read them, and the device's mode objects.
+
+    `mode_objects` has the kind of each, and `routes` the possible CRTCs of each
+    connector.
+    """
 
     auditor: int
     clients: List[ClientRow]
@@ -122,6 +126,7 @@ class Audit(NamedTuple):
     shown: List[ShownRow]
     device: List[DeviceRow]
     mode_objects: Dict[int, str]
+    routes: Dict[int, List[int]]
 
     def lessor_of(self, master: int) -> int:
         """Returns the lessor of a lessee, or 0."""
@@ -143,17 +148,35 @@ class Audit(NamedTuple):
             number for number, kind in self.mode_objects.items() if kind != "connector"
         ]
 
-    def may_set(self, client: ClientRow) -> List[int]:
-        """Returns the CRTCs and planes that a current client may set."""
+    def may_use(self, client: ClientRow) -> List[int]:
+        """Returns the mode objects that a current client may use."""
         owner = self.owner_of(client.master)
         if not client.flags & ClientFlag.MASTER or not any(
             row.master == owner != 0 for row in self.device
         ):
             return []
         if not self.lessor_of(client.master):
-            return self.outputs()
+            return list(self.mode_objects)
         lease = self.lease_of(client.master)
-        return [number for number in self.outputs() if number in lease]
+        return [number for number in self.mode_objects if number in lease]
+
+    def may_set(self, client: ClientRow) -> List[int]:
+        """Returns the CRTCs and planes that a current client may set."""
+        outputs = self.outputs()
+        return [number for number in self.may_use(client) if number in outputs]
+
+    def without_auditor(self) -> "Audit":
+        """Returns the audit without the client that read it.
+
+        A master is left out too if that client alone has it and no lessee is below it.
+        """
+        others = [row for row in self.clients if row.client != self.auditor]
+        own = {row.master for row in self.clients if row.client == self.auditor}
+        needed = {row.master for row in others} | {row.lessor for row in self.masters}
+        masters = [
+            row for row in self.masters if row.master not in own or row.master in needed
+        ]
+        return self._replace(clients=others, masters=masters)
 
     def name_of(self, number: int) -> str:
         """Returns a mode object's kind and id."""
