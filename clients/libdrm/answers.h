@@ -6,6 +6,7 @@
 #ifndef ZIRKOSHE_LIBDRM_ANSWERS_H
 #define ZIRKOSHE_LIBDRM_ANSWERS_H
 
+#include "callers.h"
 #include "connections.h"
 
 #include <drm.h>
@@ -76,7 +77,7 @@ const struct drm_mode_modeinfo *all_modes(uint32_t *count);
 /* Gives a list as the core does: as much of it as there is room for, and how long it is. */
 int give(uint64_t pointer, uint32_t *room, const void *items, uint32_t count, size_t size);
 
-/* Gives a text likewise. */
-void give_text(char *buffer, size_t *room, const char *text);
+/* Gives a text likewise, where there is a buffer. */
+int give_text(char *buffer, size_t *room, const char *text);
 
 #endif

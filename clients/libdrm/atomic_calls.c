@@ -20,45 +20,48 @@ static int refuse(const struct connection *connection, const struct drm_mode_ato
                : 0;
 }
 
-/* The lists of a commit: objects, how many properties each has, and these with their values. */
-struct lists {
-    const uint32_t *objects, *counts, *properties;
-    const uint64_t *values;
-};
-
-static const void *list_at(uint64_t pointer)
+/* Reads an element of a list of the caller's. */
+static int read_element(uint64_t list, uint32_t at, void *element, size_t size)
 {
-    return (const void *)(uintptr_t)pointer;
+    return list == 0 ? -EFAULT : copy_from_caller(element, list + at * size, size);
+}
+
+/* Reads a property of an object, with its value. */
+static int read_property(struct commit *commit, const struct drm_mode_atomic *asked, uint32_t id,
+                         uint32_t at)
+{
+    uint32_t property;
+    uint64_t value;
+    int failed = read_element(asked->props_ptr, at, &property, sizeof property);
+
+    if (!failed)
+        failed = read_element(asked->prop_values_ptr, at, &value, sizeof value);
+    return failed ? failed : commit_set(commit, id, property, value);
 }
 
 /* Reads the next object with its properties, which begin at `*at`. */
-static int read_object(struct commit *commit, const struct lists *lists, uint32_t object,
+static int read_object(struct commit *commit, const struct drm_mode_atomic *asked, uint32_t object,
                        uint32_t *at)
 {
-    uint32_t id = lists->objects[object], end;
-    int failed = commit_add(commit, id);
+    uint32_t id, count;
+    int failed = read_element(asked->objs_ptr, object, &id, sizeof id);
 
-    if (failed)
-        return failed;
-    end = *at + lists->counts[object];
-    if (end != *at && (lists->properties == NULL || lists->values == NULL))
-        return -EFAULT;
-    for (; !failed && *at < end; ++*at)
-        failed = commit_set(commit, id, lists->properties[*at], lists->values[*at]);
+    if (!failed)
+        failed = read_element(asked->count_props_ptr, object, &count, sizeof count);
+    if (!failed)
+        failed = commit_add(commit, id);
+    for (; !failed && count > 0; count--, ++*at)
+        failed = read_property(commit, asked, id, *at);
     return failed;
 }
 
 static int read_objects(struct commit *commit, const struct drm_mode_atomic *asked)
 {
-    const struct lists lists = {list_at(asked->objs_ptr), list_at(asked->count_props_ptr),
-                                list_at(asked->props_ptr), list_at(asked->prop_values_ptr)};
     uint32_t object, at = 0;
     int failed = 0;
 
-    if (asked->count_objs > 0 && (lists.objects == NULL || lists.counts == NULL))
-        return -EFAULT;
     for (object = 0; !failed && object < asked->count_objs; object++)
-        failed = read_object(commit, &lists, object, &at);
+        failed = read_object(commit, asked, object, &at);
     return failed;
 }
 

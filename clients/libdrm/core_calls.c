@@ -10,21 +10,15 @@ int give(uint64_t pointer, uint32_t *room, const void *items, uint32_t count, si
     uint32_t given = *room < count ? *room : count;
 
     *room = count;
-    if (given == 0)
-        return 0;
-    if (pointer == 0)
-        return -EFAULT;
-    memcpy((void *)(uintptr_t)pointer, items, given * size);
-    return 0;
+    return copy_to_caller(pointer, items, given * size);
 }
 
-void give_text(char *buffer, size_t *room, const char *text)
+int give_text(char *buffer, size_t *room, const char *text)
 {
-    size_t length = strlen(text);
+    size_t length = strlen(text), given = *room < length ? *room : length;
 
-    if (buffer != NULL)
-        memcpy(buffer, text, *room < length ? *room : length);
     *room = length;
+    return buffer == NULL ? 0 : copy_to_caller((uintptr_t)buffer, text, given);
 }
 
 /* Programs that look for a driver by its name are told the one that they look for. */
@@ -46,10 +40,12 @@ int answer_version(struct connection *connection, void *argument)
     version->version_major = (int)found.major_number;
     version->version_minor = (int)found.minor_number;
     version->version_patchlevel = (int)found.patch;
-    give_text(version->name, &version->name_len, driver_name());
-    give_text(version->date, &version->date_len, "0");
-    give_text(version->desc, &version->desc_len, "Zirkoshe display and buffer server");
-    return 0;
+    failed = give_text(version->name, &version->name_len, driver_name());
+    if (!failed)
+        failed = give_text(version->date, &version->date_len, "0");
+    if (!failed)
+        failed = give_text(version->desc, &version->desc_len, "Zirkoshe display and buffer server");
+    return failed;
 }
 
 /* A master's device has no name before SET_VERSION gives it one, which it doesn't here. */
@@ -73,7 +69,7 @@ int answer_get_client(struct connection *connection, void *argument)
         return -EINVAL;
     zirkoshe_gem_flink(&connection->client, 0, &name);
     client->auth = connection->client.rule != ZIRKOSHE_RULE_AUTH;
-    client->pid = (unsigned long)getpid();
+    client->pid = (unsigned long)caller_process();
     client->uid = (unsigned long)getuid();
     client->magic = 0;
     client->iocs = 0;

@@ -9,14 +9,14 @@
 static int create(struct connection *connection, const struct drm_mode_create_lease *create,
                   struct zirkoshe_lease *lease)
 {
-    uint32_t count = create->object_count;
+    uint32_t ids[ZIRKOSHE_MOST_ASKED], count = create->object_count;
+    uint32_t read = count < ZIRKOSHE_MOST_ASKED ? count : ZIRKOSHE_MOST_ASKED;
+    int failed;
 
     if (create->flags & ~(uint32_t)(O_CLOEXEC | O_NONBLOCK))
         return -EINVAL;
-    if (count > 0 && create->object_ids == 0)
-        return -EFAULT;
-    return zirkoshe_drmModeCreateLease(
-        &connection->client, (const uint32_t *)(uintptr_t)create->object_ids, count, lease);
+    failed = copy_from_caller(ids, create->object_ids, read * sizeof ids[0]);
+    return failed ? failed : zirkoshe_drmModeCreateLease(&connection->client, ids, count, lease);
 }
 
 /* Takes a lease back that could not be opened. */

@@ -154,11 +154,10 @@ int answer_set_crtc(struct connection *connection, void *argument)
         return refuse(client, crtc->crtc_id, -ENOSPC);
     if (crtc->count_connectors > 1)
         return refuse(client, crtc->crtc_id, -EINVAL);
-    if (crtc->count_connectors == 1 && crtc->set_connectors_ptr == 0)
-        return -EFAULT;
     if (crtc->count_connectors == 1)
-        memcpy(&connector_id, (const void *)(uintptr_t)crtc->set_connectors_ptr,
-               sizeof connector_id);
+        failed = copy_from_caller(&connector_id, crtc->set_connectors_ptr, sizeof connector_id);
+    if (failed)
+        return failed;
     failed = zirkoshe_drmModeSetCrtc(client, crtc->crtc_id, fb_id, connector_id);
     if (!failed)
         note_crtc(crtc, fb_id, &view, connector_id);

@@ -5,6 +5,8 @@
 #include "properties.h"
 #include "states.h"
 
+#include <stdlib.h>
+
 /* The most properties that an object has */
 #define MOST_PROPERTIES 16
 #define PRIMARY 1
@@ -223,13 +225,34 @@ int answer_set_connector_property(struct connection *connection, void *argument)
 int answer_create_blob(struct connection *connection, void *argument)
 {
     struct drm_mode_create_blob *asked = argument;
+    void *bytes;
+    int failed;
 
     if (asked->length == 0 || asked->length > INT32_MAX)
         return -EINVAL;
-    if (asked->data == 0)
-        return -EFAULT;
-    return blob_create(connection, (const void *)(uintptr_t)asked->data, asked->length,
-                       &asked->blob_id);
+    bytes = malloc(asked->length);
+    if (bytes == NULL)
+        return -ENOMEM;
+    failed = copy_from_caller(bytes, asked->data, asked->length);
+    if (!failed)
+        failed = blob_create(connection, bytes, asked->length, &asked->blob_id);
+    free(bytes);
+    return failed;
+}
+
+/* Copies the bytes of a blob of this size. */
+static int give_blob(const struct drm_mode_get_blob *asked, uint32_t size)
+{
+    void *bytes = malloc(size);
+    int failed;
+
+    if (bytes == NULL)
+        return -ENOMEM;
+    failed = blob_read(asked->blob_id, bytes, size) == size
+                 ? copy_to_caller(asked->data, bytes, size)
+                 : -ENOENT;
+    free(bytes);
+    return failed;
 }
 
 /* The bytes are returned if there is room for exactly these. */
@@ -238,15 +261,15 @@ int answer_get_blob(struct connection *connection, void *argument)
     struct drm_mode_get_blob *asked = argument;
     uint32_t size = blob_read(asked->blob_id, NULL, 0);
 
+    int failed = 0;
+
     (void)connection;
     if (size == 0)
         return -ENOENT;
-    if (asked->length == size && asked->data == 0)
-        return -EFAULT;
     if (asked->length == size)
-        blob_read(asked->blob_id, (void *)(uintptr_t)asked->data, size);
+        failed = give_blob(asked, size);
     asked->length = size;
-    return 0;
+    return failed;
 }
 
 int answer_destroy_blob(struct connection *connection, void *argument)
