@@ -18,6 +18,7 @@ from support import (  # noqa: E402
     expect_end,
     run,
     run_tests,
+    want_libdrm,
     want_program,
 )
 
@@ -84,13 +85,15 @@ with Server() as server:
 def sources_in_c():
     found = [
         path
-        for place in ("clients/c", "clients/libdrm", "tests", "examples")
+        for place in ("clients/c", *LIBDRM, "tests", "examples")
         for ending in ("c", "h")
         for path in (REPOSITORY / place).glob(f"*.{ending}")
     ]
     return sorted(found)
 
 
+# the core of clients/libdrm, and its two front ends
+LIBDRM = ("clients/libdrm", "clients/libdrm/preload", "clients/libdrm/supervisor")
 WARNINGS = ["-Wall", "-Wextra", "-Wpedantic", "-Wconversion", "-Wshadow", "-Werror", "-pthread"]
 # each header alone, and after one that decides what the system's headers declare
 INCLUDED = {
@@ -204,6 +207,15 @@ class LintersTests(FolderCase):
         for name in ("session", "opening", "closed", "threads", "fixture"):
             ran = run("cc", "-std=c99", *WARNINGS, "-fsyntax-only", "-I", CLIENTS / "c", REPOSITORY / f"tests/{name}.c")
             expect(f"what is said of {name}", (ran.returncode, ran.stderr), (0, ""))
+
+    def test_supervisor_without_warnings(self):
+        """And the program that tests it."""
+        headers = [word for word in want_libdrm() if word.startswith("-I")]
+        words = ["-I", REPOSITORY / "clients/libdrm", "-I", CLIENTS / "c", *headers]
+        sources = sorted((REPOSITORY / "clients/libdrm/supervisor").glob("*.c"))
+        for source in (*sources, TESTS / "supervised.c"):
+            ran = run("cc", "-std=gnu11", *WARNINGS, "-fsyntax-only", *words, source)
+            expect(f"what is said of {source.name}", (ran.returncode, ran.stderr), (0, ""))
 
 
 if __name__ == "__main__":

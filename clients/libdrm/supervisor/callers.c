@@ -1,0 +1,69 @@
+/* The caller is a task that waits for the answer to a system call. */
+#include "supervisor.h"
+
+#include <stdio.h>
+#include <stdlib.h>
+#include <sys/uio.h>
+
+static _Thread_local pid_t caller;
+
+void set_caller(pid_t task)
+{
+    caller = task;
+}
+
+int copy_from_caller(void *to, uint64_t address, size_t size)
+{
+    struct iovec here = {to, size}, there = {(void *)(uintptr_t)address, size};
+
+    return size == 0 || process_vm_readv(caller, &here, 1, &there, 1, 0) == (ssize_t)size ? 0
+                                                                                          : -EFAULT;
+}
+
+int copy_to_caller(uint64_t address, const void *from, size_t size)
+{
+    struct iovec here = {(void *)(uintptr_t)from, size}, there = {(void *)(uintptr_t)address, size};
+
+    return size == 0 || process_vm_writev(caller, &here, 1, &there, 1, 0) == (ssize_t)size
+               ? 0
+               : -EFAULT;
+}
+
+int copy_text_from_caller(char *text, size_t room, uint64_t address)
+{
+    size_t length = 0;
+
+    while (length < room) {
+        size_t left = PAGE - (address + length) % PAGE;
+        size_t size = left < room - length ? left : room - length;
+
+        if (copy_from_caller(text + length, address + length, size) != 0)
+            return -EFAULT;
+        if (memchr(text + length, '\0', size) != NULL)
+            return 0;
+        length += size;
+    }
+    return -ENAMETOOLONG;
+}
+
+/* A task is a thread of the process of its group. */
+pid_t caller_process(void)
+{
+    char path[32], line[128];
+    FILE *status;
+    int process = 0;
+
+    snprintf(path, sizeof path, "/proc/%d/status", (int)caller);
+    status = fopen(path, "r");
+    if (status == NULL)
+        return caller;
+    while (process == 0 && fgets(line, sizeof line, status) != NULL)
+        process = strncmp(line, "Tgid:", 5) == 0 ? atoi(line + 5) : 0;
+    fclose(status);
+    return process == 0 ? caller : (pid_t)process;
+}
+
+void name_caller_descriptor(char *path, size_t room, int fd)
+{
+    snprintf(path, room, "/proc/%d/fd/%d", (int)caller, fd);
+}

@@ -1,0 +1,262 @@
+/* Answers the system calls that callers wait for. */
+#include "supervisor.h"
+
+#include "ioctls.h"
+#include "tree.h"
+
+#include <drm.h>
+#include <drm_mode.h>
+#include <limits.h>
+#include <stdio.h>
+#include <stdlib.h>
+#include <sys/ioctl.h>
+#include <sys/syscall.h>
+
+/* A call that is answered by a thread. */
+struct call {
+    int listener;
+    struct seccomp_notif told;
+    enum node node; /* of an opening */
+    int socket;     /* of a request: its connection's */
+};
+
+/* Lets the caller go on with this result, or with the kernel's own of its call. */
+static void respond(const struct call *call, int64_t result, uint32_t flags)
+{
+    struct seccomp_notif_resp response;
+
+    memset(&response, 0, sizeof response);
+    response.id = call->told.id;
+    response.flags = flags;
+    if (result < 0)
+        response.error = (int)result;
+    else
+        response.val = result;
+    /* a caller that was killed needs no answer */
+    ioctl(call->listener, SECCOMP_IOCTL_NOTIF_SEND, &response);
+}
+
+static void let_kernel_answer(const struct call *call)
+{
+    respond(call, 0, SECCOMP_USER_NOTIF_FLAG_CONTINUE);
+}
+
+/* Whether the caller still waits: otherwise its number may be another task's. */
+static bool is_waiting(const struct call *call)
+{
+    uint64_t id = call->told.id;
+
+    return ioctl(call->listener, SECCOMP_IOCTL_NOTIF_ID_VALID, &id) == 0;
+}
+
+/* Gives the caller a descriptor with these flags of open: its number there, or a negative errno. */
+static int give_descriptor(const struct call *call, int fd, uint32_t flags)
+{
+    struct seccomp_notif_addfd given;
+    int number;
+
+    memset(&given, 0, sizeof given);
+    given.id = call->told.id;
+    given.srcfd = (uint32_t)fd;
+    given.newfd_flags = flags & O_CLOEXEC;
+    number = ioctl(call->listener, SECCOMP_IOCTL_NOTIF_ADDFD, &given);
+    if (number < 0)
+        number = -errno;
+    close(fd);
+    return number;
+}
+
+/* Gives the caller the file of a connection. */
+static int give_node(const struct call *call, int socket, uint32_t flags)
+{
+    int fd = node_make(socket);
+
+    return fd < 0 ? fd : give_descriptor(call, fd, flags);
+}
+
+/* The words of an opening from its path on. */
+static const __u64 *words_of_opening(const struct seccomp_notif *told)
+{
+    /* openat has a folder before the path */
+    return told->data.nr == SYS_openat ? &told->data.args[1] : &told->data.args[0];
+}
+
+static int open_node(const struct call *call)
+{
+    uint32_t flags = (uint32_t)words_of_opening(&call->told)[1];
+    int socket;
+
+    if (flags & (O_PATH | O_DIRECTORY))
+        return flags & O_PATH ? -EACCES : -ENOTDIR;
+    nodes_sweep();
+    socket = connection_open(call->node, false, 0, O_CLOEXEC);
+    return socket < 0 ? socket : give_node(call, socket, flags);
+}
+
+/* Whether a request makes an event: callers have no way to read it. */
+static bool has_event(uint32_t request, const void *argument)
+{
+    const struct drm_mode_crtc_page_flip *flip = argument;
+    const struct drm_mode_atomic *atomic = argument;
+    const union drm_wait_vblank *wait = argument;
+
+    switch (_IOC_NR(request)) {
+    case _IOC_NR(DRM_IOCTL_MODE_PAGE_FLIP):
+        return flip->flags & DRM_MODE_PAGE_FLIP_EVENT;
+    case _IOC_NR(DRM_IOCTL_MODE_ATOMIC):
+        return atomic->flags & DRM_MODE_PAGE_FLIP_EVENT;
+    case _IOC_NR(DRM_IOCTL_WAIT_VBLANK):
+        return wait->request.type & _DRM_VBLANK_EVENT;
+    case _IOC_NR(DRM_IOCTL_CRTC_QUEUE_SEQUENCE):
+        return true;
+    default:
+        return false;
+    }
+}
+
+/* Imports the caller's descriptor, which is opened here for it. */
+static int import(const struct call *call, struct connection *connection, uint32_t request,
+                  struct drm_prime_handle *prime)
+{
+    int fd = prime->fd, failed;
+    char path[48];
+
+    name_caller_descriptor(path, sizeof path, fd);
+    prime->fd = open(path, O_PATH | O_CLOEXEC);
+    failed = carry_out(connection, call->socket, request, prime);
+    if (prime->fd >= 0)
+        close(prime->fd);
+    prime->fd = fd;
+    return failed;
+}
+
+/* Gives the caller what a request made here. */
+static int hand_over(const struct call *call, uint32_t request, void *argument)
+{
+    const struct drm_mode_create_dumb *dumb = argument;
+    struct drm_mode_create_lease *lease = argument;
+    struct drm_prime_handle *prime = argument;
+    int number;
+
+    switch (_IOC_NR(request)) {
+    case _IOC_NR(DRM_IOCTL_MODE_CREATE_DUMB):
+        node_clear(call->socket, dumb->handle);
+        return 0;
+    case _IOC_NR(DRM_IOCTL_MODE_CREATE_LEASE):
+        number = give_node(call, (int)lease->fd, lease->flags);
+        lease->fd = (uint32_t)number;
+        break;
+    case _IOC_NR(DRM_IOCTL_PRIME_HANDLE_TO_FD):
+        number = give_descriptor(call, prime->fd, prime->flags);
+        prime->fd = number;
+        break;
+    default:
+        return 0;
+    }
+    return number < 0 ? number : 0;
+}
+
+/* Carries out a request whose struct was copied here. */
+static int carry_out_here(const struct call *call, struct connection *connection, uint32_t request,
+                          void *argument)
+{
+    int failed;
+
+    if (has_event(request, argument))
+        return -EOPNOTSUPP;
+    if (_IOC_NR(request) == _IOC_NR(DRM_IOCTL_PRIME_FD_TO_HANDLE))
+        return import(call, connection, request, argument);
+    failed = carry_out(connection, call->socket, request, argument);
+    return failed ? failed : hand_over(call, request, argument);
+}
+
+static int answer_request(const struct call *call)
+{
+    union {
+        max_align_t aligned;
+        char bytes[1 << _IOC_SIZEBITS];
+    } argument;
+    uint32_t request = (uint32_t)call->told.data.args[1];
+    uint64_t address = call->told.data.args[2];
+    struct connection *connection = connection_find(call->socket);
+    int failed, copied;
+
+    if (connection == NULL)
+        return -ENODEV;
+    memset(&argument, 0, sizeof argument);
+    failed = copy_from_caller(&argument, address, _IOC_SIZE(request));
+    if (!failed) {
+        failed = carry_out_here(call, connection, request, &argument);
+        copied = request & IOC_OUT ? copy_to_caller(address, &argument, _IOC_SIZE(request)) : 0;
+        failed = failed ? failed : copied;
+    }
+    connection_release(connection);
+    return failed;
+}
+
+static void *answer(void *given)
+{
+    struct call *call = given;
+
+    set_caller((pid_t)call->told.pid);
+    respond(call, call->told.data.nr == SYS_ioctl ? answer_request(call) : open_node(call), 0);
+    free(call);
+    return NULL;
+}
+
+/* Answers in a thread of its own: other callers don't wait for it. */
+static void begin_answer(const struct call *call)
+{
+    struct call *kept = malloc(sizeof *kept);
+    pthread_t thread;
+
+    if (kept != NULL) {
+        *kept = *call;
+        if (pthread_create(&thread, NULL, answer, kept) == 0) {
+            pthread_detach(thread);
+            return;
+        }
+        free(kept);
+    }
+    respond(call, -ENOMEM, 0);
+}
+
+/* Whether an opening is of the device; then `call` has its node, or it is refused. */
+static void answer_opening(struct call *call)
+{
+    uint64_t address = words_of_opening(&call->told)[0];
+    const struct entry *entry;
+    char path[PATH_MAX];
+
+    /* the kernel finds what is wrong with a text, and where a relative path leads */
+    if (copy_text_from_caller(path, sizeof path, address) != 0 || path[0] != '/'
+        || !find_place(AT_FDCWD, path, &entry) || (entry != NULL && entry->kind != KIND_NODE)) {
+        let_kernel_answer(call);
+    } else if (entry == NULL) {
+        respond(call, -ENOENT, 0);
+    } else {
+        call->node = entry->node;
+        begin_answer(call);
+    }
+}
+
+void answer_call(int listener, const struct seccomp_notif *told)
+{
+    struct call call;
+
+    memset(&call, 0, sizeof call);
+    call.listener = listener;
+    call.told = *told;
+    set_caller((pid_t)told->pid);
+    if (told->data.nr != SYS_ioctl) {
+        answer_opening(&call);
+        return;
+    }
+    call.socket = node_find((int)told->data.args[0]);
+    if (!is_waiting(&call))
+        return;
+    if (call.socket < 0)
+        let_kernel_answer(&call);
+    else
+        begin_answer(&call);
+}

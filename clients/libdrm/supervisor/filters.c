@@ -1,0 +1,60 @@
+/* The filter of system calls: openings, and the requests of DRM, are to be answered. */
+#include "supervisor.h"
+
+#include <linux/audit.h>
+#include <linux/filter.h>
+#include <sys/prctl.h>
+#include <sys/syscall.h>
+
+#if defined __x86_64__
+#define ARCHITECTURE AUDIT_ARCH_X86_64
+#elif defined __aarch64__
+#define ARCHITECTURE AUDIT_ARCH_AARCH64
+#else
+#error "this is for x86-64 and ARM of 64 bits"
+#endif
+
+/* Older headers don't have it: a signal doesn't interrupt a call that is being answered, which
+ * would then be made twice. */
+#ifndef SECCOMP_FILTER_FLAG_WAIT_KILLABLE_RECV
+#define SECCOMP_FILTER_FLAG_WAIT_KILLABLE_RECV (1UL << 5)
+#endif
+
+#define LOAD(field) BPF_STMT(BPF_LD | BPF_W | BPF_ABS, offsetof(struct seccomp_data, field))
+#define IF_EQUAL(value, then, otherwise) BPF_JUMP(BPF_JMP | BPF_JEQ | BPF_K, value, then, otherwise)
+#define RETURN(verdict) BPF_STMT(BPF_RET | BPF_K, verdict)
+
+#ifdef __NR_open
+#define OPEN __NR_open
+#else
+#define OPEN __NR_openat
+#endif
+
+static struct sock_filter rules[] = {
+    LOAD(arch),
+    IF_EQUAL(ARCHITECTURE, 0, 7),
+    LOAD(nr),
+    IF_EQUAL(__NR_openat, 6, 0),
+    IF_EQUAL(OPEN, 5, 0),
+    IF_EQUAL(__NR_ioctl, 0, 3),
+    LOAD(args[1]), /* its lower half */
+    BPF_STMT(BPF_ALU | BPF_AND | BPF_K, 0xff << _IOC_TYPESHIFT),
+    IF_EQUAL('d' << _IOC_TYPESHIFT, 1, 0),
+    RETURN(SECCOMP_RET_ALLOW),
+    RETURN(SECCOMP_RET_USER_NOTIF),
+};
+
+int begin_filter(void)
+{
+    struct sock_fprog program = {sizeof rules / sizeof rules[0], rules};
+    unsigned long flags = SECCOMP_FILTER_FLAG_NEW_LISTENER;
+    long listener;
+
+    if (prctl(PR_SET_NO_NEW_PRIVS, 1, 0, 0, 0) != 0)
+        return -errno;
+    listener = syscall(__NR_seccomp, SECCOMP_SET_MODE_FILTER,
+                       flags | SECCOMP_FILTER_FLAG_WAIT_KILLABLE_RECV, &program);
+    if (listener < 0 && errno == EINVAL)
+        listener = syscall(__NR_seccomp, SECCOMP_SET_MODE_FILTER, flags, &program);
+    return listener < 0 ? -errno : (int)listener;
+}

@@ -1,0 +1,219 @@
+/* supervisor COMMAND..: runs a command whose nodes lead to the server, though it makes system calls
+ * itself. The variables of the environment are those of the preloaded library. */
+#include "supervisor.h"
+
+#include <stdio.h>
+#include <stdlib.h>
+#include <sys/ioctl.h>
+#include <sys/prctl.h>
+#include <sys/signalfd.h>
+#include <sys/socket.h>
+#include <sys/syscall.h>
+#include <sys/wait.h>
+
+#define PROGRAM "supervisor"
+#define STATUS_NOT_STARTED 125
+#define STATUS_NOT_RUN 126
+#define STATUS_NOT_FOUND 127
+/* how often connections whose files are closed are ended, in milliseconds, and one in nanoseconds
+ */
+#define SWEEP 50
+#define MILLISECOND 1000000
+
+/* What the kernel tells of a call may be longer in a later one. */
+union notice {
+    struct seccomp_notif told;
+    char room[512];
+};
+
+struct command {
+    pid_t process;
+    int listener, signals;
+};
+
+/* What the supervisor reads in the command before that begins, to see that it may. */
+static const uint64_t known = 0x5a69726b6f736865;
+
+static void say(const char *what, int error)
+{
+    fprintf(stderr, PROGRAM ": %s: %s\n", what, strerror(error));
+}
+
+/* Sends the descriptor by which calls are answered, and waits until it is taken. */
+static bool hand_in(int channel, int listener)
+{
+    union {
+        struct cmsghdr head;
+        char room[CMSG_SPACE(sizeof listener)];
+    } control;
+    char byte = 0;
+    struct iovec part = {&byte, 1};
+    struct msghdr message = {.msg_iov = &part, .msg_iovlen = 1};
+
+    memset(&control, 0, sizeof control);
+    message.msg_control = &control;
+    message.msg_controllen = sizeof control;
+    control.head.cmsg_level = SOL_SOCKET;
+    control.head.cmsg_type = SCM_RIGHTS;
+    control.head.cmsg_len = CMSG_LEN(sizeof listener);
+    memcpy(CMSG_DATA(&control.head), &listener, sizeof listener);
+    return sendmsg(channel, &message, 0) == 1 && read(channel, &byte, 1) == 1;
+}
+
+/* Takes the descriptor that is sent; -1 if there is none. */
+static int take_in(int channel)
+{
+    union {
+        struct cmsghdr head;
+        char room[CMSG_SPACE(sizeof(int))];
+    } control;
+    char byte;
+    struct iovec part = {&byte, 1};
+    struct msghdr message = {.msg_iov = &part, .msg_iovlen = 1};
+    int listener = -1;
+
+    memset(&control, 0, sizeof control);
+    message.msg_control = &control;
+    message.msg_controllen = sizeof control;
+    if (recvmsg(channel, &message, MSG_CMSG_CLOEXEC) == 1
+        && message.msg_controllen >= CMSG_LEN(sizeof listener))
+        memcpy(&listener, CMSG_DATA(&control.head), sizeof listener);
+    return listener;
+}
+
+/* Becomes the command. */
+__attribute__((noreturn)) static void run(char **words, int channel, const sigset_t *before)
+{
+    int listener = begin_filter();
+
+    if (listener < 0) {
+        say("the kernel refuses a filter of system calls with notifications", -listener);
+        _exit(STATUS_NOT_STARTED);
+    }
+    if (!hand_in(channel, listener))
+        _exit(STATUS_NOT_STARTED);
+    close(listener);
+    close(channel);
+    sigprocmask(SIG_SETMASK, before, NULL);
+    execvp(words[0], words);
+    if (errno == ENOENT)
+        fprintf(stderr, PROGRAM ": there is no command %s\n", words[0]);
+    else
+        say("the command can't be run", errno);
+    _exit(errno == ENOENT ? STATUS_NOT_FOUND : STATUS_NOT_RUN);
+}
+
+/* Whether the memory of the command may be read, and calls have the form that is known here. */
+static bool is_allowed(pid_t process)
+{
+    struct seccomp_notif_sizes sizes;
+    uint64_t found = 0;
+
+    set_caller(process);
+    if (copy_from_caller(&found, (uintptr_t)&known, sizeof found) != 0 || found != known) {
+        say("the kernel refuses to read the command's memory", errno);
+        return false;
+    }
+    if (syscall(__NR_seccomp, SECCOMP_GET_NOTIF_SIZES, 0, &sizes) != 0
+        || sizes.seccomp_notif > sizeof(union notice)
+        || sizes.seccomp_notif_resp != sizeof(struct seccomp_notif_resp)) {
+        say("notifications have another form than is known", ENOTSUP);
+        return false;
+    }
+    return true;
+}
+
+static int status_of(int ended)
+{
+    return WIFSIGNALED(ended) ? 128 + WTERMSIG(ended) : WEXITSTATUS(ended);
+}
+
+/* Starts the command, and lets it begin once its calls can be answered; otherwise this ends. */
+static struct command start(char **words, const sigset_t *heeded, const sigset_t *before)
+{
+    struct command command;
+    int channel[2], ended = 0;
+
+    if (socketpair(AF_UNIX, SOCK_STREAM | SOCK_CLOEXEC, 0, channel) != 0)
+        exit(STATUS_NOT_STARTED);
+    command.process = fork();
+    if (command.process == 0) {
+        close(channel[0]);
+        run(words, channel[1], before);
+    }
+    close(channel[1]);
+    command.listener = command.process < 0 ? -1 : take_in(channel[0]);
+    command.signals = signalfd(-1, heeded, SFD_CLOEXEC);
+    if (command.listener < 0 || command.signals < 0 || !is_allowed(command.process)
+        || write(channel[0], "", 1) != 1) {
+        close(channel[0]);
+        if (command.process > 0)
+            waitpid(command.process, &ended, 0);
+        exit(STATUS_NOT_STARTED);
+    }
+    close(channel[0]);
+    return command;
+}
+
+/* Passes a signal on. What comes from the terminal reaches the command by itself. */
+static void take_signal(const struct command *command)
+{
+    struct signalfd_siginfo told;
+
+    if (read(command->signals, &told, sizeof told) != sizeof told)
+        return;
+    if (told.ssi_signo == SIGTERM || told.ssi_signo == SIGHUP)
+        kill(command->process, (int)told.ssi_signo);
+}
+
+static void take_call(const struct command *command)
+{
+    union notice notice;
+
+    memset(&notice, 0, sizeof notice);
+    if (ioctl(command->listener, SECCOMP_IOCTL_NOTIF_RECV, &notice) == 0)
+        answer_call(command->listener, &notice.told);
+}
+
+/* Answers calls until the command has ended, and gives its status. */
+static int supervise(const struct command *command)
+{
+    struct pollfd waited[] = {{command->listener, POLLIN, 0}, {command->signals, POLLIN, 0}};
+    int64_t swept = time_now();
+    int ended;
+
+    while (waitpid(command->process, &ended, WNOHANG) != command->process) {
+        int ready = poll(waited, 2, SWEEP);
+
+        if (time_now() - swept >= (int64_t)SWEEP * MILLISECOND) {
+            nodes_sweep();
+            swept = time_now();
+        }
+        if (ready > 0 && waited[1].revents & POLLIN)
+            take_signal(command);
+        if (ready > 0 && waited[0].revents & POLLIN)
+            take_call(command);
+        if (ready > 0 && waited[0].revents & POLLHUP)
+            waited[0].fd = -1; /* all who had the filter have ended */
+    }
+    return status_of(ended);
+}
+
+int main(int count, char **words)
+{
+    static const int numbers[] = {SIGCHLD, SIGTERM, SIGHUP, SIGINT, SIGQUIT};
+    struct command command;
+    sigset_t heeded, before;
+    size_t at;
+
+    if (count < 2) {
+        fprintf(stderr, "usage: " PROGRAM " COMMAND..\n");
+        return STATUS_NOT_STARTED;
+    }
+    sigemptyset(&heeded);
+    for (at = 0; at < sizeof numbers / sizeof numbers[0]; at++)
+        sigaddset(&heeded, numbers[at]);
+    sigprocmask(SIG_BLOCK, &heeded, &before);
+    command = start(words + 1, &heeded, &before);
+    return supervise(&command);
+}

@@ -1,0 +1,247 @@
+#!/usr/bin/env python3
+"""Tests of programs that make system calls themselves, under the supervisor of clients/libdrm.
+
+The errnos are those of the kernel's core. Each test is a function of a folder of its own. The last line is `N passed, M failed`. If there
+is no C compiler or no libdrm with its headers, or the kernel allows no supervisor, the tests are skipped. Standard library only.
+"""
+import os
+import pathlib
+import signal
+import subprocess
+import sys
+
+sys.dont_write_bytecode = True
+from support import (  # noqa: E402
+    BUILT,
+    REPOSITORY,
+    SECONDS,
+    FolderCase,
+    Skipped,
+    ended_in_time,
+    expect,
+    expect_end,
+    run,
+    run_tests,
+    want_libdrm,
+    want_program,
+)
+
+from zirkoshe.audit import read_audit  # noqa: E402
+
+from libdrm_support import COMPILER, LIBRARY, environment, served, wait_until  # noqa: E402
+
+WITH_SERVER = REPOSITORY / "tools/with-server"
+NOT_STARTED = 125
+
+# what the program of the tests finds, by what is tried
+FINDINGS = {
+    "shows": """\
+version: done
+driver: zirkoshe
+becomes master: done
+resources: done
+2 CRTCs, 2 encoders, 2 connectors
+makes a dumb buffer: done
+adds a framebuffer: done
+sets a CRTC: done
+another client reads it: done
+the framebuffer is shown: yes
+another client sets it: EACCES
+and becomes master: EACCES
+the next client is master: done
+""",
+    "leases": """\
+universal planes: done
+leases an output: done
+leases it again: EBUSY
+closed at exec: yes
+makes a dumb buffer: done
+adds a framebuffer: done
+lessee shows it: done
+on another CRTC: ENOENT
+resources: done
+1 CRTCs, 2 encoders, 1 connectors
+""",
+    "maps": """\
+makes a dumb buffer: done
+256 bytes in a line, 16384 in all
+maps it: done
+it has: nothing
+it then has: pixels
+maps one that isn't there: ENOENT
+destroys it: done
+makes another: done
+maps that: done
+that has: nothing
+""",
+    "shares": """\
+makes a dumb buffer: done
+exports it: done
+16384 bytes
+another client imports it: done
+the descriptor is the same: yes
+imports a node: EINVAL
+imports no descriptor: EBADF
+""",
+    "forks": """\
+resources: done
+2 CRTCs, 2 encoders, 2 connectors
+still master: done
+""",
+    "refusals": """\
+reads to a bad address: EFAULT
+reads to no address: EFAULT
+asks with a bad address: EFAULT
+asks what isn't known: EINVAL
+flips with an event: EOPNOTSUPP
+reads 0 bytes
+asks another file: ENOTTY
+asks no file: EBADF
+opens another card: ENOENT
+opens the render node: ENOENT
+opens a bad address: EFAULT
+""",
+}
+
+FINDINGS_IN_RUST = """\
+driver zirkoshe
+2 CRTCs, 2 connectors
+the master darkens: Ok(0)
+another client darkens: Err(13)
+another card: Err(2)
+"""
+
+
+def supervisor():
+    """The supervisor, built if necessary; skips the test if the kernel allows none."""
+    want_libdrm()
+    built = run(LIBRARY / "build", "--supervisor")
+    expect("what the build says", (built.returncode, built.stderr), (0, ""))
+    path = built.stdout.strip()
+    ran = run(path, "true")
+    if ran.returncode == NOT_STARTED:
+        raise Skipped(ran.stderr.strip())
+    return path
+
+
+def static_program():
+    """The program of the tests, compiled once without a library that is loaded."""
+    words = [word for word in want_libdrm() if word.startswith("-I")]
+    program = pathlib.Path(BUILT.name, "supervised")
+    if not program.exists():
+        ran = run(*COMPILER, "-static", *words, "-o", program, REPOSITORY / "tests/supervised.c")
+        expect("what cc says", (ran.returncode, ran.stdout + ran.stderr), (0, ""))
+    return program
+
+
+def has_ended(process):
+    """Whether a process has ended, even if nothing has waited for it: then it has no command line."""
+    try:
+        return pathlib.Path(f"/proc/{process}/cmdline").read_bytes() == b""
+    except OSError:
+        return True
+
+
+# opens the card, and closes it or ends as it is told
+HOLDER = """
+import os
+card = os.open("/dev/dri/card0", os.O_RDWR)
+print("open", flush=True)
+input()
+os.close(card)
+print("closed", flush=True)
+input()
+"""
+
+
+class LibdrmSupervisorTests(FolderCase):
+    """Tests of programs that make system calls themselves, under the supervisor of clients/libdrm."""
+
+    def test_static_program(self):
+        supervisor()
+        for tried, found in FINDINGS.items():
+            ran = run(WITH_SERVER, "--seccomp", static_program(), tried)
+            expect(f"what it finds of {tried}", (ran.stderr, ran.returncode, ran.stdout), ("", 0, found))
+
+    def test_program_in_rust(self):
+        supervisor()
+        want_program("rustc")
+        program = self.folder / "supervised"
+        ran = run("rustc", "--edition", "2021", "-D", "warnings", "-o", program, REPOSITORY / "tests/supervised.rs")
+        expect("what rustc says", (ran.returncode, ran.stdout + ran.stderr), (0, ""))
+        expect_end(run(WITH_SERVER, "--seccomp", program), 0, "", FINDINGS_IN_RUST)
+
+    def test_requests_are_traced(self):
+        """As the library traces them: what the server refused by its rule."""
+        supervisor()
+        given = {**os.environ, "DRM_SERVER_TRACE": "1"}
+        ran = run(WITH_SERVER, "--seccomp", static_program(), "leases", env=given)
+        expect("output", ran.stdout, FINDINGS["leases"])
+        refused = ["MODE_CREATE_LEASE: denied 34 LeasedOut 16", "MODE_SETCRTC: denied 30 NoModeObject 2"]
+        expect("what is traced", ran.stderr.splitlines(), refused)
+
+    def test_render_node(self):
+        supervisor()
+        opening = f"{sys.executable} -c 'import os; os.open(\"/dev/dri/renderD128\", os.O_RDWR)'"
+        for words, status in (([], 1), (["--render"], 0)):
+            ran = run(WITH_SERVER, "--seccomp", *words, "sh", "-c", opening)
+            expect(f"status with {words}", ran.returncode, status)
+
+    def test_status_is_that_of_the_command(self):
+        supervisor()
+        for words, status, error in (
+            (["sh", "-c", "exit 7"], 7, ""),
+            (["sh", "-c", "kill -9 $$"], 128 + signal.SIGKILL, ""),
+            (["no-such-command"], 127, "supervisor: there is no command no-such-command\n"),
+            (["/dev/null"], 126, "supervisor: the command can't be run: Permission denied\n"),
+        ):
+            ran = run(WITH_SERVER, "--seccomp", *words)
+            expect(f"status of {words}", (ran.stderr, ran.returncode, ran.stdout), (error, status, ""))
+
+    def test_command_that_is_filtered_already(self):
+        """The kernel allows one supervisor of a process."""
+        path = supervisor()
+        reason = "the kernel refuses a filter of system calls with notifications: Device or resource busy"
+        expect_end(run(path, path, "true"), NOT_STARTED, f"supervisor: {reason}\n", "")
+
+    def test_command_that_does_not_end_is_killed(self):
+        supervisor()
+        asked = "trap '' TERM; echo $$; while :; do sleep 1; done"
+        words = [WITH_SERVER, "--seccomp", "sh", "-c", asked]
+        with subprocess.Popen(words, stdout=subprocess.PIPE, text=True) as started, ended_in_time(started):
+            asking = int(started.stdout.readline())
+            started.terminate()
+            expect("status", started.wait(SECONDS), 128 + signal.SIGKILL)
+        wait_until(lambda: has_ended(asking))
+
+    def test_signal_reaches_the_command(self):
+        supervisor()
+        asked = "trap 'exit 9' TERM; echo ready; while :; do sleep 0.1; done"
+        words = [WITH_SERVER, "--seccomp", "sh", "-c", asked]
+        with subprocess.Popen(words, stdout=subprocess.PIPE, text=True) as started, ended_in_time(started):
+            expect("what it prints", started.stdout.readline(), "ready\n")
+            started.terminate()
+            expect("status", started.wait(SECONDS), 9)
+
+    def test_client_ends_with_its_descriptor(self):
+        """Another client learns of it, though the program goes on and makes no call."""
+        path = supervisor()
+        given = {name: value for name, value in environment(self.folder).items() if name != "LD_PRELOAD"}
+        streams = {"stdin": subprocess.PIPE, "stdout": subprocess.PIPE, "text": True, "env": given}
+        with served(self.folder):
+            with subprocess.Popen([path, sys.executable, "-c", HOLDER], **streams) as holder, ended_in_time(holder):
+                for said, clients in (("open", 2), ("closed", 1)):
+                    expect("what it prints", holder.stdout.readline(), f"{said}\n")
+                    wait_until(lambda: len(read_audit(str(self.folder / "root")).clients) == clients)
+                    holder.stdin.write("\n")
+                    holder.stdin.flush()
+                expect("status", holder.wait(SECONDS), 0)
+
+    def test_supervisor_takes_the_place_of_the_library(self):
+        ran = run(WITH_SERVER, "--seccomp", "--libdrm", "true")
+        reason = "with-server: error: --seccomp takes the place of --libdrm\n"
+        expect("status and reason", (ran.returncode, ran.stderr.endswith(reason)), (2, True))
+
+
+if __name__ == "__main__":
+    sys.exit(run_tests())
