@@ -12,6 +12,7 @@ from support import (  # noqa: E402
     CLIENTS,
     REPOSITORY,
     SECONDS,
+    Skipped,
     connect,
     expect,
     run,
@@ -20,6 +21,8 @@ from support import (  # noqa: E402
 )
 
 LIBRARY = CLIENTS / "libdrm"
+# the status of a supervisor that the kernel does not allow
+NOT_STARTED = 125
 COMPILER = ["cc", "-std=gnu11", "-Wall", "-Wextra", "-Wpedantic", "-Werror", "-O2", "-pthread"]
 
 
@@ -39,6 +42,18 @@ def library():
     ran = run(LIBRARY / "build")
     expect("what the build says", (ran.returncode, ran.stderr), (0, ""))
     return ran.stdout.strip()
+
+
+def supervisor():
+    """The supervisor, built if necessary; skips the test if the kernel allows none."""
+    want_libdrm()
+    built = run(LIBRARY / "build", "--supervisor")
+    expect("what the build says", (built.returncode, built.stderr), (0, ""))
+    path = built.stdout.strip()
+    ran = run(path, "true")
+    if ran.returncode == NOT_STARTED:
+        raise Skipped(ran.stderr.strip())
+    return path
 
 
 def environment(folder, **variables):

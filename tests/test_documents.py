@@ -33,6 +33,7 @@ from support import (  # noqa: E402
 from zirkoshe import constants, protocol  # noqa: E402
 
 from blocks import blocks_of, commands_of, documents, is_answer, tables_of, worked_rows  # noqa: E402
+from libdrm_support import supervisor  # noqa: E402
 from pictures import expect_picture  # noqa: E402
 
 # what commands of the documents find at the top of the repository, where they are run
@@ -152,6 +153,8 @@ def expect_command(folder, command, printed):
     """Runs a command at the top of a repository, and compares what it prints."""
     if "libdrm" in command:
         want_libdrm()
+    if "--seccomp" in command:
+        supervisor()
     if "modetest" in command:
         want_program("modetest")
     if "bwrap" in command or "examples/sandbox/" in command:

@@ -16,7 +16,6 @@ from support import (  # noqa: E402
     REPOSITORY,
     SECONDS,
     FolderCase,
-    Skipped,
     ended_in_time,
     expect,
     expect_end,
@@ -28,10 +27,9 @@ from support import (  # noqa: E402
 
 from zirkoshe.audit import read_audit  # noqa: E402
 
-from libdrm_support import COMPILER, LIBRARY, environment, served, wait_until  # noqa: E402
+from libdrm_support import COMPILER, NOT_STARTED, environment, served, supervisor, wait_until  # noqa: E402
 
 WITH_SERVER = REPOSITORY / "tools/with-server"
-NOT_STARTED = 125
 
 # what the program of the tests finds, by what is tried
 FINDINGS = {
@@ -110,18 +108,6 @@ the master darkens: Ok(0)
 another client darkens: Err(13)
 another card: Err(2)
 """
-
-
-def supervisor():
-    """The supervisor, built if necessary; skips the test if the kernel allows none."""
-    want_libdrm()
-    built = run(LIBRARY / "build", "--supervisor")
-    expect("what the build says", (built.returncode, built.stderr), (0, ""))
-    path = built.stdout.strip()
-    ran = run(path, "true")
-    if ran.returncode == NOT_STARTED:
-        raise Skipped(ran.stderr.strip())
-    return path
 
 
 def static_program():

@@ -439,12 +439,14 @@ class DebianTests(FolderCase):
         expect("error output, status and output", (told, ran.returncode, ran.stdout), ([], 0, wanted.stdout))
 
     def test_debian_package_has_what_is_compiled(self):
-        """Neither the program nor the library for libdrm programs is compiled at the first use."""
+        """Neither the program, the library for libdrm programs nor the supervisor is compiled at the first use."""
         _, root = debian_package(self.folder)
         lib = root / "usr/lib/zirkoshe"
         without = {**os.environ, "DRM_SERVER_PROGRAM": "", "CC": "false"}
         library = lib / "clients/libdrm/out/libzirkoshe_libdrm.so"
         expect_end(run(lib / "clients/libdrm/build", env=without), 0, "", f"{library}\n")
+        supervisor = lib / "clients/libdrm/out/supervisor"
+        expect_end(run(lib / "clients/libdrm/build", "--supervisor", env=without), 0, "", f"{supervisor}\n")
         expect_end(run(root / "usr/bin/drm_server", "--program", env=without), 0, "", f"{lib}/bin/drm_server_main\n")
         asked = "import zirkoshe.server as s; server = s.Server(); print(server.__enter__() is server); server.__exit__(None, None, None)"
         packages = str(root / "usr/lib/python3/dist-packages")

@@ -16,8 +16,9 @@
 struct call {
     int listener;
     struct seccomp_notif told;
-    enum node node; /* of an opening */
-    int socket;     /* of a request: its connection's */
+    enum node node;                /* of an opening */
+    struct connection *connection; /* of a request, and its socket */
+    int socket;
 };
 
 /* Lets the caller go on with this result, or with the kernel's own of its call. */
@@ -115,15 +116,14 @@ static bool has_event(uint32_t request, const void *argument)
 }
 
 /* Imports the caller's descriptor, which is opened here for it. */
-static int import(const struct call *call, struct connection *connection, uint32_t request,
-                  struct drm_prime_handle *prime)
+static int import(const struct call *call, uint32_t request, struct drm_prime_handle *prime)
 {
     int fd = prime->fd, failed;
     char path[48];
 
     name_caller_descriptor(path, sizeof path, fd);
     prime->fd = open(path, O_PATH | O_CLOEXEC);
-    failed = carry_out(connection, call->socket, request, prime);
+    failed = carry_out(call->connection, call->socket, request, prime);
     if (prime->fd >= 0)
         close(prime->fd);
     prime->fd = fd;
@@ -157,16 +157,15 @@ static int hand_over(const struct call *call, uint32_t request, void *argument)
 }
 
 /* Carries out a request whose struct was copied here. */
-static int carry_out_here(const struct call *call, struct connection *connection, uint32_t request,
-                          void *argument)
+static int carry_out_here(const struct call *call, uint32_t request, void *argument)
 {
     int failed;
 
     if (has_event(request, argument))
         return -EOPNOTSUPP;
     if (_IOC_NR(request) == _IOC_NR(DRM_IOCTL_PRIME_FD_TO_HANDLE))
-        return import(call, connection, request, argument);
-    failed = carry_out(connection, call->socket, request, argument);
+        return import(call, request, argument);
+    failed = carry_out(call->connection, call->socket, request, argument);
     return failed ? failed : hand_over(call, request, argument);
 }
 
@@ -178,28 +177,33 @@ static int answer_request(const struct call *call)
     } argument;
     uint32_t request = (uint32_t)call->told.data.args[1];
     uint64_t address = call->told.data.args[2];
-    struct connection *connection = connection_find(call->socket);
     int failed, copied;
 
-    if (connection == NULL)
-        return -ENODEV;
     memset(&argument, 0, sizeof argument);
     failed = copy_from_caller(&argument, address, _IOC_SIZE(request));
     if (!failed) {
-        failed = carry_out_here(call, connection, request, &argument);
+        failed = carry_out_here(call, request, &argument);
         copied = request & IOC_OUT ? copy_to_caller(address, &argument, _IOC_SIZE(request)) : 0;
         failed = failed ? failed : copied;
     }
-    connection_release(connection);
     return failed;
+}
+
+static void let_go(const struct call *call)
+{
+    if (call->connection != NULL)
+        connection_release(call->connection);
 }
 
 static void *answer(void *given)
 {
     struct call *call = given;
+    int answered;
 
     set_caller((pid_t)call->told.pid);
-    respond(call, call->told.data.nr == SYS_ioctl ? answer_request(call) : open_node(call), 0);
+    answered = call->connection != NULL ? answer_request(call) : open_node(call);
+    let_go(call);
+    respond(call, answered, 0);
     free(call);
     return NULL;
 }
@@ -218,6 +222,7 @@ static void begin_answer(const struct call *call)
         }
         free(kept);
     }
+    let_go(call);
     respond(call, -ENOMEM, 0);
 }
 
@@ -252,10 +257,10 @@ void answer_call(int listener, const struct seccomp_notif *told)
         answer_opening(&call);
         return;
     }
-    call.socket = node_find((int)told->data.args[0]);
+    call.connection = node_find((int)told->data.args[0], &call.socket);
     if (!is_waiting(&call))
-        return;
-    if (call.socket < 0)
+        let_go(&call);
+    else if (call.connection == NULL)
         let_kernel_answer(&call);
     else
         begin_answer(&call);

@@ -102,22 +102,25 @@ int node_make(int socket)
     return fd;
 }
 
-int node_find(int fd)
+struct connection *node_find(int fd, int *socket)
 {
+    struct connection *found = NULL;
     const struct node_file *node;
     struct stat status;
     char path[48];
-    int found;
 
     name_caller_descriptor(path, sizeof path, fd);
     if (stat(path, &status) != 0)
-        return -1;
+        return NULL;
     pthread_mutex_lock(&turn);
     for (node = nodes; node != NULL; node = node->next) {
         if (node->file == status.st_ino && node->device == status.st_dev)
             break;
     }
-    found = node == NULL ? -1 : node->socket;
+    if (node != NULL) {
+        *socket = node->socket;
+        found = connection_find(node->socket);
+    }
     pthread_mutex_unlock(&turn);
     return found;
 }

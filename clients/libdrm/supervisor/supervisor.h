@@ -31,8 +31,9 @@ int begin_filter(void);
  * a negative errno. */
 int node_make(int socket);
 
-/* The socket of the node that this descriptor of the caller is, or -1. */
-int node_find(int fd);
+/* The connection of the node that this descriptor of the caller is, until connection_release, and
+ * its socket; NULL where it is none. */
+struct connection *node_find(int fd, int *socket);
 
 /* Clears the memory of a handle that was just made. */
 void node_clear(int socket, uint32_t handle);
