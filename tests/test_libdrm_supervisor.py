@@ -200,6 +200,14 @@ class LibdrmSupervisorTests(FolderCase):
             expect("status", started.wait(SECONDS), 128 + signal.SIGKILL)
         wait_until(lambda: has_ended(asking))
 
+    def test_command_ends_with_the_supervisor(self):
+        words = [supervisor(), "sh", "-c", "echo $$; read line"]
+        streams = {"stdin": subprocess.PIPE, "stdout": subprocess.PIPE, "text": True}
+        with subprocess.Popen(words, **streams) as started, ended_in_time(started):
+            command = int(started.stdout.readline())
+            started.kill()
+            wait_until(lambda: has_ended(command))
+
     def test_signal_reaches_the_command(self):
         supervisor()
         asked = "trap 'exit 9' TERM; echo ready; while :; do sleep 0.1; done"

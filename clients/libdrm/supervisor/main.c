@@ -81,11 +81,12 @@ static int take_in(int channel)
     return listener;
 }
 
-/* Becomes the command. */
+/* Becomes the command, which ends if the supervisor is killed. */
 __attribute__((noreturn)) static void run(char **words, int channel, const sigset_t *before)
 {
     int listener = begin_filter();
 
+    prctl(PR_SET_PDEATHSIG, SIGKILL);
     if (listener < 0) {
         say("the kernel refuses a filter of system calls with notifications", -listener);
         _exit(STATUS_NOT_STARTED);
