@@ -16,6 +16,7 @@ from support import (  # noqa: E402
     REPOSITORY,
     SECONDS,
     FolderCase,
+    connect,
     ended_in_time,
     expect,
     expect_end,
@@ -25,7 +26,7 @@ from support import (  # noqa: E402
     want_program,
 )
 
-from zirkoshe.audit import read_audit  # noqa: E402
+from zirkoshe.audit import audit_by  # noqa: E402
 
 from libdrm_support import COMPILER, NOT_STARTED, environment, served, supervisor, wait_until  # noqa: E402
 
@@ -222,11 +223,11 @@ class LibdrmSupervisorTests(FolderCase):
         path = supervisor()
         given = {name: value for name, value in environment(self.folder).items() if name != "LD_PRELOAD"}
         streams = {"stdin": subprocess.PIPE, "stdout": subprocess.PIPE, "text": True, "env": given}
-        with served(self.folder):
+        with served(self.folder), connect(self.folder / "root") as root:
             with subprocess.Popen([path, sys.executable, "-c", HOLDER], **streams) as holder, ended_in_time(holder):
                 for said, clients in (("open", 2), ("closed", 1)):
                     expect("what it prints", holder.stdout.readline(), f"{said}\n")
-                    wait_until(lambda: len(read_audit(str(self.folder / "root")).clients) == clients)
+                    wait_until(lambda: len(audit_by(root).clients) == clients)
                     holder.stdin.write("\n")
                     holder.stdin.flush()
                 expect("status", holder.wait(SECONDS), 0)
