@@ -200,6 +200,16 @@ class ReportsTests(FolderCase):
             expect(f"{words}", (ran.returncode, ran.stdout), (alone.returncode, alone.stdout))
         expect("the last output", ran.stdout.splitlines()[-1], "3 passed, 3 failed")
 
+    def test_files_are_descriptors(self):
+        """As a shell names the output of a command."""
+        (self.folder / "plain").write_bytes((self.folder / "wrong").read_bytes())
+        for number in (0, 9):
+            with open(self.folder / "plain", "rb") as file:
+                os.dup2(file.fileno(), 9)
+                ran = checked(self.folder, "met", f"/dev/fd/{number}", stdin=file, pass_fds=[9])
+                os.close(9)
+            expect(f"descriptor {number}", (ran.returncode, ran.stdout.splitlines()[-1]), (4, "3 passed, 2 failed"))
+
     def test_files_are_updated(self):
         ran = checked(self.folder, "--update", "--jobs", "2", "wrong")
         expect("status", ran.returncode, 0)

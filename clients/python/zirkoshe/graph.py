@@ -209,10 +209,12 @@ def dot(graph: Graph) -> str:
         "    edge [constraint=false, "
         f'fontname="sans-serif", fontsize=12, color="{INK}"];',
     ]
+    places = place(graph)
     for head, column in zip(graph.heads, graph.columns):
+        titles = sorted((box.title for box in column), key=lambda it: places[it].top)
         lines += [f'    "{head}" [shape=plaintext, style="", fontcolor="{INK}"];']
         lines += map(dot_box, column)
-        lines += dot_column([head, *(box.title for box in column)])
+        lines += dot_column([head, *titles])
     return "\n".join(
         [*lines, *dot_order(graph.heads), *map(dot_arrow, graph.arrows), "}"]
     )
