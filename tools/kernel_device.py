@@ -35,7 +35,7 @@ CAPABILITIES = {1: 1, 2: 1, 3: 24, 4: 0, 5: 3, 6: 1, 7: 0, 8: 64, 9: 64, 16: 1, 
 CLIENT_CAPABILITIES = {1: 1, 2: 1, 3: 2, 4: 1}
 ATOMIC, UNIVERSAL_PLANES = 3, 2
 # the bits per pixel of the formats that MODE_ADDFB chooses
-FORMAT_BITS = (8, 16, 24, 32)
+FORMAT_BITS = (1, 2, 4, 8, 16, 24, 32)
 # what the requests without fields are answered that no call of a script has
 OTHER_REQUESTS = {1: "done", 179: f"errno {ENOENT}"}
 DRIVER_REQUESTS = range(0x40, 0xA0)
@@ -182,7 +182,9 @@ class KernelDevice(Plain):
         """A request without fields: the kernel takes missing ones for 0."""
         if number > 255 or number in DRIVER_REQUESTS:
             return "left out"
-        fail_unless(caller in self.clients, EBADF)
+        if caller not in self.clients:
+            self.differs("clients")
+            raise Failed(EBADF)
         word = next((word for word, row in CALLS.items() if row[0] == number), None)
         if word is None:
             fail_unless(number in OTHER_REQUESTS, EINVAL)
@@ -361,7 +363,7 @@ class KernelDevice(Plain):
 
     def addfb(self, client: Any, width: int, height: int, pitch: int, bpp: int, handle: int) -> str:
         """The shape is checked before the object, and the last line needs only its pixels."""
-        line = width * bpp // 8
+        line = -(-width * bpp // 8)
         shape = 1 <= width <= 65535 and 1 <= height <= 65535 and bpp in FORMAT_BITS
         if handle not in client.handles and not (shape and handle and pitch >= line):
             self.differs("addfb_handle")

@@ -3,14 +3,15 @@
 from __future__ import annotations
 
 import pathlib
+import pickle
 import random
 import re
-import sys
-from typing import Dict, Iterator, List, NamedTuple, Tuple
+from typing import Dict, FrozenSet, List, NamedTuple, Set, Tuple
 
 from kernel_device import TESTS, KernelDevice
+from kernels import SERIES
 
-from plain_device import CALLS, Plain, Plane, Topology  # noqa: E402
+from plain_device import CALLS, TEST_TOPOLOGY, Plain, Plane, Topology
 
 REPOSITORY = TESTS.parent
 EXAMPLES = REPOSITORY / "examples"
@@ -18,9 +19,6 @@ EXAMPLES = REPOSITORY / "examples"
 EXPECTED = re.compile(r"# linux((?: \d+\.\d+)*): (.*)")
 HEADING = re.compile(r"# (subject|rules): (.*)")
 LINES = 120
-# calls that no kernel has, or whose answer a device of its own would decide
-LEFT_OUT = {"audit"}
-OWN_CALLS = {"buf_create", "stamp_write", "stamp_read", "list_handles"}
 
 
 class Script(NamedTuple):
@@ -29,6 +27,11 @@ class Script(NamedTuple):
     name: str
     lines: List[str]
     expected: Dict[int, List[Tuple[List[str], str]]]
+
+    @property
+    def is_page(self) -> bool:
+        """Whether it is a file of examples/linux, which has all differences of its lines."""
+        return self.name.startswith("examples/linux/")
 
     def expected_of(self, series: str) -> Dict[int, str]:
         """The answers of this kernel that differ from the rules."""
@@ -84,7 +87,7 @@ def scripts_of_examples() -> List[Script]:
     return [read_script(path) for folder in ("rows", "linux") for path in sorted((EXAMPLES / folder).glob("*.script"))]
 
 
-def read_topology(text: str) -> Tuple[Topology, frozenset[int]]:
+def read_topology(text: str) -> Tuple[Topology, FrozenSet[int]]:
     """A topology file, and the ids of its cursor planes."""
     rows = [line.split() for line in text.splitlines() if line.strip() and not line.startswith("#")]
     crtcs = list(range(1, int(rows[0][1]) + 1))
@@ -110,42 +113,147 @@ def read_topology(text: str) -> Tuple[Topology, frozenset[int]]:
 # random scripts
 
 
-def request_of(draw: random.Random, plain: Plain, caller: int, left_out: set[str]) -> str:
-    """A random request of a client, of the calls that kernels have."""
-    from test_random import Seen, fields_of
-
-    if draw.random() < 0.01:
-        return draw.choice(("raw 255", "raw 178", "raw 0"))
-    word = draw.choice(sorted(set(CALLS) - left_out))
-    return " ".join(map(str, (word, *fields_of(word, draw, Seen(plain), caller))))
+# what each driver takes, and the server answers as it does: a pitch of whole pixels, and a handle that is there
+SHAPE, FRAMEBUFFER = (64, 64, 32), (64, 64, 256, 32)
+MODE_CALLS = {word for word, row in CALLS.items() if row[0] >= 0xA0} - {"create_dumb", "destroy_dumb"}
 
 
-def random_script(seed: int, topology: Topology, has_driver_calls: bool) -> Script:
-    """A script of the generator of tests/test_random.py: openings, closings and requests."""
-    from test_random import LABELS, Seen, opening_of
+class Device(NamedTuple):
+    """A device of a kernel, and what random scripts draw for it."""
 
-    draw, plain = random.Random(seed), Plain(topology=topology)
-    left_out = LEFT_OUT if has_driver_calls else LEFT_OUT | OWN_CALLS
-    script: List[str] = []
-    while len(script) < LINES:
+    driver: str
+    topology: Topology = TEST_TOPOLOGY
+    cursors: FrozenSet[int] = frozenset()
+    # its topology file, if that isn't the test topology
+    text: str = ""
+    # the calls that are left out
+    left_out: FrozenSet[str] = frozenset({"audit"})
+    # its driver is the module, which takes the shapes of tests/test_random.py
+    is_module: bool = False
+
+
+# the calls whose answers are the driver's
+DRIVERS_CALLS = frozenset({"audit", "buf_create", "stamp_write", "stamp_read", "list_handles", "version", "get_cap"})
+MODULE = Device("zirkoshe", is_module=True)
+
+
+def other_device(driver: str, text: str) -> Device:
+    """A device with another driver, by its topology file."""
+    topology, cursors = read_topology(text)
+    if not topology.crtcs:
+        return Device(driver, left_out=DRIVERS_CALLS | MODE_CALLS | {"set_client_cap"})
+    return Device(driver, topology, cursors, text, DRIVERS_CALLS)
+
+
+VIRTIO = other_device(
+    "virtio_gpu", "crtcs 2\nprimary 1\ncursor 1\nprimary 2\ncursor 2\nencoder 1\nencoder 2\nconnector 1\nconnector 2\n"
+)
+VGEM = other_device("vgem", "crtcs 0\n")
+
+
+def outputs_of(topology: Topology) -> List[Tuple[int, ...]]:
+    """Sets of mode objects that make a lease, or nearly."""
+    found: List[Tuple[int, ...]] = []
+    for crtc in topology.crtcs:
+        planes = [plane for plane, row in topology.planes.items() if crtc in row.crtcs]
+        connectors = [one for one, encoder in topology.connectors.items() if crtc in topology.encoders[encoder]]
+        found += [(crtc, planes[0], connectors[-1]), (crtc, connectors[-1]), (crtc, *planes, connectors[0])]
+    return [*found, tuple(sorted({thing for row in found for thing in row}))]
+
+
+class Drawing:
+    """A random script as it is drawn, by the generator of tests/test_random.py, and the devices that answer it."""
+
+    def __init__(self, seed: int, device: Device, agrees: bool) -> None:
+        self.draw = random.Random(seed)
+        self.device = device
+        self.words = sorted(set(CALLS) - device.left_out)
+        self.agrees = agrees
+        self.plain = Plain(topology=device.topology)
+        names = SERIES if agrees else ()
+        self.kernels = [KernelDevice(series, device.topology, device.cursors) for series in names]
+        self.lines: List[str] = []
+
+    def mode_fields(self, word: str, framebuffer: int) -> Tuple[int, ...]:
+        """Random fields of a call of mode objects, on a topology of its own."""
+        draw, top = self.draw, self.device.topology
+        thing = draw.randint(0, max(top.fixed()) + 1)
+        planes = sorted(set(top.planes) - self.device.cursors)
+        crtc = draw.choice((*top.crtcs, thing))
+        if word == "setcrtc":
+            return crtc, framebuffer, draw.choice((0, *top.connectors, thing))
+        if word == "setplane":
+            return draw.choice(planes), crtc, framebuffer
+        if word == "create_lease":
+            some = tuple(draw.randint(0, max(top.fixed()) + 1) for _ in range(draw.randint(0, 5)))
+            return draw.choice((draw.choice(outputs_of(top)), some))
+        return (thing,)
+
+    def fields(self, word: str, caller: int) -> Tuple[int, ...]:
+        """Random fields of a call."""
+        from test_random import Seen, fields_of
+
+        fields: Tuple[int, ...] = fields_of(word, self.draw, Seen(self.plain), caller)
+        if self.device.is_module:
+            return fields
+        if word == "create_dumb":
+            return SHAPE
+        if word == "addfb":
+            held = self.plain.clients[caller].handles if caller in self.plain.clients else ()
+            return (*FRAMEBUFFER, self.draw.choice(sorted(held) or [0]))
+        if word in ("getcrtc", "getencoder", "getconnector", "getplane", "setcrtc", "setplane", "create_lease"):
+            return self.mode_fields(word, fields[1] if word == "setcrtc" else fields[-1] if word == "setplane" else 0)
+        return fields
+
+    def line(self) -> str:
+        """A random line: an opening, a closing or a request."""
+        from test_random import LABELS, Seen, opening_of
+
+        draw, labels = self.draw, self.plain.labels
         label, chance = draw.choice(LABELS), draw.random()
-        bound = sorted(plain.labels) or [label]
-        if chance < 0.1 or not plain.clients:
-            line = f"{draw.choice(('open', 'open', 'open2'))} {label} {opening_of(draw, Seen(plain))}"
-        elif chance < 0.15:
-            line = f"close {label}"
-        else:
-            caller = draw.choice(bound) if draw.random() < 0.97 else label
-            line = f"{caller} {request_of(draw, plain, plain.labels.get(caller, 0), left_out)}"
-        script.append(line)
-        plain.line(line)
-    return Script(f"random {seed}", script, {})
+        if chance < 0.1 or not self.plain.clients:
+            return f"{draw.choice(('open', 'open', 'open2'))} {label} {opening_of(draw, Seen(self.plain))}"
+        if chance < 0.15:
+            return f"close {label}"
+        caller = draw.choice(sorted(labels) or [label]) if draw.random() < 0.97 else label
+        if draw.random() < 0.01:
+            return f"{caller} {draw.choice(('raw 255', 'raw 178', 'raw 0'))}"
+        word = draw.choice(self.words)
+        return " ".join(map(str, (caller, word, *self.fields(word, labels.get(caller, 0)))))
+
+    def is_answered_alike(self, line: str) -> bool:
+        """Whether all devices answer the line alike. If not, they are as they were before it."""
+        before = pickle.dumps((self.plain, self.kernels))
+        wanted = compared(str(self.plain.line(line)))
+        if all(compared(str(kernel.line(line))) == wanted for kernel in self.kernels):
+            return True
+        self.plain, self.kernels = pickle.loads(before)
+        return False
+
+    def add(self) -> None:
+        """Draws a line, and adds it unless all are to agree and do not."""
+        line = self.line()
+        if not self.agrees:
+            self.plain.line(line)
+        elif not self.is_answered_alike(line):
+            return
+        self.lines.append(line)
 
 
-def random_scripts(count: int, seed: int, topology: Topology, has_driver_calls: bool = True) -> Iterator[Script]:
-    """So many random scripts, numbered from the first seed."""
-    for number in range(seed, seed + count):
-        yield random_script(number, topology, has_driver_calls)
+def compared(answer: str) -> str:
+    """An answer as it is compared: a denial or a fault as its errno, and a client without its number."""
+    failed = re.fullmatch(r"(?:denied|apart) \d+ \w+ (\d+)", answer)
+    if failed:
+        return f"errno {failed[1]}"
+    return "client" if answer.startswith("client ") else answer
+
+
+def random_script(seed: int, device: Device = MODULE) -> Script:
+    """A random script. Those of odd numbers, and those of other drivers, have no line to which a kernel is to answer differently."""
+    drawing = Drawing(seed, device, seed % 2 == 1 or not device.is_module)
+    while len(drawing.lines) < LINES:
+        drawing.add()
+    return Script(f"random {seed}", drawing.lines, {})
 
 
 # what a kernel is given
@@ -177,5 +285,3 @@ def bundled(script: Script, answers: Dict[int, Modelled]) -> str:
         lines.append(f"{line} -> {known}\n" if binds else f"{line}\n")
     return "".join(lines)
 
-
-sys.path[:0] = [str(TESTS)]

@@ -16,7 +16,7 @@ import re
 import shutil
 import subprocess
 import tempfile
-from typing import Dict, Iterator, List, NamedTuple, Optional, Tuple, Union
+from typing import Dict, Iterable, Iterator, List, NamedTuple, Optional, Tuple, Union
 
 REPOSITORY = pathlib.Path(__file__).resolve().parent.parent
 SOURCES = REPOSITORY / "clients/kernel"
@@ -50,7 +50,11 @@ INIT = """#!/bin/busybox sh
 /bin/busybox mount -t proc proc /proc
 /bin/busybox mount -t sysfs sys /sys
 /bin/busybox mount -t devtmpfs dev /dev
-for module in /modules/*.ko; do /bin/busybox insmod $module || echo "$module was refused"; done
+for module in /modules/*.ko; do
+    # without the console of the kernel itself, all CRTCs are dark at first
+    case $module in *-drm_kms_helper.ko) options=fbdev_emulation=0 ;; *) options= ;; esac
+    /bin/busybox insmod $module $options || echo "$module was refused"
+done
 /bin/busybox stty -F /dev/ttyS1 raw
 exec > /dev/ttyS1 2>&1
 echo "kernel $(/bin/busybox uname -r)"
@@ -110,9 +114,9 @@ def run(*words: Union[str, pathlib.Path], **options: object) -> str:
     return str(ran.stdout)
 
 
-def require_programs() -> None:
+def require_programs(names: Iterable[str] = tuple(PROGRAMS)) -> None:
     """Raises `Lacking`, with the packages of Debian, if a program is missing."""
-    packages = {package for program, package in PROGRAMS.items() if find_program(program) is None}
+    packages = {PROGRAMS[name] for name in names if find_program(name) is None}
     if not HEADERS.exists():
         packages.add("libdrm-dev")
     if packages:

@@ -27,10 +27,11 @@ struct mode_objects {
 static const enum drm_plane_type plane_types[] = {DRM_PLANE_TYPE_PRIMARY, DRM_PLANE_TYPE_OVERLAY};
 static const u32 plane_crtcs[] = {1, 2};
 static const u32 encoder_crtcs[] = {3, 2};
+// a format of each number of bits that MODE_ADDFB knows
 static const u32 plane_formats[] = {
-    DRM_FORMAT_XRGB8888, DRM_FORMAT_ARGB8888,     DRM_FORMAT_XRGB2101010, DRM_FORMAT_RGB888,
-    DRM_FORMAT_RGB565,   DRM_FORMAT_XRGB1555,     DRM_FORMAT_C8,          DRM_FORMAT_R8,
-    DRM_FORMAT_ABGR8888, DRM_FORMAT_ABGR16161616F};
+    DRM_FORMAT_XRGB8888, DRM_FORMAT_ARGB8888, DRM_FORMAT_XRGB2101010, DRM_FORMAT_RGB888,
+    DRM_FORMAT_RGB565,   DRM_FORMAT_XRGB1555, DRM_FORMAT_C8,          DRM_FORMAT_R8,
+    DRM_FORMAT_C4,       DRM_FORMAT_C2,       DRM_FORMAT_C1,          DRM_FORMAT_ABGR16161616F};
 
 // nothing is to be done where there is no hardware
 static void change_crtc(struct drm_crtc *crtc, struct drm_atomic_state *state)
