@@ -17,7 +17,7 @@ REPOSITORY = TESTS.parent
 EXAMPLES = REPOSITORY / "examples"
 # a difference that a file of examples/linux expects of the line above it, in all kernels or in those that it names
 EXPECTED = re.compile(r"# linux((?: \d+\.\d+)*): (.*)")
-HEADING = re.compile(r"# (subject|rules): (.*)")
+HEADING = re.compile(r"# (subject|kernel|here): (.*)")
 LINES = 120
 
 
@@ -40,12 +40,12 @@ class Script(NamedTuple):
 
 
 class Page(NamedTuple):
-    """What a file of examples/linux says in its head."""
+    """What a file of examples/linux says in its head: a title, the subject, and what a kernel and the server do."""
 
     title: str
     subject: str
-    rules: str
-    text: str
+    kernel: str
+    here: str
 
 
 def is_event(line: str) -> bool:
@@ -71,15 +71,19 @@ def read_script(path: pathlib.Path) -> Script:
 
 
 def read_page(path: pathlib.Path) -> Page:
-    """The head of a file of examples/linux: its title, its subject and rules, and the text about the difference."""
-    head = []
-    for line in path.read_text().splitlines():
-        if not line.startswith("#"):
+    """The head of a file of examples/linux. A line that begins with three spaces continues the one above it."""
+    lines = path.read_text().splitlines()
+    fields: Dict[str, str] = {}
+    last = ""
+    for line in lines[1:]:
+        found = HEADING.fullmatch(line)
+        if found:
+            last, fields[found[1]] = found[1], found[2]
+        elif line.startswith("#   ") and last:
+            fields[last] += " " + line[4:]
+        else:
             break
-        head.append(line)
-    fields = {found[1]: found[2] for found in map(HEADING.fullmatch, head) if found}
-    text = " ".join(line[2:] for line in head[1:] if not HEADING.fullmatch(line))
-    return Page(head[0][2:], fields.get("subject", ""), fields.get("rules", ""), " ".join(text.split()))
+    return Page(lines[0][2:], fields["subject"], fields["kernel"], fields["here"])
 
 
 def scripts_of_examples() -> List[Script]:
