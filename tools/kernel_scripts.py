@@ -219,11 +219,15 @@ class Drawing:
             return f"{draw.choice(('open', 'open', 'open2'))} {label} {opening_of(draw, Seen(self.plain))}"
         if chance < 0.15:
             return f"close {label}"
-        caller = draw.choice(sorted(labels) or [label]) if draw.random() < 0.97 else label
+        caller = draw.choice(self.open_labels() or [label]) if draw.random() < 0.97 else label
         if draw.random() < 0.01:
             return f"{caller} {draw.choice(('raw 255', 'raw 178', 'raw 0'))}"
         word = draw.choice(self.words)
         return " ".join(map(str, (caller, word, *self.fields(word, labels.get(caller, 0)))))
+
+    def open_labels(self) -> List[str]:
+        """The labels of open clients."""
+        return [label for label, client in sorted(self.plain.labels.items()) if client in self.plain.clients]
 
     def is_answered_alike(self, line: str) -> bool:
         """Whether all devices answer the line alike. If not, they are as they were before it."""

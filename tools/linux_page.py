@@ -1,0 +1,120 @@
+"""docs/LINUX.md, as tools/beside-kernel writes it from examples/linux and from what it ran."""
+
+from __future__ import annotations
+
+import datetime
+import pathlib
+from typing import Iterator, List, Sequence, Tuple
+
+from comparison import Result
+from kernel_scripts import EXAMPLES, REPOSITORY, Page, Script, read_page, read_script
+
+PAGE = REPOSITORY / "docs/LINUX.md"
+# the subjects of the differences, in the order of the page
+SUBJECTS = ("Requests", "Buffers", "Masters", "Mode setting", "Leases", "Limits")
+REPRESENTED = "Scripts"
+COMPARED = "## What was compared\n"
+NEXT = "## Scripts on a kernel\n"
+
+INTRODUCTION = """\
+# Differences from Linux
+
+This page lists where the [rules](RULES.md) of this server differ from the DRM core of Linux. `tools/beside-kernel` runs
+the same scripts on kernels and on the server, and compares the answers. It fails if an answer differs and this page
+does not say so, or if a difference of this page does not show. With `--update` it writes this page from the files of
+`examples/linux`. [LIBDRM](LIBDRM.md) lists further differences for programs over libdrm.
+
+Each file of `examples/linux` is a script, in [this form](FORMATS.md#scripts), with the server's answers. A comment
+`# linux: ANSWER` has the different answer of the kernels to the line above it. `# linux 6.12: ANSWER` has that of one
+series. `errno N` is any refusal. This command checks the server's answers:
+
+    ./drm_server check examples/linux/*.script
+
+"""
+
+SCRIPTS = """\
+
+`clients/kernel/drm_script` makes each line of a script as an ioctl. Numbers that a kernel chooses, such as the ids of
+objects, are mapped to the script's numbers at their first use. Each row is a script whose lines are answered alike if
+the last column has no line.
+
+"""
+
+
+def cell(text: str) -> str:
+    return text.replace("|", "\\|")
+
+
+def table(head: Sequence[str], rows: Sequence[Sequence[str]]) -> str:
+    """A table of a document."""
+    lines = [head, ["---"] * len(head), *rows]
+    return "".join(f"| {' | '.join(map(cell, line))} |\n" for line in lines)
+
+
+def kernels_of(script: Script) -> str:
+    """The series in which the differences of a script show, if not in all."""
+    rows = [kernels for row in script.expected.values() for kernels, _ in row]
+    series = sorted({one for kernels in rows for one in kernels})
+    return f" (only {', '.join(series)})" if series and all(rows) else ""
+
+
+def shown_line(path: pathlib.Path, script: Script) -> str:
+    """The first line of a script that a kernel answers differently, with both answers."""
+    if not script.expected:
+        return ""
+    number = min(script.expected)
+    here = path.read_text().splitlines()[number - 1].partition(" -> ")[2]
+    answer = script.expected[number][0][1]
+    return f"`{script.lines[number - 1]}`: `{answer}`{kernels_of(script)}, here `{here}`"
+
+
+def row_of(path: pathlib.Path, page: Page) -> Tuple[str, ...]:
+    """The row of a file."""
+    title = f"[{page.title}](../{path.relative_to(REPOSITORY)})"
+    return title, page.kernel, page.here, shown_line(path, read_script(path))
+
+
+def rows_of(subject: str) -> List[Tuple[str, ...]]:
+    """The rows of a subject, in the order of their titles."""
+    pages = [(path, read_page(path)) for path in sorted((EXAMPLES / "linux").glob("*.script"))]
+    return [row_of(path, page) for path, page in pages if page.subject == subject]
+
+
+def page_of(compared: str) -> str:
+    """The page, with this text about what was compared."""
+    head = ("rule", "in a kernel", "here", "a line, and both answers")
+    parts = [INTRODUCTION, COMPARED, "\n", compared, NEXT, SCRIPTS, table(head, rows_of(REPRESENTED))]
+    for subject in SUBJECTS:
+        parts += [f"\n## {subject}\n\n", table(head, rows_of(subject))]
+    return "".join(parts)
+
+
+def compared_of(text: str) -> str:
+    """What a page says about what was compared."""
+    return text.partition(f"{COMPARED}\n")[2].partition(NEXT)[0]
+
+
+def result_rows(results: Sequence[Result]) -> Iterator[Tuple[str, ...]]:
+    """A row for each device of each kernel."""
+    for result in results:
+        version, _, driver = result.kernel.partition(" ")
+        counts = (result.scripts, result.lines, len(result.explained), len(result.unexplained))
+        yield (version, driver or "the module", *(f"{count:,}" for count in counts))
+
+
+def compared_text(results: Sequence[Result], machine: str, seconds: float) -> str:
+    """What is said about a comparison."""
+    day = datetime.date.today().isoformat()
+    head = ("kernel", "driver", "scripts", "lines compared", "differences as listed here", "others")
+    left_out = {reason: count for result in results for reason, count in result.left_out.items()}
+    reasons = " ".join(f"{count} lines are left out ({reason})." for reason, count in sorted(left_out.items()))
+    return f"""\
+On {day}, with Debian's kernels in QEMU, in {seconds / 60:.1f} minutes on {machine}:
+
+{table(head, list(result_rows(results)))}
+The scripts of the module are all worked rows (`examples/rows`), all of `examples/linux`, and 1,000 random ones of 120
+lines. 500 of the random scripts, and all of the other drivers, are drawn so that no line is expected to be answered
+differently. The other 500 are drawn freely: most of their differences follow from an earlier one, such as a client or
+a descriptor that is not open. {reasons}
+
+"""
