@@ -315,19 +315,6 @@ class ProgramTests(FolderCase):
             expect(f"expectations in {name}", wanted > 150, True)
             expect_end(run_program("check", *files), 0, "", f"{wanted} passed, 0 failed\n")
 
-    def test_files_are_those_of_the_documents(self):
-        document = (REPOSITORY / "docs/LINUX.md").read_text()
-        for file in scripts("linux"):
-            comment, *lines = file.read_text().splitlines()
-            block = "".join(f"    {line}\n" for line in lines)
-            expect(f"the difference of {file.name}", f"**{comment[2:]}**" in document.replace("\n", " "), True)
-            expect(f"the script of {file.name}", f"\n\n{block}" in document, True)
-        expect(
-            "how many differences",
-            document.count("\n\n    open") + document.count("\n\n    limits "),
-            len(scripts("linux")),
-        )
-
     def test_files_that_fail_their_checks(self):
         folder = self.folder
         files = {

@@ -9,11 +9,10 @@ import tempfile
 from typing import Counter, Dict, List, NamedTuple, Tuple
 
 import kernels
-from kernel_device import KernelDevice
+from kernel_device import LEFT_OUT, KernelDevice
 from kernel_scripts import REPOSITORY, Device, Modelled, Script, compared, is_event, modelled
 
 SERVERS = 2
-LEFT_OUT = "left out"
 
 
 class Difference(NamedTuple):
@@ -55,7 +54,9 @@ class Result(NamedTuple):
 
 def find_program() -> str:
     """The server's program."""
-    found = subprocess.run([str(REPOSITORY / "drm_server"), "--program"], stdout=subprocess.PIPE, text=True, check=False)
+    found = subprocess.run(
+        [str(REPOSITORY / "drm_server"), "--program"], stdout=subprocess.PIPE, text=True, check=False
+    )
     if found.returncode != 0:
         raise kernels.Lacking("there is no program of the server")
     return found.stdout.strip()

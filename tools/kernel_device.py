@@ -38,6 +38,8 @@ ATOMIC, UNIVERSAL_PLANES = 3, 2
 FORMAT_BITS = (1, 2, 4, 8, 16, 24, 32)
 # what the requests without fields are answered that no call of a script has
 OTHER_REQUESTS = {1: "done", 179: f"errno {ENOENT}"}
+# of what no kernel has
+LEFT_OUT = "left out"
 DRIVER_REQUESTS = range(0x40, 0xA0)
 
 
@@ -181,7 +183,7 @@ class KernelDevice(Plain):
     def raw(self, caller: int, number: int) -> str:
         """A request without fields: the kernel takes missing ones for 0."""
         if number > 255 or number in DRIVER_REQUESTS:
-            return "left out"
+            return LEFT_OUT
         if caller not in self.clients:
             self.differs("clients")
             raise Failed(EBADF)
@@ -194,6 +196,9 @@ class KernelDevice(Plain):
         fields = [0] * (CALLS[word][2] or 0)
         answer = str(super().ask(caller, word, fields))
         return answer if answer.startswith("errno") else "done"
+
+    def audit(self, _client: Any, _kind: int, _first: int) -> str:
+        return LEFT_OUT
 
     # capabilities
 
@@ -422,7 +427,9 @@ class KernelDevice(Plain):
         if not listed:
             self.differs("lease_of_nothing")
         fail_unless(not any(set(given) & lessee.grants for lessee in self.lessees(client.master)), EBUSY)
-        others = [other for other in self.masters.values() if other.lessor and self.owner(other.number) == client.master]
+        others = [
+            other for other in self.masters.values() if other.lessor and self.owner(other.number) == client.master
+        ]
         lessee_id = least_free({other.lessee_id for other in others})
         token = self.next_token({other.token for other in self.masters.values()}, self.last_lease_token)
         self.last_lease_token = token

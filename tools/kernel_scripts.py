@@ -6,7 +6,7 @@ import pathlib
 import pickle
 import random
 import re
-from typing import Dict, FrozenSet, List, NamedTuple, Set, Tuple
+from typing import Dict, FrozenSet, List, NamedTuple, Tuple
 
 from kernel_device import TESTS, KernelDevice
 from kernels import SERIES
@@ -292,4 +292,3 @@ def bundled(script: Script, answers: Dict[int, Modelled]) -> str:
         binds = known and not known.startswith("errno") and " or " not in known
         lines.append(f"{line} -> {known}\n" if binds else f"{line}\n")
     return "".join(lines)
-

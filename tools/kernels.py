@@ -42,8 +42,21 @@ PROGRAMS = {
 }
 HEADERS = pathlib.Path("/usr/include/libdrm/drm.h")
 MODULES = ("virtio_pci", "virtio-gpu", "vgem", "drm_kms_helper")
-COMPILE = ["gcc", "-std=gnu11", "-O2", "-Wall", "-Wextra", "-Wpedantic", "-Wshadow", "-static", "-I", str(HEADERS.parent)]
+COMPILE = [
+    "gcc",
+    "-std=gnu11",
+    "-O2",
+    "-Wall",
+    "-Wextra",
+    "-Wpedantic",
+    "-Wshadow",
+    "-static",
+    "-I",
+    str(HEADERS.parent),
+]
 BOOTS = 3
+# how much of the console is printed of a boot that failed
+CONSOLE = 2000
 SECONDS = 900
 
 INIT = """#!/bin/busybox sh
@@ -70,7 +83,15 @@ echo "end"
 
 
 class Lacking(Exception):
-    """What a comparison needs and this machine does not have."""
+    """What a comparison needs and could not get."""
+
+
+class Missing(Lacking):
+    """A program or a kernel that this machine does not have."""
+
+
+class Slow(Lacking):
+    """A boot that was not complete in time, at each attempt."""
 
 
 class Kernel(NamedTuple):
@@ -120,7 +141,7 @@ def require_programs(names: Iterable[str] = tuple(PROGRAMS)) -> None:
     if not HEADERS.exists():
         packages.add("libdrm-dev")
     if packages:
-        raise Lacking(f"Debian packages that are missing: {' '.join(sorted(packages))}")
+        raise Missing(f"Debian packages that are missing: {' '.join(sorted(packages))}")
 
 
 def find_program(name: str) -> Optional[str]:
@@ -160,7 +181,9 @@ def apt_options() -> List[str]:
 def latest_image(series: str, options: List[str]) -> Tuple[str, str]:
     """The release and the version of the newest image of a series."""
     shown = run("apt-cache", *options, "show", "linux-image-amd64")
-    found = re.findall(rf"^Depends: linux-image-({re.escape(series)}\.\S+) \(= (\S+)\)", shown, re.M)
+    found: List[Tuple[str, str]] = re.findall(
+        rf"^Depends: linux-image-({re.escape(series)}\.\S+) \(= (\S+)\)", shown, re.M
+    )
     if not found:
         raise Lacking(f"apt has no kernel of the series {series}")
     return max(found, key=lambda row: [int(part) for part in re.findall(r"\d+", row[1])])
@@ -208,7 +231,7 @@ def kernel_of(series: str, fetches: bool = True) -> Kernel:
         if kept is not None:
             return kept
         if not fetches:
-            raise Lacking(f"no kernel of the series {series} in {cache()}: tools/beside-kernel fetches it")
+            raise Missing(f"there is no Debian package linux-image-amd64 in {cache()}: tools/beside-kernel fetches it")
         return fetch(series)
 
 
@@ -275,10 +298,10 @@ def make_initramfs(kernel: Kernel, scripts: Dict[str, str], room: pathlib.Path) 
     return archive
 
 
-def emulator(kernel: Kernel, archive: pathlib.Path, room: pathlib.Path, accelerator: str) -> List[str]:
+def emulator(kernel: Kernel, archive: pathlib.Path, room: pathlib.Path) -> List[str]:
     """The command that boots a kernel. Its first serial port is the console, its second one has the answers."""
     append = "console=ttyS0 panic=-1 oops=panic no_timer_check edd=off quiet"
-    words = ["qemu-system-x86_64", "-accel", accelerator, "-m", "768", "-nographic", "-nodefaults", "-vga", "none"]
+    words = ["qemu-system-x86_64", "-accel", "tcg", "-m", "768", "-nographic", "-nodefaults", "-vga", "none"]
     words += ["-device", "virtio-gpu-pci,max_outputs=2", "-no-reboot", "-append", append]
     words += ["-kernel", str(kernel.image), "-initrd", str(archive)]
     return [*words, "-serial", f"file:{room}/console", "-serial", f"file:{room}/answers"]
@@ -303,19 +326,27 @@ def read_boot(text: str) -> Optional[Booted]:
     return booted
 
 
-def boot(kernel: Kernel, scripts: Dict[str, str], accelerator: str = "tcg", seconds: int = SECONDS) -> Booted:
+def attempt(kernel: Kernel, scripts: Dict[str, str], seconds: int) -> Tuple[Optional[Booted], str]:
+    """Boots a kernel once. Returns what it printed, or nothing and why it did not reach its end."""
+    with tempfile.TemporaryDirectory(prefix="drm-kernel-") as name:
+        room = pathlib.Path(name)
+        command = emulator(kernel, make_initramfs(kernel, scripts, room), room)
+        try:
+            subprocess.run(command, timeout=seconds, stdin=subprocess.DEVNULL, check=True)
+        except subprocess.TimeoutExpired:
+            return None, ""
+        console = (room / "console").read_text(errors="replace")
+        return read_boot((room / "answers").read_text(errors="replace")), console[-CONSOLE:]
+
+
+def boot(kernel: Kernel, scripts: Dict[str, str], seconds: int = SECONDS) -> Booted:
     """Boots a kernel, and runs the scripts of each driver. A boot that fails is tried again."""
-    console = ""
+    reasons = []
     for _ in range(BOOTS):
-        with tempfile.TemporaryDirectory(prefix="drm-kernel-") as name:
-            room = pathlib.Path(name)
-            command = emulator(kernel, make_initramfs(kernel, scripts, room), room, accelerator)
-            try:
-                subprocess.run(command, timeout=seconds, stdin=subprocess.DEVNULL, check=False)
-            except subprocess.TimeoutExpired:
-                pass
-            answers, console = ((room / part).read_text(errors="replace") for part in ("answers", "console"))
-            booted = read_boot(answers)
-            if booted is not None:
-                return booted
-    raise Lacking(f"{kernel.release} did not boot in {BOOTS} attempts; its console ended with\n{console[-2000:]}")
+        booted, reason = attempt(kernel, scripts, seconds)
+        if booted is not None:
+            return booted
+        reasons.append(reason)
+    if any(reasons):
+        raise Lacking(f"{kernel.release} did not run all scripts; its console ended with\n{max(reasons)}")
+    raise Slow(f"{kernel.release} did not boot within {seconds} s in {BOOTS} attempts")

@@ -1,0 +1,163 @@
+#!/usr/bin/env python3
+"""Tests of tools/beside-kernel: docs/LINUX.md, the expected differences, and a few scripts on a kernel.
+
+One test boots a kernel of the cache in QEMU, and is skipped where there is none. `tools/beside-kernel` fetches kernels and compares all
+scripts. The last line is `N passed, M failed`. Standard library only.
+"""
+import sys
+
+sys.dont_write_bytecode = True
+from support import REPOSITORY, FolderCase, Skipped, expect, run, run_tests, want_libdrm, want_program  # noqa: E402
+
+import kernels  # noqa: E402
+import linux_page  # noqa: E402
+from comparison import Asked, ask_server, compare, model_scripts  # noqa: E402
+from kernel_scripts import (  # noqa: E402
+    EXAMPLES,
+    MODULE,
+    VIRTIO,
+    Script,
+    bundled,
+    compared,
+    random_script,
+    read_page,
+    read_script,
+    scripts_of_examples,
+)
+
+# how long a boot of the test may take, of three attempts
+SECONDS = 40
+BOOTED = ("rows/leases_are_refused_in_order", "linux/unknown_connector", "linux/lessees_that_lease")
+RANDOM = (1, 2, 3)
+HEAD = "# A title\n# subject: Leases\n# kernel: It does\n#   this.\n# here: It does that.\n"
+SCRIPT = "open a card -> client 1\na setcrtc 1 0 99 -> denied 30 NoModeObject 2\n# linux 6.12: errno 22\na version\n"
+
+
+def pages():
+    """The files of examples/linux."""
+    return sorted((EXAMPLES / "linux").glob("*.script"))
+
+
+def answers_of(model):
+    """What a kernel's device in Python answers to a script, as drm_script prints it; the first one where there are several."""
+    return [f"{number} {line.answer.split(' or ')[0]}" for number, line in sorted(model.items())]
+
+
+def printed(scripts, models):
+    """What a kernel prints that answers as its device in Python does."""
+    return [line for script, model in zip(scripts, models) for line in (f"= {script.name}", *answers_of(model))]
+
+
+class BesideKernelTests(FolderCase):
+    """Tests of tools/beside-kernel: docs/LINUX.md, the expected differences, and a few scripts on a kernel."""
+
+    def test_page_is_that_of_the_examples(self):
+        text = linux_page.PAGE.read_text()
+        expect("the page", text, linux_page.page_of(linux_page.compared_of(text)))
+        subjects = {read_page(path).subject for path in pages()}
+        expect("subjects", subjects, {linux_page.REPRESENTED, *linux_page.SUBJECTS})
+
+    def test_head_and_differences_of_a_file(self):
+        file = self.folder / "some.script"
+        file.write_text(HEAD + SCRIPT)
+        expect("the head", tuple(read_page(file)), ("A title", "Leases", "It does this.", "It does that."))
+        script = read_script(file)
+        expect("the lines", script.lines[5:7], ["open a card", "a setcrtc 1 0 99"])
+        expect("a difference in 6.12", script.expected_of("6.12"), {7: "errno 22"})
+        expect("a difference in 6.1", script.expected_of("6.1"), {})
+
+    def test_answers_as_they_are_compared(self):
+        for answer, wanted in (
+            ("denied 30 NoModeObject 2", "errno 2"),
+            ("apart 50 JournalFull 28", "errno 28"),
+            ("client 7", "client"),
+            ("lease 1 2", "lease 1 2"),
+        ):
+            expect(answer, compared(answer), wanted)
+
+    def test_differences_are_those_of_the_device_in_python(self):
+        """The device of each series answers as the server does, but for the differences that the files expect."""
+        scripts = scripts_of_examples()
+        asked = ask_server(MODULE, scripts)
+        for series in kernels.SERIES:
+            models = model_scripts(asked, series)
+            result = compare(series, series, asked, models, printed(scripts, models))
+            expect(f"{series}: what is wrong", (result.unexplained, result.missing), ([], []))
+            expect(f"{series}: scripts", result.scripts, len(scripts))
+
+    def test_another_answer_of_a_kernel_is_found(self):
+        """A difference that no file explains, and an expected one that does not show."""
+        script = read_script(EXAMPLES / "linux/unknown_connector.script")
+        number = min(script.expected)
+        asked = ask_server(MODULE, [script])
+        models = model_scripts(asked, "6.1")
+        for came, wanted in (("errno 2", (0, 1)), ("errno 5", (1, 1)), ("errno 22", (0, 0))):
+            changed = [
+                f"{number} {came}" if line.startswith(f"{number} ") else line for line in printed([script], models)
+            ]
+            result = compare("6.1", "6.1", asked, models, changed)
+            expect(f"what {came} is", (len(result.unexplained), len(result.missing)), wanted)
+        result = compare("6.1", "6.1", asked, models, [])
+        expect("a script that a kernel did not run", len(result.unexplained), len(asked.server[0]))
+
+    def test_random_scripts_without_differences(self):
+        for device in (MODULE, VIRTIO):
+            script = random_script(1, device)
+            asked = ask_server(device, [script])
+            for series in kernels.SERIES:
+                models = model_scripts(asked, series)
+                result = compare(series, series, asked, models, printed([script], models))
+                counts = (result.lines, len(result.explained), len(result.unexplained))
+                expect(f"lines and differences on {device.driver}", counts, (120, 0, 0))
+        expect("the same script by the same number", random_script(2), random_script(2))
+
+    def test_answers_that_a_script_is_given(self):
+        """They have the script's numbers. An errno has none, nor has an import that may return several handles."""
+        script = Script("some", ["open a card", "a gem_close 1", "a get_magic"], {})
+        model = model_scripts(Asked(MODULE, [script], []), "6.1")[0]
+        expect(
+            "the script",
+            bundled(script, model),
+            "= some\nopen a card -> client 1\na gem_close 1\na get_magic -> number 1\n",
+        )
+
+    def test_drm_script_without_a_device(self):
+        want_program("gcc")
+        words = [word for word in want_libdrm() if word.startswith("-I")]
+        program = self.folder / "drm_script"
+        ran = run("gcc", "-std=gnu11", *words, "-o", program, *sorted((REPOSITORY / "clients/kernel").glob("*.c")))
+        expect("what gcc says", (ran.returncode, ran.stderr), (0, ""))
+        ran = run(program, "--card", self.folder / "card0")
+        told = f"drm_script: there is no such device: {self.folder}/card0\n"
+        expect("without a device", (ran.returncode, ran.stdout, ran.stderr), (1, "", told))
+        ran = run(program, "--driver", "no such driver")
+        expect("without a driver", (ran.returncode, ran.stdout), (1, ""))
+        ran = run(program, "--other")
+        expect("another option", (ran.returncode, ran.stderr[:6]), (2, "usage:"))
+
+    def test_command_line(self):
+        command = REPOSITORY / "tools/beside-kernel"
+        expect("help", run(command, "--help").returncode, 0)
+        ran = run(command, "--kernel", "2.4")
+        expect("another series", (ran.returncode, "invalid choice: '2.4'" in ran.stderr), (2, True))
+
+    def test_scripts_on_a_kernel(self):
+        try:
+            kernels.require_programs()
+            kernel = kernels.kernel_of(max(kernels.kept_kernels(), default="6.1"), fetches=False)
+            scripts = [read_script(EXAMPLES / f"{name}.script") for name in BOOTED] + [random_script(n) for n in RANDOM]
+            asked = ask_server(MODULE, scripts)
+            models = model_scripts(asked, kernel.series)
+            text = "".join(bundled(script, model) for script, model in zip(scripts, models))
+            booted = kernels.boot(kernel, {"zirkoshe": text}, seconds=SECONDS)
+        except (kernels.Missing, kernels.Slow) as reason:
+            raise Skipped(str(reason)) from None
+        result = compare(kernel.version, kernel.series, asked, models, booted.answers["zirkoshe"])
+        expect("what is wrong", (result.unexplained, result.missing), ([], []))
+        expect("lines", result.lines, sum(map(len, asked.server)) - sum(result.left_out.values()))
+        expect("differences", len(result.explained) > 0, True)
+        expect("the topology of virtio-gpu", booted.topologies["virtio_gpu"], VIRTIO.text)
+
+
+if __name__ == "__main__":
+    sys.exit(run_tests())
