@@ -27,7 +27,10 @@ TESTS = REPOSITORY / "tests"
 # what is no module, and so isn't found by its name
 COMMANDS = ("drm-client", "drm-audit")
 # likewise, seen from the tests
-TOOLS = ("all", "../bench/instructions", "../tools/check")
+BESIDE = tuple(
+    f"../tools/{name}.py" for name in ("kernels", "kernel_device", "kernel_scripts", "comparison", "linux_page")
+)
+TOOLS = ("all", "../bench/instructions", "../tools/check", "../tools/beside-kernel", *BESIDE)
 
 
 # Python
@@ -85,7 +88,7 @@ with Server() as server:
 def sources_in_c():
     found = [
         path
-        for place in ("clients/c", *LIBDRM, "tests", "examples")
+        for place in ("clients/c", *LIBDRM, *KERNEL, "tests", "examples")
         for ending in ("c", "h")
         for path in (REPOSITORY / place).glob(f"*.{ending}")
     ]
@@ -94,6 +97,8 @@ def sources_in_c():
 
 # the core of clients/libdrm, and its two front ends
 LIBDRM = ("clients/libdrm", "clients/libdrm/preload", "clients/libdrm/supervisor")
+# the runner of scripts on a kernel, and the module
+KERNEL = ("clients/kernel", "clients/kernel/module")
 WARNINGS = ["-Wall", "-Wextra", "-Wpedantic", "-Wconversion", "-Wshadow", "-Werror", "-pthread"]
 # each header alone, and after one that decides what the system's headers declare
 INCLUDED = {
@@ -131,7 +136,8 @@ class LintersTests(FolderCase):
 
     def test_types_of_what_tests_share_are_clean_by_a_strict_mypy(self):
         expect_clean(self.folder, "mypy", "--cache-dir", self.folder / "cache", "support.py", cwd=TESTS)
-        expect_clean(self.folder, "mypy", "--cache-dir", self.folder / "cache", "../tools/check", cwd=TESTS)
+        for tool in ("../tools/check", "../tools/kernels.py"):
+            expect_clean(self.folder, "mypy", "--cache-dir", self.folder / "cache", tool, cwd=TESTS)
 
     def test_python_is_as_black_formats_it(self):
         folder = self.folder
@@ -207,6 +213,12 @@ class LintersTests(FolderCase):
         for name in ("session", "opening", "closed", "threads", "fixture"):
             ran = run("cc", "-std=c99", *WARNINGS, "-fsyntax-only", "-I", CLIENTS / "c", REPOSITORY / f"tests/{name}.c")
             expect(f"what is said of {name}", (ran.returncode, ran.stderr), (0, ""))
+
+    def test_runner_of_scripts_on_a_kernel_without_warnings(self):
+        headers = [word for word in want_libdrm() if word.startswith("-I")]
+        for source in sorted((REPOSITORY / "clients/kernel").glob("*.c")):
+            ran = run("cc", "-std=gnu11", *WARNINGS, "-fsyntax-only", *headers, source)
+            expect(f"what is said of {source.name}", (ran.returncode, ran.stderr), (0, ""))
 
     def test_supervisor_without_warnings(self):
         """And the program that tests it."""

@@ -303,7 +303,7 @@ class ToolsTests(FolderCase):
         ):
             text = (REPOSITORY / "tests" / f"test_{file}.py").read_text()
             expect(f"tests of {file}", found[case], len(re.findall(r"^    def test_", text, re.MULTILINE)))
-        expect("tests of the documents' blocks", found["DocumentsTests"] > 200, True)
+        expect("tests of the documents' blocks", found["DocumentsTests"] > 150, True)
 
     def test_documents_are_plain_english(self):
         expect_end(run(PROSE), 0, "", "")

@@ -241,6 +241,13 @@ def mark_of_sources() -> str:
     return hashlib.sha256(b"".join(file.read_bytes() for file in files)).hexdigest()[:16]
 
 
+def remove_older(built: pathlib.Path, pattern: str) -> None:
+    """Removes what was built from earlier sources."""
+    for path in built.parent.glob(pattern):
+        if path != built:
+            path.unlink()
+
+
 def build_module(kernel: Kernel) -> pathlib.Path:
     """The module, built against the headers of a kernel."""
     built = kernel.folder / f"zirkoshe-{mark_of_sources()}.ko"
@@ -251,6 +258,7 @@ def build_module(kernel: Kernel) -> pathlib.Path:
             settings = [f"M={copy}/module", "CC=gcc", "CONFIG_DEBUG_INFO_BTF_MODULES="]
             run("make", "-C", kernel.headers, *settings, "modules")
             shutil.copy(copy / "module/zirkoshe.ko", built)
+        remove_older(built, "zirkoshe-*.ko")
     return built
 
 
@@ -259,6 +267,7 @@ def build_runner() -> pathlib.Path:
     built = cache() / f"drm_script-{mark_of_sources()}"
     if not built.exists():
         run(*COMPILE, "-o", built, *sorted(SOURCES.glob("*.c")))
+        remove_older(built, "drm_script-*")
     return built
 
 
