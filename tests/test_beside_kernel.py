@@ -1,5 +1,5 @@
 #!/usr/bin/env python3
-"""Tests of tools/beside-kernel: docs/LINUX.md, the expected differences, and a few scripts on a kernel.
+"""Tests of tools/beside-kernel: docs/LINUX.md, the expected differences, and a few scripts and errnos on a kernel.
 
 One test boots a kernel of the cache in QEMU, and is skipped where there is none. `tools/beside-kernel` fetches kernels and compares all
 scripts. The last line is `N passed, M failed`. Standard library only.
@@ -22,9 +22,13 @@ from kernel_scripts import (  # noqa: E402
     random_script,
     read_page,
     read_script,
+    read_trials,
     scripts_of_examples,
 )
+from libdrm_errnos import FILE as ERRNOS  # noqa: E402
+from libdrm_errnos import build_program, compare_errnos, errnos_of_the_library, wrong_errnos  # noqa: E402
 
+LIBDRM = REPOSITORY / "docs/LIBDRM.md"
 # how long a boot of the test may take, of three attempts
 SECONDS = 40
 BOOTED = ("rows/leases_are_refused_in_order", "linux/unknown_connector", "linux/lessees_that_lease")
@@ -135,6 +139,30 @@ class BesideKernelTests(FolderCase):
         ran = run(program, "--other")
         expect("another option", (ran.returncode, ran.stderr[:6]), (2, "usage:"))
 
+    def test_errnos_of_the_library_are_those_of_the_file(self):
+        want_libdrm()
+        library = errnos_of_the_library()
+        expect("what is wrong", wrong_errnos(library), [])
+        expect("requests", f"`tests/libdrm_errnos.c` makes {len(library)} requests" in LIBDRM.read_text(), True)
+
+    def test_errnos_that_differ_are_those_of_the_document(self):
+        script, known = read_trials(ERRNOS)
+        for series in kernels.SERIES:
+            for number, errno in script.expected_of(series).items():
+                row = f"| {script.lines[number - 1]} | {known[number]} | {errno} |\n"
+                expect(f"the row {row}", row in LIBDRM.read_text(), True)
+        rows = LIBDRM.read_text().partition("| request | library | kernels |\n")[2].partition("\n\n")[0]
+        expect("rows", rows.count("\n"), len(script.expected))
+
+    def test_other_errnos_of_a_kernel_are_found(self):
+        script, known = read_trials(ERRNOS)
+        library = {script.lines[number - 1]: errno for number, errno in known.items()}
+        kernel = {**library, **{script.lines[n - 1]: errno for n, errno in script.expected_of("6.12").items()}}
+        for changes, wanted in (({}, (0, 0)), ({"write": "done"}, (1, 0)), (library, (0, len(script.expected)))):
+            printed = [f"{name}: {errno}" for name, errno in {**kernel, **changes}.items()]
+            result = compare_errnos("6.12", "6.12", library, printed)
+            expect(f"with {len(changes)} changes", (len(result.unexplained), len(result.missing)), wanted)
+
     def test_command_line(self):
         command = REPOSITORY / "tools/beside-kernel"
         expect("help", run(command, "--help").returncode, 0)
@@ -149,13 +177,15 @@ class BesideKernelTests(FolderCase):
             asked = ask_server(MODULE, scripts)
             models = model_scripts(asked, kernel.series)
             text = "".join(bundled(script, model) for script, model in zip(scripts, models))
-            booted = kernels.boot(kernel, {"zirkoshe": text}, seconds=SECONDS)
+            booted = kernels.boot(kernel, {"zirkoshe": text}, build_program(), SECONDS)
         except (kernels.Missing, kernels.Slow) as reason:
             raise Skipped(str(reason)) from None
         result = compare(kernel.version, kernel.series, asked, models, booted.answers["zirkoshe"])
         expect("what is wrong", (result.unexplained, result.missing), ([], []))
         expect("lines", result.lines, sum(map(len, asked.server)) - sum(result.left_out.values()))
         expect("differences", len(result.explained) > 0, True)
+        errnos = compare_errnos(kernel.version, kernel.series, errnos_of_the_library(), booted.answers["program"])
+        expect("wrong errnos", (errnos.unexplained, errnos.missing), ([], []))
         expect("the topology of virtio-gpu", booted.topologies["virtio_gpu"], VIRTIO.text)
 
 

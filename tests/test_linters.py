@@ -28,7 +28,8 @@ TESTS = REPOSITORY / "tests"
 COMMANDS = ("drm-client", "drm-audit")
 # likewise, seen from the tests
 BESIDE = tuple(
-    f"../tools/{name}.py" for name in ("kernels", "kernel_device", "kernel_scripts", "comparison", "linux_page")
+    f"../tools/{name}.py"
+    for name in ("kernels", "kernel_device", "kernel_scripts", "comparison", "linux_page", "libdrm_errnos")
 )
 TOOLS = ("all", "../bench/instructions", "../tools/check", "../tools/beside-kernel", *BESIDE)
 
@@ -216,7 +217,8 @@ class LintersTests(FolderCase):
 
     def test_runner_of_scripts_on_a_kernel_without_warnings(self):
         headers = [word for word in want_libdrm() if word.startswith("-I")]
-        for source in sorted((REPOSITORY / "clients/kernel").glob("*.c")):
+        sources = [*(REPOSITORY / "clients/kernel").glob("*.c"), *TESTS.glob("libdrm_errnos*.c")]
+        for source in sorted(sources):
             ran = run("cc", "-std=gnu11", *WARNINGS, "-fsyntax-only", *headers, source)
             expect(f"what is said of {source.name}", (ran.returncode, ran.stderr), (0, ""))
 

@@ -27,11 +27,8 @@ class Script(NamedTuple):
     name: str
     lines: List[str]
     expected: Dict[int, List[Tuple[List[str], str]]]
-
-    @property
-    def is_page(self) -> bool:
-        """Whether it is a file of examples/linux, which has all differences of its lines."""
-        return self.name.startswith("examples/linux/")
+    # it has all differences of its lines, as a file of examples/linux does
+    is_page: bool = False
 
     def expected_of(self, series: str) -> Dict[int, str]:
         """The answers of this kernel that differ from the rules."""
@@ -67,7 +64,7 @@ def read_script(path: pathlib.Path) -> Script:
             last = number
     name = path.resolve()
     short = name.relative_to(REPOSITORY) if REPOSITORY in name.parents else path
-    return Script(str(short), lines, expected)
+    return Script(str(short), lines, expected, str(short).startswith("examples/linux/"))
 
 
 def read_page(path: pathlib.Path) -> Page:
@@ -84,6 +81,13 @@ def read_page(path: pathlib.Path) -> Page:
         else:
             break
     return Page(lines[0][2:], fields["subject"], fields["kernel"], fields["here"])
+
+
+def read_trials(path: pathlib.Path) -> Tuple[Script, Dict[int, str]]:
+    """A file of requests and errnos, as a script whose lines are the requests' names, and the errnos of the library."""
+    script = read_script(path)
+    rows = [line.partition(" -> ") for line in path.read_text().splitlines()]
+    return script._replace(is_page=True), {number: row[2] for number, row in enumerate(rows, 1) if row[1]}
 
 
 def scripts_of_examples() -> List[Script]:

@@ -77,6 +77,14 @@ for driver in zirkoshe virtio_gpu vgem; do
     echo "scripts $driver"
     [ ! -f /scripts/$driver ] || /bin/drm_script --driver $driver /scripts/$driver
 done
+if [ -f /bin/program ]; then
+    # the module once more, with a vertical blanking, in place of all devices
+    for module in zirkoshe virtio-gpu vgem; do /bin/busybox rmmod $module; done
+    /bin/busybox insmod /modules/*-zirkoshe.ko topology=TOPOLOGY blanks=1
+    echo "device program"
+    echo "scripts program"
+    /bin/program /dev/dri/card* /dev/dri/renderD*
+fi
 echo "end"
 /bin/busybox poweroff -f
 """
@@ -109,6 +117,13 @@ class Kernel(NamedTuple):
     @property
     def headers(self) -> pathlib.Path:
         return self.folder / "usr/src" / f"linux-headers-{self.release}"
+
+
+class Program(NamedTuple):
+    """A program without shared libraries, and the topology of its device as the module's parameter."""
+
+    path: pathlib.Path
+    topology: str
 
 
 class Booted(NamedTuple):
@@ -284,8 +299,16 @@ def modules_of(kernel: Kernel) -> Iterator[Tuple[str, bytes]]:
                 yield pathlib.Path(path).name.split(".ko")[0], lzma.decompress(data) if path.endswith(".xz") else data
 
 
-def make_initramfs(kernel: Kernel, scripts: Dict[str, str], room: pathlib.Path) -> pathlib.Path:
-    """An archive with busybox, the modules, drm_script and the scripts of each driver."""
+def parameter_of(topology: str) -> str:
+    """The lines of a topology file as the module's parameter."""
+    lines = [line.split() for line in topology.splitlines() if line.strip() and not line.startswith("#")]
+    return ",".join(f"{word}:{'+'.join(numbers)}" for word, *numbers in lines)
+
+
+def make_initramfs(
+    kernel: Kernel, scripts: Dict[str, str], program: Optional[Program], room: pathlib.Path
+) -> pathlib.Path:
+    """An archive with busybox, the modules, drm_script, the scripts of each driver, and a program."""
     root = room / "root"
     for name in ("bin", "dev", "proc", "sys", "modules", "scripts"):
         (root / name).mkdir(parents=True)
@@ -296,7 +319,9 @@ def make_initramfs(kernel: Kernel, scripts: Dict[str, str], room: pathlib.Path) 
         (root / "modules" / f"{place:02}-{name}.ko").write_bytes(data)
     for driver, text in scripts.items():
         (root / "scripts" / driver).write_text(text)
-    (root / "init").write_text(INIT)
+    if program is not None:
+        shutil.copy(program.path, root / "bin/program")
+    (root / "init").write_text(INIT.replace("TOPOLOGY", program.topology if program else ""))
     (root / "init").chmod(0o755)
     names = "".join(f"{path.relative_to(root)}\n" for path in sorted(root.rglob("*")))
     packed = subprocess.run(
@@ -335,11 +360,13 @@ def read_boot(text: str) -> Optional[Booted]:
     return booted
 
 
-def attempt(kernel: Kernel, scripts: Dict[str, str], seconds: int) -> Tuple[Optional[Booted], str]:
+def attempt(
+    kernel: Kernel, scripts: Dict[str, str], program: Optional[Program], seconds: int
+) -> Tuple[Optional[Booted], str]:
     """Boots a kernel once. Returns what it printed, or nothing and why it did not reach its end."""
     with tempfile.TemporaryDirectory(prefix="drm-kernel-") as name:
         room = pathlib.Path(name)
-        command = emulator(kernel, make_initramfs(kernel, scripts, room), room)
+        command = emulator(kernel, make_initramfs(kernel, scripts, program, room), room)
         try:
             subprocess.run(command, timeout=seconds, stdin=subprocess.DEVNULL, check=True)
         except subprocess.TimeoutExpired:
@@ -348,11 +375,11 @@ def attempt(kernel: Kernel, scripts: Dict[str, str], seconds: int) -> Tuple[Opti
         return read_boot((room / "answers").read_text(errors="replace")), console[-CONSOLE:]
 
 
-def boot(kernel: Kernel, scripts: Dict[str, str], seconds: int = SECONDS) -> Booted:
-    """Boots a kernel, and runs the scripts of each driver. A boot that fails is tried again."""
+def boot(kernel: Kernel, scripts: Dict[str, str], program: Optional[Program] = None, seconds: int = SECONDS) -> Booted:
+    """Boots a kernel, and runs the scripts of each driver and the program. A boot that fails is tried again."""
     reasons = []
     for _ in range(BOOTS):
-        booted, reason = attempt(kernel, scripts, seconds)
+        booted, reason = attempt(kernel, scripts, program, seconds)
         if booted is not None:
             return booted
         reasons.append(reason)

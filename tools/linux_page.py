@@ -15,6 +15,8 @@ SUBJECTS = ("Requests", "Buffers", "Masters", "Mode setting", "Leases", "Limits"
 REPRESENTED = "Scripts"
 COMPARED = "## What was compared\n"
 NEXT = "## Scripts on a kernel\n"
+# the comparison that LIBDRM has
+ERRNOS = "libdrm_errnos"
 
 INTRODUCTION = """\
 # Differences from Linux
@@ -97,6 +99,8 @@ def compared_of(text: str) -> str:
 def result_rows(results: Sequence[Result]) -> Iterator[Tuple[str, ...]]:
     """A row for each device of each kernel."""
     for result in results:
+        if result.kernel.endswith(ERRNOS):
+            continue
         version, _, driver = result.kernel.partition(" ")
         counts = (result.scripts, result.lines, len(result.explained), len(result.unexplained))
         yield (version, driver or "the module", *(f"{count:,}" for count in counts))

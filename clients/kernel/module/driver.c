@@ -3,6 +3,7 @@
 #include <linux/platform_device.h>
 #include <linux/version.h>
 
+#include <drm/drm_atomic_helper.h>
 #include <drm/drm_drv.h>
 #include <drm/drm_gem.h>
 #include <drm/drm_ioctl.h>
@@ -38,6 +39,16 @@ static const struct drm_driver driver = {
     .major = 1,
 };
 
+// the test topology
+static char *topology = "crtcs:2,primary:1,plane:2,encoder:1+2,encoder:2,connector:1,connector:2";
+module_param(topology, charp, 0444);
+MODULE_PARM_DESC(topology, "The lines of a topology file: , between lines, : and + between words");
+
+static bool blanks;
+module_param(blanks, bool, 0444);
+MODULE_PARM_DESC(blanks, "CRTCs have a vertical blanking, so that a change waits for it");
+
+static struct topology objects;
 static struct platform_device *platform;
 static struct drm_device *card;
 
@@ -48,7 +59,7 @@ static int create_card(void)
     card = drm_dev_alloc(&driver, &platform->dev);
     if (IS_ERR(card))
         return PTR_ERR(card);
-    result = zirkoshe_create_mode_objects(card);
+    result = zirkoshe_create_mode_objects(card, &objects, blanks);
     if (!result)
         result = drm_dev_register(card, 0);
     if (result)
@@ -58,8 +69,10 @@ static int create_card(void)
 
 static int __init load(void)
 {
-    int result;
+    int result = zirkoshe_read_topology(&objects, topology);
 
+    if (result)
+        return result;
     platform = platform_device_register_simple(ZIRKOSHE_DRIVER, -1, NULL, 0);
     if (IS_ERR(platform))
         return PTR_ERR(platform);
@@ -71,7 +84,8 @@ static int __init load(void)
 
 static void __exit unload(void)
 {
-    drm_dev_unregister(card);
+    drm_dev_unplug(card);
+    drm_atomic_helper_shutdown(card);
     drm_dev_put(card);
     platform_device_unregister(platform);
 }

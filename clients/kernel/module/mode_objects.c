@@ -1,9 +1,7 @@
-// The test topology: two CRTCs, two planes, two encoders and two connectors, created in the order
-// of their ids.
+// The mode objects of a topology, created in the order of their ids.
 #include <drm/drm_atomic_helper.h>
 #include <drm/drm_atomic_state_helper.h>
 #include <drm/drm_connector.h>
-#include <drm/drm_crtc.h>
 #include <drm/drm_edid.h>
 #include <drm/drm_encoder.h>
 #include <drm/drm_fourcc.h>
@@ -11,22 +9,20 @@
 #include <drm/drm_managed.h>
 #include <drm/drm_mode_config.h>
 #include <drm/drm_modeset_helper_vtables.h>
-#include <drm/drm_plane.h>
 #include <drm/drm_probe_helper.h>
+#include <drm/drm_vblank.h>
 
 #include "card.h"
 
 struct mode_objects {
-    struct drm_crtc crtcs[2];
-    struct drm_plane planes[2];
-    struct drm_encoder encoders[2];
-    struct drm_connector connectors[2];
+    const struct topology *topology;
+    bool blanks;
+    struct crtc crtcs[MOST_CRTCS];
+    struct drm_plane planes[MOST_OBJECTS];
+    struct drm_encoder encoders[MOST_OBJECTS];
+    struct drm_connector connectors[MOST_OBJECTS];
 };
 
-// plane 4 is no primary plane, so that a client without universal planes sees it
-static const enum drm_plane_type plane_types[] = {DRM_PLANE_TYPE_PRIMARY, DRM_PLANE_TYPE_OVERLAY};
-static const u32 plane_crtcs[] = {1, 2};
-static const u32 encoder_crtcs[] = {3, 2};
 // a format of each number of bits that MODE_ADDFB knows
 static const u32 plane_formats[] = {
     DRM_FORMAT_XRGB8888, DRM_FORMAT_ARGB8888, DRM_FORMAT_XRGB2101010, DRM_FORMAT_RGB888,
@@ -34,30 +30,12 @@ static const u32 plane_formats[] = {
     DRM_FORMAT_C4,       DRM_FORMAT_C2,       DRM_FORMAT_C1,          DRM_FORMAT_ABGR16161616F};
 
 // nothing is to be done where there is no hardware
-static void change_crtc(struct drm_crtc *crtc, struct drm_atomic_state *state)
-{
-}
-
 static void change_plane(struct drm_plane *plane, struct drm_atomic_state *state)
 {
 }
 
-static const struct drm_crtc_helper_funcs crtc_helpers = {
-    .atomic_enable = change_crtc,
-    .atomic_disable = change_crtc,
-};
-
 static const struct drm_plane_helper_funcs plane_helpers = {
     .atomic_update = change_plane,
-};
-
-static const struct drm_crtc_funcs crtc_functions = {
-    .set_config = drm_atomic_helper_set_config,
-    .page_flip = drm_atomic_helper_page_flip,
-    .destroy = drm_crtc_cleanup,
-    .reset = drm_atomic_helper_crtc_reset,
-    .atomic_duplicate_state = drm_atomic_helper_crtc_duplicate_state,
-    .atomic_destroy_state = drm_atomic_helper_crtc_destroy_state,
 };
 
 static const struct drm_plane_funcs plane_functions = {
@@ -96,39 +74,60 @@ static const struct drm_mode_config_funcs config_functions = {
     .atomic_commit = drm_atomic_helper_commit,
 };
 
-static int create_crtc(struct drm_device *device, struct drm_crtc *crtc)
+static int create_crtc(struct drm_device *device, struct mode_objects *objects, unsigned int i)
 {
-    drm_crtc_helper_add(crtc, &crtc_helpers);
-    return drm_crtc_init_with_planes(device, crtc, NULL, NULL, &crtc_functions, NULL);
+    struct drm_crtc *crtc = &objects->crtcs[i].base;
+
+    drm_crtc_helper_add(crtc,
+                        objects->blanks ? &zirkoshe_blanking_crtc_helpers : &zirkoshe_crtc_helpers);
+    return drm_crtc_init_with_planes(
+        device, crtc, NULL, NULL,
+        objects->blanks ? &zirkoshe_blanking_crtc_functions : &zirkoshe_crtc_functions, NULL);
 }
 
-// MODE_SETCRTC sets the plane that the core holds for the CRTC: here its only one, of whatever type
-static int create_plane(struct drm_device *device, struct mode_objects *objects, int i)
+// MODE_SETCRTC sets the plane that the core holds for the CRTC: its primary plane or, if it has
+// none, its first one.
+static void choose_plane(struct mode_objects *objects, unsigned int i)
+{
+    struct drm_crtc *crtc = &objects->crtcs[objects->topology->first_crtcs[i]].base;
+    enum drm_plane_type type = objects->topology->types[i];
+
+    if (type == DRM_PLANE_TYPE_CURSOR)
+        crtc->cursor = &objects->planes[i];
+    else if (type == DRM_PLANE_TYPE_PRIMARY || !crtc->primary)
+        crtc->primary = &objects->planes[i];
+}
+
+static int create_plane(struct drm_device *device, struct mode_objects *objects, unsigned int i)
 {
     struct drm_plane *plane = &objects->planes[i];
 
     drm_plane_helper_add(plane, &plane_helpers);
-    objects->crtcs[i].primary = plane;
-    return drm_universal_plane_init(device, plane, plane_crtcs[i], &plane_functions, plane_formats,
-                                    ARRAY_SIZE(plane_formats), NULL, plane_types[i], NULL);
+    choose_plane(objects, i);
+    return drm_universal_plane_init(device, plane, objects->topology->plane_crtcs[i],
+                                    &plane_functions, plane_formats, ARRAY_SIZE(plane_formats),
+                                    NULL, objects->topology->types[i], NULL);
 }
 
-static int create_encoder(struct drm_device *device, struct drm_encoder *encoder, u32 crtcs)
+static int create_encoder(struct drm_device *device, struct mode_objects *objects, unsigned int i)
 {
-    encoder->possible_crtcs = crtcs;
+    struct drm_encoder *encoder = &objects->encoders[i];
+
+    encoder->possible_crtcs = objects->topology->encoder_crtcs[i];
     return drm_encoder_init(device, encoder, &encoder_functions, DRM_MODE_ENCODER_VIRTUAL, NULL);
 }
 
-static int create_connector(struct drm_device *device, struct drm_connector *connector,
-                            struct drm_encoder *encoder)
+static int create_connector(struct drm_device *device, struct mode_objects *objects, unsigned int i)
 {
+    struct drm_connector *connector = &objects->connectors[i];
+    unsigned int encoder = objects->topology->connector_encoders[i];
     int result =
         drm_connector_init(device, connector, &connector_functions, DRM_MODE_CONNECTOR_VIRTUAL);
 
     if (result)
         return result;
     drm_connector_helper_add(connector, &connector_helpers);
-    return drm_connector_attach_encoder(connector, encoder);
+    return drm_connector_attach_encoder(connector, &objects->encoders[encoder]);
 }
 
 static int configure(struct drm_device *device)
@@ -146,23 +145,39 @@ static int configure(struct drm_device *device)
     return 0;
 }
 
-int zirkoshe_create_mode_objects(struct drm_device *device)
+// The object at a place of all kinds in their order.
+static int create_object(struct drm_device *device, struct mode_objects *objects, unsigned int i)
+{
+    const struct topology *topology = objects->topology;
+
+    if (i < topology->crtcs)
+        return create_crtc(device, objects, i);
+    i -= topology->crtcs;
+    if (i < topology->planes)
+        return create_plane(device, objects, i);
+    i -= topology->planes;
+    if (i < topology->encoders)
+        return create_encoder(device, objects, i);
+    return create_connector(device, objects, i - topology->encoders);
+}
+
+int zirkoshe_create_mode_objects(struct drm_device *device, const struct topology *topology,
+                                 bool blanks)
 {
     struct mode_objects *objects = drmm_kzalloc(device, sizeof(*objects), GFP_KERNEL);
     int result = objects ? configure(device) : -ENOMEM;
-    int i;
+    unsigned int count =
+        topology->crtcs + topology->planes + topology->encoders + topology->connectors;
+    unsigned int i;
 
-    for (i = 0; i < 8 && !result; i++) {
-        if (i < 2)
-            result = create_crtc(device, &objects->crtcs[i]);
-        else if (i < 4)
-            result = create_plane(device, objects, i - 2);
-        else if (i < 6)
-            result = create_encoder(device, &objects->encoders[i - 4], encoder_crtcs[i - 4]);
-        else
-            result =
-                create_connector(device, &objects->connectors[i - 6], &objects->encoders[i - 6]);
-    }
+    if (result)
+        return result;
+    objects->topology = topology;
+    objects->blanks = blanks;
+    for (i = 0; i < count && !result; i++)
+        result = create_object(device, objects, i);
+    if (!result && blanks)
+        result = drm_vblank_init(device, topology->crtcs);
     if (!result)
         drm_mode_config_reset(device);
     return result;
