@@ -21,7 +21,8 @@ from support import (  # noqa: E402
 )
 
 LIBRARY = CLIENTS / "libdrm"
-# the status of a supervisor that the kernel does not allow
+LOGIND = LIBRARY / "logind"
+# the status of a supervisor, or a stand-in for logind, that the kernel does not allow
 NOT_STARTED = 125
 COMPILER = ["cc", "-std=gnu11", "-Wall", "-Wextra", "-Wpedantic", "-Werror", "-O2", "-pthread"]
 
@@ -54,6 +55,13 @@ def supervisor():
     if ran.returncode == NOT_STARTED:
         raise Skipped(ran.stderr.strip())
     return path
+
+
+def want_logind():
+    """Skips the test if there can be no stand-in for logind."""
+    ran = run(LOGIND, "true")
+    if ran.returncode != 0:
+        raise Skipped(ran.stderr.strip() or f"{LOGIND} ended with status {ran.returncode}")
 
 
 def environment(folder, **variables):

@@ -17,7 +17,7 @@ from typing import Dict, List, NamedTuple, Tuple
 sys.dont_write_bytecode = True
 from support import REPOSITORY, FolderCase, Skipped, expect, run, run_tests, want_program  # noqa: E402
 
-from libdrm_support import library  # noqa: E402
+from libdrm_support import LOGIND, library, want_logind  # noqa: E402
 
 PAGE = REPOSITORY / "docs/LIBDRM.md"
 HEAD = "| program | version | requests | how far | frames | last failing request |"
@@ -39,6 +39,7 @@ export LD_PRELOAD=$PWD/library.so
 somebody="setpriv --reuid=nobody --regid=nogroup --clear-groups"
 """
 WLROOTS = ("setpriv", "weston-presentation-shm")
+LOGINDS = ("dbus-run-session", "weston-simple-shm")
 
 WESTON = f"""\
 weston --backend=drm-backend.so --use-pixman --drm-device=card0 --seat=seat9 --continue-without-input --socket=shown &
@@ -92,6 +93,16 @@ EndSection
 END
 timeout {SHOWING} Xorg -displayfd 1 -seat seat9 -noreset -config $PWD/xorg.conf -logfile $PWD/log
 """
+# they get the card from logind
+LOGGED_IN = f"HOME=$PWD GSETTINGS_BACKEND=memory {LOGIND} dbus-run-session -- timeout {SHOWING}"
+MUTTER = f"""\
+{LOGGED_IN} mutter --wayland --display-server --no-x11 --wayland-display shown -- weston-simple-shm
+"""
+# the loader preloads nothing into a program with capabilities, which a copy does not have
+KWIN = f"""\
+cp "$(command -v kwin_wayland)" .
+{LOGGED_IN} ./kwin_wayland --drm --no-lockscreen --no-global-shortcuts --socket shown weston-simple-shm
+"""
 MPV = f"mpv --no-config --no-audio --vo=drm --length={SHOWING} av://lavfi:testsrc=size=320x240:rate=30"
 
 # how far a program can get
@@ -129,6 +140,8 @@ PROGRAMS = (
     Program("cage", "cage", CAGE, SHOWS, (), WLROOTS + ("Xwayland",)),
     Program("phoc", "phoc", PHOC, SHOWS, (), WLROOTS, TIMED_OUT),
     Program("wayfire", "wayfire", WAYFIRE, SHOWS, (), WLROOTS, TIMED_OUT),
+    Program("mutter", "mutter", MUTTER, SHOWS, ("--udev",), LOGINDS, TIMED_OUT),
+    Program("kwin_wayland", "kwin-wayland", KWIN, SHOWS, ("--udev",), LOGINDS, TIMED_OUT),
     Program("Xorg", "xserver-xorg-core", XORG, SETS, SEAT, (), TIMED_OUT),
 )
 
@@ -170,6 +183,8 @@ def run_program_of_table(folder, program):
         want_program(name)
     if program.options and "--udev" in program.options:
         want_program("umockdev-run")
+    if str(LOGIND) in program.command:
+        want_logind()
     if "setpriv" in program.needs and os.geteuid() != 0:
         raise Skipped("a program is run as another user, which takes root")
     given = {**os.environ, "DRM_SERVER_TRACE": "all", "XDG_RUNTIME_DIR": str(folder)}

@@ -31,7 +31,7 @@ BESIDE = tuple(
     f"../tools/{name}.py"
     for name in ("kernels", "kernel_device", "kernel_scripts", "comparison", "linux_page", "libdrm_errnos")
 )
-TOOLS = ("all", "../bench/instructions", "../tools/check", "../tools/beside-kernel", *BESIDE)
+TOOLS = ("all", "../bench/instructions", "../tools/check", "../tools/beside-kernel", "../clients/libdrm/logind", *BESIDE)
 
 
 # Python
@@ -137,7 +137,7 @@ class LintersTests(FolderCase):
 
     def test_types_of_what_tests_share_are_clean_by_a_strict_mypy(self):
         expect_clean(self.folder, "mypy", "--cache-dir", self.folder / "cache", "support.py", cwd=TESTS)
-        for tool in ("../tools/check", "../tools/kernels.py"):
+        for tool in ("../tools/check", "../tools/kernels.py", "../clients/libdrm/logind"):
             expect_clean(self.folder, "mypy", "--cache-dir", self.folder / "cache", tool, cwd=TESTS)
 
     def test_python_is_as_black_formats_it(self):
