@@ -7,11 +7,13 @@
 #endif
 #include <errno.h>
 #include <fcntl.h>
+#include <poll.h>
 #include <stdbool.h>
 #include <stdint.h>
 #include <stdio.h>
 #include <stdlib.h>
 #include <string.h>
+#include <sys/epoll.h>
 #include <sys/mman.h>
 #include <sys/syscall.h>
 #include <sys/wait.h>
@@ -52,6 +54,12 @@ static void *map(int fd, uint64_t offset, uint64_t size)
         exit(2);
     }
     return (void *)address;
+}
+
+/* A client whose reading does not wait for an event. */
+static int open_not_waiting(void)
+{
+    return (int)syscall(SYS_openat, AT_FDCWD, CARD, O_RDWR | O_CLOEXEC | O_NONBLOCK, 0);
 }
 
 static int open_card(void)
@@ -225,6 +233,8 @@ static void maps(void)
     print_mapping("it has", memory);
     strcpy(memory, "pixels");
     print_mapping("it then has", map(card, mapped.offset, dumb.size));
+    say("maps more than it has",
+        syscall(SYS_mmap, NULL, 2 * dumb.size, PROT_READ, MAP_SHARED, card, mapped.offset));
     mapped.handle = dumb.handle + 1;
     say("maps one that isn't there", ask(card, DRM_IOCTL_MODE_MAP_DUMB, &mapped));
     destroyed.handle = dumb.handle;
@@ -233,6 +243,15 @@ static void maps(void)
     mapped.handle = dumb.handle;
     say("maps that", ask(card, DRM_IOCTL_MODE_MAP_DUMB, &mapped));
     print_mapping("that has", map(card, mapped.offset, dumb.size));
+}
+
+/* What a handle's memory has. */
+static char *map_handle(int card, uint32_t handle, uint64_t size)
+{
+    struct drm_mode_map_dumb mapped = {.handle = handle};
+
+    say("maps a handle", ask(card, DRM_IOCTL_MODE_MAP_DUMB, &mapped));
+    return map(card, mapped.offset, size);
 }
 
 /* Passes a buffer to another client by a PRIME descriptor. */
@@ -249,9 +268,12 @@ static void shares(void)
     exported.flags = DRM_CLOEXEC | DRM_RDWR;
     say("exports it", ask(card, DRM_IOCTL_PRIME_HANDLE_TO_FD, &exported));
     printf("%ld bytes\n", (long)syscall(SYS_lseek, exported.fd, 0, SEEK_END));
+    strcpy(map_handle(card, dumb.handle, dumb.size), "pixels");
+    print_mapping("the descriptor has", map(exported.fd, 0, dumb.size));
     imported.fd = exported.fd;
     say("another client imports it", ask(other, DRM_IOCTL_PRIME_FD_TO_HANDLE, &imported));
     printf("the descriptor is the same: %s\n", imported.fd == exported.fd ? "yes" : "no");
+    print_mapping("the importer has", map_handle(other, imported.handle, dumb.size));
     imported.fd = card;
     say("imports a node", ask(other, DRM_IOCTL_PRIME_FD_TO_HANDLE, &imported));
     imported.fd = 999;
@@ -278,7 +300,7 @@ static void forks(void)
 /* What is refused, and what isn't the device's. */
 static void refusals(void)
 {
-    int card = open_card(), null = open_path("/dev/null");
+    int card = open_card(), waits_not = open_not_waiting(), null = open_path("/dev/null");
     struct drm_mode_crtc_page_flip flip = {.flags = DRM_MODE_PAGE_FLIP_EVENT};
     struct drm_mode_card_res resources = {0};
     char bytes[64];
@@ -290,7 +312,7 @@ static void refusals(void)
     say("asks with a bad address", ask(card, DRM_IOCTL_MODE_GETRESOURCES, (void *)8));
     say("asks what isn't known", ask(card, DRM_IO(0xff), NULL));
     say("flips with an event", ask(card, DRM_IOCTL_MODE_PAGE_FLIP, &flip));
-    printf("reads %ld bytes\n", (long)syscall(SYS_read, card, bytes, sizeof bytes));
+    say("reads no event", syscall(SYS_read, waits_not, bytes, sizeof bytes));
     say("asks another file", ask(null, DRM_IOCTL_MODE_GETRESOURCES, &resources));
     say("asks no file", ask(999, DRM_IOCTL_MODE_GETRESOURCES, &resources));
     say("opens another card", open_path("/dev/dri/card1"));
@@ -298,13 +320,61 @@ static void refusals(void)
     say("opens a bad address", syscall(SYS_openat, AT_FDCWD, (char *)8, O_RDONLY, 0));
 }
 
+/* Waits for an event by poll, and prints it. */
+static void print_event(int card, const char *what)
+{
+    union {
+        struct drm_event base;
+        struct drm_event_vblank vblank;
+        struct drm_event_crtc_sequence sequence;
+    } event[4] = {0};
+    struct pollfd waited = {card, POLLIN, 0};
+    long ready = syscall(SYS_poll, &waited, 1, 10000);
+    long size = syscall(SYS_read, card, event, sizeof event);
+
+    printf("%s: ready %ld, %ld bytes, type %u, data %llu\n", what, ready, size, event->base.type,
+           (unsigned long long)(event->base.type == DRM_EVENT_CRTC_SEQUENCE
+                                    ? event->sequence.user_data
+                                    : event->vblank.user_data));
+}
+
+/* Flips, and asks for vertical blanking, with events that are read when they are due. */
+static void events(void)
+{
+    int card = open_not_waiting(), set = (int)syscall(SYS_epoll_create1, 0);
+    struct drm_mode_modeinfo mode;
+    struct output output = output_at(card, 0, &mode);
+    uint32_t framebuffer = make_framebuffer(card, &mode);
+    struct drm_mode_crtc_page_flip flip = {.flags = DRM_MODE_PAGE_FLIP_EVENT, .user_data = 7};
+    union drm_wait_vblank wait = {.request = {_DRM_VBLANK_RELATIVE | _DRM_VBLANK_EVENT, 1, 8}};
+    struct drm_crtc_queue_sequence queued = {.flags = DRM_CRTC_SEQUENCE_RELATIVE, .user_data = 9};
+    struct epoll_event waited = {.events = EPOLLIN, .data = {.u64 = 5}};
+    char bytes[64];
+
+    flip.crtc_id = queued.crtc_id = output.crtc;
+    flip.fb_id = framebuffer;
+    queued.sequence = 1;
+    say("sets a CRTC", show(card, output.crtc, &output.connector, framebuffer, &mode));
+    say("flips", ask(card, DRM_IOCTL_MODE_PAGE_FLIP, &flip));
+    say("flips again", ask(card, DRM_IOCTL_MODE_PAGE_FLIP, &flip));
+    print_event(card, "flip");
+    say("reads again", syscall(SYS_read, card, bytes, sizeof bytes));
+    say("waits for a blanking", ask(card, DRM_IOCTL_WAIT_VBLANK, &wait));
+    print_event(card, "blanking");
+    say("waits by epoll", syscall(SYS_epoll_ctl, set, EPOLL_CTL_ADD, card, &waited));
+    say("waits for another", ask(card, DRM_IOCTL_CRTC_QUEUE_SEQUENCE, &queued));
+    printf("epoll: %ld\n", (long)syscall(SYS_epoll_wait, set, &waited, 1, 10000));
+    print_event(card, "sequence");
+    say("writes", syscall(SYS_write, card, bytes, sizeof bytes));
+}
+
 int main(int count, char **words)
 {
     static const struct {
         const char *name;
         void (*carry_out)(void);
-    } known[] = {{"shows", shows},   {"leases", leases}, {"maps", maps},
-                 {"shares", shares}, {"forks", forks},   {"refusals", refusals}};
+    } known[] = {{"shows", shows}, {"leases", leases},     {"maps", maps},    {"shares", shares},
+                 {"forks", forks}, {"refusals", refusals}, {"events", events}};
     size_t at;
 
     for (at = 0; count == 2 && at < sizeof known / sizeof known[0]; at++) {

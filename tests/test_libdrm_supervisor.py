@@ -67,6 +67,7 @@ makes a dumb buffer: done
 maps it: done
 it has: nothing
 it then has: pixels
+maps more than it has: EINVAL
 maps one that isn't there: ENOENT
 destroys it: done
 makes another: done
@@ -77,8 +78,12 @@ that has: nothing
 makes a dumb buffer: done
 exports it: done
 16384 bytes
+maps a handle: done
+the descriptor has: pixels
 another client imports it: done
 the descriptor is the same: yes
+maps a handle: done
+the importer has: pixels
 imports a node: EINVAL
 imports no descriptor: EBADF
 """,
@@ -92,13 +97,29 @@ reads to a bad address: EFAULT
 reads to no address: EFAULT
 asks with a bad address: EFAULT
 asks what isn't known: EINVAL
-flips with an event: EOPNOTSUPP
-reads 0 bytes
+flips with an event: ENOENT
+reads no event: EAGAIN
 asks another file: ENOTTY
 asks no file: EBADF
 opens another card: ENOENT
 opens the render node: ENOENT
 opens a bad address: EFAULT
+""",
+    "events": """\
+makes a dumb buffer: done
+adds a framebuffer: done
+sets a CRTC: done
+flips: done
+flips again: EBUSY
+flip: ready 1, 32 bytes, type 2, data 7
+reads again: EAGAIN
+waits for a blanking: done
+blanking: ready 1, 32 bytes, type 1, data 8
+waits by epoll: done
+waits for another: done
+epoll: 1
+sequence: ready 1, 32 bytes, type 3, data 9
+writes: EBADF
 """,
 }
 

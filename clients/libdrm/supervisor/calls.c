@@ -70,7 +70,7 @@ static int give_descriptor(const struct call *call, int fd, uint32_t flags)
 /* Gives the caller the file of a connection. */
 static int give_node(const struct call *call, int socket, uint32_t flags)
 {
-    int fd = node_make(socket);
+    int fd = node_make(socket, flags);
 
     return fd < 0 ? fd : give_descriptor(call, fd, flags);
 }
@@ -89,30 +89,9 @@ static int open_node(const struct call *call)
 
     if (flags & (O_PATH | O_DIRECTORY))
         return flags & O_PATH ? -EACCES : -ENOTDIR;
-    nodes_sweep();
+    nodes_attend();
     socket = connection_open(call->node, false, 0, O_CLOEXEC);
     return socket < 0 ? socket : give_node(call, socket, flags);
-}
-
-/* Whether a request makes an event: callers have no way to read it. */
-static bool has_event(uint32_t request, const void *argument)
-{
-    const struct drm_mode_crtc_page_flip *flip = argument;
-    const struct drm_mode_atomic *atomic = argument;
-    const union drm_wait_vblank *wait = argument;
-
-    switch (_IOC_NR(request)) {
-    case _IOC_NR(DRM_IOCTL_MODE_PAGE_FLIP):
-        return flip->flags & DRM_MODE_PAGE_FLIP_EVENT;
-    case _IOC_NR(DRM_IOCTL_MODE_ATOMIC):
-        return atomic->flags & DRM_MODE_PAGE_FLIP_EVENT;
-    case _IOC_NR(DRM_IOCTL_WAIT_VBLANK):
-        return wait->request.type & _DRM_VBLANK_EVENT;
-    case _IOC_NR(DRM_IOCTL_CRTC_QUEUE_SEQUENCE):
-        return true;
-    default:
-        return false;
-    }
 }
 
 /* Imports the caller's descriptor, which is opened here for it. */
@@ -133,15 +112,11 @@ static int import(const struct call *call, uint32_t request, struct drm_prime_ha
 /* Gives the caller what a request made here. */
 static int hand_over(const struct call *call, uint32_t request, void *argument)
 {
-    const struct drm_mode_create_dumb *dumb = argument;
     struct drm_mode_create_lease *lease = argument;
     struct drm_prime_handle *prime = argument;
     int number;
 
     switch (_IOC_NR(request)) {
-    case _IOC_NR(DRM_IOCTL_MODE_CREATE_DUMB):
-        node_clear(call->socket, dumb->handle);
-        return 0;
     case _IOC_NR(DRM_IOCTL_MODE_CREATE_LEASE):
         number = give_node(call, (int)lease->fd, lease->flags);
         lease->fd = (uint32_t)number;
@@ -161,8 +136,6 @@ static int carry_out_here(const struct call *call, uint32_t request, void *argum
 {
     int failed;
 
-    if (has_event(request, argument))
-        return -EOPNOTSUPP;
     if (_IOC_NR(request) == _IOC_NR(DRM_IOCTL_PRIME_FD_TO_HANDLE))
         return import(call, request, argument);
     failed = carry_out(call->connection, call->socket, request, argument);
@@ -189,6 +162,45 @@ static int answer_request(const struct call *call)
     return failed;
 }
 
+/* Returns a duplicate of the descriptor of what a caller maps, or a negative errno. */
+static int mapped_memory(const struct call *call, uint64_t length, uint64_t offset)
+{
+    sigset_t before;
+    uint64_t size;
+    int memory;
+
+    connection_lock(call->connection, &before);
+    memory = buffers_memory(&call->connection->buffers, handle_at(offset), &size);
+    if (memory >= 0 && (length > size || place_at(offset) > size - length))
+        memory = -EINVAL;
+    if (memory >= 0)
+        memory = fcntl(memory, F_DUPFD_CLOEXEC, 0);
+    connection_unlock(call->connection, &before);
+    return memory;
+}
+
+/* Maps a handle's memory in the caller. */
+static void answer_mapping(const struct call *call)
+{
+    pid_t task = (pid_t)call->told.pid;
+    uint64_t words[6];
+    int failed = mapping_begin(task), fd;
+
+    if (failed) {
+        respond(call, failed, 0);
+        return;
+    }
+    memcpy(words, call->told.data.args, sizeof words);
+    fd = mapped_memory(call, words[1], words[5]);
+    if (fd >= 0)
+        fd = give_descriptor(call, fd, O_CLOEXEC);
+    words[4] = (uint64_t)fd;
+    words[5] = place_at(words[5]);
+    mapping_stop(task);
+    respond(call, -ENOSYS, 0);
+    mapping_end(task, words, fd < 0 ? fd : 0);
+}
+
 static void let_go(const struct call *call)
 {
     if (call->connection != NULL)
@@ -201,9 +213,14 @@ static void *answer(void *given)
     int answered;
 
     set_caller((pid_t)call->told.pid);
-    answered = call->connection != NULL ? answer_request(call) : open_node(call);
-    let_go(call);
-    respond(call, answered, 0);
+    if (call->told.data.nr == SYS_mmap) {
+        answer_mapping(call);
+        let_go(call);
+    } else {
+        answered = call->connection != NULL ? answer_request(call) : open_node(call);
+        let_go(call);
+        respond(call, answered, 0);
+    }
     free(call);
     return NULL;
 }
@@ -247,17 +264,18 @@ static void answer_opening(struct call *call)
 
 void answer_call(int listener, const struct seccomp_notif *told)
 {
+    bool is_mapping = told->data.nr == SYS_mmap;
     struct call call;
 
     memset(&call, 0, sizeof call);
     call.listener = listener;
     call.told = *told;
     set_caller((pid_t)told->pid);
-    if (told->data.nr != SYS_ioctl) {
+    if (told->data.nr != SYS_ioctl && !is_mapping) {
         answer_opening(&call);
         return;
     }
-    call.connection = node_find((int)told->data.args[0], &call.socket);
+    call.connection = node_find((int)told->data.args[is_mapping ? 4 : 0], &call.socket);
     if (!is_waiting(&call))
         let_go(&call);
     else if (call.connection == NULL)

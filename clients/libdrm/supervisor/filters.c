@@ -1,4 +1,5 @@
-/* The filter of system calls: openings, and the requests of DRM, are to be answered. */
+/* The filter of system calls: openings, the requests of DRM, and mappings at offsets that files
+ * seldom have, are to be answered. */
 #include "supervisor.h"
 
 #include <linux/audit.h>
@@ -20,7 +21,12 @@
 #define SECCOMP_FILTER_FLAG_WAIT_KILLABLE_RECV (1UL << 5)
 #endif
 
-#define LOAD(field) BPF_STMT(BPF_LD | BPF_W | BPF_ABS, offsetof(struct seccomp_data, field))
+/* A word of a call has two halves, of which the lower one is first. */
+#define HALF 4
+
+#define LOAD_AT(offset) BPF_STMT(BPF_LD | BPF_W | BPF_ABS, offset)
+#define LOAD(field) LOAD_AT(offsetof(struct seccomp_data, field))
+#define LOAD_UPPER(field) LOAD_AT(offsetof(struct seccomp_data, field) + HALF)
 #define IF_EQUAL(value, then, otherwise) BPF_JUMP(BPF_JMP | BPF_JEQ | BPF_K, value, then, otherwise)
 #define RETURN(verdict) BPF_STMT(BPF_RET | BPF_K, verdict)
 
@@ -32,14 +38,17 @@
 
 static struct sock_filter rules[] = {
     LOAD(arch),
-    IF_EQUAL(ARCHITECTURE, 0, 7),
+    IF_EQUAL(ARCHITECTURE, 0, 10),
     LOAD(nr),
-    IF_EQUAL(__NR_openat, 6, 0),
-    IF_EQUAL(OPEN, 5, 0),
-    IF_EQUAL(__NR_ioctl, 0, 3),
+    IF_EQUAL(__NR_openat, 9, 0),
+    IF_EQUAL(OPEN, 8, 0),
+    IF_EQUAL(__NR_mmap, 4, 0),
+    IF_EQUAL(__NR_ioctl, 0, 5),
     LOAD(args[1]), /* its lower half */
     BPF_STMT(BPF_ALU | BPF_AND | BPF_K, 0xff << _IOC_TYPESHIFT),
-    IF_EQUAL('d' << _IOC_TYPESHIFT, 1, 0),
+    IF_EQUAL('d' << _IOC_TYPESHIFT, 3, 2),
+    LOAD_UPPER(args[5]), /* of the offset */
+    IF_EQUAL(0, 0, 1),
     RETURN(SECCOMP_RET_ALLOW),
     RETURN(SECCOMP_RET_USER_NOTIF),
 };

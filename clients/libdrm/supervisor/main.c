@@ -15,10 +15,8 @@
 #define STATUS_NOT_STARTED 125
 #define STATUS_NOT_RUN 126
 #define STATUS_NOT_FOUND 127
-/* how often connections whose files are closed are ended, in milliseconds, and one in nanoseconds
- */
+/* how often events for which there was no room are tried again, in milliseconds */
 #define SWEEP 50
-#define MILLISECOND 1000000
 
 /* What the kernel tells of a call may be longer in a later one. */
 union notice {
@@ -28,6 +26,7 @@ union notice {
 
 struct command {
     pid_t process;
+    int end; /* readable when it has ended */
     int listener, signals;
 };
 
@@ -145,8 +144,9 @@ static struct command start(char **words, const sigset_t *heeded, const sigset_t
     close(channel[1]);
     command.listener = command.process < 0 ? -1 : take_in(channel[0]);
     command.signals = signalfd(-1, heeded, SFD_CLOEXEC);
-    if (command.listener < 0 || command.signals < 0 || !is_allowed(command.process)
-        || write(channel[0], "", 1) != 1) {
+    command.end = (int)syscall(SYS_pidfd_open, command.process, 0);
+    if (command.listener < 0 || command.signals < 0 || command.end < 0
+        || !is_allowed(command.process) || write(channel[0], "", 1) != 1) {
         close(channel[0]);
         if (command.process > 0)
             waitpid(command.process, &ended, 0);
@@ -176,27 +176,29 @@ static void take_call(const struct command *command)
         answer_call(command->listener, &notice.told);
 }
 
-/* Answers calls until the command has ended, and gives its status. */
+/* Answers calls until the command has ended, and returns its status. A stop for a mapping is not
+ * its end. */
 static int supervise(const struct command *command)
 {
-    struct pollfd waited[] = {{command->listener, POLLIN, 0}, {command->signals, POLLIN, 0}};
-    int64_t swept = time_now();
-    int ended;
+    enum { END, LISTENER, SIGNALS, NODES, COUNT };
+    struct pollfd waited[COUNT] = {{command->end, POLLIN, 0},
+                                   {command->listener, POLLIN, 0},
+                                   {command->signals, POLLIN, 0},
+                                   {nodes_begin(), POLLIN, 0}};
+    int ended = SIGKILL;
 
-    while (waitpid(command->process, &ended, WNOHANG) != command->process) {
-        int ready = poll(waited, 2, SWEEP);
-
-        if (time_now() - swept >= (int64_t)SWEEP * MILLISECOND) {
-            nodes_sweep();
-            swept = time_now();
-        }
-        if (ready > 0 && waited[1].revents & POLLIN)
+    while (!(waited[END].revents & POLLIN)) {
+        if (poll(waited, COUNT, SWEEP) < 0)
+            continue;
+        nodes_attend();
+        if (waited[SIGNALS].revents & POLLIN)
             take_signal(command);
-        if (ready > 0 && waited[0].revents & POLLIN)
+        if (waited[LISTENER].revents & POLLIN)
             take_call(command);
-        if (ready > 0 && waited[0].revents & POLLHUP)
-            waited[0].fd = -1; /* all who had the filter have ended */
+        if (waited[LISTENER].revents & POLLHUP)
+            waited[LISTENER].fd = -1; /* all who had the filter have ended */
     }
+    waitpid(command->process, &ended, 0);
     return status_of(ended);
 }
 

@@ -1,58 +1,31 @@
 /* The files that callers have for connections. */
 #include "supervisor.h"
 
-#include <stdio.h>
 #include <stdlib.h>
-#include <sys/mman.h>
+#include <sys/epoll.h>
+#include <sys/ioctl.h>
 #include <sys/stat.h>
 
-/* as long as all offsets of handles' memory below it; none of it takes room before it is written */
-#define LENGTH ((off_t)1 << 62)
+/* how long the pipe is: each event takes a page of it */
+#define PIPE_LENGTH (MOST_EVENTS * PAGE)
+#define MOST_SEEN 16
 
 struct node_file {
     struct node_file *next;
-    int socket, memory; /* another opening of the file that callers have */
+    int socket;
+    int events; /* the end of the pipe to which events are written */
     dev_t device;
     ino_t file;
 };
 
 static pthread_mutex_t turn = PTHREAD_MUTEX_INITIALIZER;
 static struct node_file *nodes;
+static int set = -1; /* of epoll: the timers of events, and the pipes */
 
-/* The first byte, which an opening for callers has locked. */
-static struct flock first_byte(short kind)
+int nodes_begin(void)
 {
-    struct flock byte;
-
-    memset(&byte, 0, sizeof byte);
-    byte.l_type = kind;
-    byte.l_whence = SEEK_SET;
-    byte.l_len = 1;
-    return byte;
-}
-
-static bool is_open(const struct node_file *node)
-{
-    struct flock byte = first_byte(F_WRLCK);
-
-    return fcntl(node->memory, F_OFD_GETLK, &byte) != 0 || byte.l_type != F_UNLCK;
-}
-
-/* Opens the file anew for callers, at its end, so that reading it gives nothing. */
-static int open_for_callers(int memory)
-{
-    struct flock byte = first_byte(F_RDLCK);
-    char path[32];
-    int fd;
-
-    snprintf(path, sizeof path, "/proc/self/fd/%d", memory);
-    fd = open(path, O_RDWR | O_CLOEXEC);
-    if (fd < 0)
-        return -errno;
-    if (fcntl(fd, F_OFD_SETLK, &byte) == 0 && lseek(fd, 0, SEEK_END) == LENGTH)
-        return fd;
-    close(fd);
-    return -ENOMEM;
+    set = epoll_create1(EPOLL_CLOEXEC);
+    return set;
 }
 
 static void end_connection(int socket)
@@ -67,39 +40,68 @@ static void end_connection(int socket)
     connection_release(connection);
 }
 
-/* Makes the file, and opens it for callers. */
-static int make_file(struct node_file *node)
+/* Makes the pipe, and returns the end of the caller. */
+static int make_pipe(struct node_file *node, bool is_blocking)
 {
     struct stat status;
+    int ends[2];
 
-    node->memory = memfd_create("zirkoshe-node", MFD_CLOEXEC);
-    if (node->memory < 0)
+    /* a reading takes one event at most, since each is a packet */
+    if (pipe2(ends, O_CLOEXEC | O_DIRECT | O_NONBLOCK) != 0)
         return -errno;
-    if (ftruncate(node->memory, LENGTH) != 0 || fstat(node->memory, &status) != 0)
+    node->events = ends[1];
+    if (fstat(ends[0], &status) != 0 || (is_blocking && fcntl(ends[0], F_SETFL, 0) != 0)) {
+        close(ends[0]);
         return -ENOMEM;
+    }
+    fcntl(ends[1], F_SETPIPE_SZ, PIPE_LENGTH);
     node->device = status.st_dev;
     node->file = status.st_ino;
-    return open_for_callers(node->memory);
+    return ends[0];
 }
 
-int node_make(int socket)
+/* Has the set wait for the events of a connection, and for the end of its pipe. */
+static bool attend(const struct node_file *node)
 {
-    struct node_file *node = calloc(1, sizeof *node);
-    int fd = node == NULL ? -ENOMEM : make_file(node);
+    struct connection *connection = connection_find(node->socket);
+    struct epoll_event due = {.events = EPOLLIN | EPOLLET}, ended = {.events = 0};
+    int timer = connection == NULL ? -1 : events_timer(&connection->events);
 
-    if (fd < 0) {
-        if (node != NULL && node->memory >= 0)
-            close(node->memory);
-        free(node);
-        end_connection(socket);
-        return fd;
-    }
-    node->socket = socket;
+    if (connection != NULL)
+        connection_release(connection);
+    return timer >= 0 && epoll_ctl(set, EPOLL_CTL_ADD, timer, &due) == 0
+           && epoll_ctl(set, EPOLL_CTL_ADD, node->events, &ended) == 0;
+}
+
+static void enlist(struct node_file *node)
+{
     pthread_mutex_lock(&turn);
     node->next = nodes;
     nodes = node;
     pthread_mutex_unlock(&turn);
-    return fd;
+}
+
+int node_make(int socket, uint32_t flags)
+{
+    struct node_file *node = calloc(1, sizeof *node);
+    int fd = -ENOMEM;
+
+    if (node != NULL) {
+        node->socket = socket;
+        node->events = -1;
+        fd = make_pipe(node, !(flags & O_NONBLOCK));
+    }
+    if (fd >= 0 && attend(node)) {
+        enlist(node);
+        return fd;
+    }
+    if (fd >= 0)
+        close(fd);
+    if (node != NULL && node->events >= 0)
+        close(node->events);
+    free(node);
+    end_connection(socket);
+    return fd < 0 ? fd : -ENOMEM;
 }
 
 struct connection *node_find(int fd, int *socket)
@@ -125,32 +127,54 @@ struct connection *node_find(int fd, int *socket)
     return found;
 }
 
-void node_clear(int socket, uint32_t handle)
+/* Whether no caller has the other end of the pipe. */
+static bool is_closed(const struct node_file *node)
 {
-    const struct node_file *node;
+    struct pollfd end = {node->events, 0, 0};
 
-    pthread_mutex_lock(&turn);
-    for (node = nodes; node != NULL; node = node->next) {
-        if (node->socket == socket)
-            fallocate(node->memory, FALLOC_FL_PUNCH_HOLE | FALLOC_FL_KEEP_SIZE,
-                      (off_t)offset_of(handle), (off_t)offset_of(1));
-    }
-    pthread_mutex_unlock(&turn);
+    return libc_poll(&end, 1, 0) == 1 && end.revents & POLLERR;
 }
 
-void nodes_sweep(void)
+/* Whether fewer events wait in the pipe than a node has at most. */
+static bool has_room(const struct node_file *node)
+{
+    int length = 0;
+
+    return ioctl(node->events, FIONREAD, &length) == 0 && length < MOST_EVENT_BYTES;
+}
+
+/* Writes the events that are due. Those for which the pipe has no room stay. */
+static void deliver(const struct node_file *node)
+{
+    struct connection *connection = connection_find(node->socket);
+    char event[sizeof(struct drm_event_vblank)];
+    int length = sizeof event;
+
+    while (connection != NULL && length > 0 && has_room(node)) {
+        length = events_take(&connection->events, event, sizeof event);
+        if (length > 0 && write(node->events, event, (size_t)length) != length)
+            break;
+    }
+    if (connection != NULL)
+        connection_release(connection);
+}
+
+void nodes_attend(void)
 {
     struct node_file **place = &nodes, *node;
+    struct epoll_event seen[MOST_SEEN];
 
+    epoll_wait(set, seen, MOST_SEEN, 0);
     pthread_mutex_lock(&turn);
     while ((node = *place) != NULL) {
-        if (is_open(node)) {
+        if (!is_closed(node)) {
+            deliver(node);
             place = &node->next;
             continue;
         }
         *place = node->next;
         end_connection(node->socket);
-        close(node->memory);
+        close(node->events);
         free(node);
     }
     pthread_mutex_unlock(&turn);
