@@ -132,6 +132,16 @@ another card: Err(2)
 """
 
 
+FINDINGS_IN_GO = """\
+driver zirkoshe
+2 CRTCs, 2 connectors
+the master darkens: 0
+another client darkens: 13
+another card: open /dev/dri/card1: no such file or directory
+a goroutine darkens: 0
+"""
+
+
 def static_program():
     """The program of the tests, compiled once without a library that is loaded."""
     words = [word for word in want_libdrm() if word.startswith("-I")]
@@ -178,6 +188,22 @@ class LibdrmSupervisorTests(FolderCase):
         ran = run("rustc", "--edition", "2021", "-D", "warnings", "-o", program, REPOSITORY / "tests/supervised.rs")
         expect("what rustc says", (ran.returncode, ran.stdout + ran.stderr), (0, ""))
         expect_end(run(WITH_SERVER, "--seccomp", program), 0, "", FINDINGS_IN_RUST)
+
+    def test_program_in_go(self):
+        """The Go toolchain is the Debian package golang-go."""
+        supervisor()
+        want_program("go")
+        program = self.folder / "supervised"
+        given = {
+            **os.environ,
+            "CGO_ENABLED": "0",
+            "GOCACHE": str(self.folder / "cache"),
+            "GOFLAGS": "",
+            "GO111MODULE": "off",
+        }
+        ran = run("go", "build", "-o", program, REPOSITORY / "tests/supervised.go", env=given)
+        expect("what go says", (ran.returncode, ran.stdout + ran.stderr), (0, ""))
+        expect_end(run(WITH_SERVER, "--seccomp", program), 0, "", FINDINGS_IN_GO)
 
     def test_requests_are_traced(self):
         """As the library traces them: what the server refused by its rule."""

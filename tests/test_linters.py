@@ -176,6 +176,10 @@ class LintersTests(FolderCase):
         sources = [source for folder in folders for source in folder.glob("*.rs")]
         expect_end(run("rustfmt", "--edition", "2021", "--check", *sources), 0, "", "")
 
+    def test_go_is_as_gofmt_formats_it(self):
+        want_program("gofmt")
+        expect_end(run("gofmt", "-l", *sorted(TESTS.glob("*.go"))), 0, "", "")
+
     def test_rust_is_clean_by_clippy(self):
         folder = self.folder
         if shutil.which("cargo") is None or run("cargo", "clippy", "--version").returncode != 0:
