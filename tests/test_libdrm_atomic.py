@@ -15,6 +15,7 @@ from libdrm_support import compiled, environment, library, served  # noqa: E402
 
 TOPOLOGY = REPOSITORY / "examples/topologies/laptop.topology"
 PROGRAM = "tests/libdrm_atomic.c"
+ROUTES = "tests/libdrm_routes.c"
 
 # the kinds of audits of all that a commit could change: holds, framebuffers, and what is shown
 AUDITED = (6, 8, 9)
@@ -23,6 +24,7 @@ AUDITED = (6, 8, 9)
 def commits(folder, *words, text, topology=("--topology", TOPOLOGY), program=PROGRAM):
     """What a program of commits finds, and the lines of its journal."""
     library()
+    folder.mkdir(exist_ok=True)
     journal = folder / "journal"
     options = ["--libdrm", *topology, "--journal", journal]
     ran = run(REPOSITORY / "tools/with-server", *options, compiled(program), *words)
@@ -89,6 +91,35 @@ darkens it: done
 CRTCs show 0 0, overlay shows 0
 lights both: done
 CRTCs show 10 11, overlay shows 0
+""",
+        )
+
+    def test_what_drives_what(self):
+        """As drm_mode_getplane, drm_mode_getencoder and drm_mode_getconnector report it. What another process set is known as far as the
+        topology leaves no choice."""
+        commits(
+            self.folder / "laptop",
+            "laptop",
+            program=ROUTES,
+            text="""\
+dark: plane 3: 0 on 0, plane 4: 0 on 0, plane 5: 0 on 0, encoder 6: 0, encoder 7: 0, connector 8: 0 connector 9: 0
+lit: plane 3: 10 on 1, plane 4: 0 on 0, plane 5: 0 on 0, encoder 6: 0, encoder 7: 1, connector 8: 0 connector 9: 7
+overlay: plane 3: 10 on 1, plane 4: 0 on 0, plane 5: 11 on 1, encoder 6: 0, encoder 7: 1, connector 8: 0 connector 9: 7
+both: plane 3: 10 on 1, plane 4: 11 on 2, plane 5: 11 on 1, encoder 6: 2, encoder 7: 1, connector 8: 6 connector 9: 7
+another process: plane 3: 10 on 1, plane 4: 11 on 2, plane 5: 11 on 0, encoder 6: 0, encoder 7: 0, connector 8: 0 connector 9: 0
+lessee: plane 4: 11 on 2, encoder 6: 2, encoder 7: 0, connector 8: 6
+inactive: plane 3: 0 on 0, plane 4: 11 on 2, plane 5: 0 on 0, encoder 6: 2, encoder 7: 1, connector 8: 6 connector 9: 7
+darkened by a child: plane 3: 0 on 0, plane 4: 0 on 0, plane 5: 0 on 0, encoder 6: 0, encoder 7: 1, connector 8: 0 connector 9: 7
+""",
+        )
+        commits(
+            self.folder / "pairs",
+            "pairs",
+            program=ROUTES,
+            topology=(),
+            text="""\
+lit: plane 3: 9 on 1, plane 4: 0 on 0, encoder 5: 1, encoder 6: 0, connector 7: 5 connector 8: 0
+another process: plane 3: 9 on 1, plane 4: 0 on 0, encoder 5: 1, encoder 6: 0, connector 7: 5 connector 8: 0
 """,
         )
 

@@ -3,6 +3,7 @@
 
 #include "crtcs.h"
 #include "framebuffers.h"
+#include "routes.h"
 #include "states.h"
 
 /* the sizes of framebuffers, which are the server's */
@@ -167,24 +168,24 @@ int answer_set_crtc(struct connection *connection, void *argument)
 int answer_get_encoder(struct connection *connection, void *argument)
 {
     struct drm_mode_get_encoder *encoder = argument;
-    uint32_t possible_crtcs;
+    uint32_t possible_crtcs, crtc_id;
     int failed =
         zirkoshe_drmModeGetEncoder(&connection->client, encoder->encoder_id, &possible_crtcs);
 
+    if (!failed)
+        failed = route_of_encoder(connection, encoder->encoder_id, &crtc_id);
     if (failed)
         return failed;
     encoder->encoder_type = DRM_MODE_ENCODER_VIRTUAL;
-    encoder->crtc_id = 0;
+    encoder->crtc_id = crtc_id;
     encoder->possible_crtcs = possible_crtcs;
     encoder->possible_clones = 0;
     return 0;
 }
 
-/* Each connector is told to have a monitor of 96 dots to the inch, to be named by its id, and to be
- * driven by no encoder now. */
+/* Each connector has a monitor of 96 dots to the inch, and is named by its id. */
 static void describe(struct drm_mode_get_connector *connector)
 {
-    connector->encoder_id = 0;
     connector->connector_type = DRM_MODE_CONNECTOR_VIRTUAL;
     connector->connector_type_id = connector->connector_id;
     connector->connection = 1;
@@ -197,13 +198,16 @@ int answer_get_connector(struct connection *connection, void *argument)
 {
     struct drm_mode_get_connector *connector = argument;
     const struct drm_mode_modeinfo *modes;
-    uint32_t encoder_id, count;
+    uint32_t encoder_id, crtc_id, count;
     int failed =
         zirkoshe_drmModeGetConnector(&connection->client, connector->connector_id, &encoder_id);
 
+    if (!failed)
+        failed = route_of_connector(connection, connector->connector_id, &crtc_id);
     if (failed)
         return failed;
     describe(connector);
+    connector->encoder_id = crtc_id != 0 ? encoder_id : 0;
     modes = all_modes(&count);
     /* of modes and encoders all are given, or none */
     if (connector->count_modes < count)
@@ -229,24 +233,6 @@ int answer_get_plane_resources(struct connection *connection, void *argument)
                 sizeof planes.ids[0]);
 }
 
-/* The CRTC of a plane that shows something, where its mask leaves no choice; else 0, since the
- * server doesn't tell. */
-static int find_crtc(struct zirkoshe_client *client, const struct zirkoshe_plane *plane,
-                     uint32_t *crtc_id)
-{
-    struct zirkoshe_resources resources;
-    uint32_t mask = plane->possible_crtcs;
-    int failed, place = __builtin_ffs((int)mask) - 1;
-
-    *crtc_id = 0;
-    if (plane->fb_id == 0 || mask == 0 || (mask & (mask - 1)) != 0)
-        return 0;
-    failed = zirkoshe_drmModeGetResources(client, &resources);
-    if (!failed && (uint32_t)place < resources.count_crtcs)
-        *crtc_id = resources.crtcs[place];
-    return failed;
-}
-
 int answer_get_plane(struct connection *connection, void *argument)
 {
     struct drm_mode_get_plane *plane = argument;
@@ -256,7 +242,7 @@ int answer_get_plane(struct connection *connection, void *argument)
     int failed = zirkoshe_drmModeGetPlane(&connection->client, plane->plane_id, &found);
 
     if (!failed)
-        failed = find_crtc(&connection->client, &found, &crtc_id);
+        failed = route_of_plane(connection, plane->plane_id, &found, &crtc_id);
     if (failed)
         return failed;
     plane->crtc_id = crtc_id;

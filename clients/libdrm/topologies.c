@@ -33,14 +33,15 @@ static int ask_planes(struct zirkoshe_client *client, struct topology *topology)
 static int ask_connectors(struct zirkoshe_client *client,
                           const struct zirkoshe_resources *resources, struct topology *topology)
 {
-    uint32_t at, encoder_id, possible_crtcs;
+    uint32_t at, encoder_id = 0, possible_crtcs;
     int failed = 0;
 
     for (at = 0; !failed && at < resources->count_connectors && at < MOST_OBJECTS; at++) {
         failed = zirkoshe_drmModeGetConnector(client, resources->connectors[at], &encoder_id);
         if (!failed)
             failed = zirkoshe_drmModeGetEncoder(client, encoder_id, &possible_crtcs);
-        topology->connectors[at] = (struct seen_connector){resources->connectors[at], 0};
+        topology->connectors[at] =
+            (struct seen_connector){resources->connectors[at], encoder_id, 0};
         if (!failed)
             topology->connectors[at].possible_crtcs = possible_crtcs;
         topology->count_connectors = at + 1;

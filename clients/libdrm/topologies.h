@@ -17,7 +17,7 @@ struct seen_plane {
 };
 
 struct seen_connector {
-    uint32_t id, possible_crtcs; /* the mask of its encoder */
+    uint32_t id, encoder_id, possible_crtcs; /* the mask of its encoder */
 };
 
 struct topology {
