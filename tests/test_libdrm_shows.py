@@ -68,6 +68,26 @@ def showing(folder, *command, **variables):
     return output
 
 
+@contextlib.contextmanager
+def lit_by_modetest(folder):
+    """A server in this folder while modetest lights CRTC 1."""
+    with served(folder):
+        root = connect(folder / "root")
+        expect("that the card is left to modetest", root.ask("drop_master"), "done")
+        with subprocess.Popen(
+            ["modetest", "-M", "zirkoshe", "-s", "7@1:1024x768"],
+            stdin=subprocess.PIPE,
+            stdout=subprocess.PIPE,
+            stderr=subprocess.DEVNULL,
+            text=True,
+            env=environment(folder),
+        ) as lighting, ended_in_time(lighting):
+            wait_until(lambda: root.ask("getcrtc 1") != "number 0")
+            root.close()
+            yield
+            lighting.communicate("\n", timeout=SECONDS)
+
+
 def expect_rates(text, pattern):
     """Fails the test unless frames were counted, at no more than the rate of the mode."""
     rates = [float(rate) for rate in re.findall(pattern, text)]
@@ -443,22 +463,22 @@ handles 8
         folder = self.folder
         want_program("modetest")
         want_program("vbltest")
-        with served(folder):
-            root = connect(folder / "root")
-            expect("that the card is left to modetest", root.ask("drop_master"), "done")
-            with subprocess.Popen(
-                ["modetest", "-M", "zirkoshe", "-s", "7@1:1024x768"],
-                stdin=subprocess.PIPE,
-                stdout=subprocess.PIPE,
-                stderr=subprocess.DEVNULL,
-                text=True,
-                env=environment(folder),
-            ) as lighting, ended_in_time(lighting):
-                wait_until(lambda: root.ask("getcrtc 1") != "number 0")
-                root.close()
-                text = showing(folder, "vbltest", "-M", "zirkoshe")
-                lighting.communicate("\n", timeout=SECONDS)
+        with lit_by_modetest(folder):
+            text = showing(folder, "vbltest", "-M", "zirkoshe")
         expect_rates(text, r"(?m)^freq: ([\d.]+)Hz$")
+
+    def test_ffmpeg_grabs_what_modetest_shows(self):
+        """ffmpeg finds the plane that shows something. It must be root on the card, as in a kernel. The pixels are not those of modetest."""
+        want_program("ffmpeg")
+        want_program("modetest")
+        words = ["-loglevel", "error", "-f", "kmsgrab", "-i", "-", "-frames:v", "3", "-vf", "hwdownload,format=bgr0"]
+        with lit_by_modetest(self.folder):
+            given = environment(self.folder)
+            device = ["-device", given["DRM_SERVER_ROOT"]]
+            ran = run("ffmpeg", *device, *words, "-f", "framecrc", "-", env=given)
+        expect("error output and status", (ran.stderr, ran.returncode), ("", 0))
+        sizes = [line.split(",")[4].strip() for line in ran.stdout.splitlines() if not line.startswith("#")]
+        expect("bytes of each frame", sizes, [str(1024 * 768 * 4)] * 3)
 
     def test_sway_shows_frames_by_a_seatd(self):
         """Which opens the card and passes it on."""
