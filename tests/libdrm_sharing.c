@@ -483,6 +483,31 @@ static void call_what_lacks(int fd)
     drmModeAtomicFree(request);
 }
 
+/* What is wrong with a list of changed areas comes before the driver, and so does the size of a
+ * table of gamma that is read. */
+static void call_with_lists(int fd)
+{
+    struct drm_mode_create_dumb dumb = {.width = 64, .height = 64, .bpp = 32};
+    struct drm_mode_crtc_lut gamma = {.crtc_id = 99};
+    drmModeClip clips[257] = {{0}};
+    struct drm_mode_fb_dirty_cmd dirty = {.num_clips = 1};
+    struct drm_mode_fb_dirty_cmd copy = {.flags = DRM_MODE_FB_DIRTY_ANNOTATE_COPY, .num_clips = 1};
+    uint32_t fb;
+
+    drmIoctl(fd, DRM_IOCTL_MODE_CREATE_DUMB, &dumb);
+    drmModeAddFB(fd, 64, 64, 24, 32, dumb.pitch, dumb.handle, &fb);
+    dirty.fb_id = copy.fb_id = fb;
+    copy.clips_ptr = (uintptr_t)clips;
+    printf(
+        "all %d, two %d, too many %d, no list %d, half a copy %d, reads gamma %d, of another %d\n",
+        drmModeDirtyFB(fd, fb, NULL, 0), drmModeDirtyFB(fd, fb, clips, 2),
+        drmModeDirtyFB(fd, fb, clips, 257),
+        drmIoctl(fd, DRM_IOCTL_MODE_DIRTYFB, &dirty) == 0 ? 0 : -errno,
+        drmIoctl(fd, DRM_IOCTL_MODE_DIRTYFB, &copy) == 0 ? 0 : -errno,
+        drmModeCrtcGetGamma(fd, 1, 0, NULL, NULL, NULL),
+        drmIoctl(fd, DRM_IOCTL_MODE_GETGAMMA, &gamma) == 0 ? 0 : -errno);
+}
+
 int main(int count, char **words)
 {
     const char *what = count > 1 ? words[1] : "";
@@ -513,6 +538,7 @@ int main(int count, char **words)
         call_what_lacks(master);
         call_what_lacks(other);
         call_what_lacks(render);
+        call_with_lists(master);
     } else if (strcmp(what, "nothing") == 0) {
         int master = open_node(CARD), other = open_node(CARD);
 

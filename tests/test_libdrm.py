@@ -527,9 +527,10 @@ unknown flag {errno.EINVAL}
             "errnos",
             sharing(folder, "lacks"),
             """\
-atomic -22, flip -16, cursor 0, dirty -38, gamma -22 -38, vblank -22, blob 0, object -95
+atomic -22, flip -16, cursor 0, dirty -2, gamma -22 -38, vblank -22, blob 0, object -95
 atomic -13, flip -13, cursor -13, dirty -13, gamma -22 -13, vblank -22, blob 0, object -95
 atomic -13, flip -13, cursor -13, dirty -13, gamma -13 -13, vblank -13, blob -13, object -95
+all -38, two -38, too many -22, no list -22, half a copy -22, reads gamma 0, of another -2
 """,
         )
 
