@@ -226,11 +226,11 @@ class LintersTests(FolderCase):
             ran = run("cc", "-std=gnu11", *WARNINGS, "-fsyntax-only", *headers, source)
             expect(f"what is said of {source.name}", (ran.returncode, ran.stderr), (0, ""))
 
-    def test_supervisor_without_warnings(self):
-        """And the program that tests it."""
+    def test_libdrm_library_without_warnings(self):
+        """Its supervisor, and the program that tests that."""
         headers = [word for word in want_libdrm() if word.startswith("-I")]
         words = ["-I", REPOSITORY / "clients/libdrm", "-I", CLIENTS / "c", *headers]
-        sources = sorted((REPOSITORY / "clients/libdrm/supervisor").glob("*.c"))
+        sources = sorted(source for place in LIBDRM for source in (REPOSITORY / place).glob("*.c"))
         for source in (*sources, TESTS / "supervised.c"):
             ran = run("cc", "-std=gnu11", *WARNINGS, "-fsyntax-only", *words, source)
             expect(f"what is said of {source.name}", (ran.returncode, ran.stderr), (0, ""))

@@ -5,6 +5,8 @@ Each test has a folder of its own. The last line is `N passed, M failed`. Standa
 """
 import errno
 import os
+import select
+import signal
 import subprocess
 import sys
 import xml.etree.ElementTree as ElementTree
@@ -60,6 +62,13 @@ def make_files(folder):
 
 def checked(folder, *words, **options):
     return run(ZIRKOSHE, "check", *words, cwd=folder, **options)
+
+
+def has_no_reader(writer):
+    """Whether nothing reads what is written to a pipe."""
+    waiting = select.poll()
+    waiting.register(writer, 0)
+    return any(events & select.POLLERR for _, events in waiting.poll(0))
 
 
 def error_of(ran):
@@ -128,6 +137,33 @@ class ReportsTests(FolderCase):
         lines = [line for line in output.splitlines() if not line.startswith("    ")]
         told = [f"{name}:1: expected client 2, came client 1" for name in ("first", "second")]
         expect("status and output", (started.returncode, lines), (4, [*told, "0 passed, 2 failed"]))
+
+    def test_signal_ends_the_processes_too(self):
+        """The file is a pipe that does not end. It has no reader once the process that checks it has ended."""
+        os.mkfifo(self.folder / "endless")
+        for number in (signal.SIGTERM, signal.SIGHUP):
+            words = [ZIRKOSHE, "check", "--jobs", "2", "endless", "met"]
+            with subprocess.Popen(
+                words, cwd=self.folder, stdout=subprocess.DEVNULL, stderr=subprocess.DEVNULL
+            ) as started:
+                writer = os.open(self.folder / "endless", os.O_WRONLY)
+                try:
+                    started.send_signal(number)
+                    expect("status", started.wait(SECONDS), -number)
+                    wait_until("the end of what reads the file", lambda: has_no_reader(writer))
+                finally:
+                    started.kill()
+                    os.close(writer)
+
+    def test_fault_ends_the_other_processes(self):
+        """Files behind a fault are not read to their end."""
+        os.mkfifo(self.folder / "endless")
+        words = [ZIRKOSHE, "check", "--jobs", "2", "absent", "endless"]
+        with subprocess.Popen(words, cwd=self.folder, stdout=subprocess.DEVNULL, stderr=subprocess.DEVNULL) as started:
+            try:
+                expect("status", started.wait(SECONDS), 1)
+            finally:
+                started.kill()
 
     def test_report(self):
         ran = checked(self.folder, "--junit", "report.xml", "met", "wrong", "malformed", "silent", 'a<&"\x1b')

@@ -25,13 +25,13 @@
 /* The next function of this name behind this library, which is looked up once at each place. */
 #define REAL(name)                                                                                 \
     __extension__({                                                                                \
-        static _Atomic(void *) found;                                                              \
-        void *real = atomic_load_explicit(&found, memory_order_relaxed);                           \
-        if (real == NULL) {                                                                        \
-            real = dlsym(RTLD_NEXT, #name);                                                        \
-            atomic_store_explicit(&found, real, memory_order_relaxed);                             \
+        static _Atomic(void *) known_function;                                                     \
+        void *next_function = atomic_load_explicit(&known_function, memory_order_relaxed);         \
+        if (next_function == NULL) {                                                               \
+            next_function = dlsym(RTLD_NEXT, #name);                                               \
+            atomic_store_explicit(&known_function, next_function, memory_order_relaxed);           \
         }                                                                                          \
-        (__typeof__(&name))real;                                                                   \
+        (__typeof__(&name))next_function;                                                          \
     })
 
 /* Closes a descriptor that is this library's own. */
