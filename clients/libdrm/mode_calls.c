@@ -1,4 +1,4 @@
-/* Answers to requests of mode objects and of what they show. */
+/* Answers to requests for mode objects and for what they show. */
 #include "answers.h"
 
 #include "crtcs.h"
@@ -6,10 +6,10 @@
 #include "routes.h"
 #include "states.h"
 
-/* the sizes of framebuffers, which are the server's */
+/* The server's sizes of framebuffers */
 #define LEAST_SIDE 1
 #define MOST_SIDE 65535
-/* how far the corner of a view may be from the framebuffer's, which is the core's */
+/* The core's limit for the position of a CRTC in its framebuffer */
 #define MOST_CORNER 0xFFFFu
 
 int answer_get_resources(struct connection *connection, void *argument)
@@ -36,8 +36,8 @@ int answer_get_resources(struct connection *connection, void *argument)
     return failed;
 }
 
-/* A CRTC that shows something is told to do so from the corner and in the mode that this process
- * set, or else from 0, 0 in the preferred one. */
+/* If the CRTC shows something, reports the position and the mode that this process set, or else 0,
+ * 0 and the preferred mode. */
 int answer_get_crtc(struct connection *connection, void *argument)
 {
     struct drm_mode_crtc *crtc = argument;
@@ -63,7 +63,7 @@ int answer_get_crtc(struct connection *connection, void *argument)
     return 0;
 }
 
-/* What the core refuses first comes after its test of the caller, */
+/* Refuses as the core does before it looks anything up: only its test of the caller is earlier. */
 static int refuse_first(struct zirkoshe_client *client, int error)
 {
     struct zirkoshe_ids lessees;
@@ -72,7 +72,8 @@ static int refuse_first(struct zirkoshe_client *client, int error)
     return failed ? failed : error;
 }
 
-/* and what it refuses before the driver is asked also after its test of the CRTC. */
+/* Refuses as the core does before it calls the driver: its tests of the caller and the CRTC are
+ * earlier. */
 static int refuse(struct zirkoshe_client *client, uint32_t crtc_id, int error)
 {
     uint32_t fb_id;
@@ -83,7 +84,7 @@ static int refuse(struct zirkoshe_client *client, uint32_t crtc_id, int error)
     return failed ? failed : error;
 }
 
-/* The framebuffer that a request names: -1 is the one that the CRTC shows. A mode needs one. */
+/* Finds the framebuffer of a request. -1 is the one that the CRTC shows. A mode requires one. */
 static int find_fb(struct zirkoshe_client *client, const struct drm_mode_crtc *crtc,
                    uint32_t *fb_id)
 {
@@ -100,7 +101,8 @@ static int find_fb(struct zirkoshe_client *client, const struct drm_mode_crtc *c
     return failed;
 }
 
-/* drm_crtc_check_viewport. What the framebuffer's absence is refused by, the server says. */
+/* Does the checks of drm_crtc_check_viewport. If the framebuffer does not exist, the server refuses
+ * the request. */
 static bool is_outside(struct connection *connection, const struct drm_mode_crtc *crtc,
                        uint32_t fb_id, struct view *view)
 {
@@ -114,7 +116,7 @@ static bool is_outside(struct connection *connection, const struct drm_mode_crtc
                                  crtc->mode.vdisplay);
 }
 
-/* Notes what a CRTC shows. Its primary plane covers it. */
+/* Records what a CRTC shows. Its primary plane covers it. */
 static void note_crtc(const struct drm_mode_crtc *crtc, uint32_t fb_id, const struct view *view,
                       uint32_t connector_id)
 {
@@ -137,7 +139,8 @@ static void note_crtc(const struct drm_mode_crtc *crtc, uint32_t fb_id, const st
         crtc_is_seen(crtc->crtc_id, false);
 }
 
-/* The server takes one connector at most, and no mode and no corner: these are kept here. */
+/* The server accepts at most one connector, and has no mode and no position. The library keeps
+ * these. */
 int answer_set_crtc(struct connection *connection, void *argument)
 {
     const struct drm_mode_crtc *crtc = argument;
@@ -183,7 +186,7 @@ int answer_get_encoder(struct connection *connection, void *argument)
     return 0;
 }
 
-/* Each connector has a monitor of 96 dots to the inch, and is named by its id. */
+/* Reports a monitor of 96 dots per inch. The name of the connector is its id. */
 static void describe(struct drm_mode_get_connector *connector)
 {
     connector->connector_type = DRM_MODE_CONNECTOR_VIRTUAL;
@@ -209,7 +212,7 @@ int answer_get_connector(struct connection *connection, void *argument)
     describe(connector);
     connector->encoder_id = crtc_id != 0 ? encoder_id : 0;
     modes = all_modes(&count);
-    /* of modes and encoders all are given, or none */
+    /* the core returns all modes, or none */
     if (connector->count_modes < count)
         connector->count_modes = 0;
     failed = give(connector->modes_ptr, &connector->count_modes, modes, count, sizeof *modes);
@@ -254,8 +257,7 @@ int answer_get_plane(struct connection *connection, void *argument)
                 sizeof *formats);
 }
 
-/* What a source outside its framebuffer is refused by: that is the last thing that the core checks.
- */
+/* Returns the errno for a source outside its framebuffer. The core checks that last. */
 static int refuse_source(struct connection *connection, const struct drm_mode_set_plane *plane)
 {
     const struct topology *topology;
@@ -272,7 +274,8 @@ static int refuse_source(struct connection *connection, const struct drm_mode_se
     return topology_may_drive(topology, seen->possible_crtcs, plane->crtc_id) ? -ENOSPC : -EINVAL;
 }
 
-/* Whether the source is outside the framebuffer. If there is none, the server says so. */
+/* Returns whether the source is outside the framebuffer. If the framebuffer does not exist, the
+ * server refuses the request. */
 static bool has_source_outside(struct connection *connection,
                                const struct drm_mode_set_plane *plane)
 {
@@ -283,7 +286,7 @@ static bool has_source_outside(struct connection *connection,
                                            plane->src_h);
 }
 
-/* Where on the CRTC the framebuffer is shown, the server doesn't ask. */
+/* The server does not store the position on the CRTC. */
 int answer_set_plane(struct connection *connection, void *argument)
 {
     const struct drm_mode_set_plane *plane = argument;

@@ -1,4 +1,4 @@
-/* The caller is a task that waits for the answer to a system call. */
+/* Reads and writes the memory of the caller: a task that waits for the answer to a system call. */
 #include "supervisor.h"
 
 #include <stdio.h>
@@ -46,7 +46,7 @@ int copy_text_from_caller(char *text, size_t room, uint64_t address)
     return -ENAMETOOLONG;
 }
 
-/* A task is a thread of the process of its group. */
+/* A task is a thread of a process. */
 pid_t caller_process(void)
 {
     char path[32], line[128];

@@ -12,28 +12,28 @@
 #include <sys/ioctl.h>
 #include <sys/syscall.h>
 
-/* A call that is answered by a thread. */
+/* A system call that a thread answers */
 struct call {
     int listener;
-    struct seccomp_notif told;
+    struct seccomp_notif notice;
     enum node node;                /* of an opening */
     struct connection *connection; /* of a request, and its socket */
     int socket;
 };
 
-/* Lets the caller go on with this result, or with the kernel's own of its call. */
+/* Resumes the caller with this result, or has the kernel carry out the call. */
 static void respond(const struct call *call, int64_t result, uint32_t flags)
 {
     struct seccomp_notif_resp response;
 
     memset(&response, 0, sizeof response);
-    response.id = call->told.id;
+    response.id = call->notice.id;
     response.flags = flags;
     if (result < 0)
         response.error = (int)result;
     else
         response.val = result;
-    /* a caller that was killed needs no answer */
+    /* this fails if the caller was killed */
     ioctl(call->listener, SECCOMP_IOCTL_NOTIF_SEND, &response);
 }
 
@@ -42,22 +42,23 @@ static void let_kernel_answer(const struct call *call)
     respond(call, 0, SECCOMP_USER_NOTIF_FLAG_CONTINUE);
 }
 
-/* Whether the caller still waits: otherwise its number may be another task's. */
+/* Returns whether the caller still waits. If not, its id can be another task's. */
 static bool is_waiting(const struct call *call)
 {
-    uint64_t id = call->told.id;
+    uint64_t id = call->notice.id;
 
     return ioctl(call->listener, SECCOMP_IOCTL_NOTIF_ID_VALID, &id) == 0;
 }
 
-/* Gives the caller a descriptor with these flags of open: its number there, or a negative errno. */
+/* Installs a descriptor in the caller, with these flags of open. Returns its number in the caller,
+ * or a negative errno. */
 static int give_descriptor(const struct call *call, int fd, uint32_t flags)
 {
     struct seccomp_notif_addfd given;
     int number;
 
     memset(&given, 0, sizeof given);
-    given.id = call->told.id;
+    given.id = call->notice.id;
     given.srcfd = (uint32_t)fd;
     given.newfd_flags = flags & O_CLOEXEC;
     number = ioctl(call->listener, SECCOMP_IOCTL_NOTIF_ADDFD, &given);
@@ -67,7 +68,7 @@ static int give_descriptor(const struct call *call, int fd, uint32_t flags)
     return number;
 }
 
-/* Gives the caller the file of a connection. */
+/* Installs the file of a connection in the caller. */
 static int give_node(const struct call *call, int socket, uint32_t flags)
 {
     int fd = node_make(socket, flags);
@@ -75,16 +76,16 @@ static int give_node(const struct call *call, int socket, uint32_t flags)
     return fd < 0 ? fd : give_descriptor(call, fd, flags);
 }
 
-/* The words of an opening from its path on. */
-static const __u64 *words_of_opening(const struct seccomp_notif *told)
+/* Returns the arguments of an opening, from the path on. */
+static const __u64 *words_of_opening(const struct seccomp_notif *notice)
 {
-    /* openat has a folder before the path */
-    return told->data.nr == SYS_openat ? &told->data.args[1] : &told->data.args[0];
+    /* the first argument of openat is a folder */
+    return notice->data.nr == SYS_openat ? &notice->data.args[1] : &notice->data.args[0];
 }
 
 static int open_node(const struct call *call)
 {
-    uint32_t flags = (uint32_t)words_of_opening(&call->told)[1];
+    uint32_t flags = (uint32_t)words_of_opening(&call->notice)[1];
     int socket;
 
     if (flags & (O_PATH | O_DIRECTORY))
@@ -94,7 +95,7 @@ static int open_node(const struct call *call)
     return socket < 0 ? socket : give_node(call, socket, flags);
 }
 
-/* Imports the caller's descriptor, which is opened here for it. */
+/* Imports a descriptor of the caller, which the supervisor opens for that. */
 static int import(const struct call *call, uint32_t request, struct drm_prime_handle *prime)
 {
     int fd = prime->fd, failed;
@@ -109,7 +110,7 @@ static int import(const struct call *call, uint32_t request, struct drm_prime_ha
     return failed;
 }
 
-/* Gives the caller what a request made here. */
+/* Installs in the caller the descriptor that a request created. */
 static int hand_over(const struct call *call, uint32_t request, void *argument)
 {
     struct drm_mode_create_lease *lease = argument;
@@ -131,7 +132,7 @@ static int hand_over(const struct call *call, uint32_t request, void *argument)
     return number < 0 ? number : 0;
 }
 
-/* Carries out a request whose struct was copied here. */
+/* Carries out a request with a copy of its struct. */
 static int carry_out_here(const struct call *call, uint32_t request, void *argument)
 {
     int failed;
@@ -148,8 +149,8 @@ static int answer_request(const struct call *call)
         max_align_t aligned;
         char bytes[1 << _IOC_SIZEBITS];
     } argument;
-    uint32_t request = (uint32_t)call->told.data.args[1];
-    uint64_t address = call->told.data.args[2];
+    uint32_t request = (uint32_t)call->notice.data.args[1];
+    uint64_t address = call->notice.data.args[2];
     int failed, copied;
 
     memset(&argument, 0, sizeof argument);
@@ -162,7 +163,7 @@ static int answer_request(const struct call *call)
     return failed;
 }
 
-/* Returns a duplicate of the descriptor of what a caller maps, or a negative errno. */
+/* Returns a duplicate of the descriptor of the memory that a caller maps, or a negative errno. */
 static int mapped_memory(const struct call *call, uint64_t length, uint64_t offset)
 {
     sigset_t before;
@@ -182,7 +183,7 @@ static int mapped_memory(const struct call *call, uint64_t length, uint64_t offs
 /* Maps a handle's memory in the caller. */
 static void answer_mapping(const struct call *call)
 {
-    pid_t task = (pid_t)call->told.pid;
+    pid_t task = (pid_t)call->notice.pid;
     uint64_t words[6];
     int failed = mapping_begin(task), fd;
 
@@ -190,7 +191,7 @@ static void answer_mapping(const struct call *call)
         respond(call, failed, 0);
         return;
     }
-    memcpy(words, call->told.data.args, sizeof words);
+    memcpy(words, call->notice.data.args, sizeof words);
     fd = mapped_memory(call, words[1], words[5]);
     if (fd >= 0)
         fd = give_descriptor(call, fd, O_CLOEXEC);
@@ -212,8 +213,8 @@ static void *answer(void *given)
     struct call *call = given;
     int answered;
 
-    set_caller((pid_t)call->told.pid);
-    if (call->told.data.nr == SYS_mmap) {
+    set_caller((pid_t)call->notice.pid);
+    if (call->notice.data.nr == SYS_mmap) {
         answer_mapping(call);
         let_go(call);
     } else {
@@ -225,7 +226,7 @@ static void *answer(void *given)
     return NULL;
 }
 
-/* Answers in a thread of its own: other callers don't wait for it. */
+/* Answers in another thread, so that other callers do not wait. */
 static void begin_answer(const struct call *call)
 {
     struct call *kept = malloc(sizeof *kept);
@@ -243,14 +244,14 @@ static void begin_answer(const struct call *call)
     respond(call, -ENOMEM, 0);
 }
 
-/* Whether an opening is of the device; then `call` has its node, or it is refused. */
+/* Answers an opening. If the path is that of a node, another thread connects to the server. */
 static void answer_opening(struct call *call)
 {
-    uint64_t address = words_of_opening(&call->told)[0];
+    uint64_t address = words_of_opening(&call->notice)[0];
     const struct entry *entry;
     char path[PATH_MAX];
 
-    /* the kernel finds what is wrong with a text, and where a relative path leads */
+    /* the kernel refuses a bad path, and resolves a relative one */
     if (copy_text_from_caller(path, sizeof path, address) != 0 || path[0] != '/'
         || !find_place(AT_FDCWD, path, &entry) || (entry != NULL && entry->kind != KIND_NODE)) {
         let_kernel_answer(call);
@@ -262,20 +263,20 @@ static void answer_opening(struct call *call)
     }
 }
 
-void answer_call(int listener, const struct seccomp_notif *told)
+void answer_call(int listener, const struct seccomp_notif *notice)
 {
-    bool is_mapping = told->data.nr == SYS_mmap;
+    bool is_mapping = notice->data.nr == SYS_mmap;
     struct call call;
 
     memset(&call, 0, sizeof call);
     call.listener = listener;
-    call.told = *told;
-    set_caller((pid_t)told->pid);
-    if (told->data.nr != SYS_ioctl && !is_mapping) {
+    call.notice = *notice;
+    set_caller((pid_t)notice->pid);
+    if (notice->data.nr != SYS_ioctl && !is_mapping) {
         answer_opening(&call);
         return;
     }
-    call.connection = node_find((int)told->data.args[is_mapping ? 4 : 0], &call.socket);
+    call.connection = node_find((int)notice->data.args[is_mapping ? 4 : 0], &call.socket);
     if (!is_waiting(&call))
         let_go(&call);
     else if (call.connection == NULL)

@@ -1,5 +1,5 @@
-/* The filter of system calls: openings, the requests of DRM, and mappings at offsets that files
- * seldom have, are to be answered. */
+/* The filter of system calls. The supervisor answers openings, the requests of DRM, and mappings at
+ * offsets of 4 GiB or more. */
 #include "supervisor.h"
 
 #include <linux/audit.h>
@@ -15,13 +15,13 @@
 #error "this is for x86-64 and ARM of 64 bits"
 #endif
 
-/* Older headers don't have it: a signal doesn't interrupt a call that is being answered, which
- * would then be made twice. */
+/* Older headers do not have it. Without this flag, a signal interrupts a call that is being
+ * answered, and the kernel repeats the call. */
 #ifndef SECCOMP_FILTER_FLAG_WAIT_KILLABLE_RECV
 #define SECCOMP_FILTER_FLAG_WAIT_KILLABLE_RECV (1UL << 5)
 #endif
 
-/* A word of a call has two halves, of which the lower one is first. */
+/* The size of the lower half of an argument, which is first */
 #define HALF 4
 
 #define LOAD_AT(offset) BPF_STMT(BPF_LD | BPF_W | BPF_ABS, offset)

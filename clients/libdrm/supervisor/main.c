@@ -1,5 +1,5 @@
-/* supervisor COMMAND..: runs a command whose nodes lead to the server, though it makes system calls
- * itself. The variables of the environment are those of the preloaded library. */
+/* supervisor COMMAND..: runs a command and answers its system calls on the nodes. The environment
+ * variables are those of the preloaded library. */
 #include "supervisor.h"
 
 #include <stdio.h>
@@ -15,22 +15,22 @@
 #define STATUS_NOT_STARTED 125
 #define STATUS_NOT_RUN 126
 #define STATUS_NOT_FOUND 127
-/* how often events for which there was no room are tried again, in milliseconds */
+/* How often the supervisor retries events for which there was no room, in milliseconds */
 #define SWEEP 50
 
-/* What the kernel tells of a call may be longer in a later one. */
+/* A notification of the kernel. A later kernel can write a longer one. */
 union notice {
-    struct seccomp_notif told;
+    struct seccomp_notif call;
     char room[512];
 };
 
 struct command {
     pid_t process;
-    int end; /* readable when it has ended */
+    int end; /* readable when the process has ended */
     int listener, signals;
 };
 
-/* What the supervisor reads in the command before that begins, to see that it may. */
+/* What the supervisor reads in the process of the command, to find out whether it may. */
 static const uint64_t known = 0x5a69726b6f736865;
 
 static void say(const char *what, int error)
@@ -38,7 +38,7 @@ static void say(const char *what, int error)
     fprintf(stderr, PROGRAM ": %s: %s\n", what, strerror(error));
 }
 
-/* Sends the descriptor by which calls are answered, and waits until it is taken. */
+/* Sends the descriptor of the notifications, and waits until the supervisor has received it. */
 static bool hand_in(int channel, int listener)
 {
     union {
@@ -59,7 +59,7 @@ static bool hand_in(int channel, int listener)
     return sendmsg(channel, &message, 0) == 1 && read(channel, &byte, 1) == 1;
 }
 
-/* Takes the descriptor that is sent; -1 if there is none. */
+/* Receives a descriptor. Returns -1 on failure. */
 static int take_in(int channel)
 {
     union {
@@ -80,7 +80,7 @@ static int take_in(int channel)
     return listener;
 }
 
-/* Becomes the command, which ends if the supervisor is killed. */
+/* Becomes the command. The kernel kills it if the supervisor ends. */
 __attribute__((noreturn)) static void run(char **words, int channel, const sigset_t *before)
 {
     int listener = begin_filter();
@@ -103,7 +103,8 @@ __attribute__((noreturn)) static void run(char **words, int channel, const sigse
     _exit(errno == ENOENT ? STATUS_NOT_FOUND : STATUS_NOT_RUN);
 }
 
-/* Whether the memory of the command may be read, and calls have the form that is known here. */
+/* Returns whether the supervisor may read the memory of the command, and knows the form of
+ * notifications. */
 static bool is_allowed(pid_t process)
 {
     struct seccomp_notif_sizes sizes;
@@ -128,7 +129,7 @@ static int status_of(int ended)
     return WIFSIGNALED(ended) ? 128 + WTERMSIG(ended) : WEXITSTATUS(ended);
 }
 
-/* Starts the command, and lets it begin once its calls can be answered; otherwise this ends. */
+/* Starts the command, which begins once the supervisor can answer its calls. Exits on failure. */
 static struct command start(char **words, const sigset_t *heeded, const sigset_t *before)
 {
     struct command command;
@@ -156,15 +157,15 @@ static struct command start(char **words, const sigset_t *heeded, const sigset_t
     return command;
 }
 
-/* Passes a signal on. What comes from the terminal reaches the command by itself. */
+/* Passes a signal on. A terminal sends its signals to the command, too. */
 static void take_signal(const struct command *command)
 {
-    struct signalfd_siginfo told;
+    struct signalfd_siginfo taken;
 
-    if (read(command->signals, &told, sizeof told) != sizeof told)
+    if (read(command->signals, &taken, sizeof taken) != sizeof taken)
         return;
-    if (told.ssi_signo == SIGTERM || told.ssi_signo == SIGHUP)
-        kill(command->process, (int)told.ssi_signo);
+    if (taken.ssi_signo == SIGTERM || taken.ssi_signo == SIGHUP)
+        kill(command->process, (int)taken.ssi_signo);
 }
 
 static void take_call(const struct command *command)
@@ -173,11 +174,11 @@ static void take_call(const struct command *command)
 
     memset(&notice, 0, sizeof notice);
     if (ioctl(command->listener, SECCOMP_IOCTL_NOTIF_RECV, &notice) == 0)
-        answer_call(command->listener, &notice.told);
+        answer_call(command->listener, &notice.call);
 }
 
-/* Answers calls until the command has ended, and returns its status. A stop for a mapping is not
- * its end. */
+/* Answers calls until the command has ended, and returns its status. (To wait for the process
+ * itself would also report its stops for mappings.) */
 static int supervise(const struct command *command)
 {
     enum { END, LISTENER, SIGNALS, NODES, COUNT };
@@ -196,7 +197,7 @@ static int supervise(const struct command *command)
         if (waited[LISTENER].revents & POLLIN)
             take_call(command);
         if (waited[LISTENER].revents & POLLHUP)
-            waited[LISTENER].fd = -1; /* all who had the filter have ended */
+            waited[LISTENER].fd = -1; /* all processes with the filter have ended */
     }
     waitpid(command->process, &ended, 0);
     return status_of(ended);

@@ -1,4 +1,5 @@
-/* Maps memory in a caller: as its tracer, the supervisor has the caller make the system calls. */
+/* Maps memory in a caller. The supervisor traces the caller and changes its registers, so that the
+ * caller makes the system calls. */
 #include "supervisor.h"
 
 #include <elf.h>
@@ -8,7 +9,7 @@
 #include <sys/user.h>
 #include <sys/wait.h>
 
-/* a stop at a system call, with PTRACE_O_TRACESYSGOOD */
+/* The signal of a stop at a system call, with PTRACE_O_TRACESYSGOOD */
 #define CALL_STOP (SIGTRAP | 0x80)
 #define WORDS 6
 
@@ -32,7 +33,7 @@ static int64_t result_of(const struct user_regs_struct *registers)
     return (int64_t)registers->rax;
 }
 
-/* The kernel does not repeat a call without a number. */
+/* Without the number, the kernel does not repeat the call. */
 static void set_result(struct user_regs_struct *registers, int64_t result)
 {
     registers->rax = (unsigned long long)result;
@@ -74,8 +75,8 @@ static bool set_registers(pid_t task, struct user_regs_struct *registers)
     return ptrace(PTRACE_SETREGSET, task, (void *)NT_PRSTATUS, &room) == 0;
 }
 
-/* Waits until the task stops, and returns the signal or the stop; -1 if it has ended. Its end is
- * left to the waiting of others. */
+/* Waits until the task stops, and returns the signal. Returns -1 if the task has ended, and does
+ * not reap it. */
 static int wait_for_stop(pid_t task)
 {
     siginfo_t found;
@@ -88,7 +89,7 @@ static int wait_for_stop(pid_t task)
     return found.si_code == CLD_TRAPPED || found.si_code == CLD_STOPPED ? found.si_status : -1;
 }
 
-/* Lets the task run to its next stop at a system call. */
+/* Resumes the task until its next stop at a system call. */
 static bool run_to_call(pid_t task)
 {
     int stop = 0;
@@ -103,7 +104,7 @@ static bool run_to_call(pid_t task)
     return true;
 }
 
-/* Has a task that is stopped behind a system call make another one. */
+/* Has a task make a system call. The task is stopped after another one. */
 static int64_t make_call(pid_t task, long number, const uint64_t *words)
 {
     struct user_regs_struct registers;
@@ -112,7 +113,7 @@ static int64_t make_call(pid_t task, long number, const uint64_t *words)
         return -ESRCH;
     set_result(&registers, 0);
     set_call(&registers, number, words);
-    /* the call has a stop before it and one behind it */
+    /* the task stops before the call and after it */
     if (!set_registers(task, &registers) || !run_to_call(task) || !run_to_call(task)
         || !get_registers(task, &registers))
         return -ESRCH;
@@ -146,7 +147,7 @@ void mapping_end(pid_t task, const uint64_t *words, int failed)
 
     if (wait_for_stop(task) < 0 || !get_registers(task, &registers))
         return;
-    /* no handler of a signal runs meanwhile */
+    /* block signals, so that no handler runs in between */
     ptrace(PTRACE_GETSIGMASK, task, (void *)sizeof before, &before);
     ptrace(PTRACE_SETSIGMASK, task, (void *)sizeof all, &all);
     if (!failed)

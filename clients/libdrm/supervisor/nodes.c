@@ -6,21 +6,21 @@
 #include <sys/ioctl.h>
 #include <sys/stat.h>
 
-/* how long the pipe is: each event takes a page of it */
+/* The size of a pipe: each event takes a page */
 #define PIPE_LENGTH (MOST_EVENTS * PAGE)
 #define MOST_SEEN 16
 
 struct node_file {
     struct node_file *next;
     int socket;
-    int events; /* the end of the pipe to which events are written */
+    int events; /* the end of the pipe that the supervisor writes */
     dev_t device;
     ino_t file;
 };
 
 static pthread_mutex_t turn = PTHREAD_MUTEX_INITIALIZER;
 static struct node_file *nodes;
-static int set = -1; /* of epoll: the timers of events, and the pipes */
+static int set = -1; /* of epoll, with the timers of events and the pipes */
 
 int nodes_begin(void)
 {
@@ -40,13 +40,13 @@ static void end_connection(int socket)
     connection_release(connection);
 }
 
-/* Makes the pipe, and returns the end of the caller. */
+/* Creates the pipe, and returns the caller's end. */
 static int make_pipe(struct node_file *node, bool is_blocking)
 {
     struct stat status;
     int ends[2];
 
-    /* a reading takes one event at most, since each is a packet */
+    /* each event is a packet, so a read returns one event */
     if (pipe2(ends, O_CLOEXEC | O_DIRECT | O_NONBLOCK) != 0)
         return -errno;
     node->events = ends[1];
@@ -60,7 +60,7 @@ static int make_pipe(struct node_file *node, bool is_blocking)
     return ends[0];
 }
 
-/* Has the set wait for the events of a connection, and for the end of its pipe. */
+/* Adds the events of a connection and its pipe to the set. */
 static bool attend(const struct node_file *node)
 {
     struct connection *connection = connection_find(node->socket);
@@ -127,7 +127,7 @@ struct connection *node_find(int fd, int *socket)
     return found;
 }
 
-/* Whether no caller has the other end of the pipe. */
+/* Returns whether no process has the other end of the pipe. */
 static bool is_closed(const struct node_file *node)
 {
     struct pollfd end = {node->events, 0, 0};
@@ -135,7 +135,7 @@ static bool is_closed(const struct node_file *node)
     return libc_poll(&end, 1, 0) == 1 && end.revents & POLLERR;
 }
 
-/* Whether fewer events wait in the pipe than a node has at most. */
+/* Returns whether the pipe has room for another event. */
 static bool has_room(const struct node_file *node)
 {
     int length = 0;
@@ -143,7 +143,7 @@ static bool has_room(const struct node_file *node)
     return ioctl(node->events, FIONREAD, &length) == 0 && length < MOST_EVENT_BYTES;
 }
 
-/* Writes the events that are due. Those for which the pipe has no room stay. */
+/* Writes the events that are due, as far as the pipe has room. */
 static void deliver(const struct node_file *node)
 {
     struct connection *connection = connection_find(node->socket);
