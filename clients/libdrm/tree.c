@@ -216,6 +216,19 @@ void entry_status(const struct entry *entry, bool follows, struct stat *status)
     status->st_ino = (ino_t)(uintptr_t)entry;
 }
 
+void widen_status(const struct stat *status, struct statx *wide)
+{
+    memset(wide, 0, sizeof *wide);
+    wide->stx_mask = STATX_BASIC_STATS;
+    wide->stx_mode = (uint16_t)status->st_mode;
+    wide->stx_ino = status->st_ino;
+    wide->stx_nlink = (uint32_t)status->st_nlink;
+    wide->stx_size = (uint64_t)status->st_size;
+    wide->stx_blksize = (uint32_t)status->st_blksize;
+    wide->stx_rdev_major = major(status->st_rdev);
+    wide->stx_rdev_minor = minor(status->st_rdev);
+}
+
 /* The name of an entry that stands right below a folder, or NULL. */
 static const char *name_below(const struct entry *folder, const struct entry *entry)
 {

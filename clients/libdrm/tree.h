@@ -38,6 +38,9 @@ void entry_status(const struct entry *entry, bool follows, struct stat *status);
 /* What fstat tells of a connection: the node's own. */
 void node_status(enum node node, struct stat *status);
 
+/* Writes what statx reports, by what stat does. */
+void widen_status(const struct stat *status, struct statx *wide);
+
 /* The next entry of a folder, counted on in `next` from 0, and its name there; NULL at the end. */
 const struct entry *next_in(const struct entry *folder, size_t *next, const char **name);
 

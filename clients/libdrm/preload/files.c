@@ -235,20 +235,6 @@ int __fxstat64(int, int, struct stat64 *);
 OLD_STAT_FUNCTIONS()
 OLD_STAT_FUNCTIONS(64)
 
-/* What statx tells, of what stat does. */
-static void widen(const struct stat *status, struct statx *wide)
-{
-    memset(wide, 0, sizeof *wide);
-    wide->stx_mask = STATX_BASIC_STATS;
-    wide->stx_mode = (uint16_t)status->st_mode;
-    wide->stx_ino = status->st_ino;
-    wide->stx_nlink = (uint32_t)status->st_nlink;
-    wide->stx_size = (uint64_t)status->st_size;
-    wide->stx_blksize = (uint32_t)status->st_blksize;
-    wide->stx_rdev_major = major(status->st_rdev);
-    wide->stx_rdev_minor = minor(status->st_rdev);
-}
-
 SHOWN int statx(int folder, const char *path, int flags, unsigned mask, struct statx *wide)
 {
     bool is_of_descriptor = is_no_path(path);
@@ -258,13 +244,13 @@ SHOWN int statx(int folder, const char *path, int flags, unsigned mask, struct s
     if (!is_of_descriptor
         && tells(folder, path, !(flags & AT_SYMLINK_NOFOLLOW), &status, &result)) {
         if (result == 0)
-            widen(&status, wide);
+            widen_status(&status, wide);
         return result;
     }
     result = REAL(statx)(folder, path, flags, mask, wide);
     if (result == 0 && is_of_descriptor && S_ISSOCK(wide->stx_mode) && fstat(folder, &status) == 0
         && S_ISCHR(status.st_mode))
-        widen(&status, wide);
+        widen_status(&status, wide);
     return result;
 }
 

@@ -244,23 +244,50 @@ static void begin_answer(const struct call *call)
     respond(call, -ENOMEM, 0);
 }
 
+/* Opens an entry of the tree that is not a node. */
+static int open_entry(const struct call *call, const struct entry *entry, uint32_t flags)
+{
+    int fd;
+
+    if (entry->kind == KIND_FOLDER)
+        fd = flags & (O_WRONLY | O_RDWR) ? -EISDIR : open_listed_folder(entry);
+    else if (entry->kind == KIND_TEXT && !(flags & O_DIRECTORY))
+        fd = open_text_file(entry);
+    else
+        fd = flags & O_DIRECTORY ? -ENOTDIR : -EACCES;
+    return fd < 0 ? fd : give_descriptor(call, fd, flags);
+}
+
 /* Answers an opening. If the path is that of a node, another thread connects to the server. */
 static void answer_opening(struct call *call)
 {
-    uint64_t address = words_of_opening(&call->notice)[0];
+    const __u64 *words = words_of_opening(&call->notice);
     const struct entry *entry;
     char path[PATH_MAX];
 
     /* the kernel refuses a bad path, and resolves a relative one */
-    if (copy_text_from_caller(path, sizeof path, address) != 0 || path[0] != '/'
-        || !find_place(AT_FDCWD, path, &entry) || (entry != NULL && entry->kind != KIND_NODE)) {
+    if (copy_text_from_caller(path, sizeof path, words[0]) != 0 || path[0] != '/'
+        || !find_place(AT_FDCWD, path, &entry)) {
         let_kernel_answer(call);
     } else if (entry == NULL) {
         respond(call, -ENOENT, 0);
-    } else {
+    } else if (entry->kind == KIND_NODE) {
         call->node = entry->node;
         begin_answer(call);
+    } else if (is_waiting(call)) {
+        respond(call, open_entry(call, entry, (uint32_t)words[1]), 0);
     }
+}
+
+/* Answers a call that looks at a file. */
+static void answer_look_at_file(const struct call *call)
+{
+    int result;
+
+    if (is_waiting(call) && answer_look(&call->notice, &result))
+        respond(call, result, 0);
+    else
+        let_kernel_answer(call);
 }
 
 void answer_call(int listener, const struct seccomp_notif *notice)
@@ -272,6 +299,10 @@ void answer_call(int listener, const struct seccomp_notif *notice)
     call.listener = listener;
     call.notice = *notice;
     set_caller((pid_t)notice->pid);
+    if (is_look(notice->data.nr)) {
+        answer_look_at_file(&call);
+        return;
+    }
     if (notice->data.nr != SYS_ioctl && !is_mapping) {
         answer_opening(&call);
         return;

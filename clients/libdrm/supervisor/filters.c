@@ -1,5 +1,5 @@
-/* The filter of system calls. The supervisor answers openings, the requests of DRM, and mappings at
- * offsets of 4 GiB or more. */
+/* The filter of system calls. The supervisor answers openings, looks at files, the requests of DRM,
+ * and mappings at offsets of 4 GiB or more. */
 #include "supervisor.h"
 
 #include <linux/audit.h>
@@ -30,18 +30,25 @@
 #define IF_EQUAL(value, then, otherwise) BPF_JUMP(BPF_JMP | BPF_JEQ | BPF_K, value, then, otherwise)
 #define RETURN(verdict) BPF_STMT(BPF_RET | BPF_K, verdict)
 
+/* The calls that the supervisor answers whatever their arguments are */
+static const int answered[] = {
 #ifdef __NR_open
-#define OPEN __NR_open
-#else
-#define OPEN __NR_openat
+    __NR_open,       __NR_stat,       __NR_lstat,      __NR_access, __NR_readlink,
 #endif
+    __NR_openat,     __NR_fstat,      __NR_newfstatat, __NR_statx,  __NR_faccessat,
+    __NR_faccessat2, __NR_readlinkat,
+};
 
-static struct sock_filter rules[] = {
+#define ANSWERED (sizeof answered / sizeof answered[0])
+
+static const struct sock_filter head[] = {
     LOAD(arch),
-    IF_EQUAL(ARCHITECTURE, 0, 10),
+    IF_EQUAL(ARCHITECTURE, 1, 0),
+    RETURN(SECCOMP_RET_ALLOW),
     LOAD(nr),
-    IF_EQUAL(__NR_openat, 9, 0),
-    IF_EQUAL(OPEN, 8, 0),
+};
+
+static const struct sock_filter tail[] = {
     IF_EQUAL(__NR_mmap, 4, 0),
     IF_EQUAL(__NR_ioctl, 0, 5),
     LOAD(args[1]), /* its lower half */
@@ -53,12 +60,31 @@ static struct sock_filter rules[] = {
     RETURN(SECCOMP_RET_USER_NOTIF),
 };
 
+#define HEAD (sizeof head / sizeof head[0])
+#define TAIL (sizeof tail / sizeof tail[0])
+
+/* Writes the filter. A jump counts the rules between its own and the last one. */
+static void make_rules(struct sock_filter *rules)
+{
+    size_t at;
+
+    memcpy(rules, head, sizeof head);
+    for (at = 0; at < ANSWERED; at++) {
+        uint8_t to_last = (uint8_t)(ANSWERED - at - 1 + TAIL - 1);
+
+        rules[HEAD + at] = (struct sock_filter)IF_EQUAL((uint32_t)answered[at], to_last, 0);
+    }
+    memcpy(rules + HEAD + ANSWERED, tail, sizeof tail);
+}
+
 int begin_filter(void)
 {
+    struct sock_filter rules[HEAD + ANSWERED + TAIL];
     struct sock_fprog program = {sizeof rules / sizeof rules[0], rules};
     unsigned long flags = SECCOMP_FILTER_FLAG_NEW_LISTENER;
     long listener;
 
+    make_rules(rules);
     if (prctl(PR_SET_NO_NEW_PRIVS, 1, 0, 0, 0) != 0)
         return -errno;
     listener = syscall(__NR_seccomp, SECCOMP_SET_MODE_FILTER,

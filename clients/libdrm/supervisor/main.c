@@ -200,6 +200,7 @@ static int supervise(const struct command *command)
             waited[LISTENER].fd = -1; /* all processes with the filter have ended */
     }
     waitpid(command->process, &ended, 0);
+    folders_end();
     return status_of(ended);
 }
 

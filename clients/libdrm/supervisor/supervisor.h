@@ -8,6 +8,8 @@
 
 #include <linux/seccomp.h>
 
+struct entry;
+
 /* The smallest size of a page. A path is read page by page. */
 #define PAGE 4096u
 
@@ -49,6 +51,19 @@ void nodes_attend(void);
 int mapping_begin(pid_t task);
 void mapping_stop(pid_t task);
 void mapping_end(pid_t task, const uint64_t *words, int failed);
+
+/* paths.c: returns whether a call looks at a file. Answers it, or returns false if the file is not
+ * of the device. */
+bool is_look(int number);
+bool answer_look(const struct seccomp_notif *notice, int *result);
+
+/* Creates a file with the text of an entry. Returns its descriptor or a negative errno. */
+int open_text_file(const struct entry *entry);
+
+/* folders.c: opens a folder with the names of an entry's files. Returns its descriptor or a
+ * negative errno. Removes all such folders. */
+int open_listed_folder(const struct entry *folder);
+void folders_end(void);
 
 /* calls.c: answers a system call, in another thread if that can take time. */
 void answer_call(int listener, const struct seccomp_notif *call);
