@@ -7,15 +7,15 @@ use Rattle.slab.specs.contracts.Slab as slabs
 use Rattle.std.specs.contracts.alloc.Global as heap
 use Rattle.std.specs.contracts.impls.GlobalAllocator.TheImpl as heap_impl
 use Rattle.drm_index_array.proofs.Crossing.{array_send}
-use Rattle.drm_gem.specs.contracts.objects.Kept as kept
+use Rattle.drm_gem.specs.contracts.object.Object as object
 use Rattle.drm_gem.specs.contracts.objects.Objects as objects
 use Rattle.drm_gem.specs.contracts.objects.Objects.TheInside as inside
 
-kept_send : IsSend kept.the_row
-kept_send = recorded_send kept.the_field.row _ _ kept.the_type.to_one (struct_send (shape kept.the_type) (search sendable depth 20, (search sendable depth 20, (search sendable depth 20, (search sendable depth 20, (search sendable depth 20, tt))))))
+object_send : IsSend object.the_row
+object_send = recorded_send object.the_field.row _ _ object.the_type.to_one (struct_send (shape object.the_type) (search sendable depth 20, (search sendable depth 20, (search sendable depth 20, (search sendable depth 20, (search sendable depth 20, (search sendable depth 20, tt)))))))
 
-slab_send : IsSend (slabs.the_row kept.the_row heap.the_row heap_impl.ghosts)
-slab_send = slab.the_send kept.the_row heap.the_row heap_impl.ghosts kept_send send frees
+slab_send : IsSend (slabs.the_row object.the_row heap.the_row heap_impl.ghosts)
+slab_send = slab.the_send object.the_row heap.the_row heap_impl.ghosts object_send send frees
 
 inside_send : IsSend inside.the_row
 inside_send =

@@ -1,4 +1,3 @@
-pub mod Places
 mod Records
 pub mod Crossing
 pub mod Newest

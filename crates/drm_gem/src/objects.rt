@@ -1,12 +1,11 @@
 //! The objects that are there.
 
-ghost use Rattle.std.specs.Prelude.{◌≡◌, ◌<◌, ◌≤◌, ◌↔◌, true, None, Some, [], length, find, slice_get, nat_le, nat_lt, OnOk, OnErr, IfOk, IfErr, OnSome, IfSome, IfNone, if◌then◌else◌};
+ghost use Rattle.std.specs.Prelude.{◌≡◌, ◌<◌, ◌≤◌, ◌↔◌, ◌==◌, true, false, None, Some, [], length, slice_get, nat_le, nat_lt, OnOk, OnErr, IfOk, IfErr, OnSome, IfNone};
 ghost use Rattle.std.specs.Option.{option_map};
+ghost use Rattle.drm_lists.specs.Orders.{InOrder};
 ghost use Rattle.drm_gem.specs.declared.object.Object as gem;
 ghost use Rattle.drm_gem.specs.declared.objects.CreateFault.TheVariants as fault;
-ghost use Rattle.drm_gem.specs.Rising.{AreRising};
-ghost use Rattle.drm_gem.specs.Fields.{object};
-ghost use Rattle.drm_gem.specs.Objects.{IsUnusedBirth, with_object, changed_at, without_key, object_at, is_there, is_key, passes, held, unheld, referred, unreferred, stamped, dead_of, dead_after, is_unused, nth_row};
+ghost use Rattle.drm_gem.specs.Objects.{IsUnusedBirth, with_object, changed_at, without_key, object_at, is_there, passes, held, unheld, referred, unreferred, stamped, dead_after, nth_row};
 
 use crate::keys::ObjectKey;
 use crate::object::{Dead, Object};
@@ -32,16 +31,6 @@ pub enum CreateFault {
     NoMemory,
 }
 
-// What is kept of an object under its key.
-#[derive(Clone, Copy)]
-pub(crate) struct Kept {
-    pub(crate) step_number: u32,
-    pub(crate) size: u64,
-    pub(crate) stamp: u64,
-    pub(crate) holds: u32,
-    pub(crate) refs: u32,
-}
-
 /// The objects that exist, in the order of their births. Contracts see a flat list.
 ///
 /// ```rust
@@ -51,7 +40,7 @@ pub(crate) struct Kept {
 pub struct Objects {
     // the keys, by the step numbers of their objects
     keys: IndexArray<u32>,
-    kept: Slab<Kept>,
+    kept: Slab<Object>,
     limit: u32,
 }
 
@@ -118,26 +107,28 @@ impl Objects {
             return Err(CreateFault::Full);
         }
         // a slab gives low keys, of which its contract says nothing: those of 32 bits end long after the memory
-        let key = self.kept.vacant_key();
-        if key > u32::MAX as usize {
+        let number = self.kept.vacant_key();
+        if number > u32::MAX as usize {
             return Err(CreateFault::NoMemory);
         }
         if let Err(_fault) = self.kept.reserve(1) {
             return Err(CreateFault::NoMemory);
         }
-        match self.keys.insert(birth, key as u32) {
+        match self.keys.insert(birth, number as u32) {
             Ok(()) => {}
             Err(InsertFault::NoMemory(_)) => return Err(CreateFault::NoMemory),
             Err(InsertFault::Taken(_)) => unreachable!(),
         }
-        let _key = self.kept.insert_reserved(Kept {
+        let key = ObjectKey::from_number(number as u32);
+        let _number = self.kept.insert_reserved(Object {
+            key,
             step_number: birth,
             size,
             stamp: 0,
             holds: 1,
             refs: 0,
         });
-        Ok(ObjectKey::from_number(key as u32))
+        Ok(key)
     }
 
     /// The object of a key, if it is there.
@@ -162,10 +153,11 @@ impl Objects {
         ensures { self.new ≡ changed_at key held self.old }
     {
         let object = self.there(key);
-        self.set(Object {
+        let more = Object {
             holds: object.holds + 1,
             ..object
-        });
+        };
+        self.set(key, object, more);
     }
 
     /// One handle fewer names the object. Where nothing refers to it any more it goes, and what it was is answered
@@ -181,10 +173,11 @@ impl Objects {
         ensures stays { IfNone result (self.new ≡ changed_at key unheld self.old) }
     {
         let object = self.there(key);
-        self.settle(Object {
+        let fewer = Object {
             holds: object.holds - 1,
             ..object
-        })
+        };
+        self.settle(key, object, fewer)
     }
 
     /// One token or framebuffer more refers to the object.
@@ -198,10 +191,11 @@ impl Objects {
         ensures { self.new ≡ changed_at key referred self.old }
     {
         let object = self.there(key);
-        self.set(Object {
+        let more = Object {
             refs: object.refs + 1,
             ..object
-        });
+        };
+        self.set(key, object, more);
     }
 
     /// One token or framebuffer fewer refers to the object. Where nothing refers to it any more it goes, and what it
@@ -217,10 +211,11 @@ impl Objects {
         ensures stays { IfNone result (self.new ≡ changed_at key unreferred self.old) }
     {
         let object = self.there(key);
-        self.settle(Object {
+        let fewer = Object {
             refs: object.refs - 1,
             ..object
-        })
+        };
+        self.settle(key, object, fewer)
     }
 
     /// How many handles name the object.
@@ -294,7 +289,7 @@ impl Objects {
         ensures { self.new ≡ changed_at key (stamped stamp) self.old }
     {
         let object = self.there(key);
-        self.set(Object { stamp, ..object });
+        self.set(key, object, Object { stamp, ..object });
     }
 
     /// Returns the row at a position, from 0, of the rows of an audit's kind (own): objects are kind 3, rising by birth, and
@@ -321,24 +316,23 @@ impl Objects {
         ensures { result ≡ slice_get self.now.objects position }
     {
         let step_number = self.keys.nth(position)?;
-        let key = *self.keys.get(step_number)?;
-        self.find(ObjectKey::from_number(key))
+        let number = *self.keys.get(step_number)?;
+        self.kept.get(number as usize).copied()
     }
 
     // the object of a key, if it is there
     fn find(&self, key: ObjectKey) -> Option<Object>
         ensures value { result ≡ object_at self.now key }
-        ensures rising { AreRising self.now.objects }
+        ensures differ { InOrder (λ x y. (x.key == y.key) ≡ false) self.now.objects }
     {
-        let kept = self.kept.get(key.number() as usize)?;
-        Some(object_of(key, *kept))
+        self.kept.get(key.number() as usize).copied()
     }
 
     // the object of a key that is there
     fn there(&self, key: ObjectKey) -> Object
         requires { is_there self.now key ≡ true }
         ensures value { object_at self.now key ≡ Some result }
-        ensures rising { AreRising self.now.objects }
+        ensures differ { InOrder (λ x y. (x.key == y.key) ≡ false) self.now.objects }
     {
         match self.find(key) {
             Some(object) => object,
@@ -346,61 +340,47 @@ impl Objects {
         }
     }
 
-    // puts an object in place of that of its key, which has the same step number
-    fn set(&mut self, object: Object)
-        requires { option_map (λ x. x.step_number) (object_at self.old object.key) ≡ Some object.step_number }
-        ensures { self.new ≡ changed_at object.key (λ x. object) self.old }
+    // puts another object in place of that of a key, as each change that makes it of that one does
+    fn set(&mut self, key: ObjectKey, old: Object, new: Object)
+        requires there { object_at self.old key ≡ Some old }
+        requires same_key { new.key ≡ old.key }
+        requires same_step { new.step_number ≡ old.step_number }
+        ensures { (f : gem.Object → gem.Object) → f old ≡ new → self.new ≡ changed_at key f self.old }
     {
-        let Some(kept) = self.kept.get_mut(object.key.number() as usize) else {
+        let Some(kept) = self.kept.get_mut(key.number() as usize) else {
             unreachable!()
         };
-        *kept = Kept {
-            step_number: object.step_number,
-            size: object.size,
-            stamp: object.stamp,
-            holds: object.holds,
-            refs: object.refs,
-        };
+        *kept = new;
     }
 
     // the same, or takes the object away where nothing refers to it any more
-    fn settle(&mut self, object: Object) -> Option<Dead>
-        requires { option_map (λ x. x.step_number) (object_at self.old object.key) ≡ Some object.step_number }
-        ensures dead { result ≡ if is_unused object then Some (dead_of object) else None }
-        ensures gone { OnSome result (self.new ≡ without_key object.key self.old) }
-        ensures stays { IfNone result (self.new ≡ changed_at object.key (λ x. object) self.old) }
+    fn settle(&mut self, key: ObjectKey, old: Object, new: Object) -> Option<Dead>
+        requires there { object_at self.old key ≡ Some old }
+        requires differ { InOrder (λ x y. (x.key == y.key) ≡ false) self.old.objects }
+        requires same_key { new.key ≡ old.key }
+        requires same_step { new.step_number ≡ old.step_number }
+        ensures dead { (f : gem.Object → gem.Object) → f old ≡ new → result ≡ dead_after f self.old key }
+        ensures gone { OnSome result (self.new ≡ without_key key self.old) }
+        ensures stays { (f : gem.Object → gem.Object) → f old ≡ new → IfNone result (self.new ≡ changed_at key f self.old) }
     {
-        if object.holds > 0 || object.refs > 0 {
-            self.set(object);
+        if new.holds > 0 || new.refs > 0 {
+            self.set(key, old, new);
             return None;
         }
-        self.remove(object.key, object.step_number);
-        Some(Dead {
-            birth: object.step_number,
-            size: object.size,
-        })
+        let dead = Dead {
+            birth: old.step_number,
+            size: old.size,
+        };
+        self.remove(key, old);
+        Some(dead)
     }
 
-    // takes the object of a key away, which has this step number
-    fn remove(&mut self, key: ObjectKey, step_number: u32)
-        requires { option_map (λ x. x.step_number) (object_at self.old key) ≡ Some step_number }
+    // takes the object of a key away
+    fn remove(&mut self, key: ObjectKey, old: Object)
+        requires { object_at self.old key ≡ Some old }
         ensures { self.new ≡ without_key key self.old }
     {
-        let _key = self.keys.remove(step_number);
-        let _kept = self.kept.try_remove(key.number() as usize);
-    }
-}
-
-/// The object of a key, of which this is kept.
-fn object_of(key: ObjectKey, kept: Kept) -> Object
-    ensures { result ≡ object key kept }
-{
-    Object {
-        key,
-        step_number: kept.step_number,
-        size: kept.size,
-        stamp: kept.stamp,
-        holds: kept.holds,
-        refs: kept.refs,
+        let _number = self.keys.remove(old.step_number);
+        let _object = self.kept.try_remove(key.number() as usize);
     }
 }

@@ -1,21 +1,20 @@
 -- The list of the records, and how it changes.
-use Rattle.std.proofs.Common.{◌≡◌, ◌≢◌, ℕ, zero, suc, ◌+◌, ◌<◌, ◌==◌, Bool, true, false, not, cond, T, List, [], ◌∷◌, ◌++◌, map, filter, find as find_row, length, is_some, slice_get, Option, Some, None, option_map, option_and_then, unwrap_or, refl, sym, ap, subst, ◌∙◌, arith, nat_cmp, is_lt, Greater}
+use Rattle.std.proofs.Common.{◌≡◌, ◌≢◌, ℕ, ◌<◌, ◌==◌, Bool, true, false, not, cond, T, List, [], ◌∷◌, ◌++◌, map, filter, find as find_row, length, slice_get, Option, Some, None, option_map, option_and_then, unwrap_or, refl, sym, ap, subst, ◌∙◌, arith, nat_cmp}
 use Rattle.std.specs.Prelude.{if◌then◌else◌, nat_lt}
-use Rattle.std.specs.List.{AllByRecursion, remove}
+use Rattle.std.specs.List.{AllByRecursion}
 use Rattle.std.specs.Ordering.{eq_by_cmp}
 use Rattle.std.specs.Cmp.{nat_cmp_total}
 use Rattle.std.specs.FinMap as fin
 use Rattle.std.specs.FinMap.{nat_cmp-IsAntisymmetric}
-use Rattle.std.specs.FinMap.Entries.{find, put, by_order, where_key, is_sorted, below_all, same_entries}
+use Rattle.std.specs.FinMap.Entries.{find, put, where_key, is_sorted, below_all, same_entries}
 use Rattle.std.proofs.lemmas.Bool.{false≢true, eqb-true}
 use Rattle.std.proofs.lemmas.Bool.Decides.{nat_tests}
 use Rattle.slab.specs.Slab.{Slab, get, Updates}
 use Rattle.drm_lists.specs.Orders.{InOrder}
 use Rattle.std.proofs.lemmas.List.{map-append}
-use Rattle.drm_lists.proofs.Lists.{all_of_map, map-map}
+use Rattle.drm_lists.proofs.Lists.{all_of_map, all_mapped, map-map}
 use Rattle.drm_index_array.specs.Rows.{placed}
-use Rattle.drm_index_array.proofs.Keyed.{left, right, all_rows, rows_put, rows_where, row_at, rows_length, entries_removed}
-use Rattle.drm_index_array.proofs.MarkedLemmas.{get-insert, get-remove}
+use Rattle.drm_index_array.proofs.Keyed.{left, right, all_rows, rows_put, row_at, rows_length, entries_removed}
 use Rattle.drm_keys.specs.Keys.{rows_in, IsKeyed}
 use Rattle.std.proofs.lemmas.Option.{none-some}
 use Rattle.drm_index_array.proofs.Entries.{less_of, same_test, before_test, same, differ, apart, insert_same, insert_other, remove_same, remove_other, rows_over, rows_alike}
@@ -23,32 +22,9 @@ use Rattle.drm_index_array.proofs.Entries.{less_of, same_test, before_test, same
 entries_each : (P : ℕ × ℕ → Type 0) (es : List (ℕ × ℕ)) → T (is_sorted nat_cmp es) → ((b k : ℕ) → find nat_cmp b es ≡ Some k → P (b, k)) → AllByRecursion P es
 entries_each P es h each = all_of_map P (λ e. e) es (all_rows nat_cmp nat_cmp_total (λ e. e) P es h each)
 
--- the record at a place of a rising list is the only one of its step number
-pub removed_at : {X : Type 0} (step_number : X → ℕ) → (xs : List X) (i : ℕ) (x : X) → InOrder (λ x y. step_number x < step_number y) xs → slice_get xs i ≡ Some x → filter (λ y. not (step_number y == step_number x)) xs ≡ remove xs i
-removed_at step_number [] i x rise at = absurd (none-some x at)
-removed_at {X = X} step_number (y ∷ ys) zero x rise at =
-    let is : y ≡ x = let s : Some y ≡ Some x = at in cc in
-    ap (λ b. cond (not b) (y ∷ filter (λ z. not (step_number z == step_number x)) ys) (filter (λ z. not (step_number z == step_number x)) ys)) (same (step_number y) (step_number x) (ap step_number is))
-    ∙ all ys (subst (λ z. AllByRecursion (λ u. step_number z < step_number u) ys) is rise.0)
-  where
-    all : (zs : List X) → AllByRecursion (λ u. step_number x < step_number u) zs → filter (λ z. not (step_number z == step_number x)) zs ≡ zs
-    all [] h = refl
-    all (z ∷ zs) h = ap (λ b. cond (not b) (z ∷ filter (λ z. not (step_number z == step_number x)) zs) (filter (λ z. not (step_number z == step_number x)) zs)) (differ (step_number z) (step_number x) (λ e. omega (arith, e, h.0))) ∙ ap (λ l. z ∷ l) (all zs h.1)
-removed_at {X = X} step_number (y ∷ ys) (suc i) x rise at =
-    ap (λ b. cond (not b) (y ∷ filter (λ z. not (step_number z == step_number x)) ys) (filter (λ z. not (step_number z == step_number x)) ys)) (differ (step_number y) (step_number x) (λ e. let lt = above ys i rise.0 at in omega (arith, e, lt)))
-    ∙ ap (λ l. y ∷ l) (removed_at step_number ys i x rise.1 at)
-  where
-    above : (zs : List X) (j : ℕ) → AllByRecursion (λ u. step_number y < step_number u) zs → slice_get zs j ≡ Some x → step_number y < step_number x
-    above [] j h at = absurd (none-some x at)
-    above (z ∷ zs) zero h at = let is : z ≡ x = let s : Some z ≡ Some x = at in cc in subst (λ u. step_number y < step_number u) is h.0
-    above (z ∷ zs) (suc j) h at = above zs j h.1 at
-
 module _ {X : Type 0} (key step_number : X → ℕ) (nothing : X) where
   abbrev row : Slab X → ℕ × ℕ → X
   row slab e = unwrap_or (get slab e.1) nothing
-
-  abbrev before : X → X → Bool
-  before x y = nat_lt (step_number x) (step_number y)
 
   find_absent : (p : X → Bool) (f : ℕ × ℕ → X) (es : List (ℕ × ℕ)) → AllByRecursion (λ e. p (f e) ≡ false) es → find_row p (map f es) ≡ None
   find_absent p f [] all = refl
@@ -98,6 +74,10 @@ module _ {X : Type 0} (key step_number : X → ℕ) (nothing : X) where
 
     by_get : (P : ℕ × ℕ → Type 0) → ((b k : ℕ) → fin.get keys b ≡ Some k → P (b, k)) → AllByRecursion P es
     by_get P each = entries_each P es (fin.entries_sorted keys) (λ b k found. each b k (fin.get-entries keys b ∙ found))
+
+    -- the same with room for more
+    pub more_room : (room : Slab X) (capacity : ℕ) → room ≡ record slab { capacity = capacity } → IsKeyed key step_number keys room
+    more_room room capacity is = subst (IsKeyed key step_number keys) (sym is) (record { record_of = keyed.record_of; key_of = keyed.key_of })
 
     -- the row of a step number and its key
     row_is : (b k : ℕ) → fin.get keys b ≡ Some k → (x : X) → get slab k ≡ Some x → row slab (b, k) ≡ x
@@ -177,6 +157,17 @@ module _ {X : Type 0} (key step_number : X → ℕ) (nothing : X) where
               row_is c n too w.0 (ap (get slab) alike ∙ w.1)))
               (sym (fin.get-entries keys b) ∙ at) (same _ b (row_step_number b k at)) ∙ sym w.1
         ] refl
+
+    -- no other record has the step number of a key's
+    pub only_one : (k : ℕ) (x : X) → get slab k ≡ Some x → AllByRecursion (λ z. (step_number z == step_number x) ≡ (key z == k)) rows
+    only_one k x there =
+        all_mapped (λ z. (step_number z == step_number x) ≡ (key z == k)) (row slab) es
+        (by_get (λ e. (step_number (row slab e) == step_number x) ≡ (key (row slab e) == k)) (λ b n at.
+        elim (key (row slab (b, n)) == k) as (λ t. (key (row slab (b, n)) == k) ≡ t → (step_number (row slab (b, n)) == step_number x) ≡ t) [
+          | true ↦ λ e. same _ _ (ap step_number (row_is b n at x (ap (get slab) (sym (row_key b n at) ∙ eqb-true _ k e) ∙ there)))
+          | false ↦ λ e. differ _ _ (λ alike.
+              apart _ k e (row_key b n at ∙ ap (λ o. unwrap_or o 0) (sym at ∙ ap (fin.get keys) (sym (row_step_number b n at) ∙ alike) ∙ (keyed.key_of k x there).1)))
+        ] refl))
 
     pub at_position : (i : ℕ) → option_and_then (λ b. option_and_then (get slab) (fin.get keys b)) (slice_get (fin.keys keys) i) ≡ slice_get rows i
     at_position i = each (slice_get (fin.keys keys) i) ∙ row_at keys 0 (row slab) i

@@ -60,40 +60,22 @@ above_too above falls (suc s) y n top few e h =
     higher from None is k = absurd (let j : false ≡ true = k in cc)
     higher from (Some m) is k = let lt = falls n m is in among-more (chain_within s above m) n top (from m (omega (arith, lt, few)) k)
 
--- by a rank that is less of what stands above
-abbrev pub FallsBy : (ℕ → ℕ) → (ℕ → Option ℕ) → Type 0
-FallsBy rank above = (n m : ℕ) → above n ≡ Some m → rank m < rank n
-
--- as many steps as either of two ranks give the same chain
-pub enough_by : (above : ℕ → Option ℕ) (rank other : ℕ → ℕ) → FallsBy rank above → FallsBy other above → (s t n : ℕ) → rank n ≤ s → other n ≤ t → chain_within s above n ≡ chain_within t above n
-unfolding chain_within
-enough_by above rank other falls also zero zero n h k = refl
-enough_by above rank other falls also zero (suc t) n h k = last (above n) refl
-  where
-    last : (o : Option ℕ) → above n ≡ o → n ∷ [] ≡ n ∷ rest t above o
-    last None e = refl
-    last (Some m) e = let lt = falls n m e in absurd (omega (arith, lt, h))
-enough_by above rank other falls also (suc s) zero n h k = last (above n) refl
-  where
-    last : (o : Option ℕ) → above n ≡ o → n ∷ rest s above o ≡ n ∷ []
-    last None e = refl
-    last (Some m) e = let lt = also n m e in absurd (omega (arith, lt, k))
-enough_by above rank other falls also (suc s) (suc t) n h k = higher (λ m i j. enough_by above rank other falls also s t m i j) (above n) refl
-  where
-    higher : ((m : ℕ) → rank m ≤ s → other m ≤ t → chain_within s above m ≡ chain_within t above m) → (o : Option ℕ) → above n ≡ o → n ∷ rest s above o ≡ n ∷ rest t above o
-    higher from None e = refl
-    higher from (Some m) e =
-        let lt = falls n m e in
-        let less = also n m e in
-        ap (λ l. n ∷ l) (from m (omega (arith, lt, h)) (omega (arith, less, k)))
-
--- where what is above is less and a rank falls, the chains by either are the same
-pub same_by_rank : (above : ℕ → Option ℕ) (rank : ℕ → ℕ) → IsFalling above → FallsBy rank above → (n : ℕ) → chain_within (rank n) above n ≡ chain_of above n
-same_by_rank above rank falls also n = enough_by above rank (λ m. m) also falls (rank n) n n (omega arith) (omega arith)
+-- a number above which nothing is less is alone in its chain
+alone : (above : ℕ → Option ℕ) → IsFalling above → (s n : ℕ) → n ≤ 0 → (o : Option ℕ) → above n ≡ o → n ∷ [] ≡ n ∷ rest s above o
+alone above falls s n low None e = refl
+alone above falls s n low (Some m) e = let lt = falls n m e in absurd (omega (arith, lt, low))
 
 -- steps beyond those that are enough change nothing
 pub enough : (above : ℕ → Option ℕ) → IsFalling above → (s t n : ℕ) → n ≤ s → n ≤ t → chain_within s above n ≡ chain_within t above n
-enough above falls = enough_by above (λ n. n) (λ n. n) falls falls
+unfolding chain_within
+enough above falls zero zero n h k = refl
+enough above falls zero (suc t) n h k = alone above falls t n h (above n) refl
+enough above falls (suc s) zero n h k = sym (alone above falls s n k (above n) refl)
+enough above falls (suc s) (suc t) n h k = higher (λ m i j. enough above falls s t m i j) (above n) refl
+  where
+    higher : ((m : ℕ) → m ≤ s → m ≤ t → chain_within s above m ≡ chain_within t above m) → (o : Option ℕ) → above n ≡ o → n ∷ rest s above o ≡ n ∷ rest t above o
+    higher from None e = refl
+    higher from (Some m) e = let lt = falls n m e in ap (λ l. n ∷ l) (from m (omega (arith, lt, h)) (omega (arith, lt, k)))
 
 -- a chain stays where what is above its numbers stays
 pub same_chain : (P : ℕ → Type 0) (above other : ℕ → Option ℕ) → ((n : ℕ) → P n → other n ≡ above n) → ((n m : ℕ) → P n → above n ≡ Some m → P m) → (s n : ℕ) → P n → chain_within s other n ≡ chain_within s above n

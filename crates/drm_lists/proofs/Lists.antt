@@ -152,9 +152,3 @@ filter_true p [] = tt
 filter_true {X = X} p (x ∷ xs) =
     elim (p x) as (λ b. p x ≡ b → AllByRecursion (λ y. p y ≡ true) (cond b (x ∷ filter p xs) (filter p xs)))
     [ true ↦ λ e. (e, filter_true p xs) | false ↦ λ e. filter_true p xs ] refl
-
--- ---- pushes
-
--- a push after a reserve
-pub pushed : {X : Type 0} {xs ys zs : List X} (x : X) → zs ≡ ys ++ x ∷ [] → ys ≡ xs → zs ≡ xs ++ x ∷ []
-pushed x e f = e ∙ ap (λ l. l ++ x ∷ []) f

@@ -26,10 +26,6 @@ module _ (keys : fin.FinMap nat_cmp ℕ) (slab : Slab Master) (keyed : IsKeyed k
   pub more_room : (capacity : ℕ) → IsKeyed key_of step_number_of keys (record slab { capacity = capacity })
   more_room capacity = record { record_of = keyed.record_of; key_of = keyed.key_of }
 
-  -- what is kept of a step number
-  pub kept_there : (b k : ℕ) → fin.get keys b ≡ Some k → (x : Master) × (get slab k ≡ Some x) × (x.step_number ≡ b)
-  kept_there b k at = let w = keyed.record_of b k at in (w.0, w.1, w.2)
-
   pub key_there : (b k : ℕ) → fin.get keys b ≡ Some k → get slab k ≡ None → ⊥
   key_there b k at none = let w = keyed.record_of b k at in none-some w.0 (sym none ∙ w.1)
 

@@ -193,7 +193,3 @@ pub numbers_are : (ms : List Master) → Rise ms → (groups : GroupMap) → Are
 numbers_are ms rise groups are m =
     same_up (numbers_of groups m) (lessees_of ms m) (numbers_up (fin.get groups m)) (step_numbers_up m ms rise)
     (λ n. among_numbers groups m n ∙ are m n ∙ sym (step_numbers_among m n ms rise))
-
--- no step number is past the last number
-pub none_past : (ms : List Master) → AllByRecursion (λ (x : Master). x.step_number ≤ 4294967295) ms → (m n : ℕ) → 4294967295 < n → is_option m (lessor_of ms n) ≡ false
-none_past ms fits m n past = ap (λ o. is_option m (option_and_then (λ (y : Master). y.lessor) o)) (find_none (is_step_number n) ms (all_weaker (λ (x : Master). x.step_number ≤ 4294967295) (λ (x : Master). is_step_number n x ≡ false) (λ x le. ne_eqb x.step_number n (λ same. omega (arith, le, same, past))) ms fits))

@@ -5,10 +5,7 @@ mod Lessees
 mod Named
 mod Kept
 pub mod Living
-pub mod Rewritten
-mod Settled
 mod Upward
-mod Below
 pub mod Pushed
 mod Owned
 mod Swept

@@ -1,5 +1,5 @@
 -- The clients as a list, and how it changes.
-use Rattle.std.proofs.Common.{◌≡◌, ◌≢◌, ◌-◌, ℕ, ◌<◌, Bool, true, false, not, cond, T, List, [], ◌∷◌, map, filter, find as find_row, length, slice_get, Option, Some, None, option_map, option_and_then, is_some, refl, sym, ap, ◌∙◌, arith, nat_cmp, Greater}
+use Rattle.std.proofs.Common.{◌≡◌, ◌≢◌, ◌-◌, ℕ, ◌<◌, Bool, true, false, not, cond, T, List, [], ◌∷◌, map, filter, find as find_row, length, slice_get, Option, Some, None, option_map, option_and_then, is_some, refl, sym, ap, ◌∙◌, arith, nat_cmp}
 use Rattle.std.specs.Prelude.{if◌then◌else◌}
 use Rattle.std.specs.List.{AllByRecursion}
 use Rattle.std.specs.Ordering.{eq_by_cmp}
@@ -24,9 +24,6 @@ Clients = fin.FinMap nat_cmp Membership
 
 tied_test : (c k : ℕ) → eq_by_cmp nat_cmp c k ≡ true → k ≡ c
 tied_test c k e = grind (arith, nat_tests)
-
-greater : (a b : ℕ) → b < a → nat_cmp a b ≡ Greater
-greater a b lt = grind (arith, nat_tests)
 
 module _ (m : Clients) where
   -- the client of a number

@@ -14,9 +14,6 @@ use Rattle.drm_masters.specs.declared.rows.Member.{Member}
 use Rattle.drm_masters.specs.declared.rows.Master.{Master}
 use Rattle.drm_masters.specs.Masters.{is_option, is_step_number, master_at, lessor_of, is_held, is_living, HasOlderLessor}
 
-pub step_number_of : Master → ℕ
-step_number_of x = x.step_number
-
 abbrev pub Rise : List Master → Type 0
 Rise ms = InOrder (λ (x y : Master). x.step_number < y.step_number) ms
 
@@ -34,6 +31,16 @@ Older ms = AllByRecursion (HasOlderLessor ms) ms
 pub not_false : (b : Bool) → not b ≡ false → b ≡ true
 not_false true h = refl
 not_false false h = absurd (let e : true ≡ false = h in cc)
+
+-- whether an option is this one, as what it is
+pub is_this : (n : ℕ) (o : Option ℕ) → is_option n o ≡ true → o ≡ Some n
+is_this n None e = absurd (let f : false ≡ true = e in cc)
+is_this n (Some m) e = ap Some (eqb-true m n e)
+
+pub same_bool : (a b : Bool) → (a ≡ true → b ≡ true) → (b ≡ true → a ≡ true) → a ≡ b
+same_bool true b f g = sym (f refl)
+same_bool false true f g = g refl
+same_bool false false f g = refl
 
 -- what is found where a master has a lessor
 lessor_found : (o : Option Master) (l : ℕ) → option_and_then (λ (x : Master). x.lessor) o ≡ Some l → (x : Master) × (o ≡ Some x) × (x.lessor ≡ Some l)
@@ -87,11 +94,6 @@ module _ (ms : List Master) where
             q : Master → Bool
             q y = is_living members ms y.step_number && is_option x.step_number y.lessor
 
-            same_bool : (a b : Bool) → (a ≡ true → b ≡ true) → (b ≡ true → a ≡ true) → a ≡ b
-            same_bool true b f g = sym (f refl)
-            same_bool false true f g = g refl
-            same_bool false false f g = refl
-
             forth : is_living members ms x.step_number ≡ true → (is_held members x || list_any q ms) ≡ true
             forth h =
                 let w = held_below x.step_number h in
@@ -113,11 +115,7 @@ module _ (ms : List Master) where
             by_lessee k =
                 let y = some_passing q (λ (z : Master). master_at ms z.step_number ≡ Some z) ms each_found k in
                 let t = and_parts (is_living members ms y.0.step_number) (is_option x.step_number y.0.lessor) y.1 in
-                lessor_lives y.0.step_number x.step_number t.0 (ap (option_and_then (λ (z : Master). z.lessor)) y.2 ∙ named y.0.lessor t.1)
-              where
-                named : (o : Option ℕ) → is_option x.step_number o ≡ true → o ≡ Some x.step_number
-                named None e = absurd (let n : false ≡ true = e in cc)
-                named (Some l) e = ap Some (eqb-true l x.step_number e)
+                lessor_lives y.0.step_number x.step_number t.0 (ap (option_and_then (λ (z : Master). z.lessor)) y.2 ∙ is_this x.step_number y.0.lessor t.1)
 
             back : (is_held members x || list_any q ms) ≡ true → is_living members ms x.step_number ≡ true
             back h =

@@ -1,15 +1,16 @@
 -- The ids of each owner's lessees, as masters come and go.
-use Rattle.std.proofs.Common.{◌≡◌, ℕ, ◌==◌, Bool, true, false, not, cond, ◌&&◌, ◌||◌, List, [], ◌∷◌, map, filter, find, Option, None, Some, refl, sym, ap, ◌∙◌, eq-eqb}
+use Rattle.std.proofs.Common.{◌≡◌, ℕ, ◌==◌, Bool, true, false, not, cond, ◌&&◌, List, map, filter, find, Option, None, Some, refl, sym, ap, ◌∙◌, eq-eqb}
 use Rattle.std.specs.Prelude.{if◌then◌else◌}
 use Rattle.std.specs.List.{list_any, AllByRecursion}
 use Rattle.std.specs.Option.{is_some, option_map, option_map_or, option_and_then}
-use Rattle.std.proofs.lemmas.Bool.{eqb-true, ne_eqb, false≢true, and_parts}
+use Rattle.std.proofs.lemmas.Bool.{eqb-true, ne_eqb, false≢true, and_parts, or_parts}
 use Rattle.drm_index_array.specs.Rows.{placed}
 use Rattle.drm_index_array.specs.Least.{least}
 use Rattle.drm_index_array.proofs.Least.{least-same}
 use Rattle.drm_lists.specs.Chains.{top_of}
 use Rattle.drm_lists.proofs.Chains.{top_some}
 use Rattle.drm_lists.proofs.Lists.{all_weaker, all_each}
+use Rattle.drm_lists.proofs.Each.{none_passes}
 use Rattle.drm_lists.proofs.Found.{is_some-find, find_none}
 use Rattle.drm_lists.proofs.Placed.{all_placed}
 use Rattle.drm_lists.proofs.Numbers.{flipped, same_either}
@@ -18,14 +19,9 @@ use Rattle.drm_masters.specs.declared.rows.Master.{Master}
 use Rattle.drm_masters.specs.declared.rows.Member.{Member}
 use Rattle.drm_masters.specs.Masters.{is_step_number, master_before, is_option, master_at, lessor_of, owner_of, is_held, is_used, HasOlderLessor, is_lessee_of}
 use Rattle.drm_masters.specs.Ids.{Ids, has_id, IsNamed, IsUnnamed, owner_to_be, AreIdsOf}
-use Rattle.drm_masters.proofs.Living.{Rise, IsFresh, others_apart, Older, falls, lessee_of}
+use Rattle.drm_masters.proofs.Living.{Rise, IsFresh, others_apart, Older, falls, lessee_of, is_this}
 use Rattle.drm_masters.proofs.Flagged.{owner_stays}
 use Rattle.drm_masters.proofs.Pushed.{over_at, over_lessors, pushed_older, pushed_owner, new_lessor, new_at, others_at, there_apart}
-
--- whether an option is this one, as what it is
-is_this : (n : ℕ) (o : Option ℕ) → is_option n o ≡ true → o ≡ Some n
-is_this n None e = absurd (false≢true e)
-is_this n (Some m) e = ap Some (eqb-true m n e)
 
 -- ---- what is found by an id
 
@@ -221,22 +217,14 @@ module _ (g : Master → Master) (step_numbers : (x : Master) → (g x).step_num
 
 -- ---- who is nobody's lessor
 
-none_any : (p : Master → Bool) → (xs : List Master) → AllByRecursion (λ x. p x ≡ false) xs → list_any p xs ≡ false
-none_any p [] h = refl
-none_any p (x ∷ xs) h = ap (λ b. b || list_any p xs) h.0 ∙ none_any p xs h.1
-
 -- a master that isn't used
 pub unnamed : (members : List Member) (ms : List Master) (x : Master) → is_used members ms x ≡ false → list_any (λ (y : Master). is_option x.step_number y.lessor) ms ≡ false
-unnamed members ms x e = second (is_held members x) (list_any (λ (y : Master). is_option x.step_number y.lessor) ms) e
-  where
-    second : (a b : Bool) → (a || b) ≡ false → b ≡ false
-    second false b k = k
-    second true b k = absurd (false≢true (sym k))
+unnamed members ms x e = (or_parts (is_held members x) (list_any (λ (y : Master). is_option x.step_number y.lessor) ms) e).1
 
 -- one that came
 pub unnamed_yet : (ms : List Master) (z : Master) → IsFresh ms z.step_number → Older ms → z.lessor ≡ None → list_any (λ (y : Master). is_option z.step_number y.lessor) (placed master_before z ms) ≡ false
 unnamed_yet ms z fresh older top =
-    none_any (λ (y : Master). is_option z.step_number y.lessor) (placed master_before z ms)
+    none_passes (λ (y : Master). is_option z.step_number y.lessor) (placed master_before z ms)
     (all_placed (λ (y : Master). is_option z.step_number y.lessor ≡ false) (λ (x : Master). master_before x z) z ms (ap (is_option z.step_number) top) (all_weaker (HasOlderLessor ms) (λ (y : Master). is_option z.step_number y.lessor ≡ false) (λ y h. by_lessor y h y.lessor refl) ms older))
   where
     by_lessor : (y : Master) → HasOlderLessor ms y → (r : Option ℕ) → y.lessor ≡ r → is_option z.step_number r ≡ false

@@ -12,7 +12,7 @@ use Rattle.drm_masters.specs.declared.rows.Member.{Member}
 use Rattle.drm_masters.specs.declared.rows.Master.{Master}
 use Rattle.drm_masters.specs.Masters.{MasterSet, AreMasters, is_step_number, master_at, lessor_of, is_held, is_living, swept}
 use Rattle.drm_masters.specs.Calls.{kept_as, with_kept, released}
-use Rattle.drm_masters.proofs.Living.{Rise, Older, living_by, held_below}
+use Rattle.drm_masters.proofs.Living.{Rise, Older, living_by, held_below, same_bool}
 use Rattle.drm_masters.proofs.Pushed.{kept_at, step_number_stays, lessor_stays, over_at, over_lessors, over_rise, over_older}
 use Rattle.drm_masters.proofs.Swept.{at_is, under_is}
 
@@ -32,11 +32,6 @@ marked_key chosen x = elim (chosen x.step_number) as (λ b. (if b then kept_as f
 map_each : {X : Type 0} (f g : X → X) → ((x : X) → f x ≡ g x) → (xs : List X) → map f xs ≡ map g xs
 map_each f g same [] = refl
 map_each f g same (x ∷ xs) = λ i. same x i ∷ map_each f g same xs i
-
-same_bool : (a b : Bool) → (a ≡ true → b ≡ true) → (b ≡ true → a ≡ true) → a ≡ b
-same_bool true b f g = sym (f refl)
-same_bool false true f g = g refl
-same_bool false false f g = refl
 
 -- where none is chosen all is as it was
 pub none_released : (v : MasterSet) → AreMasters v → v ≡ swept (released (λ n. false) v)
@@ -66,9 +61,6 @@ module _ (members : List Member) (ms : List Master) (rise : Rise ms) (older : Ol
 
   now_rise : Rise now
   now_rise = over_rise (kept_at n false) (step_number_stays n false) (lessor_stays n false) ms rise
-
-  now_older : Older now
-  now_older = over_older (kept_at n false) (step_number_stays n false) (lessor_stays n false) ms older
 
   now_lessors : (k : ℕ) → lessor_of now k ≡ lessor_of ms k
   now_lessors = over_lessors (kept_at n false) (step_number_stays n false) (lessor_stays n false) ms

@@ -108,9 +108,6 @@ names_new : (xs : List Member) (y : Member) (m : ℕ) → y.master ≡ m → lis
 names_new xs y m e = any_placed (λ (z : Member). z.master == m) (λ x. member_before x y) y xs ∙ or_left (y.master == m) (list_any (λ (z : Member). z.master == m) xs) (eq-eqb y.master m e)
 
 module _ (v : MasterSet) (a : AreMasters v) where
-  pub ties : AreTied v
-  ties = record { members_rise = a.members_rise; masters_rise = a.masters_rise; lessors_older = a.lessors_older; masters_there = a.masters_there; device_own = a.device_own; device_owner = a.device_owner; guests_of_owners = a.guests_of_owners; magics_differ = a.magics_differ; few = a.few; few_ids = a.few_ids }
-
   -- the device's master is there
   pub device_there : (m : ℕ) → v.device_master ≡ Some m → is_some (master_at v.masters m) ≡ true
   device_there m e =
@@ -529,6 +526,19 @@ sound a v e are keyed flags = record {
   are = subst AreMasters (sym e) are;
   keyed = subst (λ (w : MasterSet). Keyed w.masters) (sym e) keyed;
   flagged = λ c. flags c ∙ ap (λ (w : MasterSet). is_current w c) (sym e);
+}
+
+-- and of which it is so then
+pub record Known (a : Inside) (v : MasterSet) : Type 0 where
+  pub are : AreMasters v
+  pub keyed : Keyed v.masters
+  pub flagged : Flags a v
+
+pub known : (a : Inside) (v : MasterSet) → set_of a ≡ v → IsSound a → Known a v
+known a v e so = record {
+  are = subst AreMasters e so.are;
+  keyed = subst (λ (w : MasterSet). Keyed w.masters) e so.keyed;
+  flagged = λ c. so.flagged c ∙ ap (λ (w : MasterSet). is_current w c) e;
 }
 
 -- a master is found by its key

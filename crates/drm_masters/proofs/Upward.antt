@@ -1,62 +1,70 @@
 -- A sweep that begins at the one master that may be unused, and goes up.
-use Rattle.std.proofs.Common.{◌≡◌, ℕ, zero, suc, ◌+◌, ◌<◌, ◌==◌, Bool, true, false, not, cond, ◌&&◌, ◌||◌, List, [], ◌∷◌, filter, length, Option, None, Some, refl, sym, ap, ◌∙◌, eq-eqb, inl, inr, arith}
-use Rattle.std.specs.Prelude.{◌⊎◌}
+use Rattle.std.proofs.Common.{◌≡◌, ℕ, zero, suc, ◌+◌, ◌<◌, ◌≤◌, ◌==◌, Bool, true, false, not, cond, ◌&&◌, ◌||◌, List, [], ◌∷◌, filter, Option, None, Some, refl, sym, ap, ◌∙◌, arith}
 use Rattle.std.specs.List.{list_any, AllByRecursion}
 use Rattle.std.specs.Option.{is_some, option_and_then}
-use Rattle.std.proofs.Math.Bool.{and-false}
-use Rattle.std.proofs.lemmas.Bool.{eqb-true, false≢true}
+use Rattle.std.proofs.lemmas.Bool.{eqb-true, false≢true, and_parts, and_right, or_parts, not-true}
 use Rattle.drm_lists.specs.Numbers.{is_among}
 use Rattle.drm_lists.specs.Chains.{is_under}
-use Rattle.drm_lists.proofs.Lists.{all_each, all_weaker, all_both, all_filter, filter-same, filter-both, filter_true}
-use Rattle.drm_lists.proofs.Found.{all_at}
+use Rattle.drm_lists.proofs.Lists.{all_each, all_weaker, all_both, all_filter, filter_all, filter-same, filter-both, filter_true, some_passing}
+use Rattle.drm_lists.proofs.Each.{each_fails, none_passes}
+use Rattle.drm_lists.proofs.Numbers.{flipped}
 use Rattle.drm_lists.proofs.Orders.{in_order_filter}
-use Rattle.drm_lists.proofs.Chains.{same_chain}
+use Rattle.drm_lists.proofs.Chains.{itself, same_chain}
 use Rattle.drm_lists.proofs.Rising.{found, any_more, all_found, find_where}
 use Rattle.drm_masters.specs.declared.rows.Member.{Member}
 use Rattle.drm_masters.specs.declared.rows.Master.{Master}
 use Rattle.drm_masters.specs.Masters.{is_step_number, is_option, master_at, lessor_of, is_held, is_used, is_living, HasOlderLessor}
-use Rattle.drm_masters.proofs.Looked.{next_position}
-use Rattle.drm_masters.proofs.Living.{Rise, Older, living_is}
-use Rattle.drm_masters.proofs.Settled.{Settled, looked, none_looked, all_looked}
+use Rattle.drm_masters.proofs.Living.{Rise, Older, living_by, lessor_lives, living_is, is_this}
 
 -- all but those of a step number are used
 abbrev pub OthersUsed : List Member → List Master → ℕ → Type 0
 OthersUsed members ms step_number = AllByRecursion (λ (x : Master). (x.step_number == step_number) ≡ false → is_used members ms x ≡ true) ms
 
+-- no step number is more
+bounded : (xs : List Master) → (last : ℕ) × AllByRecursion (λ (x : Master). x.step_number ≤ last) xs
+bounded [] = (0, tt)
+bounded (x ∷ xs) =
+    let w = bounded xs in
+    (x.step_number + w.0, (omega arith, all_weaker (λ (y : Master). y.step_number ≤ w.0) (λ (y : Master). y.step_number ≤ x.step_number + w.0) (λ y le. omega (arith, le)) xs w.1))
+
 module _ (members : List Member) (ms : List Master) (rise : Rise ms) (older : Older ms) where
+  -- what is so of each where each is used
+  record Needed (last : ℕ) (x : Master) : Type 0 where
+    at : master_at ms x.step_number ≡ Some x
+    used : is_used members ms x ≡ true
+    low : x.step_number ≤ last
+    lessor : HasOlderLessor ms x
+
+  -- from the youngest up
+  lives : (last : ℕ) → AllByRecursion (Needed last) ms → (n : ℕ) (x : Master) → Needed last x → last < x.step_number + n → is_living members ms x.step_number ≡ true
+  lives last needed zero x t lt = let le = t.low in absurd (omega (arith, lt, le))
+  lives last needed (suc n) x t lt = by_held (λ y u. lives last needed n y u) (is_held members x) refl t.used
+    where
+      by_held : ((y : Master) → Needed last y → last < y.step_number + n → is_living members ms y.step_number ≡ true) → (b : Bool) → is_held members x ≡ b → (b || list_any (λ (y : Master). is_option x.step_number y.lessor) ms) ≡ true → is_living members ms x.step_number ≡ true
+      by_held later true held h = living_by ms members x.step_number x t.at held (itself (lessor_of ms) x.step_number x.step_number)
+      by_held later false held h =
+          let w = some_passing (λ (y : Master). is_option x.step_number y.lessor) (Needed last) ms needed h in
+          let up = is_this x.step_number w.0.lessor w.1 in
+          let younger = (w.2.lessor x.step_number up).1 in
+          lessor_lives ms members rise older w.0.step_number x.step_number (later w.0 w.2 (omega (arith, lt, younger))) (ap (option_and_then (λ (z : Master). z.lessor)) w.2.at ∙ up)
+
   -- where each is used a sweep takes none
   pub all_stay : AllByRecursion (λ (x : Master). is_used members ms x ≡ true) ms → ms ≡ filter (λ (x : Master). is_living members ms x.step_number) ms
-  all_stay used = all_looked members ms rise older 0 ms (down 0 (length ms) (let e : 0 + length ms ≡ length ms = omega arith in e)) refl
-    where
-      down : (n k : ℕ) → n + k ≡ length ms → Settled members ms n ms
-      down n zero e = none_looked members ms rise older n (omega (arith, e))
-      down n (suc k) e =
-          let w = next_position ms n (omega (arith, e)) in
-          (looked members ms rise older n ms (down (suc n) k (omega (arith, e))) w.0 w.1 true (sym (all_at (λ (x : Master). is_used members ms x ≡ true) ms n w.0 used w.1))).0 refl
+  all_stay used =
+      let last = bounded ms in
+      let here = all_found (λ (x : Master). x.step_number) ms rise in
+      let both = all_both (λ (x : Master). is_used members ms x ≡ true) (HasOlderLessor ms) (λ (x : Master). (is_used members ms x ≡ true) × HasOlderLessor ms x) (λ x u h. (u, h)) ms used older in
+      let low = all_both (λ (x : Master). master_at ms x.step_number ≡ Some x) (λ (x : Master). x.step_number ≤ last.0) (λ (x : Master). (master_at ms x.step_number ≡ Some x) × (x.step_number ≤ last.0)) (λ x a le. (a, le)) ms here last.1 in
+      let needed = all_both (λ (x : Master). (is_used members ms x ≡ true) × HasOlderLessor ms x) (λ (x : Master). (master_at ms x.step_number ≡ Some x) × (x.step_number ≤ last.0)) (Needed last.0) (λ x u a. record { at = a.0; used = u.0; low = a.1; lessor = u.1 }) ms both low in
+      sym (filter_all (λ (x : Master). is_living members ms x.step_number) ms (all_weaker (Needed last.0) (λ (x : Master). is_living members ms x.step_number ≡ true) (λ x t. lives last.0 needed (last.0 + 1) x t (omega arith)) ms needed))
 
   -- a master that is not used goes, and nothing else changes
   module _ (x : Master) (here : master_at ms x.step_number ≡ Some x) (unused : is_used members ms x ≡ false) where
     not_held : is_held members x ≡ false
-    not_held = first (is_held members x) (list_any (λ (z : Master). is_option x.step_number z.lessor) ms) unused
-      where
-        first : (a b : Bool) → (a || b) ≡ false → a ≡ false
-        first true b h = h
-        first false b h = refl
+    not_held = (or_parts (is_held members x) (list_any (λ (z : Master). is_option x.step_number z.lessor) ms) unused).0
 
     no_lessee : AllByRecursion (λ (z : Master). is_option x.step_number z.lessor ≡ false) ms
-    no_lessee = each ms (behind (is_held members x) (list_any (λ (z : Master). is_option x.step_number z.lessor) ms) unused)
-      where
-        behind : (a b : Bool) → (a || b) ≡ false → b ≡ false
-        behind true b h = absurd (false≢true (sym h))
-        behind false b h = h
-
-        each : (xs : List Master) → list_any (λ (z : Master). is_option x.step_number z.lessor) xs ≡ false → AllByRecursion (λ (z : Master). is_option x.step_number z.lessor ≡ false) xs
-        each [] h = tt
-        each (y ∷ ys) h = (first (is_option x.step_number y.lessor) (list_any (λ (z : Master). is_option x.step_number z.lessor) ys) h, each ys (behind (is_option x.step_number y.lessor) (list_any (λ (z : Master). is_option x.step_number z.lessor) ys) h))
-          where
-            first : (a b : Bool) → (a || b) ≡ false → a ≡ false
-            first true b k = k
-            first false b k = refl
+    no_lessee = each_fails (λ (z : Master). is_option x.step_number z.lessor) ms (or_parts (is_held members x) (list_any (λ (z : Master). is_option x.step_number z.lessor) ms) unused).1
 
     abbrev pub gone : List Master
     gone = filter (λ (z : Master). not (is_step_number x.step_number z)) ms
@@ -120,14 +128,10 @@ module _ (members : List Member) (ms : List Master) (rise : Rise ms) (older : Ol
             ] refl
 
     dies : is_living members ms x.step_number ≡ false
-    dies = living_is ms members rise older x here ∙ ap (λ b. b || list_any q ms) not_held ∙ none ms no_lessee
-      where
-        q : Master → Bool
-        q y = is_living members ms y.step_number && is_option x.step_number y.lessor
-
-        none : (xs : List Master) → AllByRecursion (λ (z : Master). is_option x.step_number z.lessor ≡ false) xs → list_any q xs ≡ false
-        none [] h = refl
-        none (z ∷ zs) h = ap (λ b. (is_living members ms z.step_number && b) || list_any q zs) h.0 ∙ ap (λ b. b || list_any q zs) (and-false (is_living members ms z.step_number)) ∙ none zs h.1
+    dies =
+        let q : Master → Bool = λ y. is_living members ms y.step_number && is_option x.step_number y.lessor in
+        living_is ms members rise older x here ∙ ap (λ b. b || list_any q ms) not_held
+        ∙ none_passes q ms (all_weaker (λ (z : Master). is_option x.step_number z.lessor ≡ false) (λ z. q z ≡ false) (λ z e. and_right (is_living members ms z.step_number) (is_option x.step_number z.lessor) e) ms no_lessee)
 
     -- what a sweep leaves of the others is what it leaves of all
     pub same_left : filter (λ (z : Master). is_living members gone z.step_number) gone ≡ filter (λ (z : Master). is_living members ms z.step_number) ms
@@ -141,23 +145,15 @@ module _ (members : List Member) (ms : List Master) (rise : Rise ms) (older : Ol
         ] refl) ms told)
 
     -- the others are used yet, but it may be its lessor
-    pub others_left : (b : ℕ) → (x.lessor ≡ Some b ⊎ x.lessor ≡ None) → OthersUsed members ms x.step_number → AllByRecursion (λ (z : Master). (x.lessor ≡ None ⊎ ((z.step_number == b) ≡ false)) → is_used members gone z ≡ true) gone
-    others_left b up used =
-        all_both (λ (z : Master). (z.step_number == x.step_number) ≡ false → is_used members ms z ≡ true) (λ (z : Master). not (is_step_number x.step_number z) ≡ true) (λ (z : Master). (x.lessor ≡ None ⊎ ((z.step_number == b) ≡ false)) → is_used members gone z ≡ true)
-        (λ z u differs how. still z (u (flip (is_step_number x.step_number z) differs)) (not_named z up how)) gone (all_filter (λ (z : Master). (z.step_number == x.step_number) ≡ false → is_used members ms z ≡ true) (λ (z : Master). not (is_step_number x.step_number z)) ms used)
+    pub lessor_left : (b : ℕ) → ((l : ℕ) → x.lessor ≡ Some l → l ≡ b) → OthersUsed members ms x.step_number → OthersUsed members gone b
+    lessor_left b up used =
+        all_both (λ (z : Master). (z.step_number == x.step_number) ≡ false → is_used members ms z ≡ true) (λ (z : Master). not (is_step_number x.step_number z) ≡ true) (λ (z : Master). (z.step_number == b) ≡ false → is_used members gone z ≡ true)
+        (λ z u differs other. still z (u (not-true (is_step_number x.step_number z) differs)) (not_named z other x.lessor refl)) gone (all_filter (λ (z : Master). (z.step_number == x.step_number) ≡ false → is_used members ms z ≡ true) (λ (z : Master). not (is_step_number x.step_number z)) ms used)
         (filter_true (λ (z : Master). not (is_step_number x.step_number z)) ms)
       where
-        flip : (c : Bool) → not c ≡ true → c ≡ false
-        flip true h = absurd (false≢true h)
-        flip false h = refl
-
-        not_named : (z : Master) → (x.lessor ≡ Some b ⊎ x.lessor ≡ None) → (x.lessor ≡ None ⊎ ((z.step_number == b) ≡ false)) → is_option z.step_number x.lessor ≡ false
-        not_named z up (inl none) = ap (is_option z.step_number) none
-        not_named z (inl some) (inr other) = ap (is_option z.step_number) some ∙ turned b z.step_number other
-          where
-            turned : (b n : ℕ) → (n == b) ≡ false → (b == n) ≡ false
-            turned b n e = elim (b == n) as (λ c. (b == n) ≡ c → c ≡ false) [ true ↦ λ k. absurd (false≢true (sym e ∙ eq-eqb n b (sym (eqb-true b n k)))) | false ↦ λ k. refl ] refl
-        not_named z (inr none) (inr other) = ap (is_option z.step_number) none
+        not_named : (z : Master) → (z.step_number == b) ≡ false → (o : Option ℕ) → x.lessor ≡ o → is_option z.step_number o ≡ false
+        not_named z other None e = refl
+        not_named z other (Some l) e = ap (λ n. n == z.step_number) (up l e) ∙ flipped z.step_number b other
 
         still : (z : Master) → is_used members ms z ≡ true → is_option z.step_number x.lessor ≡ false → is_used members gone z ≡ true
         still z used other = ap (λ c. is_held members z || c) (any_where (λ (y : Master). is_option z.step_number y.lessor) (λ (y : Master). is_option z.step_number y.lessor) ms (all_weaker Told (λ y. is_option z.step_number y.lessor ≡ (not (is_step_number x.step_number y) && is_option z.step_number y.lessor)) each ms told)) ∙ used
@@ -169,9 +165,6 @@ module _ (members : List Member) (ms : List Master) (rise : Rise ms) (older : Ol
                   | false ↦ λ e. refl
                 ] refl
 
-    pub lessor_left : (b : ℕ) → x.lessor ≡ Some b → OthersUsed members ms x.step_number → OthersUsed members gone b
-    lessor_left b up used = all_weaker (λ (z : Master). (x.lessor ≡ None ⊎ ((z.step_number == b) ≡ false)) → is_used members gone z ≡ true) (λ (z : Master). (z.step_number == b) ≡ false → is_used members gone z ≡ true) (λ z u other. u (inr other)) gone (others_left b (inl up) used)
-
 -- those that stay are used
 pub all_living_used : (members : List Member) (ms : List Master) (rise : Rise ms) (older : Older ms) → AllByRecursion (λ (x : Master). is_living members ms x.step_number ≡ true) ms → AllByRecursion (λ (x : Master). is_used members ms x ≡ true) ms
 all_living_used members ms rise older living =
@@ -180,23 +173,21 @@ all_living_used members ms rise older living =
   where
     weaker : (x : Master) (b : Bool) → (b || list_any (λ (y : Master). is_living members ms y.step_number && is_option x.step_number y.lessor) ms) ≡ true → (b || list_any (λ (y : Master). is_option x.step_number y.lessor) ms) ≡ true
     weaker x true h = refl
-    weaker x false h = any_more (λ _. Unit {0}) (λ (y : Master). is_living members ms y.step_number && is_option x.step_number y.lessor) (λ (y : Master). is_option x.step_number y.lessor) (λ y u t. second (is_living members ms y.step_number) (is_option x.step_number y.lessor) t) ms (all_each (λ _. Unit {0}) (λ _. tt) ms) h
-      where
-        second : (a b : Bool) → (a && b) ≡ true → b ≡ true
-        second true b h = h
-        second false b h = absurd (false≢true h)
-
--- where it has no lessor the others are all that stay
-pub top_left : (members : List Member) (ms : List Master) (rise : Rise ms) (older : Older ms) (x : Master) (here : master_at ms x.step_number ≡ Some x) (unused : is_used members ms x ≡ false) → x.lessor ≡ None → OthersUsed members ms x.step_number →
-    filter (λ (z : Master). not (is_step_number x.step_number z)) ms ≡ filter (λ (z : Master). is_living members ms z.step_number) ms
-top_left members ms rise older x here unused top used =
-    let left = gone members ms rise older x here unused in
-    all_stay members left (gone_rise members ms rise older x here unused) (gone_older members ms rise older x here unused)
-    (all_weaker (λ (z : Master). (x.lessor ≡ None ⊎ ((z.step_number == 0) ≡ false)) → is_used members left z ≡ true) (λ (z : Master). is_used members left z ≡ true) (λ z u. u (inl top)) left (others_left members ms rise older x here unused 0 (inr top) used))
-    ∙ same_left members ms rise older x here unused
+    weaker x false h = any_more (λ _. Unit {0}) (λ (y : Master). is_living members ms y.step_number && is_option x.step_number y.lessor) (λ (y : Master). is_option x.step_number y.lessor) (λ y u t. (and_parts (is_living members ms y.step_number) (is_option x.step_number y.lessor) t).1) ms (all_each (λ _. Unit {0}) (λ _. tt) ms) h
 
 -- all are used where that one is, or isn't there
 pub all_used : (members : List Member) (ms : List Master) (b : ℕ) → OthersUsed members ms b → ((x : Master) → master_at ms x.step_number ≡ Some x → (x.step_number == b) ≡ true → is_used members ms x ≡ true) → Rise ms → AllByRecursion (λ (x : Master). is_used members ms x ≡ true) ms
 all_used members ms b others it rise =
     all_both (λ (x : Master). (x.step_number == b) ≡ false → is_used members ms x ≡ true) (λ (x : Master). master_at ms x.step_number ≡ Some x) (λ (x : Master). is_used members ms x ≡ true)
     (λ x u at. elim (x.step_number == b) as (λ c. (x.step_number == b) ≡ c → is_used members ms x ≡ true) [ true ↦ λ e. it x at e | false ↦ λ e. u e ] refl) ms others (all_found (λ (x : Master). x.step_number) ms rise)
+
+-- where it has no lessor the others are all that stay
+pub top_left : (members : List Member) (ms : List Master) (rise : Rise ms) (older : Older ms) (x : Master) (here : master_at ms x.step_number ≡ Some x) (unused : is_used members ms x ≡ false) → x.lessor ≡ None → OthersUsed members ms x.step_number →
+    filter (λ (z : Master). not (is_step_number x.step_number z)) ms ≡ filter (λ (z : Master). is_living members ms z.step_number) ms
+top_left members ms rise older x here unused top used =
+    let left = gone members ms rise older x here unused in
+    let up = gone_rise members ms rise older x here unused in
+    all_stay members left up (gone_older members ms rise older x here unused)
+    (all_used members left x.step_number (lessor_left members ms rise older x here unused x.step_number (λ l e. absurd (false≢true (ap is_some (sym top ∙ e)))) used)
+    (λ z at same. absurd (false≢true (sym (ap is_some (sym at ∙ find_where (λ (y : Master). y.step_number) (λ k. not (k == x.step_number)) z.step_number ms) ∙ ap (λ b. is_some (cond (not b) (master_at ms z.step_number) None)) same)))) up)
+    ∙ same_left members ms rise older x here unused

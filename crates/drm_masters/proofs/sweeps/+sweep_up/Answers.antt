@@ -54,7 +54,7 @@ sweep_up-requires t c =
         subst (λ rows. InOrder (λ (y z : Master). y.step_number < z.step_number) rows) (sym removed) (gone_rise members ms c.requires.rise c.requires.older x is.1 unused),
         (
           subst (λ rows. AllByRecursion (HasOlderLessor rows) rows) (sym removed) (gone_older members ms c.requires.rise c.requires.older x is.1 unused),
-          subst (λ rows. OthersUsed members rows l) (sym removed) (lessor_left members ms c.requires.rise c.requires.older x is.1 unused l c.in-Some-above.is others),
+          subst (λ rows. OthersUsed members rows l) (sym removed) (lessor_left members ms c.requires.rise c.requires.older x is.1 unused l (λ m e. let one : Some l ≡ Some m = sym c.in-Some-above.is ∙ e in cc) others),
         ),
       ),
     )

@@ -18,7 +18,7 @@ use Rattle.drm_masters.proofs.Living.{IsFresh, Older}
 use Rattle.drm_masters.proofs.Owned.{unnamed_yet}
 use Rattle.drm_masters.proofs.Flagged.{current_in, no_device, remade_there, others_put}
 use Rattle.drm_masters.proofs.Founders.{none_yet}
-use Rattle.drm_masters.proofs.Sound.{Keyed, AreTied, sound, swept_are, swept_same, remade_ties, remade_used, client_found, master_there, keyed_more, keyed_fewer}
+use Rattle.drm_masters.proofs.Sound.{AreTied, sound, swept_are, swept_same, remade_ties, remade_used, client_found, master_there, keyed_more, keyed_fewer, known}
 use Rattle.drm_masters.proofs.masters.Masters.found.Goals as goal
 
 pub remake-requires : goal.remake-requires
@@ -36,37 +36,29 @@ remake-requires c =
           (ap (λ o. option_map_or (λ (y : Member). not (y.master == b)) o false) look ∙ ap not apart);
     }
 
-pub remove-requires-clause-older : goal.remove-requires-clause-older
-remove-requires-clause-older c =
+pub remove-requires : goal.remove-requires
+remove-requires c =
     let z = calls.founded_master c.in-Ok.key c.args.step_number in
     let ms = c.self.inside.masters.items in
     let unused = rw (← c.self.view_is) at c.requires.new_step_number in
     let fresh : IsFresh c.self.inside.masters.items c.args.step_number = (c.self.invariant.are.masters_rise, unused) in
     let masters : c.insert.new.self.items ≡ placed master_before z ms = c.in-Ok.ensures.ok ∙ ap (λ (x : Master). placed master_before (calls.keyed_as c.in-Ok.key x) ms) c.founded_master.ensures in
-    subst Older (sym masters) (pushed_older ms z fresh (λ l e. absurd (false≢true (ap is_some e))) c.self.invariant.are.lessors_older)
-
-pub remove-requires-clause-no_lessee : goal.remove-requires-clause-no_lessee
-remove-requires-clause-no_lessee c =
-    let z = calls.founded_master c.in-Ok.key c.args.step_number in
-    let ms = c.self.inside.masters.items in
-    let unused = rw (← c.self.view_is) at c.requires.new_step_number in
-    let fresh : IsFresh c.self.inside.masters.items c.args.step_number = (c.self.invariant.are.masters_rise, unused) in
-    let masters : c.insert.new.self.items ≡ placed master_before z ms = c.in-Ok.ensures.ok ∙ ap (λ (x : Master). placed master_before (calls.keyed_as c.in-Ok.key x) ms) c.founded_master.ensures in
-    subst (λ l. list_any (λ (y : Master). is_option c.args.step_number y.lessor) l ≡ false) (sym masters) (unnamed_yet ms z fresh c.self.invariant.are.lessors_older refl)
+    record {
+      older = subst Older (sym masters) (pushed_older ms z fresh (λ l e. absurd (false≢true (ap is_some e))) c.self.invariant.are.lessors_older);
+      no_lessee = subst (λ l. list_any (λ (y : Master). is_option c.args.step_number y.lessor) l ≡ false) (sym masters) (unnamed_yet ms z fresh c.self.invariant.are.lessors_older refl);
+    }
 
 pub invariant_of-self-in-Err-remake : goal.invariant_of-self-in-Err-remake
 invariant_of-self-in-Err-remake c =
     let v = c.args.self.now in
-    let are : AreMasters v = subst AreMasters c.self.view_is c.self.invariant.are in
-    let keyed : Keyed v.masters = subst (λ (w : MasterSet). Keyed w.masters) c.self.view_is c.self.invariant.keyed in
-    let old : (k : ℕ) → set.contains c.self.inside.members.flags k ≡ is_current v k = λ k. c.self.invariant.flagged k ∙ ap (λ (w : MasterSet). is_current w k) c.self.view_is in
+    let so = known c.self.inside v c.self.view_is c.self.invariant in
     let z = calls.founded_master c.in-Ok.key c.args.step_number in
     let unused = rw (← c.self.view_is) at c.requires.new_step_number in
     let fresh : IsFresh c.self.inside.masters.items c.args.step_number = (c.self.invariant.are.masters_rise, unused) in
     let masters : c.insert.new.self.items ≡ placed master_before z c.self.inside.masters.items = c.in-Ok.ensures.ok ∙ ap (λ (x : Master). placed master_before (calls.keyed_as c.in-Ok.key x) c.self.inside.masters.items) c.founded_master.ensures in
     let back : c.remove.new.self.items ≡ c.self.inside.masters.items = c.remove.ensures ∙ ap (filter (λ (x : Master). not (is_step_number c.args.step_number x))) masters ∙ taken_back c.self.inside.masters.items z fresh in
     let path = (λ i. record (set_of c.self.inside) { members = (c.in-Err-remake.ensures.err i).items; masters = back i }) ∙ c.self.view_is in
-    sound _ v path are keyed (λ k. ap (λ (m : MemberRows). set.contains m.flags k) c.in-Err-remake.ensures.err ∙ old k)
+    sound _ v path so.are so.keyed (λ k. ap (λ (m : MemberRows). set.contains m.flags k) c.in-Err-remake.ensures.err ∙ so.flagged k)
 
 pub returns-in-Err-remake-clause-err : goal.returns-in-Err-remake-clause-err
 returns-in-Err-remake-clause-err c =
@@ -78,8 +70,8 @@ returns-in-Err-remake-clause-err c =
     let path = (λ i. record (set_of c.self.inside) { members = (c.in-Err-remake.ensures.err i).items; masters = back i }) ∙ c.self.view_is in
     path
 
-pub sweep_up-requires-clause-rise : goal.sweep_up-requires-clause-rise
-sweep_up-requires-clause-rise c =
+pub sweep_up-requires : goal.sweep_up-requires
+sweep_up-requires c =
     let v = c.args.self.now in
     let are : AreMasters v = subst AreMasters c.self.view_is c.self.invariant.are in
     let x = c.in-Some.old in
@@ -91,40 +83,15 @@ sweep_up-requires-clause-rise c =
     let z = calls.founded_master key b in
     let t = remade_ties v are x y is.1 (sym is.0) z refl refl refl refl (are.masters_rise, c.requires.new_step_number) in
     let masters : c.insert.new.self.items ≡ placed master_before z c.self.inside.masters.items = c.in-Ok.ensures.ok ∙ ap (λ (u : Master). placed master_before (calls.keyed_as key u) c.self.inside.masters.items) c.founded_master.ensures in
-    subst (λ l. InOrder (λ (u v : Master). u.step_number < v.step_number) l) (sym (masters ∙ ap (λ (u : MasterSet). placed master_before z u.masters) c.self.view_is)) t.masters_rise
-
-pub sweep_up-requires-clause-older : goal.sweep_up-requires-clause-older
-sweep_up-requires-clause-older c =
-    let v = c.args.self.now in
-    let are : AreMasters v = subst AreMasters c.self.view_is c.self.invariant.are in
-    let x = c.in-Some.old in
-    let look : member_of v.members c.args.client ≡ Some x = sym (ap (λ (u : MasterSet). member_of u.members c.args.client) c.self.view_is) ∙ sym c.get.ensures ∙ c.in-Some.is in
-    let is = client_found v.members c.args.client x look in
-    let b = c.args.step_number in
-    let key = c.in-Ok.key in
-    let y = calls.owner c.args.client b in
-    let z = calls.founded_master key b in
-    let t = remade_ties v are x y is.1 (sym is.0) z refl refl refl refl (are.masters_rise, c.requires.new_step_number) in
-    let masters : c.insert.new.self.items ≡ placed master_before z c.self.inside.masters.items = c.in-Ok.ensures.ok ∙ ap (λ (u : Master). placed master_before (calls.keyed_as key u) c.self.inside.masters.items) c.founded_master.ensures in
-    subst (λ l. AllByRecursion (HasOlderLessor l) l) (sym (masters ∙ ap (λ (u : MasterSet). placed master_before z u.masters) c.self.view_is)) t.lessors_older
-
-pub sweep_up-requires-clause-others : goal.sweep_up-requires-clause-others
-sweep_up-requires-clause-others c =
-    let v = c.args.self.now in
-    let are : AreMasters v = subst AreMasters c.self.view_is c.self.invariant.are in
-    let x = c.in-Some.old in
-    let look : member_of v.members c.args.client ≡ Some x = sym (ap (λ (u : MasterSet). member_of u.members c.args.client) c.self.view_is) ∙ sym c.get.ensures ∙ c.in-Some.is in
-    let is = client_found v.members c.args.client x look in
-    let b = c.args.step_number in
-    let key = c.in-Ok.key in
-    let y = calls.owner c.args.client b in
-    let z = calls.founded_master key b in
     let items : c.remake.new.self.items ≡ map (λ (u : Member). if is_client y.client u then y else u) c.self.inside.members.items = c.in_default-remake.ensures.rows ∙ ap (λ (z : Member). map (λ (u : Member). if is_client z.client u then z else u) c.self.inside.members.items) c.owner-founder.ensures in
-    let masters : c.insert.new.self.items ≡ placed master_before z c.self.inside.masters.items = c.in-Ok.ensures.ok ∙ ap (λ (u : Master). placed master_before (calls.keyed_as key u) c.self.inside.masters.items) c.founded_master.ensures in
     let Used = λ (m : List Member) (l : List Master). OthersUsed m l x.master in
     let members : c.remake.new.self.items ≡ (calls.changed_member y v).members = items ∙ ap (λ (u : MasterSet). (calls.changed_member y u).members) c.self.view_is in
     let rows : c.insert.new.self.items ≡ placed master_before z v.masters = masters ∙ ap (λ (u : MasterSet). placed master_before z u.masters) c.self.view_is in
-    subst (λ m. Used m c.insert.new.self.items) (sym members) (subst (Used (calls.changed_member y v).members) (sym rows) (remade_used v are x y is.1 (sym is.0) z refl))
+    record {
+      rise = subst (λ l. InOrder (λ (u v : Master). u.step_number < v.step_number) l) (sym (masters ∙ ap (λ (u : MasterSet). placed master_before z u.masters) c.self.view_is)) t.masters_rise;
+      older = subst (λ l. AllByRecursion (HasOlderLessor l) l) (sym (masters ∙ ap (λ (u : MasterSet). placed master_before z u.masters) c.self.view_is)) t.lessors_older;
+      others = subst (λ m. Used m c.insert.new.self.items) (sym members) (subst (Used (calls.changed_member y v).members) (sym rows) (remade_used v are x y is.1 (sym is.0) z refl));
+    }
 
 pub flag_if_current-requires-clause-older : goal.flag_if_current-requires-clause-older
 flag_if_current-requires-clause-older c =
@@ -177,8 +144,7 @@ alone_current v are y x look z fresh t k =
 pub invariant_of-self-2 : goal.invariant_of-self-2
 invariant_of-self-2 c =
     let v = c.args.self.now in
-    let are : AreMasters v = subst AreMasters c.self.view_is c.self.invariant.are in
-    let keyed : Keyed v.masters = subst (λ (w : MasterSet). Keyed w.masters) c.self.view_is c.self.invariant.keyed in
+    let so = known c.self.inside v c.self.view_is c.self.invariant in
     let x = c.in-Some.old in
     let look : member_of v.members c.args.client ≡ Some x = sym (ap (λ (u : MasterSet). member_of u.members c.args.client) c.self.view_is) ∙ sym c.get.ensures ∙ c.in-Some.is in
     let is = client_found v.members c.args.client x look in
@@ -186,22 +152,21 @@ invariant_of-self-2 c =
     let key = c.in-Ok.key in
     let y = calls.owner c.args.client b in
     let z = calls.founded_master key b in
-    let t = remade_ties v are x y is.1 (sym is.0) z refl refl refl refl (are.masters_rise, c.requires.new_step_number) in
+    let t = remade_ties v so.are x y is.1 (sym is.0) z refl refl refl refl (so.are.masters_rise, c.requires.new_step_number) in
     let items : c.remake.new.self.items ≡ map (λ (u : Member). if is_client y.client u then y else u) c.self.inside.members.items = c.in_default-remake.ensures.rows ∙ ap (λ (z : Member). map (λ (u : Member). if is_client z.client u then z else u) c.self.inside.members.items) c.owner-founder.ensures in
     let masters : c.insert.new.self.items ≡ placed master_before z c.self.inside.masters.items = c.in-Ok.ensures.ok ∙ ap (λ (u : Master). placed master_before (calls.keyed_as key u) c.self.inside.masters.items) c.founded_master.ensures in
     let new = calls.with_device (Some b) (calls.changed_member y (calls.with_master z v)) in
     let mem = c.remake.new.self.items in
     let mem_flags = c.remake.new.self.flags in
-    let old : (k : ℕ) → set.contains c.self.inside.members.flags k ≡ is_current v k = λ k. c.self.invariant.flagged k ∙ ap (λ (w : MasterSet). is_current w k) c.self.view_is in
     let left = λ (l : List Member) (ms : List Master). let r : MasterSet = record { members = l; masters = filter (λ (u : Master). is_living l ms u.step_number) ms; device_master = Some b; last_magic = c.self.inside.last_magic; last_lessee = c.self.inside.last_lessee } in r in
     let swept_is : left mem c.insert.new.self.items ≡ swept new = (λ i. left (items i) (masters i)) ∙ ap (λ (u : MasterSet). swept (calls.with_device (Some b) (calls.changed_member y (calls.with_master z u)))) c.self.view_is in
     let path : left mem c.insert.new.self.items ≡ swept new = swept_is in
     sound _ (swept new)
     ((λ i. record (set_of c.self.inside) { members = (c.flag_if_current.ensures.rows i); masters = c.sweep_up.ensures i; device_master = Some b }) ∙ path)
     (swept_are new t)
-    (keyed_fewer new.masters (λ (u : Master). is_living new.members new.masters u.step_number) (keyed_more v.masters z key are.masters_rise keyed (ap (λ (w : MasterSet). find (is_key key) w.masters) (sym c.self.view_is) ∙ c.in-Ok.ensures.free) refl))
+    (keyed_fewer new.masters (λ (u : Master). is_living new.members new.masters u.step_number) (keyed_more v.masters z key so.are.masters_rise so.keyed (ap (λ (w : MasterSet). find (is_key key) w.masters) (sym c.self.view_is) ∙ c.in-Ok.ensures.free) refl))
     (λ k.
-    let unflagged : set.contains mem_flags k ≡ false = ap (λ (s : set.FinSet nat_cmp). set.contains s k) c.in_default-remake.ensures.flags ∙ old k ∙ ap (λ d. current_in v.members v.masters d k) c.requires.none ∙ no_device v.members v.masters k in
+    let unflagged : set.contains mem_flags k ≡ false = ap (λ (s : set.FinSet nat_cmp). set.contains s k) c.in_default-remake.ensures.flags ∙ so.flagged k ∙ ap (λ d. current_in v.members v.masters d k) c.requires.none ∙ no_device v.members v.masters k in
     c.flag_if_current.ensures.flags k
     ∙ (λ i. ((k == (c.owner-founder.ensures i).client) && is_current_among ((c.sweep_up.ensures ∙ ap (λ (u : MasterSet). u.masters) swept_is) i) (Some b) (c.owner-founder.ensures i)) || unflagged i)
-    ∙ alone_current v are y x look z (are.masters_rise, c.requires.new_step_number) t k)
+    ∙ alone_current v so.are y x look z (so.are.masters_rise, c.requires.new_step_number) t k)

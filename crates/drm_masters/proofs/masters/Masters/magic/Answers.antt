@@ -1,4 +1,4 @@
-use Rattle.std.proofs.Common.{◌≡◌, ℕ, Bool, true, false, not, Option, None, Some, map, refl, sym, ap, subst, ◌∙◌, arith, nat_cmp}
+use Rattle.std.proofs.Common.{◌≡◌, Bool, true, false, not, Option, None, Some, map, refl, sym, ap, subst, ◌∙◌, arith, nat_cmp}
 use Rattle.std.specs.Prelude.{if◌then◌else◌, IfSome}
 use Rattle.std.specs.List.{list_any}
 use Rattle.drm_index_array.specs.Least.{least}
@@ -6,23 +6,22 @@ use Rattle.drm_index_array.proofs.Least.{least_some}
 use Rattle.drm_masters.specs.declared.rows.Magic.{Magic}
 use Rattle.drm_masters.specs.declared.rows.Member.{Member}
 use Rattle.drm_masters.specs.Fields.{set_of}
-use Rattle.drm_masters.specs.Masters.{MasterSet, AreMasters, member_of, is_client, is_current, has_magic}
+use Rattle.drm_masters.specs.Masters.{MasterSet, member_of, is_client, has_magic}
 use Rattle.drm_masters.specs.Calls as calls
 use Rattle.drm_masters.proofs.Numbered.{number_free}
-use Rattle.drm_masters.proofs.Sound.{Keyed, sound, given_are, client_found}
+use Rattle.drm_masters.proofs.Sound.{sound, given_are, client_found, known}
 use Rattle.std.specs.FinSet as set
 use Rattle.drm_masters.proofs.Flagged.{one_changed}
 use Rattle.drm_masters.proofs.masters.Masters.magic.Goals as goal
 
 pub unreachable-requires-in_default-free_magic : goal.unreachable-requires-in_default-free_magic
 unreachable-requires-in_default-free_magic c =
-    let are : AreMasters c.args.self.now = subst AreMasters c.self.view_is c.self.invariant.are in
-    let keyed : Keyed c.args.self.now.masters = subst (λ (w : MasterSet). Keyed w.masters) c.self.view_is c.self.invariant.keyed in
+    let so = known c.self.inside c.args.self.now c.self.view_is c.self.invariant in
     let look : member_of c.args.self.now.members c.args.client ≡ Some c.in-Some.member = sym (ap (λ (w : MasterSet). member_of w.members c.args.client) c.self.view_is) ∙ sym c.get.ensures ∙ c.in-Some.is in
     let x = c.in-Some.member in
     let none : x.magic ≡ None = c.in_default-magic.is in
     let taken : least (λ n. not (list_any (has_magic x.master n) c.args.self.now.members)) 1 c.self.inside.last_magic ≡ None = sym (ap (λ (w : MasterSet). least (λ n. not (list_any (has_magic x.master n) w.members)) 1 c.self.inside.last_magic) c.self.view_is) ∙ sym c.free_magic.ensures ∙ c.in_default-free_magic.is in
-    let few = are.few in
+    let few = so.are.few in
     let last : c.self.inside.last_magic ≡ c.args.self.now.last_magic = ap (λ (w : MasterSet). w.last_magic) c.self.view_is in
     number_free x.master c.self.inside.last_magic x c.args.self.now.members (client_found c.args.self.now.members c.args.client x look).1 none (omega (arith, few, last)) taken
 
@@ -35,9 +34,7 @@ set-requires c =
 
 pub invariant_of-self : goal.invariant_of-self
 invariant_of-self c =
-    let are : AreMasters c.args.self.now = subst AreMasters c.self.view_is c.self.invariant.are in
-    let keyed : Keyed c.args.self.now.masters = subst (λ (w : MasterSet). Keyed w.masters) c.self.view_is c.self.invariant.keyed in
-    let old : (k : ℕ) → set.contains c.self.inside.members.flags k ≡ is_current c.args.self.now k = λ k. c.self.invariant.flagged k ∙ ap (λ (w : MasterSet). is_current w k) c.self.view_is in
+    let so = known c.self.inside c.args.self.now c.self.view_is c.self.invariant in
     let look : member_of c.args.self.now.members c.args.client ≡ Some c.in-Some.member = sym (ap (λ (w : MasterSet). member_of w.members c.args.client) c.self.view_is) ∙ sym c.get.ensures ∙ c.in-Some.is in
     let x = c.in-Some.member in
     let n = c.in-Some-free_magic.number in
@@ -46,8 +43,8 @@ invariant_of-self c =
     let least_is : least (λ k. not (list_any (has_magic x.master k) c.args.self.now.members)) 1 c.self.inside.last_magic ≡ Some n = sym (ap (λ (w : MasterSet). least (λ k. not (list_any (has_magic x.master k) w.members)) 1 c.self.inside.last_magic) c.self.view_is) ∙ sym c.free_magic.ensures ∙ c.in-Some-free_magic.is in
     let free = (least_some (λ k. not (list_any (has_magic x.master k) c.args.self.now.members)) 1 c.self.inside.last_magic n least_is).passes in
     sound _ (calls.changed_member y c.args.self.now) ((λ i. record (set_of c.self.inside) { members = items i }) ∙ ap (calls.changed_member y) c.self.view_is)
-    (given_are c.args.self.now are x (client_found c.args.self.now.members c.args.client x look).1 n (is_free _ free)) keyed
-    (λ k. ap (λ (t : set.FinSet nat_cmp). set.contains t k) c.set.ensures.flags ∙ old k ∙ sym (one_changed c.args.self.now.members x y c.args.self.now.masters c.args.self.now.device_master (client_found c.args.self.now.members c.args.client x look).1 refl refl refl k))
+    (given_are c.args.self.now so.are x (client_found c.args.self.now.members c.args.client x look).1 n (is_free _ free)) so.keyed
+    (λ k. ap (λ (t : set.FinSet nat_cmp). set.contains t k) c.set.ensures.flags ∙ so.flagged k ∙ sym (one_changed c.args.self.now.members x y c.args.self.now.masters c.args.self.now.device_master (client_found c.args.self.now.members c.args.client x look).1 refl refl refl k))
   where
     is_free : (b : Bool) → not b ≡ true → b ≡ false
     is_free true h = absurd (let e : false ≡ true = h in cc)

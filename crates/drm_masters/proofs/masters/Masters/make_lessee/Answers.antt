@@ -5,11 +5,10 @@ use Rattle.drm_index_array.specs.Rows.{placed}
 use Rattle.drm_index_array.proofs.Least.{least_some}
 use Rattle.drm_masters.specs.declared.rows.Master.{Master}
 use Rattle.drm_masters.specs.Fields.{set_of}
-use Rattle.drm_masters.specs.Masters.{MasterSet, AreMasters, HasOlderLessor, master_before, master_at, step_number_at, is_key, is_current, owner_of, is_lessee_of, free_lessee}
+use Rattle.drm_masters.specs.Masters.{MasterSet, HasOlderLessor, master_before, master_at, step_number_at, is_key, owner_of, is_lessee_of, free_lessee}
 use Rattle.drm_masters.specs.Calls as calls
 use Rattle.drm_masters.proofs.Living.{IsFresh}
-use Rattle.drm_masters.proofs.Sound.{Keyed, sound, lessee_are, keyed_more, pushed_same, of_key}
-use Rattle.std.specs.FinSet as set
+use Rattle.drm_masters.proofs.Sound.{sound, lessee_are, keyed_more, pushed_same, of_key, known}
 use Rattle.drm_masters.proofs.masters.Masters.make_lessee.Goals as goal
 use Rattle.std.proofs.lemmas.Bool.{not-true}
 
@@ -40,19 +39,17 @@ insert-requires-clause-other_id c =
 
 pub invariant_of-self-2 : goal.invariant_of-self-2
 invariant_of-self-2 c =
-    let are : AreMasters c.args.self.now = subst AreMasters c.self.view_is c.self.invariant.are in
-    let keyed : Keyed c.args.self.now.masters = subst (λ (w : MasterSet). Keyed w.masters) c.self.view_is c.self.invariant.keyed in
-    let old : (k : ℕ) → set.contains c.self.inside.members.flags k ≡ is_current c.args.self.now k = λ k. c.self.invariant.flagged k ∙ ap (λ (w : MasterSet). is_current w k) c.self.view_is in
-    let fresh : IsFresh c.args.self.now.masters c.args.birth = (are.masters_rise, c.requires.new_step_number) in
+    let so = known c.self.inside c.args.self.now c.self.view_is c.self.invariant in
+    let fresh : IsFresh c.args.self.now.masters c.args.birth = (so.are.masters_rise, c.requires.new_step_number) in
     let m = c.in-Some.lessor.step_number in
     let z = calls.lessee c.in-Ok.key c.args.birth m c.in-Some-free_lessee.id in
     let found : find (is_key c.args.master) c.args.self.now.masters ≡ Some c.in-Some.lessor = sym (ap (λ (w : MasterSet). find (is_key c.args.master) w.masters) c.self.view_is) ∙ sym c.of_key.ensures ∙ c.in-Some.is in
     let masters : c.insert.new.self.items ≡ placed master_before z c.self.inside.masters.items = c.in-Ok.ensures.ok ∙ ap (λ (x : Master). placed master_before (calls.keyed_as c.in-Ok.key x) c.self.inside.masters.items) c.lessee.ensures in
     let its = of_key c.args.self.now.masters c.args.master c.in-Some.lessor found in
     sound _ (calls.with_master z c.args.self.now) ((λ i. record (set_of c.self.inside) { masters = masters i }) ∙ ap (calls.with_master z) c.self.view_is)
-    (lessee_are c.args.self.now are z refl (λ l e. subst (λ n. (is_some (master_at c.args.self.now.masters n) ≡ true) × (n < c.args.birth)) (let s : Some m ≡ Some l = e in let t : m ≡ l = cc in t) (its.1, subst (λ n. n < c.args.birth) its.0 c.requires.later)) fresh)
-    (keyed_more c.args.self.now.masters z c.in-Ok.key are.masters_rise keyed (ap (λ (w : MasterSet). find (is_key c.in-Ok.key) w.masters) (sym c.self.view_is) ∙ c.in-Ok.ensures.free) refl)
-    (λ k. old k ∙ sym (pushed_same c.args.self.now are z fresh k))
+    (lessee_are c.args.self.now so.are z refl (λ l e. subst (λ n. (is_some (master_at c.args.self.now.masters n) ≡ true) × (n < c.args.birth)) (let s : Some m ≡ Some l = e in let t : m ≡ l = cc in t) (its.1, subst (λ n. n < c.args.birth) its.0 c.requires.later)) fresh)
+    (keyed_more c.args.self.now.masters z c.in-Ok.key so.are.masters_rise so.keyed (ap (λ (w : MasterSet). find (is_key c.in-Ok.key) w.masters) (sym c.self.view_is) ∙ c.in-Ok.ensures.free) refl)
+    (λ k. so.flagged k ∙ sym (pushed_same c.args.self.now so.are z fresh k))
 
 pub returns-clause-made : goal.returns-clause-made
 returns-clause-made c =

@@ -1,4 +1,4 @@
-use Rattle.std.proofs.Common.{◌≡◌, ℕ, ◌==◌, ◌&&◌, ◌||◌, false, Some, find, is_some, refl, sym, ap, subst, ◌∙◌, nat_cmp}
+use Rattle.std.proofs.Common.{◌≡◌, ◌==◌, ◌&&◌, ◌||◌, false, Some, find, is_some, refl, sym, ap, subst, ◌∙◌, nat_cmp}
 use Rattle.std.specs.FinSet as set
 use Rattle.std.specs.List.{AllByRecursion}
 use Rattle.drm_index_array.specs.Rows.{placed}
@@ -8,7 +8,7 @@ use Rattle.drm_masters.specs.Masters.{MasterSet, AreMasters, HasOlderLessor, is_
 use Rattle.drm_masters.specs.Calls as calls
 use Rattle.drm_masters.proofs.Flagged.{one_more, added_there}
 use Rattle.drm_masters.proofs.Pushed.{kept_keyed, kept_older}
-use Rattle.drm_masters.proofs.Sound.{Keyed, sound, redeemed_are, of_key, kept_same}
+use Rattle.drm_masters.proofs.Sound.{sound, redeemed_are, of_key, kept_same, known}
 use Rattle.drm_masters.proofs.masters.Masters.on_redeem.Goals as goal
 
 pub flag_if_current-requires-clause-older : goal.flag_if_current-requires-clause-older
@@ -32,9 +32,7 @@ flag_if_current-requires-clause-open_client c =
 pub invariant_of-self-2 : goal.invariant_of-self-2
 invariant_of-self-2 c =
     let v = c.args.self.now in
-    let are : AreMasters v = subst AreMasters c.self.view_is c.self.invariant.are in
-    let keyed : Keyed v.masters = subst (λ (w : MasterSet). Keyed w.masters) c.self.view_is c.self.invariant.keyed in
-    let old : (k : ℕ) → set.contains c.self.inside.members.flags k ≡ is_current v k = λ k. c.self.invariant.flagged k ∙ ap (λ (w : MasterSet). is_current w k) c.self.view_is in
+    let so = known c.self.inside v c.self.view_is c.self.invariant in
     let m = c.in-Some.redeemed.step_number in
     let y = calls.lease_client c.args.client m in
     let items : c.add.new.self.items ≡ placed member_before y c.self.inside.members.items = c.in_default-add.ensures.ok ∙ ap (λ (x : Member). placed member_before x c.self.inside.members.items) c.lease_client-member.ensures in
@@ -44,10 +42,10 @@ invariant_of-self-2 c =
     let device : c.self.inside.device_master ≡ v.device_master = ap (λ (w : MasterSet). w.device_master) c.self.view_is in
     sound _ (calls.redeemed c.args.client m v)
     ((λ i. record (set_of c.self.inside) { members = rows i; masters = c.set_kept.ensures i }) ∙ ap (calls.redeemed c.args.client m) c.self.view_is)
-    (redeemed_are v are y c.requires.new_client c.requires.room refl (of_key v.masters c.args.master c.in-Some.redeemed found).1 refl)
-    (kept_keyed m false v.masters keyed)
+    (redeemed_are v so.are y c.requires.new_client c.requires.room refl (of_key v.masters c.args.master c.in-Some.redeemed found).1 refl)
+    (kept_keyed m false v.masters so.keyed)
     (λ k.
-    let flags : set.contains c.add.new.self.flags k ≡ is_current v k = ap (λ (t : set.FinSet nat_cmp). set.contains t k) c.in_default-add.ensures.flags ∙ old k in
+    let flags : set.contains c.add.new.self.flags k ≡ is_current v k = ap (λ (t : set.FinSet nat_cmp). set.contains t k) c.in_default-add.ensures.flags ∙ so.flagged k in
     c.flag_if_current.ensures.flags k
     ∙ (λ i. ((k == (c.lease_client-member.ensures i).client) && is_current_among (masters i) (device i) (c.lease_client-member.ensures i)) || (flags ∙ sym (kept_same v m false k)) i)
-    ∙ sym (one_more v.members y are.members_rise c.requires.new_client (calls.with_kept m false v).masters v.device_master k))
+    ∙ sym (one_more v.members y so.are.members_rise c.requires.new_client (calls.with_kept m false v).masters v.device_master k))
