@@ -15,7 +15,7 @@ use Rattle.drm_index_array.proofs.Least.{least-same, least_is, least_is_none}
 use Rattle.drm_index_array.proofs.MarkedLemmas.{get-insert, get-remove}
 use Rattle.drm_id_alloc.specs.Groups.{GroupMap, has_number, has, numbers_of, IsNoted, IsForgotten}
 use Rattle.drm_id_alloc.proofs.GroupLemmas.{group_is, nothing_or, all_and}
-use Rattle.std.proofs.Math.Bool.{and-false}
+use Rattle.std.proofs.Math.Bool.{and-false, or-true, or-false}
 use Rattle.drm_lists.proofs.Numbers.{same_either}
 
 abbrev Numbers : Type 0
@@ -48,17 +48,9 @@ pub one_there : (a b : Numbers) (n : ℕ) → b ≡ a → is_some (fin.get a.ite
 one_there a b n same there u =
     ap (λ (x : Numbers). has_number x u) same
     ∙ elim (u == n) as (λ t. (u == n) ≡ t → has_number a u ≡ (has_number a u || t)) [
-      | true ↦ λ e. ap (has_number a) (eqb-true u n e) ∙ there ∙ sym (or_true (has_number a u))
-      | false ↦ λ e. sym (or_false (has_number a u))
+      | true ↦ λ e. ap (has_number a) (eqb-true u n e) ∙ there ∙ sym (or-true (has_number a u))
+      | false ↦ λ e. sym (or-false (has_number a u))
     ] refl
-  where
-    or_true : (b : Bool) → (b || true) ≡ true
-    or_true true = refl
-    or_true false = refl
-
-    or_false : (b : Bool) → (b || false) ≡ b
-    or_false true = refl
-    or_false false = refl
 
 none_in : (es : List (ℕ × Unit {0})) → length es ≡ 0 → (u : ℕ) → find nat_cmp u es ≡ None
 none_in [] e u = refl
@@ -66,9 +58,6 @@ none_in (x ∷ es) e u = absurd (omega (arith, e))
 
 pub none_has : (a : Numbers) → fin.len a.items ≡ 0 → (u : ℕ) → has_number a u ≡ false
 none_has a last u = ap is_some (fin.get-entries a.items u ∙ none_in (fin.entries a.items) (sym (fin.len-entries a.items) ∙ last) u)
-
-pub least_of_some : (m : GroupMap) (g from to : ℕ) (a : Numbers) → fin.get m g ≡ Some a → least (fin.contains_key a.items) from to ≡ least (has m g) from to
-least_of_some m g from to a is = least-same _ _ from to (λ k low high. sym (group_is has_number m g (Some a) is k))
 
 pub least_of_none : (m : GroupMap) (g from to : ℕ) → fin.get m g ≡ None → least (has m g) from to ≡ None
 least_of_none m g from to is = least_is_none (has m g) from to (λ k low high. group_is has_number m g None is k)

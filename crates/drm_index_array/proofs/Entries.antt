@@ -54,12 +54,3 @@ module _ {X : Type 0} (f g : ℕ × ℕ → X) where
   pub rows_alike : (es : List (ℕ × ℕ)) → AllByRecursion (λ e. g e ≡ f e) es → map g es ≡ map f es
   rows_alike [] all = refl
   rows_alike (e ∷ es) all = λ i. all.0 i ∷ rows_alike es all.1 i
-
-  pub rows_without : (p q : X → Bool) → (es : List (ℕ × ℕ)) → AllByRecursion (λ e. (p (g e) ≡ q (f e)) × (q (f e) ≡ true → g e ≡ f e)) es → filter p (map g es) ≡ filter q (map f es)
-  rows_without p q [] all = refl
-  rows_without p q (e ∷ es) all =
-      ap (λ b. cond b (g e ∷ filter p (map g es)) (filter p (map g es))) all.0.0
-      ∙ elim (q (f e)) as (λ b. (b ≡ true → g e ≡ f e) → cond b (g e ∷ filter p (map g es)) (filter p (map g es)) ≡ cond b (f e ∷ filter q (map f es)) (filter q (map f es))) [
-        | true ↦ λ alike. λ i. alike refl i ∷ rows_without p q es all.1 i
-        | false ↦ λ alike. rows_without p q es all.1
-      ] all.0.1

@@ -1,7 +1,7 @@
 -- Numbers in lists, and how often.
 use Rattle.std.proofs.Common.{◌≡◌, ℕ, suc, ◌+◌, ◌<◌, ◌≤◌, ◌==◌, Bool, true, false, cond, not, ◌||◌, List, [], ◌∷◌, ◌++◌, map, filter, length, refl, sym, ap, ◌∙◌, arith, eq-eqb}
 use Rattle.std.specs.List.{list_any, list_all, AllByRecursion, IsDistinct}
-use Rattle.std.proofs.lemmas.Bool.{eqb-true, and_parts, or_left, or_right}
+use Rattle.std.proofs.lemmas.Bool.{eqb-true, and_parts, or_left, or_right, not-true}
 use Rattle.std.proofs.lemmas.Bool.Decides.{nat_tests}
 use Rattle.std.proofs.lemmas.List.Folds.{list_any-append}
 use Rattle.std.proofs.lemmas.Map.Keys.{IsDistinct-cons}
@@ -108,10 +108,6 @@ count-more numbers x k =
 
 none-absent : (numbers : List ℕ) (k : ℕ) → count numbers k ≡ 0 → is_among numbers k ≡ false
 none-absent numbers k h = not-true (is_among numbers k) (sym (count-none numbers k) ∙ eq-eqb (count numbers k) 0 h)
-  where
-    not-true : (b : Bool) → not b ≡ true → b ≡ false
-    not-true true e = absurd (let no : false ≡ true = e in cc)
-    not-true false e = refl
 
 once-distinct : (numbers : List ℕ) → ((k : ℕ) → count numbers k ≤ 1) → IsDistinct ◌==◌ numbers
 unfolding IsDistinct

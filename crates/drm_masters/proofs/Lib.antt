@@ -11,8 +11,6 @@ mod Owned
 mod Swept
 pub mod Released
 mod Numbered
-mod Flagged
-mod Founders
 mod Sound
 pub mod Crossing
 pub mod Newest

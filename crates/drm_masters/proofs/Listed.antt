@@ -1,12 +1,10 @@
 -- The clients as a list, and how it changes.
-use Rattle.std.proofs.Common.{◌≡◌, ◌≢◌, ◌-◌, ℕ, ◌<◌, Bool, true, false, not, cond, T, List, [], ◌∷◌, map, filter, find as find_row, length, slice_get, Option, Some, None, option_map, option_and_then, is_some, refl, sym, ap, ◌∙◌, arith, nat_cmp}
+use Rattle.std.proofs.Common.{◌≡◌, ℕ, ◌<◌, true, false, not, cond, T, List, [], ◌∷◌, map, filter, find as find_row, length, slice_get, Option, Some, None, option_map, option_and_then, is_some, refl, sym, ap, ◌∙◌, arith, nat_cmp}
 use Rattle.std.specs.Prelude.{if◌then◌else◌}
 use Rattle.std.specs.List.{AllByRecursion}
 use Rattle.std.specs.Ordering.{eq_by_cmp}
 use Rattle.std.specs.Cmp.{nat_cmp_total}
-use Rattle.std.specs.Bool.{OnTrue}
 use Rattle.std.specs.FinMap as fin
-use Rattle.std.specs.FinSet as set
 use Rattle.std.specs.FinMap.Entries.{is_sorted, below_all}
 use Rattle.std.proofs.lemmas.Bool.{false≢true}
 use Rattle.std.proofs.lemmas.Bool.Decides.{nat_tests}
@@ -31,14 +29,6 @@ module _ (m : Clients) where
   client_is c =
       find_rows nat_cmp nat_cmp_total member_row fin.nat_cmp-IsAntisymmetric c (is_client c) (λ e. same_test c e.0) (fin.entries m)
       ∙ ap (option_map (λ v. member_row (c, v))) (sym (fin.get-entries m c))
-
-  -- a client that is listed is there
-  pub client_there : (c : ℕ) → is_some (member_of (members_in m) c) ≡ true → is_some (fin.get m c) ≡ true
-  client_there c h = by_row (fin.get m c) (sym (ap is_some (client_is c)) ∙ h)
-    where
-      by_row : (o : Option Membership) → is_some (option_map (λ v. member_row (c, v)) o) ≡ true → is_some o ≡ true
-      by_row None e = e
-      by_row (Some v) e = refl
 
   -- the client at a place
   pub client_at : (i : ℕ) → option_and_then (λ c. member_of (members_in m) c) (slice_get (fin.keys m) i) ≡ slice_get (members_in m) i
@@ -101,14 +91,3 @@ no_clients = none (fin.entries fin.empty) (sym (fin.len-entries fin.empty) ∙ f
     none : (es : List (ℕ × Membership)) → length es ≡ 0 → map member_row es ≡ []
     none [] e = refl
     none (x ∷ es) e = absurd (omega (arith, e))
-
-pub on_true : {P : Type 0} (b : Bool) → b ≡ true → OnTrue b P → P
-on_true true e h = h
-on_true false e h = absurd (false≢true e)
-
--- one index fewer carries a mark
-pub fewer_marked : (s : set.FinSet nat_cmp) (k : ℕ) → set.contains s k ≡ true → set.len (set.remove s k) < set.len s
-fewer_marked s k marked =
-    let left : set.len (set.remove s k) ≡ set.len s - 1 = set.len-remove nat_cmp_total s k ∙ ap (λ b. cond b (set.len s - 1) (set.len s)) marked in
-    let some : set.len s ≢ 0 = λ none. false≢true (sym (ap (λ t. set.contains t k) (set.empty_of_len s none) ∙ set.contains-empty nat_cmp k) ∙ marked) in
-    omega (arith, left, some)

@@ -8,11 +8,12 @@ use Rattle.drm_lists.specs.Chains.{is_under}
 use Rattle.drm_lists.proofs.Lists.{some_passing}
 use Rattle.drm_lists.proofs.Each.{each_fails}
 use Rattle.drm_lists.proofs.Found.{is_some-find}
-use Rattle.drm_lists.proofs.Chains.{IsFalling, itself, child, above_too}
+use Rattle.drm_lists.specs.Chains.{last_of}
+use Rattle.drm_lists.proofs.Chains.{IsFalling, itself, child, above_too, same_chain}
 use Rattle.drm_lists.proofs.Rising.{found, any_found, all_found}
 use Rattle.drm_masters.specs.declared.rows.Member.{Member}
 use Rattle.drm_masters.specs.declared.rows.Master.{Master}
-use Rattle.drm_masters.specs.Masters.{is_option, is_step_number, master_at, lessor_of, is_held, is_living, HasOlderLessor}
+use Rattle.drm_masters.specs.Masters.{is_option, is_step_number, master_at, lessor_of, owner_of, is_held, is_living, HasOlderLessor}
 
 abbrev pub Rise : List Master → Type 0
 Rise ms = InOrder (λ (x y : Master). x.step_number < y.step_number) ms
@@ -41,6 +42,10 @@ pub same_bool : (a b : Bool) → (a ≡ true → b ≡ true) → (b ≡ true →
 same_bool true b f g = sym (f refl)
 same_bool false true f g = g refl
 same_bool false false f g = refl
+
+-- masters that stay with their lessors
+pub owner_stays : (P : ℕ → Type 0) (ms others : List Master) → ((n : ℕ) → P n → lessor_of others n ≡ lessor_of ms n) → ((n m : ℕ) → P n → lessor_of ms n ≡ Some m → P m) → (n : ℕ) → P n → owner_of others n ≡ owner_of ms n
+owner_stays P ms others same up n p = ap (last_of n) (same_chain P (lessor_of ms) (lessor_of others) same up n n p)
 
 -- what is found where a master has a lessor
 lessor_found : (o : Option Master) (l : ℕ) → option_and_then (λ (x : Master). x.lessor) o ≡ Some l → (x : Master) × (o ≡ Some x) × (x.lessor ≡ Some l)

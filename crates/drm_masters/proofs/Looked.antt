@@ -14,13 +14,6 @@ module _ {X : Type 0} (xs : List X) (i : ℕ) where
       by_cases (inl w) = none-some w.0 (sym none ∙ w.2)
       by_cases (inr w) = let le = w.0 in omega (arith, lt, le)
 
-  pub next_position : i < length xs → (x : X) × (slice_get xs i ≡ Some x)
-  next_position lt = by_cases (slice_get_cases xs i).1
-    where
-      by_cases : ((x : X) × (i < length xs) × (slice_get xs i ≡ Some x) × (get_or xs i x ≡ x)) ⊎ ((length xs ≤ i) × (slice_get xs i ≡ None)) → (x : X) × (slice_get xs i ≡ Some x)
-      by_cases (inl w) = (w.0, w.2)
-      by_cases (inr w) = let le = w.0 in absurd (omega (arith, lt, le))
-
   module _ (x : X) (at : slice_get xs i ≡ Some x) where
     pub next_is : drop i xs ≡ x ∷ drop (i + 1) xs
     next_is = drop_more xs i x (slice_get_within xs i x at) ∙ ap (λ y. y ∷ drop (i + 1) xs) (get_or_from_slice_get xs i x x at)

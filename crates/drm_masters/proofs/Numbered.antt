@@ -3,7 +3,7 @@ use Rattle.std.proofs.Common.{◌≡◌, ℕ, zero, suc, ◌<◌, ◌≤◌, ◌
 use Rattle.std.specs.List.{list_any}
 use Rattle.std.specs.Option.{option_map_or}
 use Rattle.std.proofs.Math.Bool.{and-false}
-use Rattle.std.proofs.lemmas.Bool.{false≢true, eqb-true}
+use Rattle.std.proofs.lemmas.Bool.{false≢true, eqb-true, not-false}
 use Rattle.std.proofs.lemmas.Bool.Decides.{nat_tests}
 use Rattle.drm_index_array.specs.Least.{least}
 use Rattle.drm_index_array.proofs.Least.{least_none}
@@ -66,12 +66,8 @@ pub number_free : (m last : ℕ) (x : Member) (xs : List Member) → find (is_cl
 number_free m last x xs here none few taken =
     let all = least_none (λ n. not (list_any (has_magic m n) xs)) 1 last taken in
     let w = without x xs here in
-    let rest = as_many (has_magic m) (one_number m) last w.0 (λ i low high. w.2 (has_magic m i) (no_magic m i x none) (is_taken _ (all i low high))) in
+    let rest = as_many (has_magic m) (one_number m) last w.0 (λ i low high. w.2 (has_magic m i) (no_magic m i x none) (not-false _ (all i low high))) in
     omega (arith, rest, few, w.1)
-  where
-    is_taken : (b : Bool) → not b ≡ false → b ≡ true
-    is_taken true h = refl
-    is_taken false h = absurd (let e : true ≡ false = h in cc)
 
 -- ---- no two clients of a master have one number
 

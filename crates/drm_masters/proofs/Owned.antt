@@ -1,5 +1,6 @@
 -- The ids of each owner's lessees, as masters come and go.
 use Rattle.std.proofs.Common.{◌≡◌, ℕ, ◌==◌, Bool, true, false, not, cond, ◌&&◌, List, map, filter, find, Option, None, Some, refl, sym, ap, ◌∙◌, eq-eqb}
+use Rattle.std.proofs.Math.Bool.{and_comm}
 use Rattle.std.specs.Prelude.{if◌then◌else◌}
 use Rattle.std.specs.List.{list_any, AllByRecursion}
 use Rattle.std.specs.Option.{is_some, option_map, option_map_or, option_and_then}
@@ -19,8 +20,7 @@ use Rattle.drm_masters.specs.declared.rows.Master.{Master}
 use Rattle.drm_masters.specs.declared.rows.Member.{Member}
 use Rattle.drm_masters.specs.Masters.{is_step_number, master_before, is_option, master_at, lessor_of, owner_of, is_held, is_used, HasOlderLessor, is_lessee_of}
 use Rattle.drm_masters.specs.Ids.{Ids, has_id, IsNamed, IsUnnamed, owner_to_be, AreIdsOf}
-use Rattle.drm_masters.proofs.Living.{Rise, IsFresh, others_apart, Older, falls, lessee_of, is_this}
-use Rattle.drm_masters.proofs.Flagged.{owner_stays}
+use Rattle.drm_masters.proofs.Living.{Rise, IsFresh, others_apart, Older, falls, lessee_of, is_this, owner_stays}
 use Rattle.drm_masters.proofs.Pushed.{over_at, over_lessors, pushed_older, pushed_owner, new_lessor, new_at, others_at, there_apart}
 
 -- ---- what is found by an id
@@ -70,15 +70,9 @@ module _ (ms : List Master) (rise : Rise ms) (ids : Ids) (are : AreIdsOf ms ids)
 its_id : (ms : List Master) (o p q : ℕ) (x : Master) → ((l : ℕ) → x.lessor ≡ Some l → owner_of ms x.step_number ≡ o) → has_id o x.lessor x.lessee_id p q ≡ is_lessee_of ms p q x
 its_id ms o p q x owner = by_lessor x.lessor refl
   where
-    swap : (a b : Bool) → (a && b) ≡ (b && a)
-    swap true true = refl
-    swap true false = refl
-    swap false true = refl
-    swap false false = refl
-
     by_lessor : (l : Option ℕ) → x.lessor ≡ l → (is_some l && ((p == o) && (q == x.lessee_id))) ≡ ((is_some l && (x.lessee_id == q)) && (owner_of ms x.step_number == p))
     by_lessor None e = refl
-    by_lessor (Some l) e = swap (p == o) (q == x.lessee_id) ∙ (λ i. same_either q x.lessee_id i && (same_either p o ∙ ap (λ k. k == p) (sym (owner l e))) i)
+    by_lessor (Some l) e = and_comm (p == o) (q == x.lessee_id) ∙ (λ i. same_either q x.lessee_id i && (same_either p o ∙ ap (λ k. k == p) (sym (owner l e))) i)
 
 -- a step number by itself
 its_step_number : (n : ℕ) (b : Bool) (o : Option ℕ) → is_option n o ≡ false → is_option n (if b then Some n else o) ≡ b

@@ -18,8 +18,7 @@ use Rattle.drm_masters.specs.declared.rows.Member.{Member}
 use Rattle.drm_masters.specs.declared.rows.Master.{Master}
 use Rattle.drm_masters.specs.Masters.{is_step_number, master_before, is_key, IsKeyOf, master_at, lessor_of, owner_of, is_held, is_living, HasOlderLessor}
 use Rattle.drm_masters.specs.Calls.{kept_as}
-use Rattle.drm_masters.proofs.Living.{Rise, IsFresh, others_apart, Older, lessor_there}
-use Rattle.drm_masters.proofs.Flagged.{owner_stays}
+use Rattle.drm_masters.proofs.Living.{Rise, IsFresh, others_apart, Older, lessor_there, owner_stays}
 
 -- the masters with those of a step number kept, or not
 abbrev pub kept_at : ℕ → Bool → Master → Master

@@ -1,15 +1,15 @@
 -- What is so of the masters at all times is so after each change.
-use Rattle.std.proofs.Common.{◌≡◌, ℕ, ◌<◌, ◌≤◌, ◌==◌, nat_lt, Bool, true, false, not, ◌&&◌, ◌||◌, List, [], ◌∷◌, map, filter, find, length, Option, None, Some, refl, sym, ap, subst, ◌∙◌, eq-eqb, arith}
+use Rattle.std.proofs.Common.{◌≡◌, ℕ, ◌<◌, ◌≤◌, ◌==◌, nat_lt, Bool, true, false, not, ◌&&◌, ◌||◌, List, map, filter, find, length, Option, None, Some, refl, sym, ap, subst, ◌∙◌, eq-eqb, arith}
 use Rattle.std.specs.Prelude.{if◌then◌else◌, IfSome}
 use Rattle.std.specs.List.{list_any, AllByRecursion}
 use Rattle.std.specs.Option.{is_some, option_map, option_map_or}
-use Rattle.std.specs.FinSet as set
 use Rattle.std.proofs.Math.Bool.{and-false}
 use Rattle.std.proofs.lemmas.List.{length-map}
 use Rattle.std.proofs.lemmas.Bool.{eqb-true, or_left, or_right, and_parts, and_from}
 use Rattle.drm_index_array.specs.Rows.{placed}
 use Rattle.drm_lists.specs.Orders.{InOrder}
 use Rattle.drm_lists.proofs.Lists.{all_weaker, all_both, all_each, all_filter, all_mapped, filter-shorter, list_any-map, list_any_agree, some_passing}
+use Rattle.drm_lists.proofs.Each.{each_fails}
 use Rattle.drm_lists.proofs.Found.{is_some-find, none_found}
 use Rattle.drm_lists.proofs.Orders.{in_order_filter}
 use Rattle.drm_lists.proofs.Numbers.{flipped}
@@ -18,22 +18,18 @@ use Rattle.drm_lists.proofs.Rising.{found, any_found, any_more, any_left, all_fo
 use Rattle.drm_masters.specs.declared.rows.Magic.{Magic}
 use Rattle.drm_masters.specs.declared.rows.Member.{Member}
 use Rattle.drm_masters.specs.declared.rows.Master.{Master}
-use Rattle.drm_masters.specs.Masters.{MasterSet, AreMasters, HaveOtherMagics, HasOlderLessor, is_client, member_before, master_before, is_step_number, is_key, is_option, IsKeyOf, step_number_at, member_of, master_at, lessor_of, owner_of, is_held, is_used, is_living, is_current, has_magic, has_open_magic, swept}
+use Rattle.drm_masters.specs.Masters.{MasterSet, AreMasters, HaveOtherMagics, HasOlderLessor, is_client, member_before, master_before, is_step_number, is_key, is_option, IsKeyOf, step_number_at, member_of, master_at, lessor_of, is_held, is_used, is_living, has_magic, has_open_magic, swept}
 use Rattle.drm_masters.specs.declared.masters.Masters.TheInside.{Inside}
 use Rattle.drm_masters.specs.Fields.{set_of, IsSound}
 use Rattle.drm_masters.specs.Calls.{with_member, with_master, with_device, without_member, changed_member, with_kept, with_magic, closed_own}
-use Rattle.drm_masters.proofs.Pushed.{step_number_stays, lessor_stays, kept_at, kept_there, kept_rise, kept_older, kept_used, same_used, there_too, new_there, pushed_rise, pushed_older, pushed_used, kept_lessors, pushed_owner, pushed_lessor, new_lessor}
+use Rattle.drm_masters.proofs.Pushed.{step_number_stays, lessor_stays, kept_at, kept_there, kept_rise, kept_older, kept_used, same_used, there_too, new_there, pushed_rise, pushed_older, pushed_used, kept_lessors, pushed_lessor, new_lessor}
 use Rattle.drm_masters.proofs.Living.{Rise, IsFresh}
 use Rattle.drm_masters.proofs.Upward.{OthersUsed, all_living_used}
-use Rattle.drm_masters.proofs.Flagged.{same_owners, under_same, others_apart, one_more}
-use Rattle.drm_masters.proofs.Swept.{none_left, swept_older, swept_used, swept_owner, named_lives, named_there}
+use Rattle.drm_masters.proofs.Swept.{none_left, swept_older, swept_used, named_there}
 use Rattle.drm_masters.proofs.Numbered.{no_magic, other_none, none_other, given_before, given_behind, spent_same}
 
 abbrev pub Keyed : List Master → Type 0
 Keyed ms = InOrder (λ (x y : Master). (x.key == y.key) ≡ false) ms
-
-abbrev pub Flags : Inside → MasterSet → Type 0
-Flags a v = (c : ℕ) → set.contains a.members.flags c ≡ is_current v c
 
 abbrev MembersRise : List Member → Type 0
 MembersRise xs = InOrder (λ (x y : Member). x.client < y.client) xs
@@ -85,6 +81,10 @@ swept_are v t = record {
 }
 
 -- ---- who is held
+
+-- no other client has the number
+others_apart : (members : List Member) (c : ℕ) → is_some (member_of members c) ≡ false → AllByRecursion (λ (x : Member). is_client c x ≡ false) members
+others_apart members c absent = each_fails (is_client c) members (sym (is_some-find (is_client c) members) ∙ absent)
 
 -- what some client passes it passes with one more
 any_stays : (q : Member → Bool) (xs : List Member) (y : Member) → list_any q xs ≡ true → list_any q (placed member_before y xs) ≡ true
@@ -269,9 +269,6 @@ module _ (v : MasterSet) (a : AreMasters v) where
         all_weaker (λ (z : Master). is_used v.members v.masters z ≡ true) (λ (z : Master). (z.step_number == x.master) ≡ false → is_used (filter (λ (y : Member). not (is_client x.client y)) v.members) v.masters z ≡ true)
         (λ z used differs. still_used z differs used) v.masters (all_living_used v.members v.masters a.masters_rise a.lessors_older a.used)
       where
-        flipped : (m n : ℕ) → (m == n) ≡ false → (n == m) ≡ false
-        flipped m n e = (elim (n == m) as (λ b. (n == m) ≡ b → b ≡ false) [ true ↦ λ k. absurd (let j : false ≡ true = sym e ∙ eq-eqb m n (sym (eqb-true n m k)) in cc) | false ↦ λ k. refl ]) refl
-
         either : (a b c d : Bool) → (b ≡ true → d ≡ true) → ((a || b) || c) ≡ true → ((a || d) || c) ≡ true
         either true b c d f h = h
         either false true c d f h = ap (λ e. e || c) (f refl)
@@ -441,18 +438,10 @@ module _ (v : MasterSet) (a : AreMasters v) where
     given_are free =
         changed_are x (with_magic n false x) here refl refl refl
         (in_order_mapped Free (λ u w. (u.client < w.client) × HaveOtherMagics u w) HaveOtherMagics (put x (with_magic n false x) here refl) (λ u w fu fw h. differ u w fu fw h.0 h.1) v.members
-        (all_both (λ (z : Member). member_of v.members z.client ≡ Some z) (λ z. has_magic x.master n z ≡ false) Free (λ z e f. (e, f)) v.members clients_found (none_has v.members free)) (in_order_both (λ (u w : Member). u.client < w.client) HaveOtherMagics v.members a.members_rise a.magics_differ))
+        (all_both (λ (z : Member). member_of v.members z.client ≡ Some z) (λ z. has_magic x.master n z ≡ false) Free (λ z e f. (e, f)) v.members clients_found (each_fails (has_magic x.master n) v.members free)) (in_order_both (λ (u w : Member). u.client < w.client) HaveOtherMagics v.members a.members_rise a.magics_differ))
       where
         Free : Member → Type 0
         Free z = (member_of v.members z.client ≡ Some z) × (has_magic x.master n z ≡ false)
-
-        none_has : (zs : List Member) → list_any (has_magic x.master n) zs ≡ false → AllByRecursion (λ z. has_magic x.master n z ≡ false) zs
-        none_has [] h = tt
-        none_has (z ∷ zs) h =
-            (elim (has_magic x.master n z) as (λ b. has_magic x.master n z ≡ b → (b || list_any (has_magic x.master n) zs) ≡ false → AllByRecursion (λ z. has_magic x.master n z ≡ false) (z ∷ zs)) [
-              | true ↦ λ e k. absurd (let j : true ≡ false = k in cc)
-              | false ↦ λ e k. (e, none_has zs k)
-            ]) refl h
 
         differ : (u w : Member) → Free u → Free w → u.client < w.client → HaveOtherMagics u w → HaveOtherMagics (put x (with_magic n false x) here refl u) (put x (with_magic n false x) here refl w)
         differ u w fu fw lt h =
@@ -493,52 +482,24 @@ released_used v a m =
     ap (λ (u : Master). is_used v.members (with_kept m false v).masters u) same ∙ ap (λ b. is_held v.members z || b) (list_any-map (λ (y : Master). is_option z.step_number y.lessor) (kept_at m false) v.masters ∙ list_any_agree (λ (y : Master). is_option z.step_number (kept_at m false y).lessor) (λ (y : Master). is_option z.step_number y.lessor) (λ y. ap (is_option z.step_number) (lessor_stays m false y)) v.masters) ∙ used
     ) v.masters (all_living_used v.members v.masters a.masters_rise a.lessors_older a.used))
 
--- ---- who is current
-
--- a sweep makes nobody current, and takes it from nobody
-pub swept_same : (v : MasterSet) → AreTied v → (c : ℕ) → is_current (swept v) c ≡ is_current v c
-swept_same v t =
-    same_owners v.members v.masters (swept v).masters v.device_master
-    (all_both (λ (x : Member). is_some (master_at v.masters x.master) ≡ true) (λ (x : Member). list_any (λ (y : Member). y.master == x.master) v.members ≡ true) (λ (x : Member). owner_of (swept v).masters x.master ≡ owner_of v.masters x.master)
-    (λ x there named. swept_owner v.members v.masters t.masters_rise t.lessors_older x.master (named_lives v.members v.masters t.masters_rise t.lessors_older x there named)) v.members t.masters_there (each_is_there (λ (x : Member). x.master) v.members))
-
--- nor does a new master
-pub pushed_same : (v : MasterSet) → AreMasters v → (z : Master) → IsFresh v.masters z.step_number → (c : ℕ) → is_current (with_master z v) c ≡ is_current v c
-pushed_same v a z fresh =
-    same_owners v.members v.masters (placed master_before z v.masters) v.device_master
-    (all_weaker (λ (x : Member). is_some (master_at v.masters x.master) ≡ true) (λ (x : Member). owner_of (placed master_before z v.masters) x.master ≡ owner_of v.masters x.master) (λ x there. pushed_owner v.masters z fresh a.lessors_older x.master there) v.members a.masters_there)
-
--- nor whether masters are kept
-pub kept_same : (v : MasterSet) (m : ℕ) (kept : Bool) → (c : ℕ) → is_current (with_kept m kept v) c ≡ is_current v c
-kept_same v m kept = under_same v.members v.masters (with_kept m kept v).masters v.device_master (kept_lessors m kept v.masters)
-
--- a client that is no master is not current
-pub non_master_same : (v : MasterSet) (y : Member) → y.is_master ≡ false → AreMasters v → is_some (member_of v.members y.client) ≡ false → (c : ℕ) → is_current (with_member y v) c ≡ is_current v c
-non_master_same v y own a absent c =
-    one_more v.members y a.members_rise absent v.masters v.device_master c
-    ∙ ap (λ b. ((c == y.client) && (b && is_option (owner_of v.masters y.master) v.device_master)) || is_current v c) own ∙ ap (λ b. b || is_current v c) (and-false (c == y.client))
-
 -- ---- the fields
 
 -- the fields stand for a set of which all of it is so
-pub sound : (a : Inside) (v : MasterSet) → set_of a ≡ v → AreMasters v → Keyed v.masters → Flags a v → IsSound a
-sound a v e are keyed flags = record {
+pub sound : (a : Inside) (v : MasterSet) → set_of a ≡ v → AreMasters v → Keyed v.masters → IsSound a
+sound a v e are keyed = record {
   are = subst AreMasters (sym e) are;
   keyed = subst (λ (w : MasterSet). Keyed w.masters) (sym e) keyed;
-  flagged = λ c. flags c ∙ ap (λ (w : MasterSet). is_current w c) (sym e);
 }
 
 -- and of which it is so then
 pub record Known (a : Inside) (v : MasterSet) : Type 0 where
   pub are : AreMasters v
   pub keyed : Keyed v.masters
-  pub flagged : Flags a v
 
 pub known : (a : Inside) (v : MasterSet) → set_of a ≡ v → IsSound a → Known a v
 known a v e so = record {
   are = subst AreMasters e so.are;
   keyed = subst (λ (w : MasterSet). Keyed w.masters) e so.keyed;
-  flagged = λ c. so.flagged c ∙ ap (λ (w : MasterSet). is_current w c) e;
 }
 
 -- a master is found by its key

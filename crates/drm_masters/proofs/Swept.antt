@@ -10,9 +10,8 @@ use Rattle.drm_lists.proofs.Chains.{itself, same_chain}
 use Rattle.drm_lists.proofs.Rising.{found, all_found, find_where}
 use Rattle.drm_masters.specs.declared.rows.Member.{Member}
 use Rattle.drm_masters.specs.declared.rows.Master.{Master}
-use Rattle.drm_masters.specs.Masters.{is_step_number, master_at, lessor_of, owner_of, is_held, is_living, HasOlderLessor}
+use Rattle.drm_masters.specs.Masters.{is_step_number, master_at, lessor_of, is_held, is_living, HasOlderLessor}
 use Rattle.drm_masters.proofs.Living.{Rise, Older, living_by, held_below, lessor_lives}
-use Rattle.drm_masters.proofs.Flagged.{owner_stays}
 
 module _ (members : List Member) (ms : List Master) (rise : Rise ms) (older : Older ms) where
   abbrev left : List Master
@@ -46,10 +45,6 @@ module _ (members : List Member) (ms : List Master) (rise : Rise ms) (older : Ol
       let k = h.0 l e in
       (ap is_some (at_is l (lessor_lives ms members rise older x.step_number l lives (ap (option_and_then (λ (z : Master). z.lessor)) h.1 ∙ e))) ∙ k.0, k.1)) left (all_filter WithLessor (λ (x : Master). is_living members ms x.step_number) ms with_lessors)
       (filter_true (λ (x : Master). is_living members ms x.step_number) ms)
-
-  -- a master that stays has its owner yet
-  pub swept_owner : (n : ℕ) → is_living members ms n ≡ true → owner_of left n ≡ owner_of ms n
-  swept_owner n lives = owner_stays (λ k. is_living members ms k ≡ true) ms left lessors_are (λ k l p e. lessor_lives ms members rise older k l p e) n lives
 
   -- a master that a client names stays
   pub named_lives : (y : Member) → is_some (master_at ms y.master) ≡ true → list_any (λ (z : Member). z.master == y.master) members ≡ true → is_living members ms y.master ≡ true

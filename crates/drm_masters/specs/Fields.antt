@@ -1,10 +1,9 @@
 -- What the fields of the masters stand for.
-use Rattle.std.specs.Prelude.{◌≡◌, ◌==◌, ℕ, false}
-use Rattle.std.specs.FinSet as set
+use Rattle.std.specs.Prelude.{◌≡◌, ◌==◌, false}
 use Rattle.drm_lists.specs.Orders.{InOrder}
 use Rattle.drm_masters.specs.declared.rows.Master.{Master}
 use Rattle.drm_masters.specs.declared.masters.Masters.TheInside.{Inside}
-use Rattle.drm_masters.specs.Masters.{MasterSet, AreMasters, is_current}
+use Rattle.drm_masters.specs.Masters.{MasterSet, AreMasters}
 
 abbrev pub set_of : Inside → MasterSet
 set_of a = record {
@@ -15,8 +14,7 @@ set_of a = record {
   last_lessee = a.last_lessee;
 }
 
--- no two masters have one key, and those clients are flagged that are current
+-- no two masters have one key
 pub record IsSound (a : Inside) : Type 0 where
   pub are : AreMasters (set_of a)
   pub keyed : InOrder (λ (x y : Master). (x.key == y.key) ≡ false) a.masters.items
-  pub flagged : (c : ℕ) → set.contains a.members.flags c ≡ is_current (set_of a) c

@@ -5,7 +5,7 @@ use Rattle.drm_masters.specs.declared.members.Membership.{Membership}
 use Rattle.drm_masters.specs.Tables.{MemberRows, members_in}
 
 abbrev pub rows_of : Inside → MemberRows
-rows_of a = record { items = members_in a.clients.items; flags = a.clients.m0 }
+rows_of a = record { items = members_in a.clients.items }
 
 -- each client stands in the group of its master
 abbrev pub AreNamed : Inside → Type 0

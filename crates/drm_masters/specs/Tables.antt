@@ -1,9 +1,7 @@
 -- The lists that the records of clients and masters stand for.
-use Rattle.std.specs.Prelude.{◌≡◌, ℕ, ◌==◌, ◌&&◌, ◌||◌, not, Option, List, map as list_map, None, false, refl}
+use Rattle.std.specs.Prelude.{◌≡◌, ℕ, ◌==◌, ◌&&◌, ◌||◌, not, Option, List, map as list_map, None, false}
 use Rattle.std.specs.Ordering.{nat_cmp}
 use Rattle.std.specs.FinMap as map
-use Rattle.std.specs.FinSet as set
-use Rattle.std.specs.Coded.{Coded, code_by, coded×, coded_list, coded_ℕ}
 use Rattle.drm_masters.specs.declared.members.Membership.{Membership}
 use Rattle.drm_masters.specs.declared.rows.Master.{Master}
 use Rattle.drm_masters.specs.declared.rows.Member.{Member}
@@ -18,14 +16,9 @@ member_row e = record { client = e.0; once_master = e.1.once_master; is_master =
 abbrev pub members_in : map.FinMap nat_cmp Membership → List Member
 members_in clients = list_map member_row (map.entries clients)
 
--- the clients, in the order of their numbers, and those that are flagged
+-- the clients
 pub record MemberRows : Type 0 where
   pub items : List Member
-  pub flags : set.FinSet nat_cmp
-
--- stored as the pair of its fields
-abbrev pub rows_code : Coded Member → Coded MemberRows
-rows_code code = code_by (List Member × set.FinSet nat_cmp) (coded× (coded_list code) (set.code coded_ℕ)) (λ r. (r.items, r.flags)) (λ p. record { items = p.0; flags = p.1 }) (λ _. refl)
 
 -- what stands where no master is kept
 abbrev pub nothing : Master

@@ -1,7 +1,6 @@
 //! Clients, the masters that they stand to, and magics: who may set modes (drm(7), masters; drm-uapi, leases).
 #![tactic(auto)]
 
-mod current;
 mod faults;
 mod ids;
 mod masters;

@@ -5,11 +5,12 @@ ghost use Rattle.std.specs.Option.{is_some, option_map, option_map_or, option_an
 ghost use Rattle.drm_masters.specs.Masters as sets;
 ghost use Rattle.drm_masters.specs.Calls as calls;
 
-use crate::current::{flag_current, flag_if_current, unflag_where_device};
 use crate::faults::{LesseeFault, NoMemory, SetDone, SetFault};
 use crate::members::Members;
 use crate::rows::{Master, MasterKey, MasterRow, Member};
-use crate::searches::{depth_of, find_open_magic, free_magic, is_option, lessor_of, owner_of};
+use crate::searches::{
+    depth_of, find_open_magic, free_magic, is_current_among, lessor_of, owner_of,
+};
 use crate::sweeps::sweep_up;
 use crate::table::MasterTable;
 use crate::writes::{
@@ -203,7 +204,10 @@ impl Masters {
     pub fn is_current(&self, client: u32) -> bool
         ensures { result ≡ sets.is_current self.now client }
     {
-        self.members.is_flagged(client)
+        let Some(member) = self.members.get(client) else {
+            return false;
+        };
+        is_current_among(&self.masters, self.device_master, member)
     }
 
     /// Adds a client that opened the primary node. No client has this number yet, and no master this birth.
@@ -241,12 +245,6 @@ impl Masters {
             return Err(NoMemory);
         }
         self.device_master = Some(birth);
-        flag_if_current(
-            &mut self.members,
-            &self.masters,
-            self.device_master,
-            founder,
-        );
         Ok(true)
     }
 
@@ -280,7 +278,6 @@ impl Masters {
             return Err(NoMemory);
         }
         self.masters.set_kept(redeemed.step_number, false);
-        flag_if_current(&mut self.members, &self.masters, self.device_master, member);
         Ok(())
     }
 
@@ -307,7 +304,7 @@ impl Masters {
         if !is_permitted(member, root) {
             return Err(SetFault::Denied(Rule::MasterPerm));
         }
-        if self.members.is_flagged(client) {
+        if is_current_among(&self.masters, self.device_master, member) {
             return Ok(SetDone::Already);
         }
         if self.device_master.is_some() {
@@ -323,7 +320,6 @@ impl Masters {
             return Err(SetFault::Denied(Rule::IsLessee));
         }
         self.device_master = Some(member.master);
-        flag_current(&mut self.members, &self.masters, self.device_master);
         Ok(SetDone::Again)
     }
 
@@ -348,14 +344,13 @@ impl Masters {
         if !is_permitted(member, root) {
             return Err(Rule::MasterPerm);
         }
-        if !self.members.is_flagged(client) {
+        if !is_current_among(&self.masters, self.device_master, member) {
             return Err(Rule::NotCurrent);
         }
         if lessor_of(&self.masters, member.master).is_some() {
             return Err(Rule::IsLessee);
         }
         self.device_master = None;
-        self.members.unflag_all();
         Ok(())
     }
 
@@ -429,7 +424,6 @@ impl Masters {
             unreachable!()
         };
         self.masters.set_kept(member.master, true);
-        unflag_where_device(&mut self.members, self.device_master, member.master);
         self.device_master = device_without(self.device_master, member.master);
         Some(master.key)
     }
@@ -594,12 +588,6 @@ impl Masters {
         }
         self.device_master = Some(step_number);
         sweep_up(&self.members, &mut self.masters, old.master);
-        flag_if_current(
-            &mut self.members,
-            &self.masters,
-            self.device_master,
-            founder,
-        );
         Ok(key)
     }
 }

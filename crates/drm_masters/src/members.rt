@@ -4,7 +4,6 @@ ghost use Rattle.std.specs.Prelude.{◌≡◌, ◌==◌, ◌++◌, ◌∷◌, �
 ghost use Rattle.std.specs.List.{list_any};
 ghost use Rattle.std.specs.Option.{is_some, option_map_or};
 ghost use Rattle.std.specs.FinMap as fin;
-ghost use Rattle.std.specs.FinSet as set;
 ghost use Rattle.drm_masters.specs.Masters as sets;
 ghost use Rattle.drm_index_array.specs.Indexed.{with_item};
 ghost use Rattle.drm_index_array.specs.Rows.{placed};
@@ -14,7 +13,7 @@ ghost use Rattle.drm_masters.specs.Tables.{member_row};
 use crate::faults::NoMemory;
 use crate::rows::{Magic, Member};
 use drm_id_alloc::Groups;
-use drm_index_array::{IndexArray, InsertFault, Mark};
+use drm_index_array::{IndexArray, InsertFault};
 use std::alloc::Global;
 use std::marker::Model;
 
@@ -27,23 +26,18 @@ pub(crate) struct Membership {
     pub(crate) magic: Option<Magic>,
 }
 
-/// The clients that stand to masters, by their numbers, each with a flag that says whether it is current.
-/// Contracts see a flat list, in the order of their numbers, and the set of those that are flagged.
+/// The clients that stand to masters, by their numbers. Contracts see a flat list, in the order of their numbers.
 #[derive(Drop)]
 pub struct Members {
-    // the first mark is the flag
     clients: IndexArray<Membership>,
     // the clients by their masters
     named: Groups,
 }
 
 impl Model for Members {
-    ghost use Rattle.drm_masters.specs.Tables.{MemberRows, rows_code};
-    ghost use Rattle.drm_masters.specs.contracts.rows.Member as row;
+    ghost use Rattle.drm_masters.specs.Tables.{MemberRows};
 
     ghost Value = { MemberRows };
-
-    ghost coded = { rows_code row.the_row.coded };
 
     ghost use Rattle.drm_masters.specs.Members.{rows_of, AreNamed};
 
@@ -55,8 +49,7 @@ impl Model for Members {
 impl Members {
     /// No client. It takes no memory.
     pub fn new(alloc: Global) -> Members
-        ensures none { result.items ≡ [] }
-        ensures unflagged { (c : ℕ) → set.contains result.flags c ≡ false }
+        ensures { result ≡ record { items = [] } }
     {
         Members {
             clients: IndexArray::new(alloc),
@@ -87,13 +80,6 @@ impl Members {
         self.get(client)
     }
 
-    /// Whether a client is flagged as current.
-    pub fn is_flagged(&self, client: u32) -> bool
-        ensures { result ≡ set.contains self.now.flags client }
-    {
-        self.clients.marked(client, Mark::M0)
-    }
-
     /// Whether a client names the master. It looks at no other.
     pub fn is_named(&self, master: u32) -> bool
         ensures { result ≡ list_any (λ x. x.master == master) self.now.items }
@@ -101,11 +87,10 @@ impl Members {
         self.named.next(master, 0).is_some()
     }
 
-    /// Adds a client that is not there, without a flag. If memory is refused, nothing changes.
+    /// Adds a client that is not there. If memory is refused, nothing changes.
     pub fn add(&mut self, member: Member) -> Result<(), NoMemory>
         requires new_client { is_some (sets.member_of self.old.items member.client) ≡ false }
         ensures ok { OnOk result (self.new.items ≡ placed sets.member_before member self.old.items) }
-        ensures flags { self.new.flags ≡ self.old.flags }
         ensures err { OnErr result (self.new ≡ self.old) }
     {
         let client = member.client;
@@ -120,11 +105,10 @@ impl Members {
         Ok(())
     }
 
-    /// Puts a client's row in place of the one that it has, if it has one. It keeps its master, and its flag.
+    /// Puts a client's row in place of the one that it has, if it has one. It keeps its master.
     pub fn set(&mut self, member: Member)
         requires stays { IfSome (sets.member_of self.old.items member.client) (λ x. x.master ≡ member.master) }
-        ensures rows { self.new.items ≡ map (λ x. if sets.is_client member.client x then member else x) self.old.items }
-        ensures flags { self.new.flags ≡ self.old.flags }
+        ensures { self.new.items ≡ map (λ x. if sets.is_client member.client x then member else x) self.old.items }
     {
         let Some(kept) = self.clients.get_mut(member.client) else {
             return;
@@ -132,12 +116,10 @@ impl Members {
         *kept = kept_of(member);
     }
 
-    /// Puts a client's row, of another master, in place of the one that it has. It keeps its flag. Without memory nothing
-    /// changes.
+    /// Puts a client's row, of another master, in place of the one that it has. Without memory nothing changes.
     pub fn remake(&mut self, member: Member) -> Result<(), NoMemory>
         requires moves { option_map_or (λ x. not (x.master == member.master)) (sets.member_of self.old.items member.client) false ≡ true }
         ensures rows { OnOk result (self.new.items ≡ map (λ x. if sets.is_client member.client x then member else x) self.old.items) }
-        ensures flags { self.new.flags ≡ self.old.flags }
         ensures err { OnErr result (self.new ≡ self.old) }
     {
         let client = member.client;
@@ -153,44 +135,14 @@ impl Members {
         Ok(())
     }
 
-    /// Takes a client away, if it is there, with its flag.
+    /// Takes a client away, if it is there.
     pub fn remove(&mut self, client: u32)
-        ensures rows { self.new.items ≡ filter (λ x. not (sets.is_client client x)) self.old.items }
-        ensures flags { self.new.flags ≡ set.remove self.old.flags client }
+        ensures { self.new.items ≡ filter (λ x. not (sets.is_client client x)) self.old.items }
     {
         let Some(kept) = self.clients.remove(client) else {
             return;
         };
         self.named.forget(kept.master, client);
-    }
-
-    /// Flags a client as current.
-    pub fn flag(&mut self, client: u32)
-        requires open_client { is_some (sets.member_of self.old.items client) ≡ true }
-        ensures rows { self.new.items ≡ self.old.items }
-        ensures flags { self.new.flags ≡ set.insert self.old.flags client }
-    {
-        if !self.clients.set_mark(client, Mark::M0) {
-            unreachable!()
-        }
-    }
-
-    /// Takes the flag from each client that has it. It passes over the others.
-    pub fn unflag_all(&mut self)
-        ensures rows { self.new.items ≡ self.old.items }
-        ensures flags { (c : ℕ) → set.contains self.new.flags c ≡ false }
-    {
-        unflag(&mut self.clients);
-    }
-}
-
-/// Takes the flag from each client that has it.
-fn unflag(clients: &mut IndexArray<Membership>)
-    ensures rows { clients.new.items ≡ clients.old.items }
-    ensures flags { (c : ℕ) → set.contains clients.new.m0 c ≡ false }
-{
-    while let Some(client) = clients.next_marked(0, Mark::M0) {
-        let _there = clients.clear_mark(client, Mark::M0);
     }
 }
 

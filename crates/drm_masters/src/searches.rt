@@ -1,6 +1,6 @@
 //! Searches among the clients and the masters.
 
-ghost use Rattle.std.specs.Prelude.{◌≡◌, ◌==◌, find, not, slice_get};
+ghost use Rattle.std.specs.Prelude.{◌≡◌, ◌==◌, ℕ, None, Some, find, not, slice_get};
 ghost use Rattle.std.specs.List.{list_any, AllByRecursion};
 ghost use Rattle.drm_index_array.specs.Least.{least};
 ghost use Rattle.drm_masters.specs.Masters as sets;
@@ -29,6 +29,18 @@ pub fn owner_of(masters: &MasterTable, step_number: u32) -> u32
         Some(lessor) => owner_of(masters, lessor),
         None => step_number,
     }
+}
+
+/// Whether a client is current: it is a master, and the owner of its master is the device's, which has no lessor.
+pub fn is_current_among(masters: &MasterTable, device: Option<u32>, member: Member) -> bool
+    requires older { AllByRecursion (sets.HasOlderLessor masters.now.items) masters.now.items }
+    requires top { (m : ℕ) → device ≡ Some m → sets.lessor_of masters.now.items m ≡ None }
+    ensures { result ≡ sets.is_current_among masters.now.items device member }
+{
+    if is_option(member.master, device) {
+        return member.is_master;
+    }
+    member.is_master && is_option(owner_of(masters, member.master), device)
 }
 
 /// How many lessors stand above a master. There are no more than its step number comes to, since each is older.

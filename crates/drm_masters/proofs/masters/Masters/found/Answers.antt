@@ -1,24 +1,20 @@
-use Rattle.std.proofs.Common.{◌≡◌, ℕ, ◌<◌, ◌==◌, ◌&&◌, ◌||◌, Bool, true, false, not, List, Some, map, filter, find, refl, sym, ap, subst, ◌∙◌, nat_cmp}
+use Rattle.std.proofs.Common.{◌≡◌, ◌<◌, ◌==◌, true, false, not, List, Some, map, filter, find, refl, sym, ap, subst, ◌∙◌}
 use Rattle.std.specs.Prelude.{if◌then◌else◌}
-use Rattle.std.specs.FinSet as set
 use Rattle.std.specs.List.{list_any, AllByRecursion}
 use Rattle.std.specs.Option.{is_some, option_map_or}
-use Rattle.std.proofs.lemmas.Bool.{eqb-true, false≢true}
+use Rattle.std.proofs.lemmas.Bool.{false≢true}
 use Rattle.drm_index_array.specs.Rows.{placed}
 use Rattle.drm_lists.specs.Orders.{InOrder}
 use Rattle.drm_masters.specs.declared.rows.Master.{Master}
 use Rattle.drm_masters.specs.declared.rows.Member.{Member}
 use Rattle.drm_masters.specs.Fields.{set_of}
-use Rattle.drm_masters.specs.Masters.{MasterSet, AreMasters, HasOlderLessor, master_before, member_of, is_step_number, is_client, is_option, is_key, is_living, is_current, is_current_among, swept}
+use Rattle.drm_masters.specs.Masters.{MasterSet, AreMasters, HasOlderLessor, master_before, member_of, is_step_number, is_client, is_option, is_key, is_living, swept}
 use Rattle.drm_masters.specs.Calls as calls
-use Rattle.drm_masters.specs.Tables.{MemberRows}
 use Rattle.drm_masters.proofs.Upward.{OthersUsed}
 use Rattle.drm_masters.proofs.Pushed.{there_apart, pushed_older, taken_back}
 use Rattle.drm_masters.proofs.Living.{IsFresh, Older}
 use Rattle.drm_masters.proofs.Owned.{unnamed_yet}
-use Rattle.drm_masters.proofs.Flagged.{current_in, no_device, remade_there, others_put}
-use Rattle.drm_masters.proofs.Founders.{none_yet}
-use Rattle.drm_masters.proofs.Sound.{AreTied, sound, swept_are, swept_same, remade_ties, remade_used, client_found, master_there, keyed_more, keyed_fewer, known}
+use Rattle.drm_masters.proofs.Sound.{sound, swept_are, remade_ties, remade_used, client_found, master_there, keyed_more, keyed_fewer, known}
 use Rattle.drm_masters.proofs.masters.Masters.found.Goals as goal
 
 pub remake-requires : goal.remake-requires
@@ -58,7 +54,7 @@ invariant_of-self-in-Err-remake c =
     let masters : c.insert.new.self.items ≡ placed master_before z c.self.inside.masters.items = c.in-Ok.ensures.ok ∙ ap (λ (x : Master). placed master_before (calls.keyed_as c.in-Ok.key x) c.self.inside.masters.items) c.founded_master.ensures in
     let back : c.remove.new.self.items ≡ c.self.inside.masters.items = c.remove.ensures ∙ ap (filter (λ (x : Master). not (is_step_number c.args.step_number x))) masters ∙ taken_back c.self.inside.masters.items z fresh in
     let path = (λ i. record (set_of c.self.inside) { members = (c.in-Err-remake.ensures.err i).items; masters = back i }) ∙ c.self.view_is in
-    sound _ v path so.are so.keyed (λ k. ap (λ (m : MemberRows). set.contains m.flags k) c.in-Err-remake.ensures.err ∙ so.flagged k)
+    sound _ v path so.are so.keyed
 
 pub returns-in-Err-remake-clause-err : goal.returns-in-Err-remake-clause-err
 returns-in-Err-remake-clause-err c =
@@ -93,54 +89,6 @@ sweep_up-requires c =
       others = subst (λ m. Used m c.insert.new.self.items) (sym members) (subst (Used (calls.changed_member y v).members) (sym rows) (remade_used v are x y is.1 (sym is.0) z refl));
     }
 
-pub flag_if_current-requires-clause-older : goal.flag_if_current-requires-clause-older
-flag_if_current-requires-clause-older c =
-    let v = c.args.self.now in
-    let are : AreMasters v = subst AreMasters c.self.view_is c.self.invariant.are in
-    let x = c.in-Some.old in
-    let look : member_of v.members c.args.client ≡ Some x = sym (ap (λ (u : MasterSet). member_of u.members c.args.client) c.self.view_is) ∙ sym c.get.ensures ∙ c.in-Some.is in
-    let is = client_found v.members c.args.client x look in
-    let b = c.args.step_number in
-    let key = c.in-Ok.key in
-    let y = calls.owner c.args.client b in
-    let z = calls.founded_master key b in
-    let t = remade_ties v are x y is.1 (sym is.0) z refl refl refl refl (are.masters_rise, c.requires.new_step_number) in
-    let items : c.remake.new.self.items ≡ map (λ (u : Member). if is_client y.client u then y else u) c.self.inside.members.items = c.in_default-remake.ensures.rows ∙ ap (λ (z : Member). map (λ (u : Member). if is_client z.client u then z else u) c.self.inside.members.items) c.owner-founder.ensures in
-    let masters : c.insert.new.self.items ≡ placed master_before z c.self.inside.masters.items = c.in-Ok.ensures.ok ∙ ap (λ (u : Master). placed master_before (calls.keyed_as key u) c.self.inside.masters.items) c.founded_master.ensures in
-    let new = calls.with_device (Some b) (calls.changed_member y (calls.with_master z v)) in
-    let mem = c.remake.new.self.items in
-    let left = λ (l : List Member) (ms : List Master). let r : MasterSet = record { members = l; masters = filter (λ (u : Master). is_living l ms u.step_number) ms; device_master = Some b; last_magic = c.self.inside.last_magic; last_lessee = c.self.inside.last_lessee } in r in
-    let swept_is : left mem c.insert.new.self.items ≡ swept new = (λ i. left (items i) (masters i)) ∙ ap (λ (u : MasterSet). swept (calls.with_device (Some b) (calls.changed_member y (calls.with_master z u)))) c.self.view_is in
-    subst (λ l. AllByRecursion (HasOlderLessor l) l) (sym (c.sweep_up.ensures ∙ ap (λ (u : MasterSet). u.masters) swept_is)) (swept_are new t).lessors_older
-
-pub flag_if_current-requires-clause-open_client : goal.flag_if_current-requires-clause-open_client
-flag_if_current-requires-clause-open_client c =
-    let v = c.args.self.now in
-    let look : member_of v.members c.args.client ≡ Some c.in-Some.old = sym (ap (λ (u : MasterSet). member_of u.members c.args.client) c.self.view_is) ∙ sym c.get.ensures ∙ c.in-Some.is in
-    let y = calls.owner c.args.client c.args.step_number in
-    let items : c.remake.new.self.items ≡ map (λ (u : Member). if is_client y.client u then y else u) c.self.inside.members.items = c.in_default-remake.ensures.rows ∙ ap (λ (z : Member). map (λ (u : Member). if is_client z.client u then z else u) c.self.inside.members.items) c.owner-founder.ensures in
-    ap (λ (x : Member). is_some (member_of c.remake.new.self.items x.client)) c.owner-founder.ensures
-    ∙ ap (λ l. is_some (member_of l c.args.client)) (items ∙ ap (λ (u : MasterSet). map (λ (x : Member). if is_client y.client x then y else x) u.members) c.self.view_is)
-    ∙ ap is_some (remade_there v.members y c.in-Some.old look)
-
--- the founder alone is current after it, and masters that nobody needs have gone
-alone_current : (v : MasterSet) (are : AreMasters v) (y x : Member) → member_of v.members y.client ≡ Some x → (z : Master) → IsFresh v.masters z.step_number →
-    let new = calls.with_device (Some z.step_number) (calls.changed_member y (calls.with_master z v)) in
-    AreTied new → (k : ℕ) → (((k == y.client) && is_current_among (swept new).masters (Some z.step_number) y) || false) ≡ is_current (swept new) k
-alone_current v are y x look z fresh t k =
-    let new = calls.with_device (Some z.step_number) (calls.changed_member y (calls.with_master z v)) in
-    elim (k == y.client) as (λ b. (k == y.client) ≡ b → ((b && is_current_among (swept new).masters (Some z.step_number) y) || false) ≡ is_current (swept new) k) [
-      | true ↦ λ e.
-          or_false (is_current_among (swept new).masters (Some z.step_number) y)
-          ∙ sym (ap (λ o. option_map_or (is_current_among (swept new).masters (Some z.step_number)) o false) (ap (member_of new.members) (eqb-true k y.client e) ∙ remade_there v.members y x look))
-      | false ↦ λ e.
-          sym (swept_same new t k ∙ ap (λ o. option_map_or (is_current_among new.masters (Some z.step_number)) o false) (others_put v.members y k e) ∙ none_yet v are z fresh k)
-    ] refl
-  where
-    or_false : (b : Bool) → (b || false) ≡ b
-    or_false true = refl
-    or_false false = refl
-
 pub invariant_of-self-2 : goal.invariant_of-self-2
 invariant_of-self-2 c =
     let v = c.args.self.now in
@@ -157,16 +105,9 @@ invariant_of-self-2 c =
     let masters : c.insert.new.self.items ≡ placed master_before z c.self.inside.masters.items = c.in-Ok.ensures.ok ∙ ap (λ (u : Master). placed master_before (calls.keyed_as key u) c.self.inside.masters.items) c.founded_master.ensures in
     let new = calls.with_device (Some b) (calls.changed_member y (calls.with_master z v)) in
     let mem = c.remake.new.self.items in
-    let mem_flags = c.remake.new.self.flags in
     let left = λ (l : List Member) (ms : List Master). let r : MasterSet = record { members = l; masters = filter (λ (u : Master). is_living l ms u.step_number) ms; device_master = Some b; last_magic = c.self.inside.last_magic; last_lessee = c.self.inside.last_lessee } in r in
     let swept_is : left mem c.insert.new.self.items ≡ swept new = (λ i. left (items i) (masters i)) ∙ ap (λ (u : MasterSet). swept (calls.with_device (Some b) (calls.changed_member y (calls.with_master z u)))) c.self.view_is in
-    let path : left mem c.insert.new.self.items ≡ swept new = swept_is in
     sound _ (swept new)
-    ((λ i. record (set_of c.self.inside) { members = (c.flag_if_current.ensures.rows i); masters = c.sweep_up.ensures i; device_master = Some b }) ∙ path)
+    ((λ i. record (set_of c.self.inside) { members = mem; masters = c.sweep_up.ensures i; device_master = Some b }) ∙ swept_is)
     (swept_are new t)
     (keyed_fewer new.masters (λ (u : Master). is_living new.members new.masters u.step_number) (keyed_more v.masters z key so.are.masters_rise so.keyed (ap (λ (w : MasterSet). find (is_key key) w.masters) (sym c.self.view_is) ∙ c.in-Ok.ensures.free) refl))
-    (λ k.
-    let unflagged : set.contains mem_flags k ≡ false = ap (λ (s : set.FinSet nat_cmp). set.contains s k) c.in_default-remake.ensures.flags ∙ so.flagged k ∙ ap (λ d. current_in v.members v.masters d k) c.requires.none ∙ no_device v.members v.masters k in
-    c.flag_if_current.ensures.flags k
-    ∙ (λ i. ((k == (c.owner-founder.ensures i).client) && is_current_among ((c.sweep_up.ensures ∙ ap (λ (u : MasterSet). u.masters) swept_is) i) (Some b) (c.owner-founder.ensures i)) || unflagged i)
-    ∙ alone_current v so.are y x look z (so.are.masters_rise, c.requires.new_step_number) t k)

@@ -1,4 +1,5 @@
-use Rattle.std.proofs.Common.{◌≡◌, Bool, true, false, not, Option, None, Some, map, refl, sym, ap, subst, ◌∙◌, arith, nat_cmp}
+use Rattle.std.proofs.Common.{◌≡◌, false, not, Option, None, Some, map, refl, sym, ap, subst, ◌∙◌, arith}
+use Rattle.std.proofs.lemmas.Bool.{not-true}
 use Rattle.std.specs.Prelude.{if◌then◌else◌, IfSome}
 use Rattle.std.specs.List.{list_any}
 use Rattle.drm_index_array.specs.Least.{least}
@@ -10,8 +11,6 @@ use Rattle.drm_masters.specs.Masters.{MasterSet, member_of, is_client, has_magic
 use Rattle.drm_masters.specs.Calls as calls
 use Rattle.drm_masters.proofs.Numbered.{number_free}
 use Rattle.drm_masters.proofs.Sound.{sound, given_are, client_found, known}
-use Rattle.std.specs.FinSet as set
-use Rattle.drm_masters.proofs.Flagged.{one_changed}
 use Rattle.drm_masters.proofs.masters.Masters.magic.Goals as goal
 
 pub unreachable-requires-in_default-free_magic : goal.unreachable-requires-in_default-free_magic
@@ -39,16 +38,11 @@ invariant_of-self c =
     let x = c.in-Some.member in
     let n = c.in-Some-free_magic.number in
     let y = calls.with_magic n false x in
-    let items : c.set.new.self.items ≡ map (λ (x : Member). if is_client y.client x then y else x) c.self.inside.members.items = c.set.ensures.rows ∙ ap (λ (z : Member). map (λ (x : Member). if is_client z.client x then z else x) c.self.inside.members.items) c.with_magic.ensures in
+    let items : c.set.new.self.items ≡ map (λ (x : Member). if is_client y.client x then y else x) c.self.inside.members.items = c.set.ensures ∙ ap (λ (z : Member). map (λ (x : Member). if is_client z.client x then z else x) c.self.inside.members.items) c.with_magic.ensures in
     let least_is : least (λ k. not (list_any (has_magic x.master k) c.args.self.now.members)) 1 c.self.inside.last_magic ≡ Some n = sym (ap (λ (w : MasterSet). least (λ k. not (list_any (has_magic x.master k) w.members)) 1 c.self.inside.last_magic) c.self.view_is) ∙ sym c.free_magic.ensures ∙ c.in-Some-free_magic.is in
     let free = (least_some (λ k. not (list_any (has_magic x.master k) c.args.self.now.members)) 1 c.self.inside.last_magic n least_is).passes in
     sound _ (calls.changed_member y c.args.self.now) ((λ i. record (set_of c.self.inside) { members = items i }) ∙ ap (calls.changed_member y) c.self.view_is)
-    (given_are c.args.self.now so.are x (client_found c.args.self.now.members c.args.client x look).1 n (is_free _ free)) so.keyed
-    (λ k. ap (λ (t : set.FinSet nat_cmp). set.contains t k) c.set.ensures.flags ∙ so.flagged k ∙ sym (one_changed c.args.self.now.members x y c.args.self.now.masters c.args.self.now.device_master (client_found c.args.self.now.members c.args.client x look).1 refl refl refl k))
-  where
-    is_free : (b : Bool) → not b ≡ true → b ≡ false
-    is_free true h = absurd (let e : false ≡ true = h in cc)
-    is_free false h = refl
+    (given_are c.args.self.now so.are x (client_found c.args.self.now.members c.args.client x look).1 n (not-true _ free)) so.keyed
 
 pub returns-clause-given : goal.returns-clause-given
 returns-clause-given c =
@@ -57,7 +51,7 @@ returns-clause-given c =
     let n = c.in-Some-free_magic.number in
     let y = calls.with_magic n false x in
     let new : MasterSet = record { members = c.set.new.self.items; masters = c.self.inside.masters.items; device_master = c.self.inside.device_master; last_magic = c.self.inside.last_magic; last_lessee = c.self.inside.last_lessee } in
-    let items : c.set.new.self.items ≡ map (λ (x : Member). if is_client y.client x then y else x) c.self.inside.members.items = c.set.ensures.rows ∙ ap (λ (z : Member). map (λ (x : Member). if is_client z.client x then z else x) c.self.inside.members.items) c.with_magic.ensures in
+    let items : c.set.new.self.items ≡ map (λ (x : Member). if is_client y.client x then y else x) c.self.inside.members.items = c.set.ensures ∙ ap (λ (z : Member). map (λ (x : Member). if is_client z.client x then z else x) c.self.inside.members.items) c.with_magic.ensures in
     let least_is : least (λ k. not (list_any (has_magic x.master k) c.args.self.now.members)) 1 c.args.self.now.last_magic ≡ Some n = sym (ap (λ (w : MasterSet). least (λ k. not (list_any (has_magic x.master k) w.members)) 1 w.last_magic) c.self.view_is) ∙ sym c.free_magic.ensures ∙ c.in-Some-free_magic.is in
     let given : calls.GaveMagic c.args.self.now x x.magic n new = subst (λ (g : Option Magic). calls.GaveMagic c.args.self.now x g n new) (sym c.in_default-magic.is) (least_is, (λ i. record (set_of c.self.inside) { members = items i }) ∙ ap (calls.changed_member y) c.self.view_is) in
     subst (λ o. IfSome o (λ (z : Member). calls.GaveMagic c.args.self.now z z.magic n new)) (sym look) given

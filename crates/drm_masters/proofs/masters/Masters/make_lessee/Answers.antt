@@ -8,7 +8,7 @@ use Rattle.drm_masters.specs.Fields.{set_of}
 use Rattle.drm_masters.specs.Masters.{MasterSet, HasOlderLessor, master_before, master_at, step_number_at, is_key, owner_of, is_lessee_of, free_lessee}
 use Rattle.drm_masters.specs.Calls as calls
 use Rattle.drm_masters.proofs.Living.{IsFresh}
-use Rattle.drm_masters.proofs.Sound.{sound, lessee_are, keyed_more, pushed_same, of_key, known}
+use Rattle.drm_masters.proofs.Sound.{sound, lessee_are, keyed_more, of_key, known}
 use Rattle.drm_masters.proofs.masters.Masters.make_lessee.Goals as goal
 use Rattle.std.proofs.lemmas.Bool.{not-true}
 
@@ -49,7 +49,6 @@ invariant_of-self-2 c =
     sound _ (calls.with_master z c.args.self.now) ((λ i. record (set_of c.self.inside) { masters = masters i }) ∙ ap (calls.with_master z) c.self.view_is)
     (lessee_are c.args.self.now so.are z refl (λ l e. subst (λ n. (is_some (master_at c.args.self.now.masters n) ≡ true) × (n < c.args.birth)) (let s : Some m ≡ Some l = e in let t : m ≡ l = cc in t) (its.1, subst (λ n. n < c.args.birth) its.0 c.requires.later)) fresh)
     (keyed_more c.args.self.now.masters z c.in-Ok.key so.are.masters_rise so.keyed (ap (λ (w : MasterSet). find (is_key c.in-Ok.key) w.masters) (sym c.self.view_is) ∙ c.in-Ok.ensures.free) refl)
-    (λ k. so.flagged k ∙ sym (pushed_same c.args.self.now so.are z fresh k))
 
 pub returns-clause-made : goal.returns-clause-made
 returns-clause-made c =

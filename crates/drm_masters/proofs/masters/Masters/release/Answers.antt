@@ -7,7 +7,7 @@ use Rattle.drm_masters.specs.Masters.{MasterSet, HasOlderLessor, is_living, swep
 use Rattle.drm_masters.specs.Calls as calls
 use Rattle.drm_masters.proofs.Pushed.{kept_keyed}
 use Rattle.drm_masters.proofs.Upward.{OthersUsed}
-use Rattle.drm_masters.proofs.Sound.{sound, swept_are, kept_ties, released_used, keyed_fewer, swept_same, kept_same, known}
+use Rattle.drm_masters.proofs.Sound.{sound, swept_are, kept_ties, released_used, keyed_fewer, known}
 use Rattle.drm_masters.proofs.masters.Masters.release.Goals as goal
 
 pub sweep_up-requires : goal.sweep_up-requires
@@ -37,4 +37,3 @@ invariant_of-self c =
     )
     (swept_are new (kept_ties c.args.self.now so.are c.in-Some.released.step_number false))
     (keyed_fewer new.masters (λ (u : Master). is_living v.members new.masters u.step_number) (kept_keyed c.in-Some.released.step_number false v.masters so.keyed))
-    (λ k. so.flagged k ∙ sym (swept_same new (kept_ties c.args.self.now so.are c.in-Some.released.step_number false) k ∙ kept_same v c.in-Some.released.step_number false k))

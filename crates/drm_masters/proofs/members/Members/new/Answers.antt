@@ -1,5 +1,4 @@
-use Rattle.std.proofs.Common.{ap, ◌∙◌, nat_cmp}
-use Rattle.std.specs.FinSet as set
+use Rattle.std.proofs.Common.{ap, ◌∙◌}
 use Rattle.drm_index_array.specs.Indexed.{Indexed}
 use Rattle.drm_id_alloc.specs.Groups.{has}
 use Rattle.drm_id_alloc.proofs.GroupLemmas.{grouped_empty}
@@ -12,8 +11,5 @@ use Rattle.drm_masters.proofs.members.Members.new.Goals as goal
 pub invariant_of-result : goal.invariant_of-result
 invariant_of-result c = grouped_empty master_of c.new.result.items (has c.new-2.result) (ap (λ (a : Indexed Membership). a.items) c.new.ensures) c.new-2.ensures
 
-pub returns-clause-none : goal.returns-clause-none
-returns-clause-none c = ap (λ (a : Indexed Membership). members_in a.items) c.new.ensures ∙ no_clients
-
-pub returns-clause-unflagged : goal.returns-clause-unflagged
-returns-clause-unflagged c = λ k. ap (λ (a : Indexed Membership). set.contains a.m0 k) c.new.ensures ∙ set.contains-empty nat_cmp k
+pub returns : goal.returns
+returns c = λ i. record { items = (ap (λ (a : Indexed Membership). members_in a.items) c.new.ensures ∙ no_clients) i }

@@ -10,8 +10,8 @@ use Rattle.drm_masters.proofs.Listed.{client_removed}
 use Rattle.drm_masters.proofs.Named.{master_of}
 use Rattle.drm_masters.proofs.members.Members.remove.Goals as goal
 
-pub returns-in_default-clause-rows : goal.returns-in_default-clause-rows
-returns-in_default-clause-rows c =
+pub returns-in_default : goal.returns-in_default
+returns-in_default c =
     ap (λ (a : Indexed Membership). members_in a.items) c.remove.ensures.after ∙ client_removed c.self.inside.clients.items c.args.client
     ∙ ap (λ (v : MemberRows). filter (λ (x : Member). not (is_client c.args.client x)) v.items) c.self.view_is
 
@@ -20,7 +20,7 @@ invariant_of-self-2 c =
     rw c.remove.ensures.after
     (grouped_fewer master_of c.self.inside.clients.items (has c.self.inside.named) (has c.forget.new.self) c.self.invariant c.args.client c.in-Some.kept c.in-Some.kept.master (sym c.in-Some.ensures.value) refl c.forget.ensures)
 
-pub returns-clause-rows : goal.returns-clause-rows
-returns-clause-rows c =
+pub returns : goal.returns
+returns c =
     ap (λ (a : Indexed Membership). members_in a.items) c.remove.ensures.after ∙ client_removed c.self.inside.clients.items c.args.client
     ∙ ap (λ (v : MemberRows). filter (λ (x : Member). not (is_client c.args.client x)) v.items) c.self.view_is

@@ -10,8 +10,8 @@ use Rattle.drm_masters.proofs.Listed.{client_is, client_absent, client_changed}
 use Rattle.drm_masters.proofs.Named.{master_of}
 use Rattle.drm_masters.proofs.members.Members.set.Goals as goal
 
-pub returns-in_default-clause-rows : goal.returns-in_default-clause-rows
-returns-in_default-clause-rows c = rw (← c.self.view_is) (client_absent c.self.inside.clients.items c.args.member.client c.args.member (sym c.in_default.ensures.value))
+pub returns-in_default : goal.returns-in_default
+returns-in_default c = rw (← c.self.view_is) (client_absent c.self.inside.clients.items c.args.member.client c.args.member (sym c.in_default.ensures.value))
 
 pub invariant_of-self-2 : goal.invariant_of-self-2
 invariant_of-self-2 c =
@@ -23,5 +23,5 @@ invariant_of-self-2 c =
     let same : x.master ≡ c.args.member.master = subst (λ o. IfSome o (λ (y : Member). y.master ≡ c.args.member.master)) look c.requires.stays in
     grouped_kept master_of clients (has c.self.inside.named) (has c.self.inside.named) c.self.invariant n x c.kept_of.result there (ap (λ (y : Member). y.master) c.kept_of.ensures ∙ sym same)
 
-pub returns-clause-rows : goal.returns-clause-rows
-returns-clause-rows c = rw (← c.self.view_is) (client_changed c.self.inside.clients.items c.args.member.client c.in-Some.kept.now c.kept_of.result c.args.member c.kept_of.ensures (sym c.in-Some.ensures.value))
+pub returns : goal.returns
+returns c = rw (← c.self.view_is) (client_changed c.self.inside.clients.items c.args.member.client c.in-Some.kept.now c.kept_of.result c.args.member c.kept_of.ensures (sym c.in-Some.ensures.value))
