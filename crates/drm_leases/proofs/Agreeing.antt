@@ -1,5 +1,6 @@
 -- Leases agree with masters after each change of these.
 use Rattle.std.proofs.Common.{◌≡◌, ℕ, ◌<◌, ◌==◌, Bool, true, false, cond, not, ◌&&◌, ◌||◌, List, [], ◌∷◌, ◌++◌, map, filter, find, Option, None, Some, refl, sym, ap, subst, ◌∙◌, eq-eqb}
+use Rattle.std.proofs.Math.Bool.{and_comm}
 use Rattle.std.specs.Prelude.{if◌then◌else◌}
 use Rattle.std.specs.List.{list_any, AllByRecursion}
 use Rattle.std.specs.Option.{is_some, option_map, option_map_or, option_and_then}
@@ -303,15 +304,9 @@ agreed_changed members x y ms xs rise look own h = each xs (λ a. other_members 
 pub leased_out_is : (members : List Member) (ms : List Master) (rows : List Lease) → AllByRecursion (IsAgreed members ms) (lendings_in rows) → (m x : ℕ) → is_leased_out (grants_in rows) ms m x ≡ is_lent rows m x
 leased_out_is members ms rows h m x = any_with (λ (g : Grant). (g.mode_object == x) && is_option m (lessor_of ms g.master)) (λ n. is_option m (lessor_of ms n)) x (λ g. refl) rows ∙ lent rows h
   where
-    swap : (a b : Bool) → (a && b) ≡ (b && a)
-    swap true true = refl
-    swap true false = refl
-    swap false true = refl
-    swap false false = refl
-
     lent : (rows : List Lease) → AllByRecursion (IsAgreed members ms) (lendings_in rows) → list_any (λ (a : Lease). has_object a.objects x && is_option m (lessor_of ms a.lessee)) rows ≡ is_lent rows m x
     lent [] h = refl
-    lent (a ∷ rows) h = λ i. (ap (λ o. has_object a.objects x && is_option m o) h.0.0 ∙ swap (has_object a.objects x) (a.lessor == m)) i || lent rows h.1 i
+    lent (a ∷ rows) h = λ i. (ap (λ o. has_object a.objects x && is_option m o) h.0.0 ∙ and_comm (has_object a.objects x) (a.lessor == m)) i || lent rows h.1 i
 
 -- ---- tokens
 

@@ -1,9 +1,11 @@
 -- The masters below one are its direct lessees and those below them.
 use Rattle.std.proofs.Common.{◌≡◌, ℕ, suc, zero, ◌+◌, ◌<◌, ◌≤◌, ◌==◌, Bool, true, false, cond, not, ◌&&◌, ◌||◌, List, [], ◌∷◌, filter, take, length, Option, None, Some, refl, sym, ap, subst, ◌∙◌, inl, inr, arith, eq-eqb}
+use Rattle.std.proofs.Math.Bool.{and-true}
+use Rattle.drm_masters.proofs.Living.{same_bool}
 use Rattle.std.specs.Prelude.{slice_get, ◌⊎◌}
 use Rattle.std.specs.List.{list_any, AllByRecursion}
 use Rattle.std.specs.Option.{option_and_then}
-use Rattle.std.proofs.lemmas.Bool.{eqb-true, false≢true, or_left, or_right}
+use Rattle.std.proofs.lemmas.Bool.{eqb-true, false≢true, or_left, or_right, and_parts}
 use Rattle.std.proofs.lemmas.Option.{slice_get_within}
 use Rattle.drm_lists.specs.Chains.{chain_within, is_under}
 use Rattle.drm_lists.specs.Numbers.{is_among}
@@ -55,16 +57,6 @@ take_past [] zero h = refl
 take_past [] (suc i) h = refl
 take_past (x ∷ xs) zero h = absurd (let n : Some x ≡ None = h in cc)
 take_past (x ∷ xs) (suc i) h = ap (λ l. x ∷ l) (take_past xs i h)
-
-both_ways : (b c : Bool) → (b ≡ true → c ≡ true) → (c ≡ true → b ≡ true) → b ≡ c
-both_ways true true f g = refl
-both_ways true false f g = sym (f refl)
-both_ways false true f g = g refl
-both_ways false false f g = refl
-
-both_of : (b c : Bool) → (b && c) ≡ true → (b ≡ true) × (c ≡ true)
-both_of true c h = (refl, h)
-both_of false c h = absurd (false≢true h)
 
 any_where : {X : Type 0} (p q : X → Bool) → (xs : List X) → list_any (λ x. q x && p x) xs ≡ true → list_any p (filter q xs) ≡ true
 any_where p q [] h = h
@@ -125,7 +117,7 @@ module _ (v : MasterSet) (are : AreMasters v) where
       )
 
   pub below_by_lessees : (m n : ℕ) → is_below v.masters m n ≡ list_any (λ y. is_under above y n) (lessees_of v.masters m)
-  below_by_lessees m n = both_ways (is_below v.masters m n) (list_any (λ y. is_under above y n) (lessees_of v.masters m)) down up
+  below_by_lessees m n = same_bool (is_below v.masters m n) (list_any (λ y. is_under above y n) (lessees_of v.masters m)) down up
     where
       listed : (y : ℕ) → above y ≡ Some m → is_under above y n ≡ true → list_any (λ y. is_under above y n) (lessees_of v.masters m) ≡ true
       listed y e under =
@@ -138,7 +130,7 @@ module _ (v : MasterSet) (are : AreMasters v) where
 
       down : is_below v.masters m n ≡ true → list_any (λ y. is_under above y n) (lessees_of v.masters m) ≡ true
       down h =
-          let w = both_of (is_under above m n) (not (n == m)) h in
+          let w = and_parts (is_under above m n) (not (n == m)) h in
           by_child (child above n m n w.0) w.1
         where
           by_child : (m ≡ n) ⊎ ((y : ℕ) × (above y ≡ Some m) × (is_among (chain_within n above n) y ≡ true)) → not (n == m) ≡ true → list_any (λ y. is_under above y n) (lessees_of v.masters m) ≡ true
@@ -183,12 +175,8 @@ under_is : (ms : List Master) (top n : ℕ) → (not (n == top) && not (is_below
 under_is ms top n =
     elim (n == top) as (λ b. (n == top) ≡ b → (not b && not (is_under (lessor_of ms) top n && not b)) ≡ not (is_under (lessor_of ms) top n)) [
       | true ↦ λ e. ap not (sym (ap (λ k. is_under (lessor_of ms) k n) (sym (eqb-true n top e)) ∙ itself (lessor_of ms) n n))
-      | false ↦ λ e. ap not (kept (is_under (lessor_of ms) top n))
+      | false ↦ λ e. ap not (and-true (is_under (lessor_of ms) top n))
     ] refl
-  where
-    kept : (b : Bool) → (b && true) ≡ b
-    kept true = refl
-    kept false = refl
 
 pub under_ended : {X : Type 0} (lessee : X → ℕ) (ms : List Master) (top : ℕ) (rows : List X) → filter (λ x. not (is_below ms top (lessee x))) (filter (λ x. not (lessee x == top)) rows) ≡ filter (λ x. not (is_under (lessor_of ms) top (lessee x))) rows
 under_ended lessee ms top rows =

@@ -1,5 +1,6 @@
 -- Which mode objects a word stands for.
 use Rattle.std.proofs.Common.{◌≡◌, ℕ, zero, suc, ◌+◌, ◌-◌, ◌*◌, ◌%◌, ◌^◌, ◌<◌, ◌≤◌, ◌==◌, nat_lt, Bool, true, false, cond, not, min, max, ◌&&◌, ◌||◌, List, [], ◌∷◌, ◌++◌, filter, length, w64, eqb, refl, sym, ap, ◌∙◌, inl, inr, arith, append-nil}
+use Rattle.std.proofs.Math.Bool.{and-false, and-true, or-false}
 use Rattle.std.specs.Prelude.{nat_le, if◌then◌else◌}
 use Rattle.std.specs.List.{AllByRecursion}
 use Rattle.std.specs.Int.RustNames.{bit_and, bit_or}
@@ -114,23 +115,15 @@ mask_objects p n mask le has =
     let all : 64 ≡ n + more = omega (arith, le) in
     let q = has_object mask in
     ap (λ k. filter q (numbers_from 1 k)) all ∙ split_at q 1 n more
-    ∙ ap (λ l. filter q (numbers_from 1 n) ++ l) (rest_none q (1 + n) more (λ x low. has x ∙ among_passing p x (numbers_from 1 n) ∙ ap (λ b. p x && b) (is_among-numbers_from 1 n x ∙ above x n low) ∙ and_none (p x)))
+    ∙ ap (λ l. filter q (numbers_from 1 n) ++ l) (rest_none q (1 + n) more (λ x low. has x ∙ among_passing p x (numbers_from 1 n) ∙ ap (λ b. p x && b) (is_among-numbers_from 1 n x ∙ above x n low) ∙ and-false (p x)))
     ∙ append-nil (filter q (numbers_from 1 n))
-    ∙ filter-same q p (numbers_from 1 n) (inside 1 n (λ x low high. has x ∙ among_passing p x (numbers_from 1 n) ∙ ap (λ b. p x && b) (is_among-numbers_from 1 n x ∙ within x n low high) ∙ and_all (p x)))
+    ∙ filter-same q p (numbers_from 1 n) (inside 1 n (λ x low high. has x ∙ among_passing p x (numbers_from 1 n) ∙ ap (λ b. p x && b) (is_among-numbers_from 1 n x ∙ within x n low high) ∙ and-true (p x)))
   where
     above : (x n : ℕ) → 1 + n ≤ x → (nat_le 1 x && nat_lt x (1 + n)) ≡ false
     above x n low = grind (arith, nat_tests)
 
     within : (x n : ℕ) → 1 ≤ x → x < 1 + n → (nat_le 1 x && nat_lt x (1 + n)) ≡ true
     within x n low high = grind (arith, nat_tests)
-
-    and_none : (b : Bool) → (b && false) ≡ false
-    and_none true = refl
-    and_none false = refl
-
-    and_all : (b : Bool) → (b && true) ≡ b
-    and_all true = refl
-    and_all false = refl
 
     inside : (first count : ℕ) → ((x : ℕ) → first ≤ x → x < first + count → has_object mask x ≡ p x) → AllByRecursion (λ x. has_object mask x ≡ p x) (numbers_from first count)
     inside first zero h = tt
@@ -149,11 +142,7 @@ are_fixed p n le = each 1 n (omega arith) (omega (arith, le))
 
 -- one number more in a list
 pub among_pushed : (xs : List ℕ) (id x : ℕ) → is_among (xs ++ id ∷ []) x ≡ (is_among xs x || (id == x))
-among_pushed [] id x = or_false (id == x)
-  where
-    or_false : (b : Bool) → (b || false) ≡ b
-    or_false true = refl
-    or_false false = refl
+among_pushed [] id x = or-false (id == x)
 among_pushed (y ∷ ys) id x = ap (λ b. (y == x) || b) (among_pushed ys id x) ∙ grouped (y == x) (is_among ys x) (id == x)
   where
     grouped : (a b c : Bool) → (a || (b || c)) ≡ ((a || b) || c)

@@ -2,7 +2,7 @@
 use Rattle.std.proofs.Common.{◌≡◌, ℕ, ◌+◌, ◌==◌, nat_lt, Bool, true, false, not, ◌&&◌, ◌||◌, List, [], ◌∷◌, ◌++◌, length, Option, None, Some, refl, sym, ap, ◌∙◌, eq-eqb, arith}
 use Rattle.std.specs.Prelude.{if◌then◌else◌, nat_le}
 use Rattle.std.specs.List.{list_any, list_all, AllByRecursion}
-use Rattle.std.proofs.lemmas.Bool.{or_right, eqb-true}
+use Rattle.std.proofs.lemmas.Bool.{or_right, eqb-true, and_parts, not-true}
 use Rattle.std.proofs.lemmas.Bool.Decides.{nat_tests}
 use Rattle.drm_lists.specs.Numbers.{is_among}
 use Rattle.std.specs.Option.{is_some}
@@ -22,10 +22,6 @@ use Rattle.drm_leases.specs.Calls.{listed_objects}
 use Rattle.drm_leases.specs.Masks.{is_empty, has_object, objects_in}
 use Rattle.drm_leases.specs.Rules.{lease_checks, lease_rules, leased, may_lease, is_seen, is_leasable, stands_once, is_lease}
 use Rattle.drm_leases.proofs.Bits.{among_passing, among_objects}
-
-both : (a b : Bool) → (a && b) ≡ true → (a ≡ true) × (b ≡ true)
-both true b h = (refl, h)
-both false b h = absurd (let e : false ≡ true = h in cc)
 
 pub some_none : {X : Type 0} (o : Option X) → is_some o ≡ true → o ≡ None → ⊥
 some_none None h e = let j : false ≡ true = h in cc
@@ -121,11 +117,7 @@ pub unlent : (l : LeaseSet) (v : MasterSet) (s : ModeSet) (m : ℕ) (universal :
 unlent l v s m universal ids h mask listed x has =
     let all = leased l v s m universal ids in
     let among : (is_among all x && is_among (numbers_from 1 (object_count s.topology)) x) ≡ true = sym (among_passing (is_among all) x (numbers_from 1 (object_count s.topology))) ∙ ap (λ l. is_among l x) (sym listed) ∙ among_objects mask x ∙ has in
-    none_among (is_leased_out l.grants v.masters m) all x (none (list_any (is_leased_out l.grants v.masters m) all) (each_holds (lease_rules l v s m universal ids (is_some (next_token l))) h).1.1.1.1.1.0) (both (is_among all x) (is_among (numbers_from 1 (object_count s.topology)) x) among).0
-  where
-    none : (b : Bool) → not b ≡ true → b ≡ false
-    none true e = absurd (let j : false ≡ true = e in cc)
-    none false e = refl
+    none_among (is_leased_out l.grants v.masters m) all x (not-true (list_any (is_leased_out l.grants v.masters m) all) (each_holds (lease_rules l v s m universal ids (is_some (next_token l))) h).1.1.1.1.1.0) (and_parts (is_among all x) (is_among (numbers_from 1 (object_count s.topology)) x) among).0
 
 -- one that passes, and stands in the list
 passing : (p : ℕ → Bool) → (ids : List ℕ) → list_any p ids ≡ true → (x : ℕ) × (p x ≡ true) × (is_among ids x ≡ true)
@@ -143,7 +135,7 @@ filled (y ∷ ys) x h = refl
 -- a lease has a mode object, whatever comes along
 pub lease_filled : (t : Topology) (universal : Bool) (ids along : List ℕ) → is_lease t universal ids ≡ true → is_empty (listed_objects t (ids ++ along)) ≡ false
 lease_filled t universal ids along h =
-    let w = passing (is_crtc t) ids (both (list_any (is_crtc t) ids) (list_any (is_connector t) ids) (both (list_any (is_crtc t) ids && list_any (is_connector t) ids) (not universal || list_any (is_plane t) ids) h).0).0 in
+    let w = passing (is_crtc t) ids (and_parts (list_any (is_crtc t) ids) (list_any (is_connector t) ids) (and_parts (list_any (is_crtc t) ids && list_any (is_connector t) ids) (not universal || list_any (is_plane t) ids) h).0).0 in
     filled (listed_objects t (ids ++ along)) w.0
     (among_passing (is_among (ids ++ along)) w.0 (numbers_from 1 (object_count t)) ∙ ap (λ b. b && is_among (numbers_from 1 (object_count t)) w.0) (among-left ids along w.0 w.2) ∙ is_among-numbers_from 1 (object_count t) w.0 ∙ low w.0 t.crtcs (length t.planes) (length t.encoders) (length t.connectors) (sym (is_among-numbers_from 1 t.crtcs w.0) ∙ w.1))
   where

@@ -1,20 +1,20 @@
 -- The leases as a list of grants, and how it changes.
-use Rattle.std.proofs.Common.{◌≡◌, ℕ, zero, suc, ◌-◌, ◌<◌, ◌≤◌, ◌==◌, nat_lt, Bool, true, false, not, cond, ◌&&◌, ◌||◌, T, List, [], ◌∷◌, ◌++◌, map, filter, find as find_row, length, slice_get, Option, Some, None, option_map, option_and_then, is_some, refl, sym, ap, ◌∙◌, arith, append_assoc, append-nil, nat_cmp, eq-eqb}
+use Rattle.std.proofs.Common.{◌≡◌, ℕ, zero, suc, ◌-◌, ◌<◌, ◌≤◌, ◌==◌, nat_lt, Bool, true, false, not, cond, ◌&&◌, ◌||◌, T, List, [], ◌∷◌, ◌++◌, map, filter, find as find_row, length, slice_get, Option, Some, None, option_map, option_and_then, is_some, refl, sym, ap, ◌∙◌, arith, append_assoc, append-nil, nat_cmp}
 use Rattle.std.specs.List.{list_any, AllByRecursion}
 use Rattle.std.specs.Option.{option_map_or}
 use Rattle.std.specs.Ordering.{eq_by_cmp}
 use Rattle.std.specs.Cmp.{nat_cmp_total}
 use Rattle.std.specs.FinMap as fin
 use Rattle.std.specs.FinMap.Entries.{is_sorted, below_all}
-use Rattle.std.proofs.Math.Bool.{and-false}
-use Rattle.std.proofs.lemmas.Bool.{eqb-true, false≢true, or_right}
+use Rattle.std.proofs.Math.Bool.{and-false, and_comm, and-true, or-false}
+use Rattle.std.proofs.lemmas.Bool.{eqb-true, false≢true}
 use Rattle.std.proofs.lemmas.Bool.Decides.{nat_tests}
 use Rattle.std.proofs.lemmas.List.Folds.{list_any-append}
 use Rattle.drm_index_array.specs.Rows.{placed}
 use Rattle.drm_lists.specs.Orders.{InOrder}
 use Rattle.drm_lists.specs.Numbers.{is_among}
 use Rattle.drm_lists.proofs.Each.{each_fails}
-use Rattle.drm_lists.proofs.Lists.{list_any-map, all_append, all_mapped, all_of_map, all_each, all_weaker}
+use Rattle.drm_lists.proofs.Lists.{list_any-map, all_of_map}
 use Rattle.drm_index_array.proofs.Entries.{same_test, before_test, less_of}
 use Rattle.drm_index_array.proofs.Keyed.{left, right, rows_put, rows_where, find_rows, row_at, rows_length, entries_removed}
 use Rattle.drm_leases.specs.declared.rows.Lease.{Lease}
@@ -55,33 +55,23 @@ any_grant p a b is (x ∷ xs) = list_any-append p (grants_of x) (grants_in xs) �
 
 -- whether some lease is of such a lessee and has the mode object
 pub any_with : (p : Grant → Bool) (a : ℕ → Bool) (id : ℕ) → ((g : Grant) → p g ≡ ((g.mode_object == id) && a g.master)) → (xs : List Lease) → list_any p (grants_in xs) ≡ list_any (λ x. has_object x.objects id && a x.lessee) xs
-any_with p a id is xs = any_grant p a (λ n. n == id) (λ g. is g ∙ swap (g.mode_object == id) (a g.master)) xs ∙ turned xs
+any_with p a id is xs = any_grant p a (λ n. n == id) (λ g. is g ∙ and_comm (g.mode_object == id) (a g.master)) xs ∙ turned xs
   where
-    swap : (b c : Bool) → (b && c) ≡ (c && b)
-    swap true true = refl
-    swap true false = refl
-    swap false true = refl
-    swap false false = refl
-
     turned : (ys : List Lease) → list_any (λ x. a x.lessee && is_among (objects_in x.objects) id) ys ≡ list_any (λ x. has_object x.objects id && a x.lessee) ys
     turned [] = refl
-    turned (y ∷ ys) = λ i. (ap (λ b. a y.lessee && b) (among_objects y.objects id) ∙ swap (a y.lessee) (has_object y.objects id)) i || turned ys i
+    turned (y ∷ ys) = λ i. (ap (λ b. a y.lessee && b) (among_objects y.objects id) ∙ and_comm (a y.lessee) (has_object y.objects id)) i || turned ys i
 
 -- whether some lease is of such a lessee, where each has a mode object
 pub any_of : (p : Grant → Bool) (a : ℕ → Bool) → ((g : Grant) → p g ≡ a g.master) → (xs : List Lease) → AllByRecursion IsFull xs → list_any p (grants_in xs) ≡ list_any (λ x. a x.lessee) xs
-any_of p a is xs full = any_grant p a (λ id. true) (λ g. is g ∙ sym (and_true (a g.master))) xs ∙ each xs full
+any_of p a is xs full = any_grant p a (λ id. true) (λ g. is g ∙ sym (and-true (a g.master))) xs ∙ each xs full
   where
-    and_true : (b : Bool) → (b && true) ≡ b
-    and_true true = refl
-    and_true false = refl
-
     some : (ids : List ℕ) → is_empty ids ≡ false → list_any (λ id. true) ids ≡ true
     some [] h = absurd (false≢true (sym h))
     some (id ∷ ids) h = refl
 
     each : (ys : List Lease) → AllByRecursion IsFull ys → list_any (λ x. a x.lessee && list_any (λ id. true) (objects_in x.objects)) ys ≡ list_any (λ x. a x.lessee) ys
     each [] h = refl
-    each (y ∷ ys) h = λ i. (ap (λ b. a y.lessee && b) (some (objects_in y.objects) h.0) ∙ and_true (a y.lessee)) i || each ys h.1 i
+    each (y ∷ ys) h = λ i. (ap (λ b. a y.lessee && b) (some (objects_in y.objects) h.0) ∙ and-true (a y.lessee)) i || each ys h.1 i
 
 -- ---- of one lessee
 
@@ -104,13 +94,9 @@ any_found : (q : Lease → Bool) (m : ℕ) → (xs : List Lease) → Rise xs →
 any_found q m [] h = refl
 any_found q m (x ∷ xs) h =
     elim (is_of m x) as (λ b. is_of m x ≡ b → ((b && q x) || list_any (λ x. is_of m x && q x) xs) ≡ option_map_or q (cond b (Some x) (find_row (is_of m) xs)) false) [
-      | true ↦ λ e. ap (λ b. q x || b) (none_behind q m xs (further m x.lessee xs (sym (eqb-true x.lessee m e)) h.0)) ∙ or_false (q x)
+      | true ↦ λ e. ap (λ b. q x || b) (none_behind q m xs (further m x.lessee xs (sym (eqb-true x.lessee m e)) h.0)) ∙ or-false (q x)
       | false ↦ λ e. any_found q m xs h.1
     ] refl
-  where
-    or_false : (b : Bool) → (b || false) ≡ b
-    or_false true = refl
-    or_false false = refl
 
 abbrev objects_of_lease : Option Lease → List ℕ
 objects_of_lease None = []
@@ -204,14 +190,6 @@ lendings_put new xs =
     let fore = filter (λ (x : Lease). lease_before x new) xs in
     let behind = filter (λ (x : Lease). not (lease_before x new)) xs in
     lendings_both fore (new ∷ behind) ∙ (λ i. lendings_where (λ n. nat_lt n m) xs i ++ lending_of new ∷ lendings_where (λ n. not (nat_lt n m)) xs i)
-
--- a grant's lessee has a lease
-pub grants_of_leases : (xs : List Lease) → AllByRecursion (λ (g : Grant). has_some_lease (lendings_in xs) g.master ≡ true) (grants_in xs)
-grants_of_leases [] = tt
-grants_of_leases (x ∷ xs) =
-    all_append (λ (g : Grant). has_some_lease (lendings_in (x ∷ xs)) g.master ≡ true) (grants_of x) (grants_in xs)
-    (all_mapped (λ (g : Grant). has_some_lease (lendings_in (x ∷ xs)) g.master ≡ true) (λ id. record { master = x.lessee; mode_object = id }) (objects_in x.objects) (all_each (λ id. has_some_lease (lendings_in (x ∷ xs)) x.lessee ≡ true) (λ id. ap (λ b. b || has_some_lease (lendings_in xs) x.lessee) (eq-eqb x.lessee x.lessee refl)) (objects_in x.objects)))
-    (all_weaker (λ (g : Grant). has_some_lease (lendings_in xs) g.master ≡ true) (λ (g : Grant). has_some_lease (lendings_in (x ∷ xs)) g.master ≡ true) (λ g h. or_right (x.lessee == g.master) (has_some_lease (lendings_in xs) g.master) h) (grants_in xs) (grants_of_leases xs))
 
 -- no lease is of a lessee that has none
 pub all_others : (m : ℕ) → (xs : List Lease) → has_some_lease (lendings_in xs) m ≡ false → AllByRecursion (λ (x : Lease). is_of m x ≡ false) xs

@@ -1,9 +1,10 @@
 -- What lessors have lent, as leases come and go.
 use Rattle.std.proofs.Common.{◌≡◌, ℕ, ◌<◌, ◌==◌, nat_lt, eqb, Bool, true, false, cond, not, ◌&&◌, ◌||◌, List, [], ◌∷◌, filter, find, Some, None, refl, sym, ap, subst, ◌∙◌, nat_cmp, eq-eqb}
+use Rattle.std.proofs.Math.Bool.{and-true}
 use Rattle.std.specs.Prelude.{unwrap_or, if◌then◌else◌}
 use Rattle.std.specs.FinMap as fin
 use Rattle.std.specs.List.{AllByRecursion}
-use Rattle.std.proofs.lemmas.Bool.{eqb-true, false≢true}
+use Rattle.std.proofs.lemmas.Bool.{eqb-true, false≢true, and_parts, or_parts}
 use Rattle.drm_lists.specs.Orders.{InOrder}
 use Rattle.drm_index_array.specs.Rows.{placed}
 use Rattle.drm_lists.proofs.Lists.{all_weaker}
@@ -37,14 +38,6 @@ apart_added rows a rise apart unlent =
     test true f = absurd (false≢true (f refl))
     test false f = refl
 
-    both_of : (b c : Bool) → (b && c) ≡ true → (b ≡ true) × (c ≡ true)
-    both_of true c e = (refl, e)
-    both_of false c e = absurd (false≢true e)
-
-    or_none : (b c : Bool) → (b || c) ≡ false → (b ≡ false) × (c ≡ false)
-    or_none true c e = absurd (false≢true (sym e))
-    or_none false c e = (refl, e)
-
     turned : (b : Lease) → AreApart b a → AreApart a b
     turned b h m x lent = test (lends m x b) (λ e. sym (h m x e) ∙ lent)
 
@@ -52,10 +45,10 @@ apart_added rows a rise apart unlent =
     each [] h = tt
     each (b ∷ bs) h = (
       (λ m x lent. test (lends m x a) (λ e.
-          let its = both_of (a.lessor == m) (has_object a.objects x) e in
+          let its = and_parts (a.lessor == m) (has_object a.objects x) e in
           let is : a.lessor ≡ m = eqb-true a.lessor m its.0 in
-          sym (or_none (lends a.lessor x b) (is_lent bs a.lessor x) (h x its.1)).0 ∙ ap (λ n. lends n x b) is ∙ lent)),
-      each bs (λ x has. (or_none (lends a.lessor x b) (is_lent bs a.lessor x) (h x has)).1),
+          sym (or_parts (lends a.lessor x b) (is_lent bs a.lessor x) (h x its.1)).0 ∙ ap (λ n. lends n x b) is ∙ lent)),
+      each bs (λ x has. (or_parts (lends a.lessor x b) (is_lent bs a.lessor x) (h x has)).1),
     )
 
 -- ---- a lease goes
@@ -97,11 +90,7 @@ lent_removed c a m x (b ∷ rows) rise apart h =
   where
     first : (t : Bool) → lends m x b ≡ t → is_lent rows m x ≡ ((lends m x b || is_lent rows m x) && not (lends m x b))
     first true e = not_lends rows b m x apart.0 e ∙ sym (ap (λ t. (t || is_lent rows m x) && not t) e)
-    first false e = sym (ap (λ t. (t || is_lent rows m x) && not t) e ∙ and_true (is_lent rows m x))
-      where
-        and_true : (b : Bool) → (b && true) ≡ b
-        and_true true = refl
-        and_true false = refl
+    first false e = sym (ap (λ t. (t || is_lent rows m x) && not t) e ∙ and-true (is_lent rows m x))
 
     other : (p q r : Bool) → (p ≡ true → r ≡ false) → (p || (q && not r)) ≡ ((p || q) && not r)
     other true q r h = sym (ap (λ t. true && not t) (h refl))

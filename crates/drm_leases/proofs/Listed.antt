@@ -1,12 +1,8 @@
 -- The objects of a lease rise.
-use Rattle.std.proofs.Common.{ℕ, zero, suc, ◌+◌, ◌<◌, List, arith}
+use Rattle.std.proofs.Common.{ℕ, zero, suc, ◌+◌, ◌<◌, arith}
 use Rattle.std.specs.List.{AllByRecursion}
 use Rattle.drm_lists.specs.Orders.{InOrder}
-use Rattle.drm_lists.specs.Numbers.{is_among}
-use Rattle.drm_lists.proofs.Orders.{in_order_filter}
 use Rattle.drm_modes.specs.Numbers.{numbers_from}
-use Rattle.drm_modes.specs.Topology.{Topology, object_count}
-use Rattle.drm_leases.specs.Calls.{listed_objects}
 
 from_on : (n first : ℕ) → n < first → (count : ℕ) → AllByRecursion (λ x. n < x) (numbers_from first count)
 unfolding numbers_from
@@ -17,6 +13,3 @@ pub numbers_rise : (first count : ℕ) → InOrder (λ x y. x < y) (numbers_from
 unfolding numbers_from
 numbers_rise first zero = tt
 numbers_rise first (suc count) = (from_on first (first + 1) (omega arith) count, numbers_rise (first + 1) count)
-
-pub objects_rise : (t : Topology) (ids : List ℕ) → InOrder (λ x y. x < y) (listed_objects t ids)
-objects_rise t ids = in_order_filter (λ x y. x < y) (is_among ids) (numbers_from 1 (object_count t)) (numbers_rise 1 (object_count t))

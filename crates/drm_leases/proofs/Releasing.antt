@@ -1,7 +1,9 @@
 -- Lessees that are released one after the other, each as its open token is taken.
 use Rattle.std.proofs.Common.{◌≡◌, ℕ, ◌==◌, Bool, true, false, not, ◌&&◌, ◌||◌, List, filter, Option, None, Some, refl, sym, ap, ◌∙◌, eq-eqb}
+use Rattle.std.proofs.Math.Bool.{and-true, and-false, or-true}
+use Rattle.drm_masters.proofs.Living.{same_bool}
 use Rattle.std.specs.Option.{is_some, option_map_or}
-use Rattle.std.proofs.lemmas.Bool.{eqb-true, false≢true, and_parts, and_from}
+use Rattle.std.proofs.lemmas.Bool.{eqb-true, false≢true, and_parts, and_from, not-true}
 use Rattle.drm_lists.specs.Chains.{is_under}
 use Rattle.drm_lists.proofs.Each.{any_filter}
 use Rattle.drm_lists.proofs.Chains.{itself}
@@ -15,11 +17,6 @@ use Rattle.drm_leases.specs.Tokens.{LeaseToken}
 use Rattle.drm_leases.specs.Leases.{is_token_of, has_token}
 use Rattle.drm_leases.specs.Agreed.{AreHeld}
 use Rattle.drm_leases.specs.Calls.{is_opened_under, is_opened_below}
-
-same_bool : (a b : Bool) → (a ≡ true → b ≡ true) → (b ≡ true → a ≡ true) → a ≡ b
-same_bool true b f g = sym (f refl)
-same_bool false true f g = g refl
-same_bool false false f g = refl
 
 -- what holds so far: some below the master are released, and have no token any more
 pub record Releasing (v : MasterSet) (rows : List LeaseToken) (top : ℕ) (v2 : MasterSet) (rows2 : List LeaseToken) : Type 0 where
@@ -65,11 +62,7 @@ module _ (v : MasterSet) (are : AreMasters v) (rows : List LeaseToken) (held : A
       spared : (n : ℕ) → has_token rows2 n ≡ true → h.chosen n ≡ false
       spared n t =
           let w = some_passing (is_token_of n) (λ (row : LeaseToken). not (h.chosen row.master) ≡ true) (filter (λ (row : LeaseToken). not (h.chosen row.master)) rows) (filter_true (λ (row : LeaseToken). not (h.chosen row.master)) rows) (ap (λ (l : List LeaseToken). has_token l n) (sym h.tokens_are) ∙ t) in
-          off (h.chosen n) (ap (λ k. not (h.chosen k)) (sym (eqb-true w.0.master n w.1)) ∙ w.2)
-        where
-          off : (b : Bool) → not b ≡ true → b ≡ false
-          off true e = absurd (false≢true e)
-          off false e = refl
+          not-true (h.chosen n) (ap (λ k. not (h.chosen k)) (sym (eqb-true w.0.master n w.1)) ∙ w.2)
 
       -- who has a token yet is there
       pub token_there : (n : ℕ) → has_token rows2 n ≡ true → is_some (master_at v2.masters n) ≡ true
@@ -124,11 +117,7 @@ module _ (v : MasterSet) (are : AreMasters v) (rows : List LeaseToken) (held : A
         all_taken_below =
             h.tokens_are
             ∙ filter-same (λ row. not (h.chosen row.master)) (λ row. not (is_below v.masters top row.master)) rows
-            (all_weaker (λ (row : LeaseToken). has_token rows row.master ≡ true) (λ (row : LeaseToken). not (h.chosen row.master) ≡ not (is_below v.masters top row.master)) (λ row t. ap not (all_chosen row.master ∙ ap (λ b. is_below v.masters top row.master && b) t ∙ plain (is_below v.masters top row.master))) rows (each_is_there (λ (row : LeaseToken). row.master) rows))
-          where
-            plain : (b : Bool) → (b && true) ≡ b
-            plain true = refl
-            plain false = refl
+            (all_weaker (λ (row : LeaseToken). has_token rows row.master ≡ true) (λ (row : LeaseToken). not (h.chosen row.master) ≡ not (is_below v.masters top row.master)) (λ row t. ap not (all_chosen row.master ∙ ap (λ b. is_below v.masters top row.master && b) t ∙ and-true (is_below v.masters top row.master))) rows (each_is_there (λ (row : LeaseToken). row.master) rows))
 
         pub all_released_below : v2 ≡ swept (released (is_opened_below rows v.masters top) v)
         all_released_below = h.masters_are ∙ ap (λ (f : ℕ → Bool). swept (released f v)) (λ i n. all_chosen n i)
@@ -136,11 +125,7 @@ module _ (v : MasterSet) (are : AreMasters v) (rows : List LeaseToken) (held : A
     -- the master itself too
     module _ (v2 : MasterSet) (rows2 : List LeaseToken) (e : v2 ≡ swept (released (is_opened_below rows v.masters top) v)) (f : rows2 ≡ filter (λ row. not (is_below v.masters top row.master)) rows) where
       not_below : is_below v.masters top top ≡ false
-      not_below = ap (λ b. is_under (lessor_of v.masters) top top && not b) (eq-eqb top top refl) ∙ none (is_under (lessor_of v.masters) top top)
-        where
-          none : (b : Bool) → (b && false) ≡ false
-          none true = refl
-          none false = refl
+      not_below = ap (λ b. is_under (lessor_of v.masters) top top && not b) (eq-eqb top top refl) ∙ and-false (is_under (lessor_of v.masters) top top)
 
       its_token : has_token rows2 top ≡ has_token rows top
       its_token =
@@ -166,14 +151,10 @@ module _ (v : MasterSet) (are : AreMasters v) (rows : List LeaseToken) (held : A
       under_or : (n : ℕ) → is_under (lessor_of v.masters) top n ≡ (is_below v.masters top n || (n == top))
       under_or n =
           elim (n == top) as (λ b. (n == top) ≡ b → is_under (lessor_of v.masters) top n ≡ ((is_under (lessor_of v.masters) top n && not b) || b)) [
-            | true ↦ λ k. ap (is_under (lessor_of v.masters) top) (eqb-true n top k) ∙ itself (lessor_of v.masters) top top ∙ sym (all (is_under (lessor_of v.masters) top n && false))
+            | true ↦ λ k. ap (is_under (lessor_of v.masters) top) (eqb-true n top k) ∙ itself (lessor_of v.masters) top top ∙ sym (or-true (is_under (lessor_of v.masters) top n && false))
             | false ↦ λ k. plain (is_under (lessor_of v.masters) top n)
           ] refl
         where
-          all : (b : Bool) → (b || true) ≡ true
-          all true = refl
-          all false = refl
-
           plain : (b : Bool) → b ≡ ((b && true) || false)
           plain true = refl
           plain false = refl
@@ -195,11 +176,7 @@ module _ (v : MasterSet) (are : AreMasters v) (rows : List LeaseToken) (held : A
           each n = by_test (n == top) refl ∙ ap (λ b. b && has_token rows n) (sym (under_or n))
             where
               by_test : (b : Bool) → (n == top) ≡ b → ((is_below v.masters top n && has_token rows n) || b) ≡ ((is_below v.masters top n || b) && has_token rows n)
-              by_test true same = always (is_below v.masters top n && has_token rows n) ∙ sym (ap (λ b. (is_below v.masters top n || true) && b) (ap (has_token rows) (eqb-true n top same) ∙ sym its_token ∙ t) ∙ ap (λ b. b && true) (always (is_below v.masters top n)))
-                where
-                  always : (b : Bool) → (b || true) ≡ true
-                  always true = refl
-                  always false = refl
+              by_test true same = or-true (is_below v.masters top n && has_token rows n) ∙ sym (ap (λ b. (is_below v.masters top n || true) && b) (ap (has_token rows) (eqb-true n top same) ∙ sym its_token ∙ t) ∙ ap (λ b. b && true) (or-true (is_below v.masters top n)))
               by_test false other = off (is_below v.masters top n) (has_token rows n)
                 where
                   off : (a b : Bool) → ((a && b) || false) ≡ ((a || false) && b)
@@ -217,16 +194,8 @@ module _ (v : MasterSet) (are : AreMasters v) (rows : List LeaseToken) (held : A
         where
           other : (n : ℕ) → has_token rows n ≡ true → (b : Bool) → (n == top) ≡ b → is_below v.masters top n ≡ is_under (lessor_of v.masters) top n
           other n has true same = absurd (false≢true (sym t ∙ its_token ∙ ap (has_token rows) (sym (eqb-true n top same)) ∙ has))
-          other n has false differs = ap (λ b. is_under (lessor_of v.masters) top n && not b) differs ∙ plain (is_under (lessor_of v.masters) top n)
-            where
-              plain : (b : Bool) → (b && true) ≡ b
-              plain true = refl
-              plain false = refl
+          other n has false differs = ap (λ b. is_under (lessor_of v.masters) top n && not b) differs ∙ and-true (is_under (lessor_of v.masters) top n)
 
           each : (n : ℕ) (b : Bool) → has_token rows n ≡ b → (is_below v.masters top n && b) ≡ (is_under (lessor_of v.masters) top n && b)
           each n true has = ap (λ b. b && true) (other n has (n == top) refl)
-          each n false has = none (is_below v.masters top n) ∙ sym (none (is_under (lessor_of v.masters) top n))
-            where
-              none : (b : Bool) → (b && false) ≡ false
-              none true = refl
-              none false = refl
+          each n false has = and-false (is_below v.masters top n) ∙ sym (and-false (is_under (lessor_of v.masters) top n))

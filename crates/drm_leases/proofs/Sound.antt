@@ -174,13 +174,10 @@ module _ (l : LeaseSet) (a : AreLeases l) (t key m lessor : ℕ) (objects : List
       omega (arith, parts, old, less, few)
   few_of k false e =
       let parts = parts_of k in
-      let none = none_pass (is_grant_of k) grants (all_mapped (λ (g : Grant). is_grant_of k g ≡ false) (grant m) objects (all_each (λ x. is_grant_of k (grant m x) ≡ false) (λ x. other k m e) objects)) in
+      let none = none_pass (is_grant_of k) grants (all_mapped (λ (g : Grant). is_grant_of k g ≡ false) (grant m) objects (all_each (λ x. is_grant_of k (grant m x) ≡ false) (λ x. flipped k m e) objects)) in
       let old = a.few k in
       let e2 = length-map (filter (is_grant_of k) l.grants) (λ (g : Grant). g.mode_object) in
       omega (arith, parts, none, old, e2)
-    where
-      other : (k m : ℕ) → (k == m) ≡ false → (m == k) ≡ false
-      other k m e = (elim (m == k) as (λ b. (m == k) ≡ b → b ≡ false) [ true ↦ λ h. absurd (let j : false ≡ true = sym e ∙ eq-eqb k m (sym (eqb-true m k h)) in cc) | false ↦ λ h. refl ]) refl
 
   below : AllByRecursion (λ (g : Grant). g.master < m) fore
   below = all_weaker (λ (g : Grant). is_fore g ≡ true) (λ (g : Grant). g.master < m) (λ g e. less g.master e) fore (filter_true is_fore l.grants)

@@ -36,12 +36,7 @@ pub fn are_seen(
 ) -> bool
     ensures { result ≡ list_all (rules.is_seen (grants_in granted.now.rows) masters.now.masters modes.now master universal) ids.now }
 {
-    for id in ids {
-        if !is_seen(granted, masters, modes, master, universal, *id) {
-            return false;
-        }
-    }
-    true
+    ids.iter().all(|id| is_seen(granted, masters, modes, master, universal, *id))
 }
 
 fn is_seen(
@@ -103,12 +98,7 @@ fn controlled(granted: &Granted, masters: &Masters, master: u32, planes: &[u32])
 pub fn are_leasable(modes: &Modes, ids: &[u32]) -> bool
     ensures { result ≡ list_all (rules.is_leasable modes.now) ids.now }
 {
-    for id in ids {
-        if !is_leasable(modes, *id) {
-            return false;
-        }
-    }
-    true
+    ids.iter().all(|id| is_leasable(modes, *id))
 }
 
 fn is_leasable(modes: &Modes, id: u32) -> bool
@@ -121,24 +111,13 @@ fn is_leasable(modes: &Modes, id: u32) -> bool
 pub fn stand_once(ids: &[u32]) -> bool
     ensures { result ≡ list_all (rules.stands_once ids.now) ids.now }
 {
-    for id in ids {
-        if count(ids, *id) != 1 {
-            return false;
-        }
-    }
-    true
+    ids.iter().all(|id| count(ids, *id) == 1)
 }
 
 fn count(ids: &[u32], number: u32) -> usize
     ensures { result ≡ numbers.count ids.now number }
 {
-    let mut found = 0;
-    for id in ids {
-        if *id == number {
-            found += 1;
-        }
-    }
-    found
+    ids.iter().filter(|id| **id == number).count()
 }
 
 /// Whether they are a lease: a CRTC and a connector are among them, and with universal planes on a plane.
@@ -153,10 +132,5 @@ pub fn is_lease(modes: &Modes, universal: bool, ids: &[u32]) -> bool
 fn has_kind(modes: &Modes, kind: Kind, ids: &[u32]) -> bool
     ensures { result ≡ list_any (topology.is_of_kind modes.now.topology kind) ids.now }
 {
-    for id in ids {
-        if modes.is_of_kind(kind, *id) {
-            return true;
-        }
-    }
-    false
+    ids.iter().any(|id| modes.is_of_kind(kind, *id))
 }

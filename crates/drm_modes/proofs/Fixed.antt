@@ -2,7 +2,7 @@
 use Rattle.std.proofs.Common.{◌≡◌, ℕ, zero, suc, ◌+◌, ◌≤◌, ◌<◌, ◌&&◌, ◌==◌, Bool, true, false, cond, List, [], ◌∷◌, length, filter, nat_lt, refl, sym, ◌∙◌, arith}
 use Rattle.std.specs.Prelude.{nat_le}
 use Rattle.std.specs.List.{list_all, zip, AllByRecursion}
-use Rattle.std.proofs.lemmas.Bool.{false≢true, eqb-true}
+use Rattle.std.proofs.lemmas.Bool.{false≢true, eqb-true, and_parts}
 use Rattle.std.proofs.lemmas.Bool.Decides.{nat_tests}
 use Rattle.drm_lists.proofs.Lists.{all_filter}
 use Rattle.drm_lists.proofs.Rising.{each_is_there}
@@ -13,32 +13,28 @@ use Rattle.drm_modes.specs.Topology.{Topology, are_objects, is_topology, IsTopol
 use Rattle.drm_modes.specs.PlaneKinds.{fits, stands_once, are_kinds}
 use Rattle.drm_modes.proofs.Ids.{is_among-numbers_from}
 
-both : (a b : Bool) → (a && b) ≡ true → (a ≡ true) × (b ≡ true)
-both true b h = (refl, h)
-both false b h = absurd (false≢true h)
-
 at_most : (a b : ℕ) → nat_le a b ≡ true → a ≤ b
 at_most a b h = grind (arith, nat_tests)
 
 pub topology_is : (t : Topology) → is_topology t ≡ true → IsTopology t
 unfolding are_objects are_kinds
 topology_is t h =
-    let each = both (are_objects t) (are_kinds t.crtcs t.kinds t.planes) h in
+    let each = and_parts (are_objects t) (are_kinds t.crtcs t.kinds t.planes) h in
     let counts = nat_le 1 t.crtcs && nat_le t.crtcs 8 in
     let few = counts && nat_le (object_count t) 64 in
     let planes = few && list_all (is_mask t) t.planes in
     let encoders = planes && list_all (is_mask t) t.encoders in
-    let are = both few (list_all (is_mask t) t.planes) (both planes (list_all (is_mask t) t.encoders) (both encoders (list_all (is_encoder t) t.connectors) each.0).0).0 in
+    let are = and_parts few (list_all (is_mask t) t.planes) (and_parts planes (list_all (is_mask t) t.encoders) (and_parts encoders (list_all (is_encoder t) t.connectors) each.0).0).0 in
     let same = length t.kinds == length t.planes in
-    let one_each = both same (list_all (fits t.crtcs) (zip t.kinds t.planes)) (both (same && list_all (fits t.crtcs) (zip t.kinds t.planes)) (list_all (stands_once t.kinds) t.kinds) each.1).0 in
-    let fits = both counts (nat_le (object_count t) 64) are.0 in
-    let ends = both (nat_le 1 t.crtcs) (nat_le t.crtcs 8) fits.0 in
+    let one_each = and_parts same (list_all (fits t.crtcs) (zip t.kinds t.planes)) (and_parts (same && list_all (fits t.crtcs) (zip t.kinds t.planes)) (list_all (stands_once t.kinds) t.kinds) each.1).0 in
+    let fits = and_parts counts (nat_le (object_count t) 64) are.0 in
+    let ends = and_parts (nat_le 1 t.crtcs) (nat_le t.crtcs 8) fits.0 in
     record { is = h; one_kind_each = eqb-true (length t.kinds) (length t.planes) one_each.0; some = at_most _ _ ends.0; few_crtcs = at_most _ _ ends.1; few = at_most _ _ fits.1 }
 
 pub within : (first count x : ℕ) → is_among (numbers_from first count) x ≡ true → (first ≤ x) × (x < first + count)
 within first count x h =
     let between = sym (is_among-numbers_from first count x) ∙ h in
-    let ends = both _ _ between in
+    let ends = and_parts _ _ between in
     (at_most _ _ ends.0, let less = ends.1 in grind (arith, nat_tests))
 
 -- numbers that rise from one on to another are no more than those between

@@ -1,5 +1,6 @@
 -- Topologies whose planes are for something.
 use Rattle.std.proofs.Common.{◌≡◌, ℕ, zero, suc, ◌==◌, ◌&&◌, Bool, true, false, List, [], ◌∷◌, length, replicate, refl, eq-eqb}
+use Rattle.std.proofs.lemmas.Bool.{and_from}
 use Rattle.std.specs.List.{list_all, zip}
 use Rattle.std.proofs.lemmas.List.{length-replicate}
 use Rattle.drm_modes.specs.declared.kinds.PlaneKind.{PlaneKind}
@@ -7,10 +8,6 @@ use Rattle.drm_modes.specs.declared.kinds.PlaneKind.TheVariants.{Overlay}
 use Rattle.drm_modes.specs.PlaneKinds.{fits, stands_once, are_kinds}
 use Rattle.drm_modes.specs.Topology.{are_objects, is_topology}
 use Rattle.drm_modes.specs.Topologies.{topology_of, topology_with}
-
-both_hold : (a b : Bool) → a ≡ true → b ≡ true → (a && b) ≡ true
-both_hold true b first second = second
-both_hold false b first second = first
 
 overlays_fit : (crtcs : ℕ) (planes : List ℕ) → list_all (fits crtcs) (zip (replicate (length planes) Overlay) planes) ≡ true
 overlays_fit crtcs [] = refl
@@ -25,12 +22,12 @@ pub overlays_are : (crtcs : ℕ) (planes : List ℕ) → are_kinds crtcs (replic
 unfolding are_kinds
 overlays_are crtcs planes =
     let kinds = replicate (length planes) Overlay in
-    both_hold _ _ (both_hold (length kinds == length planes) (list_all (fits crtcs) (zip kinds planes)) (eq-eqb _ _ (length-replicate (length planes) Overlay)) (overlays_fit crtcs planes)) (overlays_stand kinds (length planes))
+    and_from _ _ (and_from (length kinds == length planes) (list_all (fits crtcs) (zip kinds planes)) (eq-eqb _ _ (length-replicate (length planes) Overlay)) (overlays_fit crtcs planes)) (overlays_stand kinds (length planes))
 
 -- of the objects alone nothing asks what planes are for
 pub topology_made : (crtcs : ℕ) (planes : List ℕ) (kinds : List PlaneKind) (encoders connectors : List ℕ) → are_objects (topology_of crtcs planes encoders connectors) ≡ true → are_kinds crtcs kinds planes ≡ true → is_topology (topology_with crtcs planes kinds encoders connectors) ≡ true
 unfolding are_objects
-topology_made crtcs planes kinds encoders connectors objects are = both_hold _ _ objects are
+topology_made crtcs planes kinds encoders connectors objects are = and_from _ _ objects are
 
 pub objects_named : (crtcs : ℕ) (planes : List ℕ) (kinds : List PlaneKind) (encoders connectors : List ℕ) → is_topology (topology_with crtcs planes kinds encoders connectors) ≡ true → are_objects (topology_of crtcs planes encoders connectors) ≡ true
 unfolding are_objects

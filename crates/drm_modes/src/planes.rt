@@ -40,12 +40,10 @@ fn fit(crtcs: u32, kinds: &[PlaneKind], planes: &[u32]) -> bool
     requires one_each { length kinds.now ≡ length planes.now }
     ensures { result ≡ list_all (kinds_are.fits crtcs) (zip kinds.now planes.now) }
 {
-    for plane in 0..planes.len() {
-        if !fits(crtcs, kinds[plane], planes[plane]) {
-            return false;
-        }
-    }
-    true
+    kinds
+        .iter()
+        .zip(planes.iter())
+        .all(|(kind, mask)| fits(crtcs, *kind, *mask))
 }
 
 /// Whether a plane with this mask may be for this: an overlay plane, or one of a possible CRTC.
@@ -74,24 +72,15 @@ pub(crate) fn is_possible(crtcs: u32, mask: u32, crtc: u32) -> bool
 fn stand_once(kinds: &[PlaneKind]) -> bool
     ensures { result ≡ list_all (stands_once kinds.now) kinds.now }
 {
-    for kind in kinds {
-        if kind.crtc().is_some() && count(kinds, *kind) != 1 {
-            return false;
-        }
-    }
-    true
+    kinds
+        .iter()
+        .all(|kind| kind.crtc().is_none() || count(kinds, *kind) == 1)
 }
 
 fn count(kinds: &[PlaneKind], kind: PlaneKind) -> usize
     ensures { result ≡ length (filter (is_kind kind) kinds.now) }
 {
-    let mut found = 0;
-    for other in kinds {
-        if is_kind(kind, *other) {
-            found += 1;
-        }
-    }
-    found
+    kinds.iter().filter(|other| is_kind(kind, **other)).count()
 }
 
 fn is_kind(kind: PlaneKind, other: PlaneKind) -> bool

@@ -430,12 +430,7 @@ fn are_masks(crtcs: u32, masks: &[u32]) -> bool
     requires { crtcs ≤ 8 }
     ensures { result ≡ list_all (λ mask. nat_lt mask (2 ^ crtcs)) masks.now }
 {
-    for mask in masks {
-        if *mask >= 1 << crtcs {
-            return false;
-        }
-    }
-    true
+    masks.iter().all(|mask| *mask < 1 << crtcs)
 }
 
 /// Whether each connector's encoder is one of so many, with ids from the first on.
@@ -443,12 +438,9 @@ fn are_encoders(first: u32, count: u32, connectors: &[u32]) -> bool
     requires { first + count ≤ 65 }
     ensures { result ≡ list_all (λ encoder. nat_le first encoder && nat_lt encoder (first + count)) connectors.now }
 {
-    for encoder in connectors {
-        if *encoder < first || *encoder >= first + count {
-            return false;
-        }
-    }
-    true
+    connectors
+        .iter()
+        .all(|encoder| first <= *encoder && *encoder < first + count)
 }
 
 /// The same, in a list of fixed size.

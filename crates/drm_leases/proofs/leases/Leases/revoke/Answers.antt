@@ -1,14 +1,13 @@
-use Rattle.std.proofs.Common.{◌≡◌, ◌&&◌, ap, sym, subst, ◌∙◌}
+use Rattle.std.proofs.Common.{ap, sym, subst, ◌∙◌}
 use Rattle.drm_lists.specs.Chains.{is_under}
-use Rattle.drm_masters.specs.Masters.{MasterSet, lessor_of, step_number_at, swept}
+use Rattle.drm_masters.specs.Masters.{lessor_of, step_number_at, swept}
 use Rattle.drm_masters.specs.Calls.{released}
-use Rattle.drm_leases.specs.Fields.{set_of}
-use Rattle.drm_leases.specs.Leases.{LeaseSet, AreLeases, has_token}
-use Rattle.drm_leases.specs.Agreed.{AreAgreed, AreHeld}
+use Rattle.drm_leases.specs.Leases.{LeaseSet, AreLeases}
+use Rattle.drm_leases.specs.Agreed.{AreHeld}
 use Rattle.drm_leases.specs.Calls.{ended, is_opened_under}
-use Rattle.drm_leases.proofs.Agreeing.{agreed_released, tokens_held}
+use Rattle.drm_leases.proofs.Agreeing.{tokens_held}
 use Rattle.drm_leases.proofs.Denied.{some_none}
-use Rattle.drm_leases.proofs.Ending.{left}
+use Rattle.drm_leases.proofs.Ending.{left, left_agree}
 use Rattle.drm_leases.proofs.Keyed.{number_found}
 use Rattle.drm_leases.proofs.Sound.{without_are, still}
 use Rattle.drm_leases.proofs.leases.Leases.revoke.Goals as goal
@@ -41,11 +40,4 @@ invariant_of-self c =
 pub returns-clause-agreed : goal.returns-clause-agreed
 returns-clause-agreed c =
     let v = c.args.masters.now in
-    let masters = v.masters in
-    let l = c.args.self.now in
-    let top = step_number_at masters c.args.master in
-    let leases : LeaseSet = set_of (record c.self.inside { tokens = c.release_open.new.tokens; granted = c.end_leases.new.granted }) in
-    let now : leases ≡ ended masters top l = returns-clause-leases c in
-    subst (λ (a : LeaseSet). AreAgreed a c.release_open.new.masters) (sym now)
-    (subst (λ (w : MasterSet). AreAgreed (ended masters top l) w) (sym (returns-clause-masters c))
-    (agreed_released (is_under (lessor_of masters) top) (is_opened_under l.tokens masters top) (λ n e. ap (λ b. b && has_token l.tokens n) e) v.members masters l.lendings c.requires.agreed))
+    left_agree (is_under (lessor_of v.masters) (step_number_at v.masters c.args.master)) v c.release_open.new.masters c.args.self.now _ (returns-clause-leases c) (returns-clause-masters c) c.requires.agreed
