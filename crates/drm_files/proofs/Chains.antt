@@ -1,5 +1,5 @@
 -- How the next ones stay the next ones where a prime comes between two neighbours or leaves from between them.
-use Rattle.std.proofs.Common.{◌≡◌, ℕ, Bool, true, false, cond, eqb, Option, Some, None, refl, sym, ap, subst, ◌∙◌, arith}
+use Rattle.std.proofs.Common.{◌≡◌, ℕ, Bool, true, false, cond, eqb, Option, Some, None, refl, sym, ap, subst, ◌∙◌, arith, eq-eqb}
 use Rattle.std.proofs.lemmas.Bool.Decides.{nat_tests}
 use Rattle.std.proofs.lemmas.Bool.{false≢true, eqb-true}
 use Rattle.std.proofs.lemmas.Option.{same_Some, none-some}
@@ -17,10 +17,7 @@ place_eq : {C : Type 0} (r q : Option ℕ) → (r ≡ q → C) → ((r ≡ q →
 place_eq None None so isnt = so refl
 place_eq None (Some l) so isnt = isnt (none-some l)
 place_eq (Some k) None so isnt = isnt (λ same. none-some k (sym same))
-place_eq (Some k) (Some l) so isnt = by_bool (eqb k l) (λ same. so (ap Some (eqb-true k l same))) (λ apart. isnt (λ same. both (eqb k l) (same_number k l (same_Some k l same)) apart))
-  where
-    same_number : (k l : ℕ) → k ≡ l → eqb k l ≡ true
-    same_number k l same = grind (arith, nat_tests)
+place_eq (Some k) (Some l) so isnt = by_bool (eqb k l) (λ same. so (ap Some (eqb-true k l same))) (λ apart. isnt (λ same. both (eqb k l) (eq-eqb k l (same_Some k l same)) apart))
 
 -- an order in which of two primes one is before the other, unless they are of one handle
 pub record IsOrder (before : Prime → Prime → Bool) : Type 0 where
@@ -173,10 +170,7 @@ module _ (before : Prime → Prime → Bool) (order : IsOrder before) (primes : 
         was_there k y left =
             by_bool (eqb k h)
             (λ same. absurd (none-some y (sym (ap (λ b. cond b None (primes k)) same) ∙ sym (fewer_is k) ∙ left)))
-            (λ isnt. (sym (ap (λ b. cond b None (primes k)) isnt) ∙ sym (fewer_is k) ∙ left, λ is. both (eqb k h) (same_number k h is) isnt))
-          where
-            same_number : (k l : ℕ) → k ≡ l → eqb k l ≡ true
-            same_number k l same = grind (arith, nat_tests)
+            (λ isnt. (sym (ap (λ b. cond b None (primes k)) isnt) ∙ sym (fewer_is k) ∙ left, λ is. both (eqb k h) (eq-eqb k h is) isnt))
 
         -- one that is past the place before x, and is not x, is past x
         past_it : (k : ℕ) (y : Prime) → primes k ≡ Some y → (k ≡ h → ⊥) → is_past before p y ≡ true → before x y ≡ true

@@ -1,7 +1,7 @@
 -- How the export orders of a client's handles stay in order.
-use Rattle.std.proofs.Common.{◌≡◌, ℕ, ◌≤◌, ◌==◌, ◌&&◌, Bool, true, false, cond, if◌then◌else◌, eqb, Option, Some, None, is_some, option_map, option_and_then, option_copied, Bor, refl, sym, ap, subst, ◌∙◌, arith, nat_cmp}
+use Rattle.std.proofs.Common.{◌≡◌, ℕ, ◌≤◌, ◌==◌, ◌&&◌, Bool, true, false, cond, if◌then◌else◌, eqb, Option, Some, None, is_some, option_map, option_and_then, option_copied, Bor, refl, sym, ap, subst, ◌∙◌, arith, nat_cmp, eq-eqb}
 use Rattle.std.specs.FinMap as fin
-use Rattle.std.proofs.lemmas.Bool.{false≢true, eqb-true}
+use Rattle.std.proofs.lemmas.Bool.{false≢true, eqb-true, ne_eqb, and_from}
 use Rattle.std.proofs.lemmas.Bool.Decides.{nat_tests}
 use Rattle.std.proofs.lemmas.Option.{same_Some, none-some}
 use Rattle.drm_index_array.proofs.MarkedLemmas.{get-insert, get-remove}
@@ -11,7 +11,7 @@ use Rattle.drm_files.specs.declared.orders.ExportOrders.{ExportOrders}
 use Rattle.drm_files.specs.declared.orders.Neighbours.{Neighbours}
 use Rattle.drm_files.specs.declared.primes.Prime.{Prime}
 use Rattle.drm_files.specs.Primes.{prime_of, prime_at, is_before}
-use Rattle.drm_files.specs.ExportOrders.{Primes, is_after, IsPlace, IsNext, AreNext, AreInOrder, AreJoined, next_of, previous_of, has_room, is_same_place, choose, with_handle}
+use Rattle.drm_files.specs.ExportOrders.{Primes, is_after, IsPlace, IsNext, AreNext, AreInOrder, AreJoined, next_of, previous_of, side_of, has_room, is_same_place, choose, with_handle}
 use Rattle.drm_files.proofs.Chains.{IsOrder, by_bool, both, next_to, come_between, leave}
 use Rattle.drm_files.proofs.OrderFacts.{first_order, last_order, named, for_object, unplaced_is, primes_kept, primes_more, primes_of_others, primes_fewer}
 
@@ -31,9 +31,6 @@ module _ (slots : fin.FinMap nat_cmp Held) (orders : ExportOrders) (order : AreI
   same_test : (n : ℕ) → (n == n) ≡ true
   same_test n = grind (arith, nat_tests)
 
-  other_test : (n m : ℕ) → (n ≡ m → ⊥) → (n == m) ≡ false
-  other_test n m apart = grind (arith, nat_tests)
-
   -- a place is itself, and no other one of its object
   itself : (r : Option ℕ) → is_same_place object r object r ≡ true
   itself None = same_test object
@@ -43,11 +40,11 @@ module _ (slots : fin.FinMap nat_cmp Held) (orders : ExportOrders) (order : AreI
   another None None apart = absurd (apart refl)
   another None (Some l) apart = refl
   another (Some k) None apart = refl
-  another (Some k) (Some l) apart = other_test k l (λ same. apart (ap Some same))
+  another (Some k) (Some l) apart = ne_eqb k l (λ same. apart (ap Some same))
 
   -- the places of two objects are apart
   of_another : (q : Option ℕ) (p : Option Prime) → IsPlace (prime_at slots object) q p → (d : ℕ) → (d ≡ object → ⊥) → (r : Option ℕ) (s : Option Prime) → IsPlace (prime_at slots d) r s → is_same_place object q d r ≡ false
-  of_another None None at d apart None None here = other_test d object apart
+  of_another None None at d apart None None here = ne_eqb d object apart
   of_another None None at d apart None (Some v) here = absurd here
   of_another None (Some w) at d apart r s here = absurd at
   of_another (Some l) None at d apart r s here = absurd at
@@ -57,7 +54,7 @@ module _ (slots : fin.FinMap nat_cmp Held) (orders : ExportOrders) (order : AreI
   of_another (Some l) (Some w) at d apart (Some k) (Some v) here =
       let mine = for_object slots object l w at in
       let its = for_object slots d k v here in
-      other_test k l (λ same. apart (sym its.2 ∙ ap (λ (x : Held). x.object) (same_Some its.0 mine.0 (sym its.1 ∙ ap (fin.get slots) same ∙ mine.1)) ∙ mine.2))
+      ne_eqb k l (λ same. apart (sym its.2 ∙ ap (λ (x : Held). x.object) (same_Some its.0 mine.0 (sym its.1 ∙ ap (fin.get slots) same ∙ mine.1)) ∙ mine.2))
 
   choose_true : {X : Type 0} (b : Bool) (x y : X) → b ≡ true → choose b x y ≡ x
   choose_true b x y e = ap (λ t. choose t x y) e
@@ -66,16 +63,9 @@ module _ (slots : fin.FinMap nat_cmp Held) (orders : ExportOrders) (order : AreI
   choose_false true b x y e = ap (λ t. choose t x y) e
   choose_false false b x y e = refl
 
-  and_true : (a b : Bool) → a ≡ true → b ≡ true → (a && b) ≡ true
-  and_true true b p q = q
-  and_true false b p q = absurd (false≢true p)
-
 -- a fact of an object and of all others
 by_object : (object d : ℕ) (P : ℕ → Type 0) → P object → ((d ≡ object → ⊥) → P d) → P d
-by_object object d P mine others = by_bool (eqb d object) (λ same. subst P (sym (eqb-true d object same)) mine) (λ isnt. others (λ same. both (eqb d object) (same_number d object same) isnt))
-  where
-    same_number : (k l : ℕ) → k ≡ l → eqb k l ≡ true
-    same_number k l same = grind (arith, nat_tests)
+by_object object d P mine others = by_bool (eqb d object) (λ same. subst P (sym (eqb-true d object same)) mine) (λ isnt. others (λ same. both (eqb d object) (eq-eqb d object same) isnt))
 
 -- the place of a next one
 place_of : (before : Prime → Prime → Bool) (primes : Primes) (x : Option Prime) (q : Option ℕ) → IsNext before primes x q → (p : Option Prime) × IsPlace primes q p
@@ -92,10 +82,7 @@ not_absent primes h none (Some k) (Some v) here same = none-some v (sym none ∙
 apart_from : (primes : Primes) (h object d : ℕ) → primes h ≡ None → (r : Option ℕ) (s : Option Prime) → IsPlace primes r s → is_same_place object (Some h) d r ≡ false
 apart_from primes h object d none None s here = refl
 apart_from primes h object d none (Some k) None here = elim here [ ]
-apart_from primes h object d none (Some k) (Some v) here = other_number k h (λ same. none-some v (sym none ∙ ap primes (sym same) ∙ here))
-  where
-    other_number : (n m : ℕ) → (n ≡ m → ⊥) → (n == m) ≡ false
-    other_number n m apart = grind (arith, nat_tests)
+apart_from primes h object d none (Some k) (Some v) here = ne_eqb k h (λ same. none-some v (sym none ∙ ap primes (sym same) ∙ here))
 
 module _ (slots : fin.FinMap nat_cmp Held) (old : ExportOrders) (order : AreInOrder slots old) (object h export_order : ℕ) (unplaced : fin.get slots h ≡ Some (record { object = object; export_order = None })) (q n : Option ℕ) (n_is : n ≡ next_of old object q) (mid new : ExportOrders) (first : AreJoined old object q (Some h) mid) (second : AreJoined mid object (Some h) n new) where
   abbrev x : Prime
@@ -145,9 +132,9 @@ module _ (slots : fin.FinMap nat_cmp Held) (old : ExportOrders) (order : AreInOr
         (second.next_is object q
         ∙ choose_false slots old order object h (has_room mid object q) (is_same_place object (Some h) object q) n (next_of mid object q) (apart_from primes h object object (no_prime object) q left.0 left.1)
         ∙ first.next_is object q
-        ∙ choose_true slots old order object h (has_room old object q && is_same_place object q object q) (Some h) (next_of old object q) (and_true slots old order object h (has_room old object q) _ (has_places q left.0 left.1) (itself slots old order object h q)))
+        ∙ choose_true slots old order object h (has_room old object q && is_same_place object q object q) (Some h) (next_of old object q) (and_from (has_room old object q) _ (has_places q left.0 left.1) (itself slots old order object h q)))
         (second.next_is object (Some h)
-        ∙ choose_true slots old order object h (has_room mid object (Some h) && is_same_place object (Some h) object (Some h)) n (next_of mid object (Some h)) (and_true slots old order object h (has_room mid object (Some h)) _ (first.room object (Some h) ∙ h_has_room) (itself slots old order object h (Some h))))
+        ∙ choose_true slots old order object h (has_room mid object (Some h) && is_same_place object (Some h) object (Some h)) n (next_of mid object (Some h)) (and_from (has_room mid object (Some h)) _ (first.room object (Some h) ∙ h_has_room) (itself slots old order object h (Some h))))
         (λ r s here apart.
         second.next_is object r
         ∙ choose_false slots old order object h (has_room mid object r) (is_same_place object (Some h) object r) n (next_of mid object r) (apart_from primes h object object (no_prime object) r s here)
@@ -158,11 +145,11 @@ module _ (slots : fin.FinMap nat_cmp Held) (old : ExportOrders) (order : AreInOr
     previous_ones =
         come_between is_after last_order primes (named slots object) x h refl n right.0 right.1 following q last (previous_of old object) (previous_of new object) (order.previous object) (no_prime object) (prime_at slots_after object) (primes_more slots object h export_order)
         (second.previous_is object n
-        ∙ choose_true slots old order object h (has_room mid object n && is_same_place object n object n) (Some h) (previous_of mid object n) (and_true slots old order object h (has_room mid object n) _ (first.room object n ∙ has_places n right.0 right.1) (itself slots old order object h n)))
+        ∙ choose_true slots old order object h (has_room mid object n && is_same_place object n object n) (Some h) (previous_of mid object n) (and_from (has_room mid object n) _ (first.room object n ∙ has_places n right.0 right.1) (itself slots old order object h n)))
         (second.previous_is object (Some h)
         ∙ choose_false slots old order object h (has_room mid object (Some h)) (is_same_place object n object (Some h)) (Some h) (previous_of mid object (Some h)) (another slots old order object h (Some h) n (λ same. not_absent primes h (no_prime object) n right.0 right.1 (sym same)))
         ∙ first.previous_is object (Some h)
-        ∙ choose_true slots old order object h (has_room old object (Some h) && is_same_place object (Some h) object (Some h)) q (previous_of old object (Some h)) (and_true slots old order object h (has_room old object (Some h)) _ h_has_room (itself slots old order object h (Some h))))
+        ∙ choose_true slots old order object h (has_room old object (Some h) && is_same_place object (Some h) object (Some h)) q (previous_of old object (Some h)) (and_from (has_room old object (Some h)) _ h_has_room (itself slots old order object h (Some h))))
         (λ r s here apart.
         second.previous_is object r
         ∙ choose_false slots old order object h (has_room mid object r) (is_same_place object n object r) (Some h) (previous_of mid object r) (another slots old order object h r n apart)
@@ -235,8 +222,8 @@ module _ (slots : fin.FinMap nat_cmp Held) (old : ExportOrders) (order : AreInOr
     fit = fit_fewer;
     linked = rooms_fewer old (λ k. refl) links;
     ended = λ k y left. ap (λ e. fin.contains_key e.items y.object) ends ∙ order.ended k y (was_there k y left);
-    next = λ d. next_same is_before (prime_at slots d) (prime_at fewer d) (next_of old d) (next_of new d) (order.next d) (kept d) (next_kept d);
-    previous = λ d. next_same is_after (prime_at slots d) (prime_at fewer d) (previous_of old d) (previous_of new d) (order.previous d) (kept d) (previous_kept d);
+    next = λ d. next_same is_before (prime_at slots d) (prime_at fewer d) (next_of old d) (next_of new d) (order.next d) (kept d) (side_kept (λ (x : Neighbours). x.next) d);
+    previous = λ d. next_same is_after (prime_at slots d) (prime_at fewer d) (previous_of old d) (previous_of new d) (order.previous d) (kept d) (side_kept (λ (x : Neighbours). x.previous) d);
   }
     where
       no_prime_here : (d : ℕ) → prime_at slots d h ≡ None
@@ -249,15 +236,10 @@ module _ (slots : fin.FinMap nat_cmp Held) (old : ExportOrders) (order : AreInOr
           (λ same. ap (λ b. cond b None (prime_at slots d k)) same ∙ sym (ap (prime_at slots d) (eqb-true k h same) ∙ no_prime_here d))
           (λ isnt. ap (λ b. cond b None (prime_at slots d k)) isnt)
 
-      next_kept : (d : ℕ) (r : Option ℕ) (s : Option Prime) → IsPlace (prime_at slots d) r s → next_of new d r ≡ next_of old d r
-      next_kept d None s here = ap (λ e. option_and_then (λ (x : Neighbours). x.next) (fin.get e.items d)) ends
-      next_kept d (Some k) s here =
-          ap (option_and_then (λ (x : Neighbours). x.next)) (links k ∙ by_bool (eqb k h) (λ same. absurd (not_absent (prime_at slots d) h (no_prime_here d) (Some k) s here (ap Some (eqb-true k h same)))) (λ isnt. ap (λ b. cond b None (fin.get old.links.items k)) isnt))
-
-      previous_kept : (d : ℕ) (r : Option ℕ) (s : Option Prime) → IsPlace (prime_at slots d) r s → previous_of new d r ≡ previous_of old d r
-      previous_kept d None s here = ap (λ e. option_and_then (λ (x : Neighbours). x.previous) (fin.get e.items d)) ends
-      previous_kept d (Some k) s here =
-          ap (option_and_then (λ (x : Neighbours). x.previous)) (links k ∙ by_bool (eqb k h) (λ same. absurd (not_absent (prime_at slots d) h (no_prime_here d) (Some k) s here (ap Some (eqb-true k h same)))) (λ isnt. ap (λ b. cond b None (fin.get old.links.items k)) isnt))
+      side_kept : (side : Neighbours → Option ℕ) (d : ℕ) (r : Option ℕ) (s : Option Prime) → IsPlace (prime_at slots d) r s → side_of side new d r ≡ side_of side old d r
+      side_kept side d None s here = ap (λ e. option_and_then side (fin.get e.items d)) ends
+      side_kept side d (Some k) s here =
+          ap (option_and_then side) (links k ∙ by_bool (eqb k h) (λ same. absurd (not_absent (prime_at slots d) h (no_prime_here d) (Some k) s here (ap Some (eqb-true k h same)))) (λ isnt. ap (λ b. cond b None (fin.get old.links.items k)) isnt))
 
   -- one that has leaves its place
   module _ (export_order : ℕ) (placed : held.export_order ≡ Some export_order) (q n : Option ℕ) (q_is : q ≡ previous_of old object (Some h)) (n_is : n ≡ next_of old object (Some h)) (mid : ExportOrders) (joined : AreJoined old object q n mid) (links : (k : ℕ) → fin.get new.links.items k ≡ cond (eqb k h) None (fin.get mid.links.items k)) (ends : new.ends ≡ mid.ends) where
@@ -286,13 +268,9 @@ module _ (slots : fin.FinMap nat_cmp Held) (old : ExportOrders) (order : AreInOr
     has_place = room_there slots old order object h held there for
 
     -- away from the handle, the new neighbours are those after the joining
-    next_new : (d : ℕ) (r : Option ℕ) → (r ≡ Some h → ⊥) → next_of new d r ≡ next_of mid d r
-    next_new d None apart = ap (λ e. option_and_then (λ (x : Neighbours). x.next) (fin.get e.items d)) ends
-    next_new d (Some k) apart = ap (option_and_then (λ (x : Neighbours). x.next)) (links k ∙ by_bool (eqb k h) (λ same. absurd (apart (ap Some (eqb-true k h same)))) (λ isnt. ap (λ b. cond b None (fin.get mid.links.items k)) isnt))
-
-    previous_new : (d : ℕ) (r : Option ℕ) → (r ≡ Some h → ⊥) → previous_of new d r ≡ previous_of mid d r
-    previous_new d None apart = ap (λ e. option_and_then (λ (x : Neighbours). x.previous) (fin.get e.items d)) ends
-    previous_new d (Some k) apart = ap (option_and_then (λ (x : Neighbours). x.previous)) (links k ∙ by_bool (eqb k h) (λ same. absurd (apart (ap Some (eqb-true k h same)))) (λ isnt. ap (λ b. cond b None (fin.get mid.links.items k)) isnt))
+    side_new : (side : Neighbours → Option ℕ) (d : ℕ) (r : Option ℕ) → (r ≡ Some h → ⊥) → side_of side new d r ≡ side_of side mid d r
+    side_new side d None apart = ap (λ e. option_and_then side (fin.get e.items d)) ends
+    side_new side d (Some k) apart = ap (option_and_then side) (links k ∙ by_bool (eqb k h) (λ same. absurd (apart (ap Some (eqb-true k h same)))) (λ isnt. ap (λ b. cond b None (fin.get mid.links.items k)) isnt))
 
     -- the neighbours are others than the handle
     not_itself : (before : Prime → Prime → Bool) → IsOrder before → (m : Option ℕ) → IsNext before (prime_at slots object) (Some it) m → m ≡ Some h → ⊥
@@ -302,18 +280,18 @@ module _ (slots : fin.FinMap nat_cmp Held) (old : ExportOrders) (order : AreInOr
     next_ones_left : AreNext is_before (prime_at fewer object) (next_of new object)
     next_ones_left =
         leave is_before first_order (prime_at slots object) (named slots object) it h refl q before_it.0 before_it.1 last_before n next_after (next_of old object) (next_of new object) (order.next object) it_is_there (prime_at fewer object) (primes_fewer slots object h object)
-        (next_new object q (not_itself is_after last_order q last_before)
+        (side_new (λ (x : Neighbours). x.next) object q (not_itself is_after last_order q last_before)
         ∙ joined.next_is object q
-        ∙ choose_true slots old order object h (has_room old object q && is_same_place object q object q) n (next_of old object q) (and_true slots old order object h (has_room old object q) _ (has_place q before_it.0 before_it.1) (itself slots old order object h q)))
-        (λ r s here apart not_h. next_new object r not_h ∙ joined.next_is object r ∙ choose_false slots old order object h (has_room old object r) (is_same_place object q object r) n (next_of old object r) (another slots old order object h r q apart))
+        ∙ choose_true slots old order object h (has_room old object q && is_same_place object q object q) n (next_of old object q) (and_from (has_room old object q) _ (has_place q before_it.0 before_it.1) (itself slots old order object h q)))
+        (λ r s here apart not_h. side_new (λ (x : Neighbours). x.next) object r not_h ∙ joined.next_is object r ∙ choose_false slots old order object h (has_room old object r) (is_same_place object q object r) n (next_of old object r) (another slots old order object h r q apart))
 
     previous_ones_left : AreNext is_after (prime_at fewer object) (previous_of new object)
     previous_ones_left =
         leave is_after last_order (prime_at slots object) (named slots object) it h refl n after_it.0 after_it.1 next_after q last_before (previous_of old object) (previous_of new object) (order.previous object) it_is_there (prime_at fewer object) (primes_fewer slots object h object)
-        (previous_new object n (not_itself is_before first_order n next_after)
+        (side_new (λ (x : Neighbours). x.previous) object n (not_itself is_before first_order n next_after)
         ∙ joined.previous_is object n
-        ∙ choose_true slots old order object h (has_room old object n && is_same_place object n object n) q (previous_of old object n) (and_true slots old order object h (has_room old object n) _ (has_place n after_it.0 after_it.1) (itself slots old order object h n)))
-        (λ r s here apart not_h. previous_new object r not_h ∙ joined.previous_is object r ∙ choose_false slots old order object h (has_room old object r) (is_same_place object n object r) q (previous_of old object r) (another slots old order object h r n apart))
+        ∙ choose_true slots old order object h (has_room old object n && is_same_place object n object n) q (previous_of old object n) (and_from (has_room old object n) _ (has_place n after_it.0 after_it.1) (itself slots old order object h n)))
+        (λ r s here apart not_h. side_new (λ (x : Neighbours). x.previous) object r not_h ∙ joined.previous_is object r ∙ choose_false slots old order object h (has_room old object r) (is_same_place object n object r) q (previous_of old object r) (another slots old order object h r n apart))
 
     module _ (d : ℕ) (other : d ≡ object → ⊥) where
       not_for : (r : Option ℕ) (s : Option Prime) → IsPlace (prime_at slots d) r s → r ≡ Some h → ⊥
@@ -334,11 +312,11 @@ module _ (slots : fin.FinMap nat_cmp Held) (old : ExportOrders) (order : AreInOr
 
       next_others_left : AreNext is_before (prime_at fewer d) (next_of new d)
       next_others_left = next_same is_before (prime_at slots d) (prime_at fewer d) (next_of old d) (next_of new d) (order.next d) kept_others
-          (λ r s here. next_new d r (not_for r s here) ∙ joined.next_is d r ∙ choose_false slots old order object h (has_room old d r) (is_same_place object q d r) n (next_of old d r) (of_another slots old order object h q before_it.0 before_it.1 d other r s here))
+          (λ r s here. side_new (λ (x : Neighbours). x.next) d r (not_for r s here) ∙ joined.next_is d r ∙ choose_false slots old order object h (has_room old d r) (is_same_place object q d r) n (next_of old d r) (of_another slots old order object h q before_it.0 before_it.1 d other r s here))
 
       previous_others_left : AreNext is_after (prime_at fewer d) (previous_of new d)
       previous_others_left = next_same is_after (prime_at slots d) (prime_at fewer d) (previous_of old d) (previous_of new d) (order.previous d) kept_others
-          (λ r s here. previous_new d r (not_for r s here) ∙ joined.previous_is d r ∙ choose_false slots old order object h (has_room old d r) (is_same_place object n d r) q (previous_of old d r) (of_another slots old order object h n after_it.0 after_it.1 d other r s here))
+          (λ r s here. side_new (λ (x : Neighbours). x.previous) d r (not_for r s here) ∙ joined.previous_is d r ∙ choose_false slots old order object h (has_room old d r) (is_same_place object n d r) q (previous_of old d r) (of_another slots old order object h n after_it.0 after_it.1 d other r s here))
 
     pub forgotten_placed : AreInOrder fewer new
     forgotten_placed = record {
@@ -406,21 +384,13 @@ own_room old new object is there = record {
 }
 
 module _ (slots : fin.FinMap nat_cmp Held) (old new : ExportOrders) (order : AreInOrder slots old) (ends : IsRoomier old.ends.items new.ends.items) where
-  next_end : (d : ℕ) → next_of new d None ≡ next_of old d None
-  next_end d = by (fin.get old.ends.items d) (fin.get new.ends.items d) refl refl
+  side_end : (side : Neighbours → Option ℕ) → side alone ≡ None → (d : ℕ) → side_of side new d None ≡ side_of side old d None
+  side_end side empty d = by (fin.get old.ends.items d) (fin.get new.ends.items d) refl refl
     where
-      by : (a b : Option Neighbours) → fin.get old.ends.items d ≡ a → fin.get new.ends.items d ≡ b → next_of new d None ≡ next_of old d None
-      by (Some x) b was is = ap (option_and_then (λ (y : Neighbours). y.next)) ((ends d).1 x was ∙ sym was)
-      by None None was is = ap (option_and_then (λ (y : Neighbours). y.next)) (is ∙ sym was)
-      by None (Some y) was is = ap (option_and_then (λ (y : Neighbours). y.next)) ((ends d).0 was (λ none. none-some y (sym none ∙ is))) ∙ sym (ap (option_and_then (λ (y : Neighbours). y.next)) was)
-
-  previous_end : (d : ℕ) → previous_of new d None ≡ previous_of old d None
-  previous_end d = by (fin.get old.ends.items d) (fin.get new.ends.items d) refl refl
-    where
-      by : (a b : Option Neighbours) → fin.get old.ends.items d ≡ a → fin.get new.ends.items d ≡ b → previous_of new d None ≡ previous_of old d None
-      by (Some x) b was is = ap (option_and_then (λ (y : Neighbours). y.previous)) ((ends d).1 x was ∙ sym was)
-      by None None was is = ap (option_and_then (λ (y : Neighbours). y.previous)) (is ∙ sym was)
-      by None (Some y) was is = ap (option_and_then (λ (y : Neighbours). y.previous)) ((ends d).0 was (λ none. none-some y (sym none ∙ is))) ∙ sym (ap (option_and_then (λ (y : Neighbours). y.previous)) was)
+      by : (a b : Option Neighbours) → fin.get old.ends.items d ≡ a → fin.get new.ends.items d ≡ b → side_of side new d None ≡ side_of side old d None
+      by (Some x) b was is = ap (option_and_then side) ((ends d).1 x was ∙ sym was)
+      by None None was is = ap (option_and_then side) (is ∙ sym was)
+      by None (Some y) was is = ap (option_and_then side) ((ends d).0 was (λ none. none-some y (sym none ∙ is))) ∙ empty ∙ sym (ap (option_and_then side) was)
 
   still_ended : (d : ℕ) → fin.contains_key old.ends.items d ≡ true → fin.contains_key new.ends.items d ≡ true
   still_ended d there = by (fin.get old.ends.items d) refl there
@@ -435,17 +405,13 @@ module _ (slots : fin.FinMap nat_cmp Held) (old new : ExportOrders) (order : Are
     fit = order.fit;
     linked = λ k. ap (λ l. fin.contains_key l.items k) links ∙ order.linked k;
     ended = λ k y there. still_ended y.object (order.ended k y there);
-    next = λ d. next_same is_before (prime_at slots d) (prime_at slots d) (next_of old d) (next_of new d) (order.next d) (λ k. refl) (next_kept d);
-    previous = λ d. next_same is_after (prime_at slots d) (prime_at slots d) (previous_of old d) (previous_of new d) (order.previous d) (λ k. refl) (previous_kept d);
+    next = λ d. next_same is_before (prime_at slots d) (prime_at slots d) (next_of old d) (next_of new d) (order.next d) (λ k. refl) (side_kept (λ (x : Neighbours). x.next) refl d);
+    previous = λ d. next_same is_after (prime_at slots d) (prime_at slots d) (previous_of old d) (previous_of new d) (order.previous d) (λ k. refl) (side_kept (λ (x : Neighbours). x.previous) refl d);
   }
     where
-      next_kept : (d : ℕ) (r : Option ℕ) (s : Option Prime) → IsPlace (prime_at slots d) r s → next_of new d r ≡ next_of old d r
-      next_kept d None s here = next_end d
-      next_kept d (Some k) s here = ap (λ l. option_and_then (λ (x : Neighbours). x.next) (fin.get l.items k)) links
-
-      previous_kept : (d : ℕ) (r : Option ℕ) (s : Option Prime) → IsPlace (prime_at slots d) r s → previous_of new d r ≡ previous_of old d r
-      previous_kept d None s here = previous_end d
-      previous_kept d (Some k) s here = ap (λ l. option_and_then (λ (x : Neighbours). x.previous) (fin.get l.items k)) links
+      side_kept : (side : Neighbours → Option ℕ) → side alone ≡ None → (d : ℕ) (r : Option ℕ) (s : Option Prime) → IsPlace (prime_at slots d) r s → side_of side new d r ≡ side_of side old d r
+      side_kept side empty d None s here = side_end side empty d
+      side_kept side empty d (Some k) s here = ap (λ l. option_and_then side (fin.get l.items k)) links
 
   -- a new handle of the object has room, too
   module _ (object h : ℕ) (absent : fin.get slots h ≡ None) (few : h ≤ 4294967295) (links : (k : ℕ) → fin.get new.links.items k ≡ cond (eqb k h) (Some alone) (fin.get old.links.items k)) (mine : fin.contains_key new.ends.items object ≡ true) where
@@ -462,13 +428,9 @@ module _ (slots : fin.FinMap nat_cmp Held) (old new : ExportOrders) (order : Are
     link_kept d k s here =
         links k ∙ by_bool (eqb k h) (λ same. absurd (not_absent (prime_at slots d) h (no_prime_yet d) (Some k) s here (ap Some (eqb-true k h same)))) (λ isnt. ap (λ b. cond b (Some alone) (fin.get old.links.items k)) isnt)
 
-    next_room : (d : ℕ) (r : Option ℕ) (s : Option Prime) → IsPlace (prime_at slots d) r s → next_of new d r ≡ next_of old d r
-    next_room d None s here = next_end d
-    next_room d (Some k) s here = ap (option_and_then (λ (x : Neighbours). x.next)) (link_kept d k s here)
-
-    previous_room : (d : ℕ) (r : Option ℕ) (s : Option Prime) → IsPlace (prime_at slots d) r s → previous_of new d r ≡ previous_of old d r
-    previous_room d None s here = previous_end d
-    previous_room d (Some k) s here = ap (option_and_then (λ (x : Neighbours). x.previous)) (link_kept d k s here)
+    side_room : (side : Neighbours → Option ℕ) → side alone ≡ None → (d : ℕ) (r : Option ℕ) (s : Option Prime) → IsPlace (prime_at slots d) r s → side_of side new d r ≡ side_of side old d r
+    side_room side empty d None s here = side_end side empty d
+    side_room side empty d (Some k) s here = ap (option_and_then side) (link_kept d k s here)
 
     pub room_made : AreInOrder more_slots new
     room_made = record {
@@ -477,8 +439,8 @@ module _ (slots : fin.FinMap nat_cmp Held) (old new : ExportOrders) (order : Are
       ended = λ k y there. by_bool (eqb k h)
           (λ same. ap (fin.contains_key new.ends.items) (ap (λ (z : Held). z.object) (same_Some y (record { object = object; export_order = None }) (sym there ∙ get_more k ∙ ap (λ b. cond b (Some (record { object = object; export_order = None })) (fin.get slots k)) same))) ∙ mine)
           (λ isnt. still_ended y.object (order.ended k y (sym (ap (λ b. cond b (Some (record { object = object; export_order = None })) (fin.get slots k)) isnt) ∙ sym (get_more k) ∙ there)));
-      next = λ d. next_same is_before (prime_at slots d) (prime_at more_slots d) (next_of old d) (next_of new d) (order.next d) (primes_kept slots object h no_prime_yet d) (next_room d);
-      previous = λ d. next_same is_after (prime_at slots d) (prime_at more_slots d) (previous_of old d) (previous_of new d) (order.previous d) (primes_kept slots object h no_prime_yet d) (previous_room d);
+      next = λ d. next_same is_before (prime_at slots d) (prime_at more_slots d) (next_of old d) (next_of new d) (order.next d) (primes_kept slots object h no_prime_yet d) (side_room (λ (x : Neighbours). x.next) refl d);
+      previous = λ d. next_same is_after (prime_at slots d) (prime_at more_slots d) (previous_of old d) (previous_of new d) (order.previous d) (primes_kept slots object h no_prime_yet d) (side_room (λ (x : Neighbours). x.previous) refl d);
     }
       where
         same_rooms : (k : ℕ) → is_some (cond (eqb k h) (Some alone) (fin.get old.links.items k)) ≡ is_some (cond (eqb k h) (Some (record { object = object; export_order = None })) (fin.get slots k))

@@ -120,12 +120,6 @@ written m index x change there k =
     (λ same. ap (λ b. cond b (Some (change x)) (fin.get m k)) same ∙ ap (option_map change) (there ∙ ap (fin.get m) (sym (eqb-true k index same))) ∙ sym (ap (λ b. choose b (option_map change (fin.get m k)) (fin.get m k)) same))
     (λ apart. ap (λ b. cond b (Some (change x)) (fin.get m k)) apart ∙ sym (ap (λ b. choose b (option_map change (fin.get m k)) (fin.get m k)) apart))
 
-pub unwritten : (m : fin.FinMap nat_cmp Neighbours) (index : ℕ) (change : Neighbours → Neighbours) → None ≡ fin.get m index → (k : ℕ) → fin.get m k ≡ choose (k == index) (option_map change (fin.get m k)) (fin.get m k)
-unwritten m index change none k =
-    by_bool (eqb k index)
-    (λ same. let absent : None ≡ fin.get m k = none ∙ ap (fin.get m) (sym (eqb-true k index same)) in sym absent ∙ ap (option_map change) absent ∙ sym (ap (λ b. choose b (option_map change (fin.get m k)) (fin.get m k)) same))
-    (λ apart. sym (ap (λ b. choose b (option_map change (fin.get m k)) (fin.get m k)) apart))
-
 -- the walk from the last back to the one before a new prime
 
 abbrev pub IsReached : Primes → Option ℕ → Prime → Type 0
@@ -157,14 +151,6 @@ module _ (slots : fin.FinMap nat_cmp Held) (object : ℕ) (x : Prime) where
       on : (at : Option ℕ) → IsNext is_after primes (Some v) at → IsReached primes at x
       on None last = λ k y is. beyond k y is (last k y is)
       on (Some l) last = (last.prime, last.there, λ k y is further. beyond k y is (by_bool (is_before y v) (λ less. both (is_before last.prime y) further (last.first k y is less)) (λ isnt. isnt)))
-
-  pub walk_ends : (h : ℕ) (v : Prime) → primes h ≡ Some v → is_before v x ≡ true → IsReached primes (Some h) x → IsNext is_after primes (Some x) (Some h)
-  walk_ends h v there before reached = record {
-    prime = v;
-    there = there;
-    past = before;
-    first = λ k y is less. by_bool (is_before v y) (λ further. both (is_before y x) less (reached.2 k y is (ap (λ w. is_before w y) (same_Some _ _ (sym reached.1 ∙ there)) ∙ further))) (λ isnt. isnt);
-  }
 
 -- of two primes the first has the lesser export order, or has the same one and the lesser handle
 by_order : {C : Type 0} (w v : Prime) → is_before w v ≡ true → (w.export_order + 1 ≤ v.export_order → C) → (w.export_order ≡ v.export_order → w.handle + 1 ≤ v.handle → C) → C

@@ -1,5 +1,6 @@
 -- The least export order of one client's handles, and how a walk over those for an object finds it.
 use Rattle.std.proofs.Common.{◌≡◌, ℕ, ◌≤◌, ◌&&◌, ◌||◌, ◌==◌, Bool, true, false, cond, if◌then◌else◌, List, [], ◌∷◌, map, filter, Option, Some, None, option_map, option_and_then, refl, sym, ap, subst, ◌∙◌, arith, eq-eqb, nat_cmp}
+use Rattle.std.proofs.Math.Bool.{or-true}
 use Rattle.std.specs.List.{filter_map, cons_option, list_any, AllByRecursion}
 use Rattle.std.specs.Option.{option_map_or}
 use Rattle.std.specs.Ordering.{eq_by_cmp}
@@ -66,15 +67,11 @@ any_entry p h x (e ∷ es) found passes =
       | true ↦ λ same is.
           let here : (h, x) ≡ e = λ i. (tied_is h e.0 same i, sym (same_Some e.1 x is) i) in
           ap (λ b. b || list_any p es) (ap p (sym here) ∙ passes)
-      | false ↦ λ apart is. ap (λ b. p e || b) (any_entry p h x es is passes) ∙ or_true (p e)
+      | false ↦ λ apart is. ap (λ b. p e || b) (any_entry p h x es is passes) ∙ or-true (p e)
     ] refl found
   where
     tied_is : (a b : ℕ) → eq_by_cmp nat_cmp a b ≡ true → a ≡ b
     tied_is a b e = grind (arith, nat_tests)
-
-    or_true : (b : Bool) → (b || true) ≡ true
-    or_true true = refl
-    or_true false = refl
 
 placed_at : (k : ℕ) (p : Option ℕ) → option_map_or (λ x. x == k) p false ≡ true → p ≡ Some k
 placed_at k None e = absurd (false≢true e)

@@ -134,19 +134,6 @@ module _ {X : Type 0} where
     pub least_there : (from to h : ℕ) → IsLeast (fin.contains_key m) from to h → None ≡ fin.get m h → ⊥
     least_there from to h is none = some_there (fin.get m h) is.passes none
 
-    -- a key that is the least has a value, and the rest of the walk comes after it
-    pub from_key : (from to h : ℕ) → IsLeast (fin.contains_key m) from to h → (v : X) × (entries_from m from ≡ (h, v) ∷ entries_from m (h + 1))
-    from_key from to h is = with_value (fin.get m h) refl
-      where
-        with_value : (x : Option X) → fin.get m h ≡ x → (v : X) × (entries_from m from ≡ (h, v) ∷ entries_from m (h + 1))
-        with_value None none = absurd (least_there from to h is (sym none))
-        with_value (Some v) found = (v, from_least from to h v is found)
-
-    -- the next key is the first of those that are left
-    pub next_is : (from : ℕ) (r : Option ℕ) → r ≡ least (fin.contains_key m) from 4294967295 → IfNone r ((k : ℕ) → from ≤ k → fin.contains_key m k ≡ false) → r ≡ slice_get (map (λ e. e.0) (entries_from m from)) 0
-    next_is from None is none = ap (λ es. slice_get (map (λ e. e.0) es) 0) (sym (from_none from none))
-    next_is from (Some h) is none = ap (λ es. slice_get (map (λ e. e.0) es) 0) (sym (from_key from 4294967295 h (least_some _ from 4294967295 h (sym is))).1)
-
 -- a place in the first of two lists, and one behind it
 pub at_front : {Y : Type 0} (xs ys : List Y) (i : ℕ) (y : Y) → slice_get xs i ≡ Some y → slice_get (xs ++ ys) i ≡ Some y
 at_front [] ys i y is = absurd (none-some y is)

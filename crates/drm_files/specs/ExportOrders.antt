@@ -44,13 +44,16 @@ IsNext before primes place (Some h) = IsFirstPast before primes place h
 abbrev pub AreNext : (Prime → Prime → Bool) → Primes → (Option ℕ → Option ℕ) → Type 0
 AreNext before primes next = (at : Option ℕ) (place : Option Prime) → IsPlace primes at place → IsNext before primes place (next at)
 
+-- what stands on one side of a place
+abbrev pub side_of : (Neighbours → Option ℕ) → ExportOrders → ℕ → Option ℕ → Option ℕ
+side_of side orders object None = option_and_then side (map.get orders.ends.items object)
+side_of side orders object (Some h) = option_and_then side (map.get orders.links.items h)
+
 abbrev pub next_of : ExportOrders → ℕ → Option ℕ → Option ℕ
-next_of orders object None = option_and_then (λ (ends : Neighbours). ends.next) (map.get orders.ends.items object)
-next_of orders object (Some h) = option_and_then (λ (link : Neighbours). link.next) (map.get orders.links.items h)
+next_of = side_of (λ (x : Neighbours). x.next)
 
 abbrev pub previous_of : ExportOrders → ℕ → Option ℕ → Option ℕ
-previous_of orders object None = option_and_then (λ (ends : Neighbours). ends.previous) (map.get orders.ends.items object)
-previous_of orders object (Some h) = option_and_then (λ (link : Neighbours). link.previous) (map.get orders.links.items h)
+previous_of = side_of (λ (x : Neighbours). x.previous)
 
 -- there is room for the neighbours of a place
 abbrev pub has_room : ExportOrders → ℕ → Option ℕ → Bool
