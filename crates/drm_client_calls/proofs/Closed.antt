@@ -1,13 +1,14 @@
 -- What is left of masters and leases without a client.
 use Rattle.std.proofs.Common.{◌≡◌, ℕ, ◌==◌, Bool, true, false, cond, not, ◌&&◌, ◌||◌, List, [], ◌∷◌, map, filter, find, Option, None, Some, refl, sym, ap, subst, ◌∙◌, eq-eqb}
+use Rattle.std.proofs.Math.Bool.{or-false, or-true}
 use Rattle.std.specs.Prelude.{if◌then◌else◌}
 use Rattle.std.specs.Option.{option_map, option_map_or, option_and_then}
-use Rattle.std.proofs.lemmas.Bool.{eqb-true, false≢true}
+use Rattle.std.proofs.lemmas.Bool.{eqb-true}
 use Rattle.drm_lists.proofs.Lists.{all_each, all_weaker, filter_all}
 use Rattle.std.specs.List.{list_any}
 use Rattle.std.proofs.lemmas.Option.{none-some, same_Some}
-use Rattle.drm_lists.proofs.Found.{none_found, find-map, is_some-find}
-use Rattle.drm_lists.proofs.Rising.{found, any_found, all_found}
+use Rattle.drm_lists.proofs.Found.{none_found, find-map}
+use Rattle.drm_lists.proofs.Rising.{found, all_found}
 use Rattle.drm_masters.specs.declared.rows.Member.{Member}
 use Rattle.drm_masters.specs.declared.rows.Master.{Master}
 use Rattle.drm_masters.specs.Masters as masters
@@ -208,12 +209,4 @@ module _ (v middle : MasterSet) (c key : ℕ) (k : Closing v middle c key) (l : 
   released_left v2 v3 its e number f =
       f ∙ ap (λ n. swept (calls.with_kept n false v2)) number ∙ ap (λ (u : MasterSet). swept (calls.with_kept own false u)) e
       ∙ released_next middle middle_are.masters_rise middle_are.lessors_older chosen own
-      ∙ same_left (λ m. chosen m || (m == own)) (λ m other. ap (λ b. chosen m || b) other ∙ plain (chosen m)) (ap (λ b. chosen own || b) (eq-eqb own own refl) ∙ all (chosen own))
-    where
-      plain : (b : Bool) → (b || false) ≡ b
-      plain true = refl
-      plain false = refl
-
-      all : (b : Bool) → (b || true) ≡ true
-      all true = refl
-      all false = refl
+      ∙ same_left (λ m. chosen m || (m == own)) (λ m other. ap (λ b. chosen m || b) other ∙ or-false (chosen m)) (ap (λ b. chosen own || b) (eq-eqb own own refl) ∙ or-true (chosen own))

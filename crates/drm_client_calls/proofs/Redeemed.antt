@@ -180,9 +180,6 @@ module _ (s : State) (t m : ℕ) (invariants : MeetsInvariants s) (is : token_ma
   its_master : row.master ≡ m
   its_master = (open_token s.leases.tokens t m is).2
 
-  lessee_is : is_lessee s.masters.masters m ≡ true
-  lessee_is = of_lessee s.leases.tokens s.masters.masters t m (tokens_of_lessees s invariants) is
-
   pub opens : is_some (token_of s.leases.tokens m) ≡ true
   opens = ap (λ n. is_some (token_of s.leases.tokens n)) (sym its_master) ∙ ap is_some (its_open s.leases.tokens t row found_row (tokens_differ s.leases.tokens (leases_so s invariants).tokens_rise) (leases_so s invariants).lessees_differ)
 

@@ -1,5 +1,5 @@
 use Rattle.std.proofs.Common.{◌≡◌, ℕ, ◌<◌, Bool, true, false, not, List, [], ◌∷◌, find, None, Some, Option, refl, sym, ap, subst, ◌∙◌, arith, inl, length, length-append}
-use Rattle.std.specs.Option.{is_some, option_map, option_map_or, option_and_then}
+use Rattle.std.specs.Option.{is_some, option_map, option_and_then}
 use Rattle.std.proofs.lemmas.Bool.{eqb-true}
 use Rattle.std.proofs.lemmas.Option.{none-some, same_Some}
 use Rattle.std.proofs.lemmas.Result.{err_from_is_err_and}
@@ -12,12 +12,12 @@ use Rattle.std.specs.List.{AllByRecursion}
 use Rattle.drm_files.specs.declared.rows.FileClient.{FileClient}
 use Rattle.drm_files.specs.Files.{FileLists, AreFiles, is_open_client, without_client}
 use Rattle.drm_masters.specs.declared.rows.Master.{Master}
-use Rattle.drm_masters.specs.Masters.{MasterSet, AreMasters, IsKeyOf, step_number_at, is_key, is_lessee, master_at}
+use Rattle.drm_masters.specs.Masters.{MasterSet, AreMasters, IsKeyOf, step_number_at, is_lessee, master_at}
 use Rattle.drm_masters.specs.Calls.{IsNewClient, redeemed}
 use Rattle.drm_masters.proofs.Newest.{newest_absent}
 use Rattle.drm_leases.specs.Leases.{LeaseSet, Lending, AreLeases, is_lease_of, key_at, token_master}
 use Rattle.drm_leases.specs.Agreed.{IsAgreed}
-use Rattle.drm_leases.proofs.Keyed.{lent_key, token_lent}
+use Rattle.drm_leases.proofs.Keyed.{keyed_step_number, lent_key, token_lent}
 use Rattle.drm_leases.specs.Calls.{without_token}
 use Rattle.drm_model.specs.Rows.{Rows, MasterRow, has_client_room, step_number}
 use Rattle.drm_model.specs.Verdict.{verdict}
@@ -153,26 +153,18 @@ returns-in-Err-clause-refines c = λ w s.
 
 -- ---- the client is there
 
--- a master's key names it
-number_is : (ms : List Master) (m key : ℕ) → IsKeyOf ms m key → step_number_at ms key ≡ m
-number_is ms m key h = by_row (find (is_key key) ms) h
-  where
-    by_row : (o : Option Master) → option_map (λ (x : Master). x.step_number) o ≡ Some m → option_map_or (λ (x : Master). x.step_number) o 0 ≡ m
-    by_row None k = absurd (let n : None ≡ Some m = k in cc)
-    by_row (Some x) k = let n : Some x.step_number ≡ Some m = k in cc
-
 -- told by the parts as they were
 told : (P : State → Type 0) (s : State) (b t m key : ℕ) (root universal : Bool) (fs : FileLists) (set : MasterSet) (l : LeaseSet) → IsNewClient s.masters b → IsKeyOf s.masters.masters m key → fs ≡ with_file s.files b (lease_flags root universal) → set ≡ redeemed b (step_number_at s.masters.masters key) s.masters → l ≡ without_token t s.leases →
     P (with_lease_client s b t m root universal) → P (record s { files = fs; masters = set; leases = l })
 told P s b t m key root universal fs set l newest is e f g h =
-    let number = number_is s.masters.masters m key is in
+    let number = keyed_step_number s.masters.masters m key is in
     subst (λ files. P (record s { files = files; masters = set; leases = l })) (sym e)
     (subst (λ v. P (joined s b (lease_flags root universal) v l)) (sym (f ∙ (λ i. redeemed b (number i) s.masters) ∙ last_redeemed b m s.masters newest))
     (subst (λ ls. P (joined s b (lease_flags root universal) (redeemed_last b m s.masters) ls)) (sym g) h))
 
 -- the masters are those that a redeeming leaves
 masters_after : (s : State) (b m key : ℕ) (set : MasterSet) → IsNewClient s.masters b → IsKeyOf s.masters.masters m key → set ≡ redeemed b (step_number_at s.masters.masters key) s.masters → AreMasters set → AreMasters (redeemed_last b m s.masters)
-masters_after s b m key set newest is e = subst AreMasters (e ∙ (λ i. redeemed b (number_is s.masters.masters m key is i) s.masters) ∙ last_redeemed b m s.masters newest)
+masters_after s b m key set newest is e = subst AreMasters (e ∙ (λ i. redeemed b (keyed_step_number s.masters.masters m key is i) s.masters) ∙ last_redeemed b m s.masters newest)
 
 pub returns-clause-invariants : goal.returns-clause-invariants
 returns-clause-invariants c =
