@@ -14,6 +14,7 @@ ghost use Rattle.drm_table.specs.Permit.{first_failing};
 use crate::endings::{end_leases, end_leases_below, release_open, release_open_below};
 use crate::faults::LeaseFault;
 use crate::granted::Granted;
+use crate::lists::passing;
 use crate::rows::{Grant, Leased};
 use crate::rules::{are_leasable, are_seen, is_lease, may_lease, planes_along, stand_once};
 use crate::searches::{any_leased_out, controls, has_lease, is_leased_out, nth_grant};
@@ -196,14 +197,11 @@ impl Leases {
             unreachable!()
         };
         masters.laws();
-        let mut list = ShownList::new();
-        let last = masters.last_lessee();
-        for id in 1..=last {
-            if has_lease(&self.granted, masters, lessor.step_number, id) {
-                list.push(id);
-            }
-        }
-        list
+        let granted = &self.granted;
+        let master = lessor.step_number;
+        passing(masters.last_lessee(), |id| {
+            has_lease(granted, masters, master, id)
+        })
     }
 
     /// Returns the mode objects in the lease of a lessee, rising; none if no lessee with a lease has the key. Does not allocate.

@@ -6,6 +6,7 @@ mod faults;
 mod granted;
 mod leases;
 mod lent;
+mod lists;
 mod masks;
 mod rows;
 mod rules;

@@ -5,6 +5,7 @@ ghost use Rattle.std.specs.List.{AllByRecursion};
 ghost use Rattle.drm_lists.specs.Numbers.{is_among};
 ghost use Rattle.drm_leases.specs.Masks.{has_object, objects_in, IsFixed};
 
+use crate::lists::passing;
 use drm_table::ShownList;
 
 /// Whether a mask has a mode object.
@@ -44,11 +45,5 @@ pub fn without(mask: u64, other: u64) -> u64
 pub fn objects_of(mask: u64) -> ShownList
     ensures { result ≡ objects_in mask }
 {
-    let mut list = ShownList::new();
-    for id in 1..=64 {
-        if has(mask, id) {
-            list.push(id);
-        }
-    }
-    list
+    passing(64, |id| has(mask, id))
 }

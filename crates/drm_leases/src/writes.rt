@@ -5,6 +5,7 @@ ghost use Rattle.drm_lists.specs.Numbers.{is_among};
 ghost use Rattle.drm_leases.specs.Calls as calls;
 ghost use Rattle.drm_leases.specs.Masks.{objects_in};
 
+use crate::lists::passing;
 use crate::masks::mask_of;
 use drm_modes::Modes;
 use drm_table::ShownList;
@@ -22,14 +23,7 @@ pub fn listed_mask(modes: &Modes, ids: &[u32], along: &[u32]) -> u64
 fn listed_objects(modes: &Modes, ids: &[u32], along: &[u32]) -> ShownList
     ensures { result ≡ calls.listed_objects modes.now.topology (ids.now ++ along.now) }
 {
-    let mut list = ShownList::new();
-    let last = modes.object_count();
-    for id in 1..=last {
-        if is_listed(ids, along, id) {
-            list.push(id);
-        }
-    }
-    list
+    passing(modes.object_count(), |id| is_listed(ids, along, id))
 }
 
 fn is_listed(ids: &[u32], along: &[u32], id: u32) -> bool
