@@ -2,12 +2,12 @@
 use Rattle.std.proofs.Common.{◌≡◌, ℕ, ◌==◌, Bool, true, false, cond, not, ◌&&◌, ◌||◌, List, [], ◌∷◌, map, filter, find, Option, None, Some, refl, sym, ap, subst, ◌∙◌, eq-eqb}
 use Rattle.std.proofs.Math.Bool.{or-false, or-true}
 use Rattle.std.specs.Prelude.{if◌then◌else◌}
-use Rattle.std.specs.Option.{option_map, option_map_or, option_and_then}
+use Rattle.std.specs.Option.{option_map, option_map_or}
 use Rattle.std.proofs.lemmas.Bool.{eqb-true}
 use Rattle.drm_lists.proofs.Lists.{all_each, all_weaker, filter_all}
 use Rattle.std.specs.List.{list_any}
 use Rattle.std.proofs.lemmas.Option.{none-some, same_Some}
-use Rattle.drm_lists.proofs.Found.{none_found, find-map}
+use Rattle.drm_lists.proofs.Found.{none_found}
 use Rattle.drm_lists.proofs.Rising.{found, all_found}
 use Rattle.drm_masters.specs.declared.rows.Member.{Member}
 use Rattle.drm_masters.specs.declared.rows.Master.{Master}
@@ -15,6 +15,7 @@ use Rattle.drm_masters.specs.Masters as masters
 use Rattle.drm_masters.specs.Masters.{MasterSet, AreMasters, swept, is_step_number}
 use Rattle.drm_masters.specs.Calls as calls
 use Rattle.drm_masters.specs.Calls.{ClosedBy, ClosedOf, closed_own, without_member, kept_as}
+use Rattle.drm_masters.proofs.Pushed.{kept_at, step_number_stays, lessor_stays, over_at, kept_lessors}
 use Rattle.drm_masters.proofs.Released.{released_next, spared_here}
 use Rattle.drm_leases.specs.Leases.{LeaseSet}
 use Rattle.drm_leases.specs.Calls as leases
@@ -61,19 +62,8 @@ non_master_gone v new c x here non_master e =
     e ∙ (λ i. swept (record (without_member (number_is v c x here i) v) { masters = unreleased v c (own_is v c x false here non_master) i; device_master = device i }))
 
 -- that its own master was kept is nothing once it is released
-kept_lessors : (m n : ℕ) (ms : List Master) → masters.lessor_of (map (λ (x : Master). if is_step_number m x then kept_as true x else x) ms) n ≡ masters.lessor_of ms n
-kept_lessors m n [] = refl
-kept_lessors m n (x ∷ xs) =
-    elim (x.step_number == m) as (λ b. option_and_then (λ (y : Master). y.lessor) (cond ((if b then kept_as true x else x).step_number == n) (Some (if b then kept_as true x else x)) (find (is_step_number n) (map (λ (y : Master). if is_step_number m y then kept_as true y else y) xs))) ≡ option_and_then (λ (y : Master). y.lessor) (cond (x.step_number == n) (Some x) (find (is_step_number n) xs)))
-    [ true ↦ here (kept_as true x) refl refl (kept_lessors m n xs) | false ↦ here x refl refl (kept_lessors m n xs) ]
-  where
-    here : (y : Master) → y.step_number ≡ x.step_number → y.lessor ≡ x.lessor → masters.lessor_of (map (λ (z : Master). if is_step_number m z then kept_as true z else z) xs) n ≡ masters.lessor_of xs n → option_and_then (λ (z : Master). z.lessor) (cond (y.step_number == n) (Some y) (find (is_step_number n) (map (λ (z : Master). if is_step_number m z then kept_as true z else z) xs))) ≡ option_and_then (λ (z : Master). z.lessor) (cond (x.step_number == n) (Some x) (find (is_step_number n) xs))
-    here y e f rest =
-        ap (λ k. option_and_then (λ (z : Master). z.lessor) (cond (k == n) (Some y) (find (is_step_number n) (map (λ (z : Master). if is_step_number m z then kept_as true z else z) xs)))) e
-        ∙ elim (x.step_number == n) as (λ b. option_and_then (λ (z : Master). z.lessor) (cond b (Some y) (find (is_step_number n) (map (λ (z : Master). if is_step_number m z then kept_as true z else z) xs))) ≡ option_and_then (λ (z : Master). z.lessor) (cond b (Some x) (find (is_step_number n) xs))) [ true ↦ f | false ↦ rest ]
-
 kept_above : (m : ℕ) (ms : List Master) → masters.lessor_of (map (λ (x : Master). if is_step_number m x then kept_as true x else x) ms) ≡ masters.lessor_of ms
-kept_above m ms = λ i n. kept_lessors m n ms i
+kept_above m ms = λ i n. kept_lessors m true ms n i
 
 released_again : (below : ℕ → Bool) (m : ℕ) → below m ≡ true → (ms : List Master) → released below (map (λ (x : Master). if is_step_number m x then kept_as true x else x) ms) ≡ released below ms
 released_again below m is [] = refl
@@ -93,19 +83,13 @@ released_again below m is (x ∷ xs) = λ i. one i ∷ released_again below m is
 
 -- it is kept then
 closed_kept : (own : ℕ) (ms : List Master) (x : Master) → masters.master_at (map (λ (y : Master). if is_step_number own y then kept_as true y else y) ms) x.step_number ≡ Some x → x.step_number ≡ own → x.kept ≡ true
-closed_kept own ms x at number = by_row (masters.master_at ms x.step_number) refl (sym (find-map (is_step_number x.step_number) change ms ∙ ap (λ (p : Master → Bool). option_map change (find p ms)) (λ i z. stays z i == x.step_number)) ∙ at)
+closed_kept own ms x at number = by_row (masters.master_at ms x.step_number) refl (sym (over_at (kept_at own true) (step_number_stays own true) (lessor_stays own true) ms x.step_number) ∙ at)
   where
-    change : Master → Master
-    change y = if is_step_number own y then kept_as true y else y
-
-    stays : (y : Master) → (change y).step_number ≡ y.step_number
-    stays y = elim (is_step_number own y) as (λ b. (if b then kept_as true y else y).step_number ≡ y.step_number) [ true ↦ refl | false ↦ refl ]
-
-    by_row : (o : Option Master) → masters.master_at ms x.step_number ≡ o → option_map change o ≡ Some x → x.kept ≡ true
+    by_row : (o : Option Master) → masters.master_at ms x.step_number ≡ o → option_map (kept_at own true) o ≡ Some x → x.kept ≡ true
     by_row None e k = absurd (none-some x k)
     by_row (Some y) e k =
-        let is : change y ≡ x = same_Some (change y) x k in
-        let num : (y.step_number == own) ≡ true = ap (λ n. n == own) (sym (stays y) ∙ ap (λ (z : Master). z.step_number) is) ∙ eq-eqb x.step_number own number in
+        let is : kept_at own true y ≡ x = same_Some (kept_at own true y) x k in
+        let num : (y.step_number == own) ≡ true = ap (λ n. n == own) (sym (step_number_stays own true y) ∙ ap (λ (z : Master). z.step_number) is) ∙ eq-eqb x.step_number own number in
         sym (ap (λ (z : Master). z.kept) is) ∙ ap (λ b. (if b then kept_as true y else y).kept) num
 
 -- one of a master of its own, whose leases end with all below it
