@@ -1,7 +1,11 @@
 pub mod CallFieldLaws
 pub mod CallLaws
 pub mod CommandLaws
+pub mod EndLemmas
+pub mod FaultLaws
+pub mod FaultLemmas
 pub mod FieldLaws
+pub mod ForeignLemmas
 pub mod FrontLemmas
 pub mod LimitsLaws
 pub mod LineLaws

@@ -1,5 +1,6 @@
 pub mod Calls
 pub mod Commands
+pub mod Faults
 pub mod Fields
 pub mod Grammar
 pub mod Laws

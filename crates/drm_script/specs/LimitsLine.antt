@@ -1,32 +1,53 @@
 -- The limits of the device, read from words.
-use Rattle.std.specs.Prelude.{Option, Some, None, if◌then◌else◌}
+use Rattle.std.specs.Prelude.{ℕ, Option, Some, None, if◌then◌else◌}
 use Rattle.drm_table.specs.declared.limits.Limits.{Limits}
 use Rattle.drm_table.specs.Limits.{are_in_range}
-use Rattle.drm_script.specs.declared.limits_line.TheConstants.{UNREAD}
+use Rattle.drm_script.specs.declared.limits_line.Limit.{Limit}
+use Rattle.drm_script.specs.declared.limits_line.Limit.TheVariants as each
+use Rattle.drm_script.specs.declared.limits_line.TheConstants.{OTHERS}
 use Rattle.drm_script.specs.Fields.{Words, ◌>>=◌, end_at, number_at}
 
--- the limits, if each is in its range
-abbrev pub in_range : Limits → Option Limits
-in_range limits = if are_in_range limits then Some limits else None
+-- the program's limits, with a number in place of one of them
+abbrev pub with_limit : Limit → ℕ → Limits
+with_limit each.Clients n = record OTHERS { clients = n }
+with_limit each.Handles n = record OTHERS { handles = n }
+with_limit each.Names n = record OTHERS { names = n }
+with_limit each.Tokens n = record OTHERS { tokens = n }
+with_limit each.Objects n = record OTHERS { objects = n }
+with_limit each.Framebuffers n = record OTHERS { framebuffers = n }
+with_limit each.Lessees n = record OTHERS { lessees = n }
+with_limit each.Journal n = record OTHERS { journal = n }
+
+-- the number, if it is in the range of the limit
+abbrev pub in_range : Limit → ℕ → Option ℕ
+in_range limit n = if are_in_range (with_limit limit n) then Some n else None
+
+-- the number of a limit, in its range
+unfoldable pub limit_at : Limit → Words → Option (ℕ × Words)
+limit_at limit ws = do
+  number ← number_at 32 ws
+  fitting ← in_range limit number.0
+  Some (fitting, number.1)
 
 -- eight numbers in the order of the limits, behind the word, each in its range
 unfoldable pub limits_at : Words → Option Limits
 limits_at ws = do
-  clients ← number_at 32 ws
-  one ← in_range (record UNREAD { clients = clients.0 })
-  handles ← number_at 32 clients.1
-  two ← in_range (record one { handles = handles.0 })
-  names ← number_at 32 handles.1
-  three ← in_range (record two { names = names.0 })
-  tokens ← number_at 32 names.1
-  four ← in_range (record three { tokens = tokens.0 })
-  objects ← number_at 32 tokens.1
-  five ← in_range (record four { objects = objects.0 })
-  framebuffers ← number_at 32 objects.1
-  six ← in_range (record five { framebuffers = framebuffers.0 })
-  lessees ← number_at 32 framebuffers.1
-  seven ← in_range (record six { lessees = lessees.0 })
-  journal ← number_at 32 lessees.1
-  eight ← in_range (record seven { journal = journal.0 })
+  clients ← limit_at each.Clients ws
+  handles ← limit_at each.Handles clients.1
+  names ← limit_at each.Names handles.1
+  tokens ← limit_at each.Tokens names.1
+  objects ← limit_at each.Objects tokens.1
+  framebuffers ← limit_at each.Framebuffers objects.1
+  lessees ← limit_at each.Lessees framebuffers.1
+  journal ← limit_at each.Journal lessees.1
   end ← end_at journal.1
-  Some eight
+  Some (record {
+    clients = clients.0;
+    handles = handles.0;
+    names = names.0;
+    tokens = tokens.0;
+    objects = objects.0;
+    framebuffers = framebuffers.0;
+    lessees = lessees.0;
+    journal = journal.0;
+  })

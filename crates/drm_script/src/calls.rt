@@ -1,8 +1,13 @@
 //! The words and fields of a call.
 
-ghost use Rattle.std.specs.Prelude.{◌≡◌};
+ghost use Rattle.std.specs.Prelude.{◌≡◌, [], ◌∷◌, IfErr, IfOk, None, Some, codes, false, option_and_then};
+ghost use Rattle.std.specs.Str.{bytes_eq};
 ghost use Rattle.std.specs.Result.{result_ok};
 ghost use Rattle.drm_script.specs.Calls.{call_at, raw_at, raw_call, row_call_at};
+ghost use Rattle.drm_script.specs.Faults as faults;
+ghost use Rattle.drm_script.specs.Faults.{IsFirstMisfit, KindFits, call_fields, call_places};
+ghost use Rattle.drm_script.specs.Fields.{fields_at};
+ghost use Rattle.drm_table.specs.Table.{call_with, kind_layout};
 ghost use Rattle.drm_script.specs.Words.{words_of};
 
 use crate::fields::fields_of;
@@ -27,51 +32,66 @@ fn raw_of(number: u16) -> Call
 /// `raw N`, behind its word.
 #[tactic(auto, unfolding(crate::specs::Calls::raw_at))]
 fn raw(text: &[u8]) -> Result<Call, Fault<'_>>
-    ensures { result_ok result ≡ raw_at (words_of text.now) }
+    ensures reading { result_ok result ≡ raw_at (words_of text.now) }
+    ensures fault { IfErr result (λ fault. IsFirstMisfit (faults.Place.number 16 ∷ []) (words_of text.now) fault.cause (words_of fault.at.now)) }
 {
     let (number, rest) = u16_word(text)?;
     end_of(rest)?;
     Ok(raw_of(number))
 }
 
-/// The fault of the fields of a call. The kind of an audit is in front of the others: where it is a number, and that of no kind, its
-/// word is the first that doesn't fit.
-fn field_fault<'a>(kind: CallKind, text: &'a [u8], fault: Fault<'a>) -> Fault<'a> {
-    if kind != CallKind::Audit {
-        return fault;
-    }
+/// A fault where the first field of an audit is a number, and that of no kind.
+fn known_kind(kind: CallKind, text: &[u8]) -> Result<(), Fault<'_>>
+    ensures passed { IfOk result (λ _. KindFits kind (words_of text.now)) }
+    ensures reading { IfErr result (λ _. option_and_then (call_with kind) (fields_at (kind_layout kind) (words_of text.now)) ≡ None) }
+    ensures fault { IfErr result (λ fault.
+        IsFirstMisfit (call_fields (Some kind) (words_of text.now)) (words_of text.now) fault.cause (words_of fault.at.now)) }
+{
+    let CallKind::Audit = kind else {
+        return Ok(());
+    };
     let Ok((number, _)) = u32_word(text) else {
-        return fault;
+        return Ok(());
     };
     if AuditKind::of_number(number).is_some() {
-        return fault;
+        return Ok(());
     }
-    Fault::unfit(text, Wanted::AuditKind)
+    Err(Fault::unfit(text, Wanted::AuditKind))
 }
 
-/// `WORD FIELDS` from the word on, and apart from that the word and the fields. Where the fields are read, the kind of an audit alone is
-/// still to be found.
+/// The call of a kind, by its fields.
+fn fields_call(kind: CallKind, text: &[u8]) -> Result<Call, Fault<'_>>
+    ensures reading { result_ok result ≡ option_and_then (call_with kind) (fields_at (kind_layout kind) (words_of text.now)) }
+    ensures fault { IfErr result (λ fault.
+        IsFirstMisfit (call_fields (Some kind) (words_of text.now)) (words_of text.now) fault.cause (words_of fault.at.now)) }
+{
+    known_kind(kind, text)?;
+    let fields = fields_of(kind.layout(), text)?;
+    let Some(call) = kind.call(fields.as_slice()) else {
+        unreachable!()
+    };
+    Ok(call)
+}
+
+/// `WORD FIELDS` from the word on, and apart from that the word and the fields.
 #[tactic(auto, unfolding(crate::specs::Calls::row_call_at))]
 fn row_call<'a>(whole: &'a [u8], word: &[u8], text: &'a [u8]) -> Result<Call, Fault<'a>>
-    ensures { result_ok result ≡ row_call_at word.now (words_of text.now) }
+    requires whole { words_of whole.now ≡ word.now ∷ words_of text.now }
+    requires named { bytes_eq word.now (codes "raw") ≡ false }
+    ensures reading { result_ok result ≡ row_call_at word.now (words_of text.now) }
+    ensures fault { IfErr result (λ fault. IsFirstMisfit (call_places (words_of whole.now)) (words_of whole.now) fault.cause (words_of fault.at.now)) }
 {
     let Some(kind) = CallKind::of_word(word) else {
         return Err(Fault::unfit(whole, Wanted::Call));
     };
-    let fields = match fields_of(kind.layout(), text) {
-        Ok(fields) => fields,
-        Err(fault) => return Err(field_fault(kind, text, fault)),
-    };
-    let Some(call) = kind.call(fields.as_slice()) else {
-        return Err(Fault::unfit(text, Wanted::AuditKind));
-    };
-    Ok(call)
+    fields_call(kind, text)
 }
 
 /// The call that the words of a text spell.
 #[tactic(auto, unfolding(crate::specs::Calls::call_at))]
 pub(crate) fn call_of(text: &[u8]) -> Result<Call, Fault<'_>>
-    ensures { result_ok result ≡ call_at (words_of text.now) }
+    ensures reading { result_ok result ≡ call_at (words_of text.now) }
+    ensures fault { IfErr result (λ fault. IsFirstMisfit (call_places (words_of text.now)) (words_of text.now) fault.cause (words_of fault.at.now)) }
 {
     let (first, rest) = word_of(Wanted::Call, text)?;
     if first == RAW {

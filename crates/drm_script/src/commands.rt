@@ -1,8 +1,11 @@
 //! What a line asks of the device.
 
-ghost use Rattle.std.specs.Prelude.{◌≡◌};
+ghost use Rattle.std.specs.Prelude.{◌≡◌, [], ◌∷◌, IfErr, None, drop};
 ghost use Rattle.std.specs.Result.{result_ok};
 ghost use Rattle.drm_script.specs.Commands.{open_at, close_at, ask_at};
+ghost use Rattle.drm_script.specs.Faults as faults;
+ghost use Rattle.drm_script.specs.Faults.{IsFirstMisfit, call_places, opening_places};
+ghost use Rattle.drm_script.specs.Reading.{line_word_of};
 ghost use Rattle.drm_script.specs.Words.{words_of};
 
 use crate::calls::call_of;
@@ -26,7 +29,8 @@ pub enum Command {
 /// `open L OPENING` or `open2 L OPENING`, behind its first word: with universal planes on or off.
 #[tactic(auto, unfolding(crate::specs::Commands::open_at))]
 pub(crate) fn open(universal: bool, text: &[u8]) -> Result<Command, Fault<'_>>
-    ensures { result_ok result ≡ open_at universal (words_of text.now) }
+    ensures reading { result_ok result ≡ open_at universal (words_of text.now) }
+    ensures fault { IfErr result (λ fault. IsFirstMisfit (faults.Place.label ∷ opening_places (drop 1 (words_of text.now))) (words_of text.now) fault.cause (words_of fault.at.now)) }
 {
     let (first, rest) = word_of(Wanted::Label, text)?;
     let Some(label) = label_of_word(first) else {
@@ -39,7 +43,8 @@ pub(crate) fn open(universal: bool, text: &[u8]) -> Result<Command, Fault<'_>>
 /// `close L`, behind its first word.
 #[tactic(auto, unfolding(crate::specs::Commands::close_at))]
 pub(crate) fn close(text: &[u8]) -> Result<Command, Fault<'_>>
-    ensures { result_ok result ≡ close_at (words_of text.now) }
+    ensures reading { result_ok result ≡ close_at (words_of text.now) }
+    ensures fault { IfErr result (λ fault. IsFirstMisfit (faults.Place.label ∷ []) (words_of text.now) fault.cause (words_of fault.at.now)) }
 {
     let (first, rest) = word_of(Wanted::Label, text)?;
     let Some(label) = label_of_word(first) else {
@@ -52,7 +57,10 @@ pub(crate) fn close(text: &[u8]) -> Result<Command, Fault<'_>>
 /// `L CALL FIELDS` from its first word on, and apart from that the first word and the others.
 #[tactic(auto, unfolding(crate::specs::Commands::ask_at))]
 pub(crate) fn ask<'a>(whole: &'a [u8], first: &[u8], text: &'a [u8]) -> Result<Command, Fault<'a>>
-    ensures { result_ok result ≡ ask_at first.now (words_of text.now) }
+    requires whole { words_of whole.now ≡ first.now ∷ words_of text.now }
+    requires other { line_word_of first.now ≡ None }
+    ensures reading { result_ok result ≡ ask_at first.now (words_of text.now) }
+    ensures fault { IfErr result (λ fault. IsFirstMisfit (faults.Place.first_word ∷ call_places (words_of text.now)) (words_of whole.now) fault.cause (words_of fault.at.now)) }
 {
     let Some(label) = label_of_word(first) else {
         return Err(Fault::unfit(whole, Wanted::FirstWord));

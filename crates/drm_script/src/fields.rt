@@ -1,21 +1,24 @@
 //! The fields of a call, as words of a line.
 
-ghost use Rattle.std.specs.Prelude.{◌≡◌, ◌≤◌, length};
+ghost use Rattle.std.specs.Prelude.{◌≡◌, ◌≤◌, IfErr, IfOk, length, map};
 ghost use Rattle.std.specs.Option.{option_map};
 ghost use Rattle.std.specs.Result.{result_ok};
 ghost use Rattle.drm_table.specs.Fields.{IsShort, layout_of};
+ghost use Rattle.drm_script.specs.Faults.{IsFault, IsFirstMisfit, IsPassed, layout_places, width_place};
 ghost use Rattle.drm_script.specs.Fields.{field_at, fields_at, id_count, numbers_at};
 ghost use Rattle.drm_script.specs.Words.{words_of};
 
 use crate::malformations::Fault;
 use crate::numbers::{u32_word, u64_word};
-use crate::words::{end_of, next_word};
+use crate::words::{end_of, word_count};
 use drm_table::{Field, Fields, Layout, Width};
 
 /// The field that the first word spells, and what follows it.
 #[tactic(auto, unfolding(crate::specs::Fields::field_at))]
 fn field_of(width: Width, text: &[u8]) -> Result<(Field, &[u8]), Fault<'_>>
-    ensures { option_map (λ read. (read.0, words_of read.1.now)) (result_ok result) ≡ field_at width (words_of text.now) }
+    ensures reading { option_map (λ read. (read.0, words_of read.1.now)) (result_ok result) ≡ field_at width (words_of text.now) }
+    ensures passed { IfOk result (λ read. IsPassed (width_place width) (words_of text.now) (words_of read.1.now)) }
+    ensures fault { IfErr result (λ fault. IsFault (width_place width) (words_of text.now) fault.cause (words_of fault.at.now)) }
 {
     match width {
         Width::U32 => {
@@ -33,7 +36,9 @@ fn field_of(width: Width, text: &[u8]) -> Result<(Field, &[u8]), Fault<'_>>
 #[tactic(auto, unfolding(crate::specs::Fields::numbers_at))]
 fn numbers_of<'a>(widths: &[Width], text: &'a [u8]) -> Result<Fields, Fault<'a>>
     requires { length widths.now ≤ 32 }
-    ensures { result_ok result ≡ numbers_at widths.now (words_of text.now) }
+    ensures reading { result_ok result ≡ numbers_at widths.now (words_of text.now) }
+    ensures fault { IfErr result (λ fault.
+        IsFirstMisfit (map width_place widths.now) (words_of text.now) fault.cause (words_of fault.at.now)) }
 {
     let mut fields = Fields::new();
     let mut rest = text;
@@ -50,21 +55,16 @@ fn numbers_of<'a>(widths: &[Width], text: &'a [u8]) -> Result<Fields, Fault<'a>>
 fn id_count(text: &[u8]) -> usize
     ensures { result ≡ id_count (words_of text.now) }
 {
-    let mut rest = text;
-    for count in 0..Layout::MOST_IDS {
-        let Some((_, behind)) = next_word(rest) else {
-            return count;
-        };
-        rest = behind;
-    }
-    Layout::MOST_IDS
+    word_count(text).min(Layout::MOST_IDS)
 }
 
 /// The fields of a layout that the words spell, where no word is behind them.
 #[tactic(auto, unfolding(crate::specs::Fields::fields_at))]
 pub(crate) fn fields_of(layout: Layout, text: &[u8]) -> Result<Fields, Fault<'_>>
     requires { IsShort (layout_of layout) }
-    ensures { result_ok result ≡ fields_at (layout_of layout) (words_of text.now) }
+    ensures reading { result_ok result ≡ fields_at (layout_of layout) (words_of text.now) }
+    ensures fault { IfErr result (λ fault.
+        IsFirstMisfit (layout_places (layout_of layout) (words_of text.now)) (words_of text.now) fault.cause (words_of fault.at.now)) }
 {
     match layout {
         Layout::Numbers(widths) => numbers_of(widths, text),

@@ -1,9 +1,12 @@
 //! The line that sets the limits of the device.
 
-ghost use Rattle.std.specs.Prelude.{◌≡◌, true, IfOk};
+ghost use Rattle.std.specs.Prelude.{◌≡◌, ◌∷◌, true, IfOk, IfErr};
+ghost use Rattle.std.specs.Option.{option_map};
 ghost use Rattle.std.specs.Result.{result_ok};
 ghost use Rattle.drm_table.specs.Limits as ranges;
-ghost use Rattle.drm_script.specs.LimitsLine.{in_range, limits_at};
+ghost use Rattle.drm_script.specs.Faults as faults;
+ghost use Rattle.drm_script.specs.Faults.{IsFault, IsPassed, limit_places};
+ghost use Rattle.drm_script.specs.LimitsLine.{limit_at, limits_at, with_limit};
 ghost use Rattle.drm_script.specs.Words.{words_of};
 
 use crate::malformations::{Fault, Malformation};
@@ -11,21 +14,80 @@ use crate::numbers::u32_word;
 use crate::words::end_of;
 use drm_table::{Limits, are_in_range};
 
-/// The limits before a line is read: each is in its range.
-const UNREAD: Limits = Limits::PROGRAM;
+/// The limits among which a limit is tried: each is in its range.
+const OTHERS: Limits = Limits::PROGRAM;
 
-/// The limits, the last of which was read from the first word of a text; a fault there where it is out of its range.
-fn in_range(limits: Limits, text: &[u8]) -> Result<Limits, Fault<'_>>
-    ensures { result_ok result ≡ in_range limits }
+/// The limits, by their order in a line.
+#[derive(Clone, Copy)]
+enum Limit {
+    Clients,
+    Handles,
+    Names,
+    Tokens,
+    Objects,
+    Framebuffers,
+    Lessees,
+    Journal,
+}
+
+impl Limit {
+    /// The program's limits, with a number in place of this one.
+    fn with_limit(self, number: u32) -> Limits
+        ensures { result ≡ with_limit self number }
+    {
+        match self {
+            Limit::Clients => Limits {
+                clients: number,
+                ..OTHERS
+            },
+            Limit::Handles => Limits {
+                handles: number,
+                ..OTHERS
+            },
+            Limit::Names => Limits {
+                names: number,
+                ..OTHERS
+            },
+            Limit::Tokens => Limits {
+                tokens: number,
+                ..OTHERS
+            },
+            Limit::Objects => Limits {
+                objects: number,
+                ..OTHERS
+            },
+            Limit::Framebuffers => Limits {
+                framebuffers: number,
+                ..OTHERS
+            },
+            Limit::Lessees => Limits {
+                lessees: number,
+                ..OTHERS
+            },
+            Limit::Journal => Limits {
+                journal: number,
+                ..OTHERS
+            },
+        }
+    }
+}
+
+/// The number of a limit, in its range, and what follows it.
+#[tactic(auto, unfolding(crate::specs::LimitsLine::limit_at))]
+fn limit_of(limit: Limit, text: &[u8]) -> Result<(u32, &[u8]), Fault<'_>>
+    ensures reading { option_map (λ found. (found.0, words_of found.1.now)) (result_ok result) ≡ limit_at limit (words_of text.now) }
+    ensures in_range { IfOk result (λ found. ranges.are_in_range (with_limit limit found.0) ≡ true) }
+    ensures passed { IfOk result (λ found. IsPassed (faults.Place.limit limit) (words_of text.now) (words_of found.1.now)) }
+    ensures fault { IfErr result (λ fault. IsFault (faults.Place.limit limit) (words_of text.now) fault.cause (words_of fault.at.now)) }
 {
-    if are_in_range(limits) {
-        Ok(limits)
-    } else {
-        Err(Fault {
+    let (number, rest) = u32_word(text)?;
+    if !are_in_range(limit.with_limit(number)) {
+        return Err(Fault {
             at: text,
             cause: Malformation::LimitRange,
-        })
+        });
     }
+    Ok((number, rest))
 }
 
 /// The limits that the words of a text spell, each in its range. A number is tried against its range before the next word is read.
@@ -33,29 +95,25 @@ fn in_range(limits: Limits, text: &[u8]) -> Result<Limits, Fault<'_>>
 pub(crate) fn limits_of(text: &[u8]) -> Result<Limits, Fault<'_>>
     ensures reading { result_ok result ≡ limits_at (words_of text.now) }
     ensures in_range { IfOk result (λ limits. ranges.are_in_range limits ≡ true) }
+    ensures fault { IfErr result (λ fault. faults.IsFirstMisfit limit_places (words_of text.now) fault.cause (words_of fault.at.now)) }
 {
-    let (clients, behind_clients) = u32_word(text)?;
-    let limits = in_range(Limits { clients, ..UNREAD }, text)?;
-    let (handles, behind_handles) = u32_word(behind_clients)?;
-    let limits = in_range(Limits { handles, ..limits }, behind_clients)?;
-    let (names, behind_names) = u32_word(behind_handles)?;
-    let limits = in_range(Limits { names, ..limits }, behind_handles)?;
-    let (tokens, behind_tokens) = u32_word(behind_names)?;
-    let limits = in_range(Limits { tokens, ..limits }, behind_names)?;
-    let (objects, behind_objects) = u32_word(behind_tokens)?;
-    let limits = in_range(Limits { objects, ..limits }, behind_tokens)?;
-    let (framebuffers, behind_framebuffers) = u32_word(behind_objects)?;
-    let limits = in_range(
-        Limits {
-            framebuffers,
-            ..limits
-        },
-        behind_objects,
-    )?;
-    let (lessees, behind_lessees) = u32_word(behind_framebuffers)?;
-    let limits = in_range(Limits { lessees, ..limits }, behind_framebuffers)?;
-    let (journal, behind_journal) = u32_word(behind_lessees)?;
-    let limits = in_range(Limits { journal, ..limits }, behind_lessees)?;
-    end_of(behind_journal)?;
-    Ok(limits)
+    let (clients, rest) = limit_of(Limit::Clients, text)?;
+    let (handles, rest) = limit_of(Limit::Handles, rest)?;
+    let (names, rest) = limit_of(Limit::Names, rest)?;
+    let (tokens, rest) = limit_of(Limit::Tokens, rest)?;
+    let (objects, rest) = limit_of(Limit::Objects, rest)?;
+    let (framebuffers, rest) = limit_of(Limit::Framebuffers, rest)?;
+    let (lessees, rest) = limit_of(Limit::Lessees, rest)?;
+    let (journal, rest) = limit_of(Limit::Journal, rest)?;
+    end_of(rest)?;
+    Ok(Limits {
+        clients,
+        handles,
+        names,
+        tokens,
+        objects,
+        framebuffers,
+        lessees,
+        journal,
+    })
 }

@@ -5,7 +5,7 @@ ghost use Rattle.arrayvec.specs.ArrayString.{array_string_len};
 ghost use Rattle.drm_script.specs.Malformations.{first_told, shown, told};
 ghost use Rattle.drm_script.specs.Words.{words_of};
 
-use crate::words::{next_word, trim_spaces};
+use crate::words::{next_word, skip_words, trim_spaces, word_count};
 use arrayvec::ArrayString;
 use std::error::Error;
 use std::fmt;
@@ -111,8 +111,14 @@ pub(crate) struct Fault<'a> {
 }
 
 impl<'a> Fault<'a> {
+    ghost use Rattle.std.specs.Prelude.{◌≡◌};
+    ghost use Rattle.drm_script.specs.declared.malformations.Malformation.TheVariants as causes;
+
     /// The first word of this text isn't what would have fitted.
-    pub(crate) fn unfit(at: &'a [u8], wanted: Wanted) -> Fault<'a> {
+    pub(crate) fn unfit(at: &'a [u8], wanted: Wanted) -> Fault<'a>
+        ensures cause { result.cause ≡ causes.Unfit wanted }
+        ensures at { result.at.now ≡ at.now }
+    {
         Fault {
             at,
             cause: Malformation::Unfit(wanted),
@@ -166,12 +172,16 @@ fn first_told(text: &[u8]) -> ArrayString<WORD>
 
 impl Malformed {
     ghost use Rattle.std.specs.Prelude.{◌≡◌, ◌≤◌, ◌<◌, ◌+◌, ◌^◌, [], length};
-    ghost use Rattle.drm_script.specs.Malformations.{TellsTheWordThere};
+    ghost use Rattle.std.specs.Prelude.{drop, ◌-◌};
+    ghost use Rattle.drm_script.specs.declared.malformations.Malformation.TheVariants as causes;
+    ghost use Rattle.drm_script.specs.Malformations.{TellsTheWordThere, first_told};
+    ghost use Rattle.drm_script.specs.Words.{words_of};
 
     /// A line that is too long, by its first byte too many.
     pub fn too_long() -> Malformed
         ensures column { result.column ≡ 256 }
         ensures word { result.word.bytes ≡ [] }
+        ensures cause { result.cause ≡ causes.TooLong }
     {
         Malformed {
             column: 256,
@@ -185,6 +195,7 @@ impl Malformed {
         requires { place + 1 < 2 ^ 64 }
         ensures column { result.column ≡ place + 1 }
         ensures word { result.word.bytes ≡ [] }
+        ensures cause { result.cause ≡ cause }
     {
         Malformed {
             column: place + 1,
@@ -193,15 +204,19 @@ impl Malformed {
         }
     }
 
-    /// A line by a fault in it.
+    /// A line by a fault in it: as many of its words are in front of the fault as that has not.
     pub(crate) fn at_fault(line: &[u8], fault: Fault<'_>) -> Malformed
         ensures first { 1 ≤ result.column }
         ensures last { result.column ≤ length line.now + 1 }
         ensures word { TellsTheWordThere line.now result }
+        ensures told { result.word.bytes ≡ first_told (words_of (drop (result.column - 1) line.now)) }
+        ensures cause { result.cause ≡ fault.entry.cause }
+        ensures place { words_of (drop (result.column - 1) line.now)
+            ≡ drop (length (words_of line.now) - length (words_of fault.entry.at.now)) (words_of line.now) }
     {
-        let left = trim_spaces(fault.at).len();
-        let place = line.len().saturating_sub(left);
-        let (_, at) = line.split_at(place);
+        let fitting = word_count(line).saturating_sub(word_count(fault.at));
+        let at = trim_spaces(skip_words(line, fitting));
+        let place = line.len() - at.len();
         Malformed {
             column: place + 1,
             word: first_told(at),
@@ -209,11 +224,13 @@ impl Malformed {
         }
     }
 
-    /// A line that sets limits where the device is made already.
+    /// A line that sets limits where the device is made already, by its first word.
     pub fn late_limits(line: &[u8]) -> Malformed
         ensures first { 1 ≤ result.column }
         ensures last { result.column ≤ length line.now + 1 }
         ensures word { TellsTheWordThere line.now result }
+        ensures cause { result.cause ≡ causes.LateLimits }
+        ensures place { words_of (drop (result.column - 1) line.now) ≡ words_of line.now }
     {
         let cause = Malformation::LateLimits;
         Malformed::at_fault(line, Fault { at: line, cause })

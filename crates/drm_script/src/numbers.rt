@@ -1,8 +1,10 @@
 //! The numbers of a line, in decimal digits, each within the type of its field.
 
-ghost use Rattle.std.specs.Prelude.{◌≡◌, option_and_then};
+ghost use Rattle.std.specs.Prelude.{◌≡◌, option_and_then, IfErr, IfOk};
 ghost use Rattle.std.specs.Option.{option_map};
 ghost use Rattle.std.specs.Result.{result_ok};
+ghost use Rattle.drm_script.specs.Faults as faults;
+ghost use Rattle.drm_script.specs.Faults.{IsFault, IsPassed};
 ghost use Rattle.drm_script.specs.Fields.{number_of, number_at, of_bits};
 ghost use Rattle.drm_script.specs.Words.{words_of};
 
@@ -31,7 +33,9 @@ pub(crate) fn number(word: &[u8]) -> Option<u64>
 /// The number of 64 bits that the first word spells, and what follows it.
 #[tactic(auto, unfolding(crate::specs::Fields::number_at))]
 pub(crate) fn u64_word(text: &[u8]) -> Result<(u64, &[u8]), Fault<'_>>
-    ensures { option_map (λ found. (found.0, words_of found.1.now)) (result_ok result) ≡ number_at 64 (words_of text.now) }
+    ensures reading { option_map (λ found. (found.0, words_of found.1.now)) (result_ok result) ≡ number_at 64 (words_of text.now) }
+    ensures passed { IfOk result (λ found. IsPassed (faults.Place.number 64) (words_of text.now) (words_of found.1.now)) }
+    ensures fault { IfErr result (λ fault. IsFault (faults.Place.number 64) (words_of text.now) fault.cause (words_of fault.at.now)) }
 {
     let wanted = Wanted::Number(u64::MAX);
     let (word, rest) = word_of(wanted, text)?;
@@ -51,7 +55,9 @@ pub fn u32_of(word: &[u8]) -> Option<u32>
 /// The number of 32 bits that the first word spells, and what follows it.
 #[tactic(auto, unfolding(crate::specs::Fields::number_at))]
 pub(crate) fn u32_word(text: &[u8]) -> Result<(u32, &[u8]), Fault<'_>>
-    ensures { option_map (λ found. (found.0, words_of found.1.now)) (result_ok result) ≡ number_at 32 (words_of text.now) }
+    ensures reading { option_map (λ found. (found.0, words_of found.1.now)) (result_ok result) ≡ number_at 32 (words_of text.now) }
+    ensures passed { IfOk result (λ found. IsPassed (faults.Place.number 32) (words_of text.now) (words_of found.1.now)) }
+    ensures fault { IfErr result (λ fault. IsFault (faults.Place.number 32) (words_of text.now) fault.cause (words_of fault.at.now)) }
 {
     let wanted = Wanted::Number(u64::from(u32::MAX));
     let (word, rest) = word_of(wanted, text)?;
@@ -71,7 +77,9 @@ fn u16_of(word: &[u8]) -> Option<u16>
 /// The number of 16 bits that the first word spells, and what follows it.
 #[tactic(auto, unfolding(crate::specs::Fields::number_at))]
 pub(crate) fn u16_word(text: &[u8]) -> Result<(u16, &[u8]), Fault<'_>>
-    ensures { option_map (λ found. (found.0, words_of found.1.now)) (result_ok result) ≡ number_at 16 (words_of text.now) }
+    ensures reading { option_map (λ found. (found.0, words_of found.1.now)) (result_ok result) ≡ number_at 16 (words_of text.now) }
+    ensures passed { IfOk result (λ found. IsPassed (faults.Place.number 16) (words_of text.now) (words_of found.1.now)) }
+    ensures fault { IfErr result (λ fault. IsFault (faults.Place.number 16) (words_of text.now) fault.cause (words_of fault.at.now)) }
 {
     let wanted = Wanted::Number(u64::from(u16::MAX));
     let (word, rest) = word_of(wanted, text)?;

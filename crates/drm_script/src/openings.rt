@@ -1,7 +1,9 @@
 //! The words that say how a client is opened.
 
-ghost use Rattle.std.specs.Prelude.{◌≡◌};
+ghost use Rattle.std.specs.Prelude.{◌≡◌, [], ◌∷◌, IfErr, Some};
 ghost use Rattle.std.specs.Result.{result_ok};
+ghost use Rattle.drm_script.specs.Faults as faults;
+ghost use Rattle.drm_script.specs.Faults.{IsFirstMisfit, opening_fields, opening_places};
 ghost use Rattle.drm_script.specs.Openings.{opening_text, opening_word_of, lease_at, primary_at, render_at, opening_fields_at, opening_at};
 ghost use Rattle.drm_script.specs.Words.{words_of};
 
@@ -56,7 +58,8 @@ pub(crate) fn opening_word(word: &[u8]) -> Option<OpeningWord>
 /// A lease, by its token.
 #[tactic(auto, unfolding(crate::specs::Openings::lease_at))]
 fn lease(universal: bool, root: bool, text: &[u8]) -> Result<Opening, Fault<'_>>
-    ensures { result_ok result ≡ lease_at universal root (words_of text.now) }
+    ensures reading { result_ok result ≡ lease_at universal root (words_of text.now) }
+    ensures fault { IfErr result (λ fault. IsFirstMisfit (faults.Place.number 32 ∷ []) (words_of text.now) fault.cause (words_of fault.at.now)) }
 {
     let (token, rest) = u32_word(text)?;
     end_of(rest)?;
@@ -70,7 +73,8 @@ fn lease(universal: bool, root: bool, text: &[u8]) -> Result<Opening, Fault<'_>>
 /// A primary node.
 #[tactic(auto, unfolding(crate::specs::Openings::primary_at))]
 fn primary(universal: bool, root: bool, text: &[u8]) -> Result<Opening, Fault<'_>>
-    ensures { result_ok result ≡ primary_at universal root (words_of text.now) }
+    ensures reading { result_ok result ≡ primary_at universal root (words_of text.now) }
+    ensures fault { IfErr result (λ fault. IsFirstMisfit [] (words_of text.now) fault.cause (words_of fault.at.now)) }
 {
     end_of(text)?;
     Ok(Opening::Primary { root, universal })
@@ -79,7 +83,8 @@ fn primary(universal: bool, root: bool, text: &[u8]) -> Result<Opening, Fault<'_
 /// A render node.
 #[tactic(auto, unfolding(crate::specs::Openings::render_at))]
 fn render(text: &[u8]) -> Result<Opening, Fault<'_>>
-    ensures { result_ok result ≡ render_at (words_of text.now) }
+    ensures reading { result_ok result ≡ render_at (words_of text.now) }
+    ensures fault { IfErr result (λ fault. IsFirstMisfit [] (words_of text.now) fault.cause (words_of fault.at.now)) }
 {
     end_of(text)?;
     Ok(Opening::Render)
@@ -87,7 +92,8 @@ fn render(text: &[u8]) -> Result<Opening, Fault<'_>>
 
 /// The opening of a word and its fields.
 fn opening_fields(universal: bool, word: OpeningWord, text: &[u8]) -> Result<Opening, Fault<'_>>
-    ensures { result_ok result ≡ opening_fields_at universal word (words_of text.now) }
+    ensures reading { result_ok result ≡ opening_fields_at universal word (words_of text.now) }
+    ensures fault { IfErr result (λ fault. IsFirstMisfit (opening_fields (Some word)) (words_of text.now) fault.cause (words_of fault.at.now)) }
 {
     match word {
         OpeningWord::Card => primary(universal, false, text),
@@ -101,7 +107,8 @@ fn opening_fields(universal: bool, word: OpeningWord, text: &[u8]) -> Result<Ope
 /// The opening that the words of a text spell, with universal planes on or off.
 #[tactic(auto, unfolding(crate::specs::Openings::opening_at))]
 pub(crate) fn opening_of(universal: bool, text: &[u8]) -> Result<Opening, Fault<'_>>
-    ensures { result_ok result ≡ opening_at universal (words_of text.now) }
+    ensures reading { result_ok result ≡ opening_at universal (words_of text.now) }
+    ensures fault { IfErr result (λ fault. IsFirstMisfit (opening_places (words_of text.now)) (words_of text.now) fault.cause (words_of fault.at.now)) }
 {
     let (first, fields) = word_of(Wanted::Opening, text)?;
     let Some(word) = opening_word(first) else {

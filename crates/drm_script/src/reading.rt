@@ -1,10 +1,9 @@
 //! What a line says.
 
-ghost use Rattle.std.specs.Prelude.{◌≡◌, ◌<◌, ◌≤◌, ◌+◌, length, true, IfOk, IfErr};
-ghost use Rattle.std.specs.List.{list_all};
+ghost use Rattle.std.specs.Prelude.{◌≡◌, ◌<◌, ◌≤◌, ◌+◌, ◌==◌, nat_lt, length, position, true, false, None, IfOk, IfErr, IfSome};
 ghost use Rattle.std.specs.Result.{result_ok};
-ghost use Rattle.std.specs.Char as chars;
 ghost use Rattle.drm_table.specs.Limits as ranges;
+ghost use Rattle.drm_script.specs.Faults.{IsFaultOf, IsFirstMisfit, line_places};
 ghost use Rattle.drm_script.specs.Malformations.{TellsTheWordThere};
 ghost use Rattle.drm_script.specs.Reading.{line_text, line_word_of, words_said, is_comment, reading_of, command_label, IfSays, IfLimits};
 ghost use Rattle.drm_script.specs.Words.{words_of};
@@ -71,6 +70,8 @@ fn line_word(word: &[u8]) -> Option<LineWord>
 fn words_reading(text: &[u8]) -> Result<Reading, Fault<'_>>
     ensures reading { result_ok result ≡ words_said (words_of text.now) }
     ensures in_range { IfOk result (λ reading. IfLimits reading (λ limits. ranges.are_in_range limits ≡ true)) }
+    ensures fault { IfErr result (λ fault.
+        IsFirstMisfit (line_places (words_of text.now)) (words_of text.now) fault.cause (words_of fault.at.now)) }
 {
     let Some((first, rest)) = next_word(text) else {
         return Ok(Reading::Skipped);
@@ -84,11 +85,20 @@ fn words_reading(text: &[u8]) -> Result<Reading, Fault<'_>>
     }
 }
 
-/// Whether each byte is at most 127.
-fn is_ascii(line: &[u8]) -> bool
-    ensures { result ≡ list_all chars.is_ascii line.now }
+/// Where the first byte above 127 is.
+fn first_foreign(line: &[u8]) -> Option<usize>
+    ensures place { result ≡ position (nat_lt 127) line.now }
+    ensures within { IfSome result (λ at. at < length line.now) }
 {
-    line.iter().all(|byte| *byte < 128)
+    line.iter().position(|byte| *byte > 127)
+}
+
+/// Where a byte is first.
+fn place_of(line: &[u8], letter: u8) -> Option<usize>
+    ensures place { result ≡ position (λ byte. byte == letter) line.now }
+    ensures within { IfSome result (λ at. at < length line.now) }
+{
+    line.iter().position(|byte| *byte == letter)
 }
 
 /// Whether the first byte is `#`.
@@ -101,27 +111,21 @@ fn is_comment(line: &[u8]) -> bool
     }
 }
 
-/// A line with a byte above 127, by the first of them.
-fn not_ascii(line: &[u8]) -> Malformed
-    ensures first { 1 ≤ result.column }
-    ensures last { result.column ≤ length line.now + 1 }
-    ensures word { TellsTheWordThere line.now result }
-{
-    let at = line.iter().position(|byte| *byte > 127).unwrap_or(0);
-    Malformed::at_byte(at, Malformation::NotAscii)
-}
-
 /// Why a line is malformed of which the words can't be read. A carriage return and a tab are letters, which no word that fits has: what
 /// is told is that they are there.
 fn malformed(line: &[u8], fault: Fault<'_>) -> Malformed
+    requires short { nat_lt 255 (length line.now) ≡ false }
+    requires ascii { position (nat_lt 127) line.now ≡ None }
+    requires misfit { IsFirstMisfit (line_places (words_of line.now)) (words_of line.now) fault.cause (words_of fault.at.now) }
     ensures first { 1 ≤ result.column }
     ensures last { result.column ≤ length line.now + 1 }
     ensures word { TellsTheWordThere line.now result }
+    ensures fault { IsFaultOf line.now result }
 {
-    if let Some(at) = line.iter().position(|byte| *byte == b'\r') {
+    if let Some(at) = place_of(line, b'\r') {
         return Malformed::at_byte(at, Malformation::CarriageReturn);
     }
-    if let Some(at) = line.iter().position(|byte| *byte == b'\t') {
+    if let Some(at) = place_of(line, b'\t') {
         return Malformed::at_byte(at, Malformation::Tab);
     }
     Malformed::at_fault(line, fault)
@@ -129,8 +133,9 @@ fn malformed(line: &[u8], fault: Fault<'_>) -> Malformed
 
 /// What a line says, of which the bytes are given without the line end (own).
 ///
-/// A line of more than 255 bytes, or with a byte above 127, is malformed, comments too. Its cause is told with its place in the line.
-#[tactic(auto, unfolding(crate::specs::Reading::reading_of))]
+/// A line of more than 255 bytes, or with a byte above 127, is malformed, comments too. Its cause is told with its place in the line:
+/// what is wrong with its bytes, or with its first word that doesn't fit.
+#[tactic(auto, unfolding(crate::specs::Reading::reading_of), using(crate::proofs::ForeignLemmas::all_ascii))]
 pub fn read_line(line: &[u8]) -> Result<Reading, Malformed>
     ensures reading { result_ok result ≡ reading_of line.now }
     ensures label { IfOk result (λ reading. IfSays reading (λ command. command_label command < Label.COUNT)) }
@@ -138,12 +143,13 @@ pub fn read_line(line: &[u8]) -> Result<Reading, Malformed>
     ensures first_column { IfErr result (λ malformed. 1 ≤ malformed.column) }
     ensures last_column { IfErr result (λ malformed. malformed.column ≤ length line.now + 1) }
     ensures word { IfErr result (λ malformed. TellsTheWordThere line.now malformed) }
+    ensures fault { IfErr result (λ malformed. IsFaultOf line.now malformed) }
 {
     if line.len() > LONGEST {
         return Err(Malformed::too_long());
     }
-    if !is_ascii(line) {
-        return Err(not_ascii(line));
+    if let Some(at) = first_foreign(line) {
+        return Err(Malformed::at_byte(at, Malformation::NotAscii));
     }
     if is_comment(line) {
         return Ok(Reading::Skipped);

@@ -1,9 +1,10 @@
 //! The words of a line, which spaces alone separate.
 
-ghost use Rattle.std.specs.Prelude.{◌≡◌, [], ◌∷◌, MatchOption, position};
+ghost use Rattle.std.specs.Prelude.{◌≡◌, ◌-◌, ◌≤◌, [], ◌∷◌, MatchOption, IfErr, IfSome, drop, length, position};
 ghost use Rattle.std.specs.Option.{option_map};
 ghost use Rattle.std.specs.Result.{result_ok};
-ghost use Rattle.drm_script.specs.Words.{words_of, is_space, trimmed};
+ghost use Rattle.drm_script.specs.Faults.{IsFirstMisfit, LacksWord};
+ghost use Rattle.drm_script.specs.Words.{words_of, is_space, trimmed, IsEndOf};
 ghost use Rattle.drm_script.specs.Fields.{end_at, word_at};
 
 use crate::malformations::{Fault, Malformation, Wanted};
@@ -27,7 +28,8 @@ fn first_space(text: &[u8]) -> Option<usize>
 
 /// The first word of a text, and what follows it; None where the text has no word. Spaces alone separate words (own).
 pub fn next_word(text: &[u8]) -> Option<(&[u8], &[u8])>
-    ensures { MatchOption result (words_of text.now ≡ []) (λ found. words_of text.now ≡ found.0.now ∷ words_of found.1.now) }
+    ensures words { MatchOption result (words_of text.now ≡ []) (λ found. words_of text.now ≡ found.0.now ∷ words_of found.1.now) }
+    ensures behind { IfSome result (λ found. IsEndOf text.now found.1.now) }
 {
     let word = trim_spaces(text);
     if word.is_empty() {
@@ -39,9 +41,39 @@ pub fn next_word(text: &[u8]) -> Option<(&[u8], &[u8])>
     }
 }
 
+/// The number of words of a text.
+pub(crate) fn word_count(text: &[u8]) -> usize
+    ensures count { result ≡ length (words_of text.now) }
+{
+    let mut rest = text;
+    for count in 0..text.len() {
+        let Some((_, behind)) = next_word(rest) else {
+            return count;
+        };
+        rest = behind;
+    }
+    text.len()
+}
+
+/// What follows the first words of a text, as many as are skipped.
+pub(crate) fn skip_words(text: &[u8], skipped: usize) -> &[u8]
+    ensures words { words_of result.now ≡ drop skipped (words_of text.now) }
+    ensures behind { IsEndOf text.now result.now }
+{
+    let mut rest = text;
+    for _ in 0..skipped {
+        let Some((_, behind)) = next_word(rest) else {
+            return rest;
+        };
+        rest = behind;
+    }
+    rest
+}
+
 /// The first word of a text, and what follows it; a fault where the text has no word, and this is wanted.
 pub(crate) fn word_of(wanted: Wanted, text: &[u8]) -> Result<(&[u8], &[u8]), Fault<'_>>
-    ensures { option_map (λ found. (found.0.now, words_of found.1.now)) (result_ok result) ≡ word_at (words_of text.now) }
+    ensures reading { option_map (λ found. (found.0.now, words_of found.1.now)) (result_ok result) ≡ word_at (words_of text.now) }
+    ensures fault { IfErr result (λ fault. LacksWord wanted (words_of text.now) fault.cause (words_of fault.at.now)) }
 {
     match next_word(text) {
         Some(found) => Ok(found),
@@ -54,7 +86,8 @@ pub(crate) fn word_of(wanted: Wanted, text: &[u8]) -> Result<(&[u8], &[u8]), Fau
 
 /// A fault where a word is left.
 pub(crate) fn end_of(text: &[u8]) -> Result<(), Fault<'_>>
-    ensures { result_ok result ≡ end_at (words_of text.now) }
+    ensures reading { result_ok result ≡ end_at (words_of text.now) }
+    ensures fault { IfErr result (λ fault. IsFirstMisfit [] (words_of text.now) fault.cause (words_of fault.at.now)) }
 {
     match next_word(text) {
         None => Ok(()),
