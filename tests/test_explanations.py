@@ -102,7 +102,7 @@ line 4 is step 3, setcrtc by b: denied 13 Master 13
 b is not current: it is no master
 b is no master: it joined master 1 as it opened at step 2
 the device's master is 1: a founded it as it opened at step 1
-it would pass if who asks were current: a master whose owner is the device's master (set_master, while the device has none)
+it would pass if the caller were current: a master whose owner is the device's master (set_master, while the device has none)
 """,
     ),
     (
@@ -111,7 +111,7 @@ it would pass if who asks were current: a master whose owner is the device's mas
         """\
 line 4 is step 3, open: denied 43 Full 28
 2 clients are open, and the limit is 2
-it would pass if something of its kind were given back, or the limit were greater
+it would pass if something of its kind were freed, or the limit were greater
 """,
     ),
     (
@@ -121,7 +121,7 @@ it would pass if something of its kind were given back, or the limit were greate
 line 4 is step 3, set_master by b: denied 26 MasterPerm 13
 b is client 2: a primary client, opened at step 2
 b is no master: it joined master 1 as it opened at step 2
-it would pass if who asks were root, or had founded a master before
+it would pass if the caller had opened the root node, or had been a master before
 """,
     ),
     (
@@ -131,7 +131,7 @@ it would pass if who asks were root, or had founded a master before
 line 3 is step 3, set_master by r: denied 27 MasterBusy 16
 r is not current: it is no master
 the device's master is 1: a founded it as it opened at step 1
-it would pass if the device had no master: after drop_master, or the closing of the client whose master it is
+it would pass if the device had no master: after drop_master, or after its master's client is closed
 """,
     ),
     (
@@ -140,7 +140,7 @@ it would pass if the device had no master: after drop_master, or the closing of 
         """\
 line 3 is step 3, gem_open by b: denied 12 Auth 13
 b is not authenticated: it didn't open by root, is no master, and nobody named its magic (auth_magic)
-it would pass if who asks had opened by root, were a master, or a current client of its master had named its magic (auth_magic)
+it would pass if the caller had opened the root node or were a master, or if a current client of its master had authenticated it (auth_magic)
 """,
     ),
     (
@@ -150,7 +150,7 @@ it would pass if who asks had opened by root, were a master, or a current client
 line 7 is step 7, gem_flink by a: denied 21 NoHandle 2
 a does not hold handle 1: it gave it back at step 6 (gem_close)
 a holds 1 of its own: 2
-it would pass if who asks held the handle
+it would pass if the caller held the handle
 """,
     ),
     (
@@ -159,7 +159,7 @@ it would pass if who asks held the handle
         """\
 line 4 is step 4, auth_magic by a: denied 25 NoMagic 22
 magic 1 is a's, and a spent it at step 3 (auth_magic)
-it would pass if a client of the master of who asks had the magic (get_magic), and it were not spent
+it would pass if a client of the caller's master had the magic (get_magic), and it were not spent
 """,
     ),
     (
@@ -168,7 +168,7 @@ it would pass if a client of the master of who asks had the magic (get_magic), a
         """\
 line 2 is step 2, setcrtc by a: denied 38 NoFb 2
 there is no framebuffer 9: no step added it
-it would pass if the framebuffer were there, and to be removed that of who asks
+it would pass if the framebuffer existed, and, to be removed, were the caller's
 """,
     ),
     (
@@ -177,7 +177,7 @@ it would pass if the framebuffer were there, and to be removed that of who asks
         """\
 line 5 is step 5, rmfb by a: denied 38 NoFb 2
 there is no framebuffer 9: a added it at step 3, and it went at step 4 (rmfb by a)
-it would pass if the framebuffer were there, and to be removed that of who asks
+it would pass if the framebuffer existed, and, to be removed, were the caller's
 """,
     ),
     (
@@ -195,7 +195,7 @@ it would pass if the numbers were in their ranges
         """\
 line 6 is step 6, setcrtc by a: denied 40 BadRoute 22
 CRTC 1 is no possible one of encoder 6, which connector 8 has
-it would pass if the CRTC were a possible one, and framebuffer and connector both there or both 0
+it would pass if the CRTC were a possible one, and neither or both of framebuffer and connector were 0
 """,
     ),
     (
@@ -205,7 +205,7 @@ it would pass if the CRTC were a possible one, and framebuffer and connector bot
 line 2 is step 2, getplane by a: denied 30 NoModeObject 2
 a does not see plane 3: it is the primary or the cursor plane of CRTC 1
 a has universal planes off: it opened so at step 1
-it would pass if each id were that of such a mode object, and who asks saw it
+it would pass if each id were that of such a mode object, and the caller saw it
 """,
     ),
     (
@@ -214,7 +214,7 @@ it would pass if each id were that of such a mode object, and who asks saw it
         """\
 line 2 is step 2, getplane by a: denied 30 NoModeObject 2
 mode object 5 is an encoder, and not a plane
-it would pass if each id were that of such a mode object, and who asks saw it
+it would pass if each id were that of such a mode object, and the caller saw it
 """,
     ),
     (
@@ -232,7 +232,7 @@ it would pass if each id were that of a CRTC, a plane or a connector
         """\
 line 2 is step 2, create_lease by a: denied 32 Repeated 22
 id 7 stands twice
-it would pass if no id stood twice
+it would pass if no id were listed twice
 """,
     ),
     (
@@ -241,7 +241,7 @@ it would pass if no id stood twice
         """\
 line 2 is step 2, get_cap by a: denied 41 BadCap 22
 there is no capability 3 to be told: there are 1 and 5
-it would pass if the capability were there, and had the value
+it would pass if the capability existed, and could have the value
 """,
     ),
     (
@@ -250,7 +250,7 @@ it would pass if the capability were there, and had the value
         """\
 line 2 is step 2, audit by a: denied 11 RootOnly 13
 a is client 1: a primary client, opened at step 1
-it would pass if who asks had opened by root
+it would pass if the caller had opened the root node
 """,
     ),
     (
@@ -259,7 +259,7 @@ it would pass if who asks had opened by root
         """\
 line 5 is step 5, token_close by b: denied 24 NoToken 2
 token 1 is a's, which exported it at step 4
-it would pass if the token were open (prime_export), and to be closed that of who asks
+it would pass if the token were open (prime_export), and, to be closed, the caller's
 """,
     ),
     (
@@ -270,7 +270,7 @@ line 3 is step 3, drop_master by a: denied 28 NotCurrent 22
 a is not current: its master is 1, and the device has none
 a is a master: it founded master 1 as it opened at step 1, when the device had none
 the device has no master: a dropped it at step 2 (drop_master)
-it would pass if who asks were current: a master whose owner is the device's master (set_master, while the device has none)
+it would pass if the caller were current: a master whose owner is the device's master (set_master, while the device has none)
 """,
     ),
     (
@@ -280,7 +280,7 @@ it would pass if who asks were current: a master whose owner is the device's mas
 line 4 is step 4, drop_master by l: denied 29 IsLessee 22
 l is a master: it opened lessee 1, master 2, by its token at step 3
 lessee 1, master 2, has CRTC 1, plane 3 and connector 7: leased by a at step 2 (lessee 1, token 1), redeemed by l at step 3
-it would pass if the master of who asks were no lessee
+it would pass if the caller's master were no lessee
 """,
     ),
     # only the exporter's closing closes a token
@@ -290,7 +290,7 @@ it would pass if the master of who asks were no lessee
         """\
 line 8 is step 8, prime_import by c: denied 24 NoToken 2
 token 1 is not open: a exported it at step 5, and it was closed at step 7 (token_close by a)
-it would pass if the token were open (prime_export), and to be closed that of who asks
+it would pass if the token were open (prime_export), and, to be closed, the caller's
 """,
     ),
     # and only the owner's closing removes a framebuffer
@@ -300,7 +300,7 @@ it would pass if the token were open (prime_export), and to be closed that of wh
         """\
 line 8 is step 8, rmfb by c: denied 38 NoFb 2
 there is no framebuffer 9: a added it at step 4, and it went at step 6 (close by a)
-it would pass if the framebuffer were there, and to be removed that of who asks
+it would pass if the framebuffer existed, and, to be removed, were the caller's
 """,
     ),
     # other clients have handles of the same number
@@ -311,7 +311,7 @@ it would pass if the framebuffer were there, and to be removed that of who asks
 line 8 is step 8, gem_flink by a: denied 21 NoHandle 2
 a does not hold handle 1: it gave it back at step 5 (gem_close)
 a holds no handle
-it would pass if who asks held the handle
+it would pass if the caller held the handle
 """,
     ),
     # a handle that is allocated again is listed in its place
@@ -322,7 +322,7 @@ it would pass if who asks held the handle
 line 6 is step 6, gem_flink by a: denied 21 NoHandle 2
 a does not hold handle 3: no step gave it that
 a holds 2 of its own: 1, 2
-it would pass if who asks held the handle
+it would pass if the caller held the handle
 """,
     ),
     # a lessee id means the last lease that was answered it
@@ -333,7 +333,7 @@ it would pass if who asks held the handle
 line 6 is step 6, revoke_lease by l: denied 37 NotYourLessee 13
 the lessor of lessee 1 is master 1, and the master of l is 4
 lessee 1, master 4, has CRTC 2, plane 4 and connector 8: leased by a at step 4 (lessee 1, token 2), redeemed by l at step 5
-it would pass if a client of the lessee's lessor asked
+it would pass if the caller were a client of the lessee's lessor
 """,
     ),
     (
@@ -365,7 +365,7 @@ ANSWERS_OF_EXAMPLES = [
         """\
 line 5 is step 3, create_dumb by r: denied 14 RenderAllow 13
 r is client 2: a render client, opened at step 2
-it would pass if a client that opened the card or the root node asked
+it would pass if the caller had opened the card or the root node
 """,
     ),
     (
@@ -419,7 +419,7 @@ it would pass if an object had the name (gem_flink)
         """\
 line 17 is step 13, prime_import by b: denied 24 NoToken 2
 token 1 is not open: a exported it at step 7, and it was closed at step 12 (close by a)
-it would pass if the token were open (prime_export), and to be closed that of who asks
+it would pass if the token were open (prime_export), and, to be closed, the caller's
 """,
     ),
     (
@@ -429,7 +429,7 @@ it would pass if the token were open (prime_export), and to be closed that of wh
 line 8 is step 4, create_lease by a: denied 34 LeasedOut 16
 mode object 2 is leased out to lessee 1
 lessee 1, master 3, has CRTC 2, plane 4 and connector 8: leased by a at step 3 (lessee 1, token 1), redeemed by nobody
-it would pass if no other lease had it: after revoke_lease, or the closing of the lessee's client
+it would pass if no other lease had it: after revoke_lease, or after the lessee's client is closed
 """,
     ),
     (
@@ -459,7 +459,7 @@ line 35 is step 25, setcrtc by l: denied 13 Master 13
 l is not current: the owner of its master 3 is 1, and the device has none
 l is a master: it opened lessee 1, master 3, by its token at step 6
 the device has no master: a dropped it at step 24 (drop_master)
-it would pass if who asks were current: a master whose owner is the device's master (set_master, while the device has none)
+it would pass if the caller were current: a master whose owner is the device's master (set_master, while the device has none)
 """,
     ),
     (
@@ -469,7 +469,7 @@ it would pass if who asks were current: a master whose owner is the device's mas
 line 40 is step 29, revoke_lease by l: denied 37 NotYourLessee 13
 the lessor of lessee 1 is master 1, and the master of l is 3
 lessee 1, master 3, has CRTC 2, plane 4 and connector 8: leased by a at step 3 (lessee 1, token 1), redeemed by l at step 6
-it would pass if a client of the lessee's lessor asked
+it would pass if the caller were a client of the lessee's lessor
 """,
     ),
     (
@@ -496,7 +496,7 @@ leased by o at step 10 (lessee 5, token 5), redeemed by p at step 11, \
 leased by p at step 12 (lessee 6, token 6), redeemed by q at step 13, \
 leased by q at step 14 (lessee 7, token 7), redeemed by r at step 15, \
 leased by r at step 16 (lessee 8, token 8), redeemed by s at step 17
-it would pass if the master of who asks were less deep
+it would pass if the caller's master had fewer lessors above it
 """,
     ),
     (
@@ -507,7 +507,7 @@ line 43 is step 31, getcrtc by l: denied 30 NoModeObject 2
 l does not see mode object 2, a CRTC: its master's lease does not have it
 lessee 1, master 3, has nothing: leased by a at step 3 (lessee 1, token 1), redeemed by l at step 6, \
 ended at step 30 (revoke_lease by a)
-it would pass if each id were that of such a mode object, and who asks saw it
+it would pass if each id were that of such a mode object, and the caller saw it
 """,
     ),
 ]
@@ -790,7 +790,7 @@ a set_client_cap 2 0
 line 2 is step 2, gem_close by a: denied 22 NoHandleToClose 22
 a does not hold handle 3: no step gave it that
 a holds no handle
-it would pass if who asks held the handle
+it would pass if the caller held the handle
 """
         expect_end(run_program("explain", script, "--line", "2"), 0, "", told)
 
@@ -810,7 +810,7 @@ it would pass if who asks held the handle
                 "b is no master: it joined master 1 as it opened at step 2",
                 "the device's master is 1: a founded it as it opened at step 1",
             ],
-            "passes_if": "who asks were current: a master whose owner is the device's master (set_master, while the device has none)",
+            "passes_if": "the caller were current: a master whose owner is the device's master (set_master, while the device has none)",
         }
         expect_end(run_program("explain", script, "--line", "4", "--json"), 0, "", json.dumps(told, indent=2) + "\n")
         told = {

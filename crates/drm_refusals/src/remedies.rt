@@ -1,55 +1,55 @@
-//! What would have let a request pass.
+//! The conditions under which a denied request would pass.
 
 use drm_table::{Apart, Rule};
 
-/// What would have to hold for a rule to pass.
+/// Returns the condition under which a rule would pass.
 pub(crate) fn remedy(rule: Rule) -> &'static str {
     match rule {
         Rule::Unknown => "a row of the table of calls had the number",
         Rule::Layout => "the fields were those of the row",
         Rule::NoClient => "the client were open",
-        Rule::RootOnly => "who asks had opened by root",
+        Rule::RootOnly => "the caller had opened the root node",
         Rule::Auth => {
-            "who asks had opened by root, were a master, or a current client of its master had named its magic (auth_magic)"
+            "the caller had opened the root node or were a master, or if a current client of its master had authenticated it (auth_magic)"
         }
         Rule::Master | Rule::NotCurrent => {
-            "who asks were current: a master whose owner is the device's master (set_master, while the device has none)"
+            "the caller were current: a master whose owner is the device's master (set_master, while the device has none)"
         }
-        Rule::RenderAllow => "a client that opened the card or the root node asked",
-        Rule::NoHandle | Rule::NoHandleToClose => "who asks held the handle",
+        Rule::RenderAllow => "the caller had opened the card or the root node",
+        Rule::NoHandle | Rule::NoHandleToClose => "the caller held the handle",
         Rule::NoName => "an object had the name (gem_flink)",
-        Rule::NoToken => "the token were open (prime_export), and to be closed that of who asks",
+        Rule::NoToken => "the token were open (prime_export), and, to be closed, the caller's",
         Rule::NoMagic =>
-            "a client of the master of who asks had the magic (get_magic), and it were not spent",
-        Rule::MasterPerm => "who asks were root, or had founded a master before",
+            "a client of the caller's master had the magic (get_magic), and it were not spent",
+        Rule::MasterPerm => "the caller had opened the root node, or had been a master before",
         Rule::MasterBusy =>
-            "the device had no master: after drop_master, or the closing of the client whose master it is",
-        Rule::IsLessee => "the master of who asks were no lessee",
-        Rule::NoModeObject => "each id were that of such a mode object, and who asks saw it",
+            "the device had no master: after drop_master, or after its master's client is closed",
+        Rule::IsLessee => "the caller's master were no lessee",
+        Rule::NoModeObject => "each id were that of such a mode object, and the caller saw it",
         Rule::NotLeasable => "each id were that of a CRTC, a plane or a connector",
-        Rule::Repeated => "no id stood twice",
+        Rule::Repeated => "no id were listed twice",
         Rule::LeaseShape =>
             "a CRTC, a connector and, with universal planes on, a plane were among the ids",
         Rule::LeasedOut =>
-            "no other lease had it: after revoke_lease, or the closing of the lessee's client",
-        Rule::SubLease => "the master of who asks were less deep",
+            "no other lease had it: after revoke_lease, or after the lessee's client is closed",
+        Rule::SubLease => "the caller's master had fewer lessors above it",
         Rule::NoLessee => "the owner had a lessee of that id",
-        Rule::NotYourLessee => "a client of the lessee's lessor asked",
-        Rule::NoFb => "the framebuffer were there, and to be removed that of who asks",
+        Rule::NotYourLessee => "the caller were a client of the lessee's lessor",
+        Rule::NoFb => "the framebuffer existed, and, to be removed, were the caller's",
         Rule::BadSize => "the numbers were in their ranges",
         Rule::BadRoute =>
-            "the CRTC were a possible one, and framebuffer and connector both there or both 0",
-        Rule::BadCap => "the capability were there, and had the value",
+            "the CRTC were a possible one, and neither or both of framebuffer and connector were 0",
+        Rule::BadCap => "the capability existed, and could have the value",
         Rule::NoLeaseToken => "the lease token were open",
-        Rule::Full => "something of its kind were given back, or the limit were greater",
+        Rule::Full => "something of its kind were freed, or the limit were greater",
     }
 }
 
-/// What would have to hold for a step to be made that stands apart.
+/// Returns the condition under which a step would be made that ended in a fault.
 pub(crate) fn remedy_apart(apart: Apart) -> &'static str {
     match apart {
         Apart::JournalFull => "the journal's limit were greater",
-        Apart::NoMemory => "there were memory",
+        Apart::NoMemory => "memory were available",
         Apart::Worn => "a ticket were left",
     }
 }

@@ -31,6 +31,7 @@ pub fn write_answer(
     ensures answer { IfOk result (λ written. written.answer ≡ row.answer) }
     ensures carried_out { IfOk result (λ written. written.is_carried_out ≡ row.is_carried_out) }
     ensures rule { IfOk result (λ written. written.rule ≡ row.rule) }
+    ensures condition { IfOk result (λ written. written.passes_if ≡ row.passes_if) }
 {
     let only = ledger
         .steps()
