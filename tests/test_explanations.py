@@ -830,11 +830,11 @@ it would pass if the caller held the handle
         script = folder / "script"
         script.write_text("# a comment\nlimits 4 8 8 8 8 4 4 4\nopen a card\n\n")
         for number, reason in [
-            (0, "there is no line 0, and 4 lines in all"),
-            (5, "there is no line 5, and 4 lines in all"),
-            (1, "line 1 asks nothing"),
-            (2, "line 2 asks nothing"),
-            (4, "line 4 asks nothing"),
+            (0, "no line 0: the script has 4 lines"),
+            (5, "no line 5: the script has 4 lines"),
+            (1, "line 1 makes no request"),
+            (2, "line 2 makes no request"),
+            (4, "line 4 makes no request"),
         ]:
             ran = run_program("explain", script, "--line", str(number))
             expect_told(ran, 3, [f"ERROR {script}: {reason}", "fault: command line"], "")

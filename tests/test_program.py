@@ -518,7 +518,7 @@ denied 42 NoLeaseToken 2
         wrong.write_text("crtcs 1\nencoder 2\n")
         file.write_text("open a card -> client 1\n")
         limits = (
-            "--limits wants eight numbers: clients 1 to 1024; handles, names, tokens and objects 1 to 65535 each; "
+            "--limits needs eight numbers: clients 1 to 1024; handles, names, tokens and objects 1 to 65535 each; "
             "framebuffers and lessees 1 to 64 each; journal 2 to 100000"
         )
         for words in (["run"], ["check", file], ["check", "--update", file], ["explain", file]):

@@ -16,5 +16,5 @@ pub use backlog::Ahead;
 pub use classes::class_word;
 pub use counts::{Counts, MOST, MOST_AT_ONCE};
 pub use greeting::Greeting;
-pub use notes::{Note, Notes};
+pub use notes::{Note, Notes, PROGRAM};
 pub use open_connections::{Attendance, OpenConnections, Role};

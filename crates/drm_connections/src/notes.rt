@@ -14,6 +14,9 @@ use std::os::fd::RawFd;
 use std::sync::{Condvar, Mutex, Wait};
 use std::{io, mem};
 
+/// The name of the program in log lines.
+pub const PROGRAM: &str = "drm_server";
+
 /// The most notes that wait to be logged.
 const MOST: usize = 64;
 
@@ -70,29 +73,30 @@ impl Note {
     fn log<R: Log>(self, rt: &R) {
         match self {
             Note::Retried(class, number) => {
-                error!(rt; "{}: {}; trying again", class_word(class), reason_of(number));
+                error!(rt; target: PROGRAM, "{}: {}; trying again", class_word(class), reason_of(number));
             }
             Note::Closed(class, number) => {
-                error!(rt; "{}: {}", class_word(class), reason_of(number));
+                error!(rt; target: PROGRAM, "{}: {}", class_word(class), reason_of(number));
             }
             Note::Refused(class) => {
-                warn!(rt; "{}: a connection beyond the count was refused", class_word(class));
+                warn!(rt; target: PROGRAM, "{}: a connection beyond the count was refused", class_word(class));
             }
             Note::Crowded(class) => {
-                warn!(rt; "{}: a connection was refused: {MOST_AT_ONCE} are open", class_word(class));
+                warn!(rt; target: PROGRAM, "{}: a connection was refused: {MOST_AT_ONCE} are open", class_word(class));
             }
             Note::Threadless(class) => {
-                error!(rt; "{}: a connection was refused: no thread could be started", class_word(class));
+                error!(rt; target: PROGRAM, "{}: a connection was refused: no thread could be started", class_word(class));
             }
             Note::JournalFull => {
-                error!(rt; "the journal is full: requests are answered with fault 50 (the last number of --limits is the most steps)");
+                error!(rt; target: PROGRAM, "the journal is full: requests are answered with fault 50 (the last number of --limits is the most steps)");
             }
-            Note::Session(class, 0, end) => warn!(rt; "{}, no client: {end}", class_word(class)),
+            Note::Session(class, 0, end) =>
+                warn!(rt; target: PROGRAM, "{}, no client: {end}", class_word(class)),
             Note::Session(class, client, end) => {
-                warn!(rt; "{}, client {client}: {end}", class_word(class));
+                warn!(rt; target: PROGRAM, "{}, client {client}: {end}", class_word(class));
             }
             Note::LeftOut(count) => {
-                warn!(rt; "{count} log lines were left out: standard error did not take them");
+                warn!(rt; target: PROGRAM, "{count} log lines were left out: standard error did not take them");
             }
         }
     }

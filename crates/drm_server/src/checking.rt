@@ -14,6 +14,7 @@ use crate::files::LoggedRead;
 use crate::outcomes::{Outcome, outcome_of_checks, outcome_of_fault, script_fault};
 use crate::visible::Visible;
 use drm_checks::{Report, Totals, check_on, write_malformed, write_silent, write_totals};
+use drm_connections::PROGRAM;
 use drm_runs::ScriptEnd;
 use drm_script::Malformed;
 use drm_streams::{FromRead, ToWrite, Written};
@@ -50,7 +51,7 @@ pub(crate) fn open<'a, R: Files + Log>(
     match fs::open(rt, path) {
         Ok(file) => Ok(FromRead::new(LoggedRead::new(rt, path, file))),
         Err(reason) => {
-            error!(rt; "{path}: {reason}");
+            error!(rt; target: PROGRAM, "{path}: {reason}");
             Err(Fault::Read)
         }
     }
@@ -98,7 +99,7 @@ pub(crate) fn tell_end<R: Print + Log>(
     match end {
         ScriptEnd::Malformed(number) => {
             if let Some(cause) = cause {
-                error!(rt; "{path}:{number}: {cause}");
+                error!(rt; target: PROGRAM, "{path}:{number}: {cause}");
             }
             let mut sink = ToWrite::new(io::writer(rt));
             let mut turns = MOST_TURNS;

@@ -7,6 +7,7 @@ use crate::command_line::AskedDevice;
 use crate::faults::Fault;
 use crate::files::read_whole;
 use crate::limits::limits_of;
+use drm_connections::PROGRAM;
 use drm_device::{Device, Limits, Topology};
 use drm_runs::{Setup, test_topology};
 use drm_topologies::read_topology;
@@ -22,7 +23,7 @@ pub(crate) fn asked_limits<R: Log>(rt: &R, numbers: Option<&str>) -> Result<Limi
         return Ok(Limits::PROGRAM);
     };
     let Some(limits) = limits_of(numbers) else {
-        error!(rt; "--limits wants eight numbers: clients 1 to 1024; handles, names, tokens and objects 1 to 65535 each; framebuffers and lessees 1 to 64 each; journal 2 to 100000");
+        error!(rt; target: PROGRAM, "--limits needs eight numbers: clients 1 to 1024; handles, names, tokens and objects 1 to 65535 each; framebuffers and lessees 1 to 64 each; journal 2 to 100000");
         return Err(Fault::CommandLine);
     };
     Ok(limits)
@@ -62,7 +63,7 @@ pub(crate) fn asked_topology<R: Log>(
         Ok(topology) => Ok(topology),
         Err(line) => {
             let path = file.path;
-            error!(rt; "{path}:{}: {}", line.number, line.cause);
+            error!(rt; target: PROGRAM, "{path}:{}: {}", line.number, line.cause);
             Err(Fault::ScriptLine(line.number))
         }
     }

@@ -17,6 +17,7 @@ use crate::standard::open_standard;
 use crate::updating::update;
 use crate::words::words_of;
 use clap::Error;
+use drm_connections::PROGRAM;
 use drm_device::{Device, Limits};
 use drm_streams::ToWrite;
 use log::{Log, error};
@@ -53,7 +54,7 @@ fn write_and_list<R: Print + Files + AllocGlobal + Log>(
     let written = write_noted(rt, alloc, journal, topology, limits, noted);
     let listed = list(rt, &ended.device);
     if let Some(fault) = ended.fault {
-        error!(rt; "{fault}");
+        error!(rt; target: PROGRAM, "{fault}");
         return Err(Fault::from(fault));
     }
     written?;

@@ -7,6 +7,7 @@ use crate::faults::{Fault, FaultLine};
 use crate::files::LoggedRead;
 use crate::outcomes::{Outcome, outcome_of_fault};
 use crate::recording::{Recording, record};
+use drm_connections::PROGRAM;
 use drm_explanations::{Explanation, Labels, explain, lines_of};
 use drm_refusals::{WrittenAnswer, explain_answer, lines_of_answer, write_answer};
 use drm_runs::Stop;
@@ -33,7 +34,7 @@ fn client_of(labels: &Labels, word: &str) -> Option<u64> {
 
 /// A word that names no client of the script is refused.
 fn no_client<R: Log>(rt: &R, path: &str, word: &str) -> Fault {
-    error!(rt; "{path}: no client was opened as {word}");
+    error!(rt; target: PROGRAM, "{path}: no client was opened as {word}");
     Fault::CommandLine
 }
 
@@ -93,9 +94,9 @@ fn text_of<R: Log>(
 /// A line that can't be explained is refused.
 fn no_answer<R: Log>(rt: &R, path: &str, number: u64, lines: u64) -> Fault {
     if number == 0 || number > lines {
-        error!(rt; "{path}: there is no line {number}, and {lines} lines in all");
+        error!(rt; target: PROGRAM, "{path}: no line {number}: the script has {lines} lines");
     } else {
-        error!(rt; "{path}: line {number} asks nothing");
+        error!(rt; target: PROGRAM, "{path}: line {number} makes no request");
     }
     Fault::CommandLine
 }

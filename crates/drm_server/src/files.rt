@@ -1,6 +1,7 @@
 //! Files that are read whole, and files whose text is replaced.
 
 use crate::faults::Fault;
+use drm_connections::PROGRAM;
 use log::{Log, error};
 use std::alloc::Global;
 use std::fs::{OpenFile, OpenOptions, Permissions};
@@ -17,13 +18,13 @@ const MOST_NAMES: u32 = 1_000;
 
 /// Logs why a file can't be read.
 fn read_fault<R: Log>(rt: &R, path: &str, reason: &io::Error) -> Fault {
-    error!(rt; "{path}: {reason}");
+    error!(rt; target: PROGRAM, "{path}: {reason}");
     Fault::Read
 }
 
 /// Logs why a file can't be written.
 pub(crate) fn write_fault<R: Log>(rt: &R, path: &str, reason: &io::Error) -> Fault {
-    error!(rt; "{path}: {reason}");
+    error!(rt; target: PROGRAM, "{path}: {reason}");
     Fault::Write
 }
 
@@ -46,7 +47,7 @@ impl<R: Log, F: Read + Drop> Read for LoggedRead<'_, R, F> {
         match self.file.read(buf) {
             Err(reason) if reason.kind() != ErrorKind::Interrupted => {
                 let path = self.path;
-                error!(self.rt; "{path}: {reason}");
+                error!(self.rt; target: PROGRAM, "{path}: {reason}");
                 Err(reason)
             }
             read => read,
@@ -70,7 +71,7 @@ pub(crate) fn read_whole<R: Files + Log>(
 ) -> Result<Vec<u8>, Fault> {
     match read_bounded(rt, alloc, path) {
         Ok(bytes) if bytes.len() > MOST_BYTES => {
-            error!(rt; "{path}: more than {MOST_BYTES} bytes, which is the most of a file that is read whole");
+            error!(rt; target: PROGRAM, "{path}: more than {MOST_BYTES} bytes, which is the most of a file that is read whole");
             Err(Fault::Read)
         }
         Ok(bytes) => Ok(bytes),

@@ -6,6 +6,7 @@ ghost use Rattle.drm_table.specs.Limits.{are_in_range};
 use crate::devices::{TopologyText, asked_device};
 use crate::faults::Fault;
 use crate::files::write_fault;
+use drm_connections::PROGRAM;
 use drm_device::{Device, Limits};
 use drm_journals::journal_of;
 use drm_table::Event;
@@ -51,7 +52,7 @@ fn refuse_same<R: Files + Log>(
 ) -> Result<(), Fault> {
     match other {
         Some(other) if is_same_file(rt, path, other) => {
-            error!(rt; "{path}: the journal would replace the {kind}");
+            error!(rt; target: PROGRAM, "{path}: the journal would replace the {kind}");
             Err(Fault::CommandLine)
         }
         _ => Ok(()),
@@ -103,7 +104,7 @@ fn write_journal<R: Log, F: Write + Drop>(
         return Err(write_fault(rt, path, &reason));
     }
     if !script.is_whole {
-        warn!(rt; "{path}: more clients were open at once than a script has labels: the last steps are comments");
+        warn!(rt; target: PROGRAM, "{path}: more clients were open at once than a script has labels: the last steps are comments");
     }
     Ok(())
 }

@@ -9,6 +9,7 @@ use crate::devices::{TopologyText, asked_setup, read_asked};
 use crate::faults::Fault;
 use crate::journal::{FilesRead, JournalFile, create_asked, write_noted};
 use crate::outcomes::{Outcome, outcome_of, outcome_of_fault};
+use drm_connections::PROGRAM;
 use drm_runs::{Interpreter, ScriptEnd, Setup, run_on};
 use drm_streams::{FromRead, Source, ToWrite};
 use log::{Log, error};
@@ -50,7 +51,7 @@ fn run_and_write<R: Print + Files + AllocGlobal + Log, S: Source>(
     let mut sink = ToWrite::new(io::writer(rt));
     let ran = run_on(alloc, setup, source, &mut sink, MOST_TURNS);
     if let (ScriptEnd::Malformed(number), Some(cause)) = (ran.end, ran.cause) {
-        error!(rt; "line {number}: {cause}");
+        error!(rt; target: PROGRAM, "line {number}: {cause}");
     }
     let written = write_asked(rt, alloc, topology, journal, &ran.interpreter);
     (ran.end, written)

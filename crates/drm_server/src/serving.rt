@@ -4,7 +4,7 @@ use crate::command_line::{Accepts, Serving};
 use crate::ending::end_with_input;
 use crate::faults::Fault;
 use crate::sockets::{Listeners, Sockets, bind_all};
-use drm_connections::{MOST_AT_ONCE, OpenConnections};
+use drm_connections::{MOST_AT_ONCE, OpenConnections, PROGRAM};
 use drm_device::Device;
 use drm_listeners::{ServeFault, Unserved, serve_keeping, serve_until_ended};
 use log::{Log, error, info};
@@ -25,13 +25,13 @@ fn log_sockets<R: Log>(rt: &R, serving: &Serving<'_>) {
             ("render", paths.render),
             ("root", paths.root),
         ] {
-            info!(rt; "{name}: {path} accepts {MOST_AT_ONCE} at once");
+            info!(rt; target: PROGRAM, "{name}: {path} accepts {MOST_AT_ONCE} at once");
         }
         return;
     };
-    info!(rt; "card: {} accepts {} in all", paths.card, counts.cards);
-    info!(rt; "render: {} accepts {} in all", paths.render, counts.renders);
-    info!(rt; "root: {} accepts {} in all", paths.root, counts.roots);
+    info!(rt; target: PROGRAM, "card: {} accepts {} in all", paths.card, counts.cards);
+    info!(rt; target: PROGRAM, "render: {} accepts {} in all", paths.render, counts.renders);
+    info!(rt; target: PROGRAM, "root: {} accepts {} in all", paths.root, counts.roots);
 }
 
 /// A device, and where it is served.
@@ -91,7 +91,7 @@ fn make_pair<R: Net + Log>(rt: &R) -> Result<(UnixStream, UnixStream), ServeFaul
     match UnixStream::pair(rt) {
         Ok(pair) => Ok(pair),
         Err(reason) => {
-            error!(rt; "{reason}");
+            error!(rt; target: PROGRAM, "{reason}");
             Err(ServeFault::NoThread)
         }
     }

@@ -4,6 +4,7 @@ ghost use Rattle.std.specs.Prelude.{◌≡◌, IfErr};
 ghost use Rattle.drm_server.specs.declared.faults.Fault.TheVariants.{Listen};
 
 use crate::faults::Fault;
+use drm_connections::PROGRAM;
 use drm_sessions::Class;
 use log::{Log, error};
 use std::io::ErrorKind;
@@ -58,9 +59,9 @@ impl<R: Files> Drop for SocketFile<'_, R> {
 /// Logs why a socket can't be bound.
 fn tell<R: Log>(rt: &R, path: &str, reason: &io::Error) {
     if reason.kind() == ErrorKind::AddrInUse {
-        error!(rt; "{path}: a file is there already: remove it if no server uses it");
+        error!(rt; target: PROGRAM, "{path}: a file is there already: remove it if no server uses it");
     } else {
-        error!(rt; "{path}: {reason}");
+        error!(rt; target: PROGRAM, "{path}: {reason}");
     }
 }
 

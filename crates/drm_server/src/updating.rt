@@ -6,6 +6,7 @@ use crate::faults::{Fault, FaultLine};
 use crate::files::{read_whole, replace_text, write_fault};
 use crate::outcomes::{Outcome, outcome_of_fault};
 use drm_checks::{UpdateFault, update_script};
+use drm_connections::PROGRAM;
 use log::{Log, error};
 use std::alloc::Global;
 use std::rt::Files;
@@ -24,7 +25,7 @@ fn update_file<R: Files + AllocGlobal + Log>(
         Ok(updated) => updated,
         Err(UpdateFault::NoMemory) => return Err(Fault::Memory),
         Err(UpdateFault::Malformed(number, cause)) => {
-            error!(rt; "{path}:{number}: {cause}");
+            error!(rt; target: PROGRAM, "{path}:{number}: {cause}");
             return Err(Fault::ScriptLine(number));
         }
     };

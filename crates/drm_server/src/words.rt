@@ -1,6 +1,7 @@
 //! The words of the command line.
 
 use crate::faults::Fault;
+use drm_connections::PROGRAM;
 use log::{Log, error};
 use std::alloc::Global;
 use std::env;
@@ -35,8 +36,9 @@ pub(crate) fn words_of<R: Env + AllocGlobal + Log>(
         Err(reason) if reason.kind() == ErrorKind::OutOfMemory => Err(Fault::Memory),
         Err(_) => {
             match word_of_no_text(rt, alloc) {
-                Some(word) => error!(rt; "a word of the command line is not text: {word}"),
-                None => error!(rt; "a word of the command line is not text"),
+                Some(word) =>
+                    error!(rt; target: PROGRAM, "a word of the command line is not text: {word}"),
+                None => error!(rt; target: PROGRAM, "a word of the command line is not text"),
             }
             Err(Fault::CommandLine)
         }
