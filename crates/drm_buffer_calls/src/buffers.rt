@@ -38,13 +38,13 @@ pub fn create_dumb(
     ensures invariants { MeetsInvariants state.new }
 {
     if !is_dumb_shape(pixels.width, pixels.height, pixels.bpp) {
-        *answer = Answer::Denied(Rule::BadSize);
+        answer.set_denied(Rule::BadSize);
         return Ok(());
     }
     let pitch = dumb_pitch(pixels.width, pixels.bpp);
     let size = dumb_size(pitch, pixels.height);
     let Some(handle) = new_buffer(state, step_number, client, size)? else {
-        *answer = Answer::Denied(Rule::Full);
+        answer.set_denied(Rule::Full);
         return Ok(());
     };
     *answer = Answer::Dumb {
@@ -70,12 +70,12 @@ pub fn buf_create(
     ensures invariants { MeetsInvariants state.new }
 {
     if !is_buffer_size(size) {
-        *answer = Answer::Denied(Rule::BadSize);
+        answer.set_denied(Rule::BadSize);
         return Ok(());
     }
     let size = buffer_size(size);
     let Some(handle) = new_buffer(state, step_number, client, size)? else {
-        *answer = Answer::Denied(Rule::Full);
+        answer.set_denied(Rule::Full);
         return Ok(());
     };
     *answer = Answer::Buffer { handle, size };
@@ -147,17 +147,18 @@ fn buffer_size(size: u64) -> u64
 
 /// GEM_CLOSE and MODE_DESTROY_DUMB: the handle goes, the object's name with its last handle, and the object with the last
 /// that refers to it. It takes no memory and asks for no limit.
-pub fn gem_close(state: &mut State, client: u32, handle: u32) -> Answer
+pub fn gem_close(state: &mut State, client: u32, handle: u32, answer: &mut Answer)
     requires invariants { MeetsInvariants state.old }
     requires open_client { is_open_client state.old.files client ≡ true }
-    ensures destroy { RefinesReply state.old client (DestroyDumb handle) result state.new }
-    ensures close { RefinesReply state.old client (GemClose handle) result state.new }
+    ensures destroy { RefinesReply state.old client (DestroyDumb handle) answer.new state.new }
+    ensures close { RefinesReply state.old client (GemClose handle) answer.new state.new }
     ensures invariants { MeetsInvariants state.new }
 {
     let Some(object) = state.files.object_of(client, handle) else {
-        return Answer::Denied(Rule::NoHandleToClose);
+        answer.set_denied(Rule::NoHandleToClose);
+        return;
     };
     let _object = state.files.drop_handle(client, handle);
     release(&mut state.names, &mut state.objects, object);
-    Answer::Done
+    answer.set_done();
 }

@@ -11,12 +11,12 @@ use drm_table::Answer;
 
 /// LIST_HANDLES: the caller's handles that are not below a number, rising, the first 64. It takes no memory and asks for no
 /// limit.
-pub fn list_handles(state: &State, client: u32, from: u32) -> Answer
+pub fn list_handles(state: &State, client: u32, from: u32, answer: &mut Answer)
     requires invariants { MeetsInvariants state.now }
     requires open_client { is_open_client state.now.files client ≡ true }
-    ensures { RefinesReply state.now client (ListHandles from) result state.now }
+    ensures { RefinesReply state.now client (ListHandles from) answer.new state.now }
 {
-    Answer::List {
+    *answer = Answer::List {
         list: state.files.handles_of(client, from),
-    }
+    };
 }

@@ -10,29 +10,29 @@ use drm_state::State;
 use drm_table::{Answer, Rule};
 
 /// STAMP_WRITE: the object of a handle has another stamp. It takes no memory and asks for no limit.
-pub fn stamp_write(state: &mut State, client: u32, handle: u32, stamp: u64) -> Answer
+pub fn stamp_write(state: &mut State, client: u32, handle: u32, stamp: u64, answer: &mut Answer)
     requires invariants { MeetsInvariants state.old }
     requires open_client { is_open_client state.old.files client ≡ true }
-    ensures refines { RefinesReply state.old client (StampWrite handle stamp) result state.new }
+    ensures refines { RefinesReply state.old client (StampWrite handle stamp) answer.new state.new }
     ensures invariants { MeetsInvariants state.new }
 {
     let Some(object) = state.files.object_of(client, handle) else {
-        return Answer::Denied(Rule::NoHandle);
+        answer.set_denied(Rule::NoHandle);
+        return;
     };
     state.objects.set_stamp(object, stamp);
-    Answer::Done
+    answer.set_done();
 }
 
 /// STAMP_READ: the stamp of the object of a handle. It takes no memory and asks for no limit.
-pub fn stamp_read(state: &State, client: u32, handle: u32) -> Answer
+pub fn stamp_read(state: &State, client: u32, handle: u32, answer: &mut Answer)
     requires invariants { MeetsInvariants state.now }
     requires open_client { is_open_client state.now.files client ≡ true }
-    ensures { RefinesReply state.now client (StampRead handle) result state.now }
+    ensures { RefinesReply state.now client (StampRead handle) answer.new state.now }
 {
     let Some(object) = state.files.object_of(client, handle) else {
-        return Answer::Denied(Rule::NoHandle);
+        answer.set_denied(Rule::NoHandle);
+        return;
     };
-    Answer::Number {
-        value: state.objects.stamp(object),
-    }
+    answer.set_number(state.objects.stamp(object));
 }

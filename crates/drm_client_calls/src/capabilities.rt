@@ -13,17 +13,18 @@ use drm_table::{Answer, Rule};
 const UNIVERSAL_PLANES: u64 = 2;
 
 /// SET_CLIENT_CAP: universal planes alone can be set, on by 1 and off by 0. It takes no memory.
-pub fn set_client_cap(state: &mut State, client: u32, cap: u64, value: u64) -> Answer
+pub fn set_client_cap(state: &mut State, client: u32, cap: u64, value: u64, answer: &mut Answer)
     requires invariants { MeetsInvariants state.old }
     requires open_client { is_open_client state.old.files client ≡ true }
-    ensures refines { RefinesReply state.old client (SetClientCap cap value) result state.new }
+    ensures refines { RefinesReply state.old client (SetClientCap cap value) answer.new state.new }
     ensures invariants { MeetsInvariants state.new }
 {
     if !is_settable(cap, value) {
-        return Answer::Denied(Rule::BadCap);
+        answer.set_denied(Rule::BadCap);
+        return;
     }
     state.files.set_universal(client, value == 1);
-    Answer::Done
+    answer.set_done();
 }
 
 fn is_settable(cap: u64, value: u64) -> bool

@@ -23,13 +23,14 @@ use drm_table::{Answer, Rule};
 /// nobody else names it, and the device's master where that was the client's own; the leases of a master of its own end, with those
 /// of all below it and their open tokens. A client that isn't open is denied, and
 /// nothing changes. It takes no memory and asks for no limit.
-pub fn close(state: &mut State, client: u32) -> Answer
+pub fn close(state: &mut State, client: u32, answer: &mut Answer)
     requires { MeetsInvariants state.old }
     ensures invariants { MeetsInvariants state.new }
-    ensures refines { RefinesAnswer state.old (Close client) result state.new }
+    ensures refines { RefinesAnswer state.old (Close client) answer.new state.new }
 {
     let Some(_flags) = state.files.flags_of(client) else {
-        return Answer::Denied(Rule::NoClient);
+        answer.set_denied(Rule::NoClient);
+        return;
     };
     close_master(&mut state.masters, &mut state.leases, client);
     state.masters.laws();
@@ -43,7 +44,7 @@ pub fn close(state: &mut State, client: u32) -> Answer
         &mut state.objects,
         client,
     );
-    Answer::Closed
+    *answer = Answer::Closed;
 }
 
 /// A client no more stands to masters. The leases of a master of its own end, and of all below it.

@@ -29,14 +29,14 @@ use drm_table::{Answer, AuditKind, AuditPage, AuditRow};
 const PAGE: usize = 16;
 
 /// AUDIT: a page of rows, as they stand before the step of this number. It takes no memory and asks for no limit.
-pub fn audit(state: &State, step_number: u32, kind: AuditKind, from: u32) -> Answer
+pub fn audit(state: &State, step_number: u32, kind: AuditKind, from: u32, answer: &mut Answer)
     requires step_number { 1 ≤ step_number }
     requires invariants { MeetsInvariants state.now }
-    ensures { (client : ℕ) → RefinesCall state.now step_number client (Audit kind from) (Ok result) state.now }
+    ensures { (client : ℕ) → RefinesCall state.now step_number client (Audit kind from) (Ok answer.new) state.now }
 {
-    Answer::Audit {
+    *answer = Answer::Audit {
         page: page_of(state, step_number - 1, kind, from),
-    }
+    };
 }
 
 /// The page of a kind behind the first rows, where so many steps were noted.

@@ -32,7 +32,7 @@ pub fn ask(
     match admission(state, client, call) {
         Ok(caller) => carry_out(state, step_number, caller, call, answer),
         Err(rule) => {
-            *answer = Answer::Denied(rule);
+            answer.set_denied(rule);
             Ok(())
         }
     }
@@ -105,7 +105,7 @@ fn carry_out(
         ),
         Some(Family::Leases) => lease_call(state, step_number, caller.primary(), call, answer),
         None => {
-            *answer = Answer::Denied(Rule::Unknown);
+            answer.set_denied(Rule::Unknown);
             Ok(())
         }
     }

@@ -16,24 +16,24 @@ const DUMB_BUFFER: u64 = 0x1;
 const PRIME: u64 = 0x5;
 
 /// VERSION: the version of the interface.
-pub fn version() -> Answer
-    ensures { result ≡ version_answer }
+pub fn version(answer: &mut Answer)
+    ensures { answer.new ≡ version_answer }
 {
-    Answer::Version {
+    *answer = Answer::Version {
         major: 1,
         minor: 0,
         patch: 0,
-    }
+    };
 }
 
 /// GET_CAP: dumb buffers there are, and PRIME in both directions. It takes no memory and asks for no limit.
-pub fn get_cap(state: &State, client: u32, cap: u64) -> Answer
+pub fn get_cap(state: &State, client: u32, cap: u64, answer: &mut Answer)
     requires { MeetsInvariants state.now }
-    ensures { RefinesReply state.now client (GetCap cap) result state.now }
+    ensures { RefinesReply state.now client (GetCap cap) answer.new state.now }
 {
     match cap {
-        DUMB_BUFFER => Answer::Number { value: 1 },
-        PRIME => Answer::Number { value: 3 },
-        _ => Answer::Denied(Rule::BadCap),
+        DUMB_BUFFER => answer.set_number(1),
+        PRIME => answer.set_number(3),
+        _ => answer.set_denied(Rule::BadCap),
     }
 }

@@ -152,12 +152,12 @@ impl Device {
         ensures bounded { self.new.limits.journal ≤ 100000 }
     {
         if !self.has_room(&event) {
-            *outcome = Err(Apart::JournalFull);
+            Apart::JournalFull.replace(outcome);
             return;
         }
         let step_number = self.journal.len() as u32 + 1;
         let Ok(()) = advance_at(&mut self.state, step_number, &event, outcome) else {
-            *outcome = Err(Apart::NoMemory);
+            Apart::NoMemory.replace(outcome);
             return;
         };
         self.journal.push_reserved(event);

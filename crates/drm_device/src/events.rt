@@ -1,9 +1,10 @@
 //! One event, by its kind.
 
 ghost use Rattle.drm_state.specs.Invariants.{MeetsInvariants, StepPrecondition};
-ghost use Rattle.std.specs.Prelude.{Ok, Err, OnOk, IfOk, IfErr, IsOk};
+ghost use Rattle.std.specs.Prelude.{◌≡◌, Ok, Err, OnOk, IfOk, IfErr, IsOk};
 ghost use Rattle.drm_state.specs.Places.{outcome};
 ghost use Rattle.drm_state.specs.Refinement.{Refines};
+ghost use Rattle.drm_table.specs.declared.answers.Answer.TheVariants.{Done};
 ghost use Rattle.drm_table.specs.declared.events.Event.TheVariants.{Open};
 
 use crate::calls::ask;
@@ -12,7 +13,7 @@ use drm_state::State;
 use drm_table::{Answer, Apart, Event, Opening};
 use std::alloc::AllocError;
 
-/// Answers an opening. Where memory is refused nothing changes. It is a function of its own, so that calls need not clear its place.
+/// Answers an opening. Where memory is refused nothing changes. It is a separate function, so that calls need not clear its place.
 fn opened(
     state: &mut State,
     step_number: u32,
@@ -43,10 +44,17 @@ pub fn advance(
         Event::Open(opening) => opened(state, step_number, *opening, answer),
         Event::Ask(client, call) => ask(state, step_number, *client, call, answer),
         Event::Close(client) => {
-            *answer = close(state, *client);
+            close(state, *client, answer);
             Ok(())
         }
     }
+}
+
+/// Puts an answer in the place of an outcome that has none. It is a separate function, so that steps need not clear its place.
+fn make_answered(outcome: &mut Result<Answer, Apart>)
+    ensures { outcome.new ≡ Ok Done }
+{
+    *outcome = Ok(Answer::Done);
 }
 
 /// Answers an event for which the journal has room, and writes the answer to the place of an outcome. Where memory is refused the state
@@ -64,7 +72,7 @@ pub fn advance_at(
     ensures err { IfErr result (λ fault. Refines state.old step_number event.now (Err fault) state.new) }
 {
     if outcome.is_err() {
-        *outcome = Ok(Answer::Done);
+        make_answered(outcome);
     }
     match outcome {
         Ok(answer) => advance(state, step_number, event, answer),

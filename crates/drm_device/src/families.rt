@@ -44,19 +44,19 @@ pub fn device_call(
 {
     match call {
         Call::Version => {
-            *answer = version();
+            version(answer);
             Ok(())
         }
         Call::GetCap { cap } => {
-            *answer = get_cap(state, client, *cap);
+            get_cap(state, client, *cap, answer);
             Ok(())
         }
         Call::SetClientCap { cap, value } => {
-            *answer = set_client_cap(state, client, *cap, *value);
+            set_client_cap(state, client, *cap, *value, answer);
             Ok(())
         }
         Call::Audit { kind, from } => {
-            *answer = audit(state, step_number, *kind, *from);
+            audit(state, step_number, *kind, *from, answer);
             Ok(())
         }
         _ => unreachable!(),
@@ -80,16 +80,16 @@ pub fn master_call(
 {
     match call {
         Call::GetMagic => {
-            *answer = get_magic(state, caller);
+            get_magic(state, caller, answer);
             Ok(())
         }
         Call::AuthMagic { magic } => {
-            *answer = auth_magic(state, caller, *magic);
+            auth_magic(state, caller, *magic, answer);
             Ok(())
         }
-        Call::SetMaster => { set_master(state, step_number, caller, answer) }
+        Call::SetMaster => set_master(state, step_number, caller, answer),
         Call::DropMaster => {
-            *answer = drop_master(state, caller);
+            drop_master(state, caller, answer);
             Ok(())
         }
         _ => unreachable!(),
@@ -113,14 +113,14 @@ pub fn buffer_call(
 {
     match call {
         Call::GemClose { handle } => {
-            *answer = gem_close(state, client, *handle);
+            gem_close(state, client, *handle, answer);
             Ok(())
         }
         Call::DestroyDumb { handle } => {
-            *answer = gem_close(state, client, *handle);
+            gem_close(state, client, *handle, answer);
             Ok(())
         }
-        Call::BufCreate { size } => { buf_create(state, step_number, client, *size, answer) }
+        Call::BufCreate { size } => buf_create(state, step_number, client, *size, answer),
         Call::CreateDumb { width, height, bpp } => {
             let pixels = Pixels {
                 width: *width,
@@ -130,15 +130,15 @@ pub fn buffer_call(
             create_dumb(state, step_number, client, pixels, answer)
         }
         Call::StampWrite { handle, stamp } => {
-            *answer = stamp_write(state, client, *handle, *stamp);
+            stamp_write(state, client, *handle, *stamp, answer);
             Ok(())
         }
         Call::StampRead { handle } => {
-            *answer = stamp_read(state, client, *handle);
+            stamp_read(state, client, *handle, answer);
             Ok(())
         }
         Call::ListHandles { from } => {
-            *answer = list_handles(state, client, *from);
+            list_handles(state, client, *from, answer);
             Ok(())
         }
         _ => unreachable!(),
@@ -161,8 +161,8 @@ pub fn share_call(
     ensures invariants { MeetsInvariants state.new }
 {
     match call {
-        Call::GemFlink { handle } => { gem_flink(state, step_number, client, *handle, answer) }
-        Call::GemOpen { name } => { gem_open(state, step_number, client, *name, answer) }
+        Call::GemFlink { handle } => gem_flink(state, step_number, client, *handle, answer),
+        Call::GemOpen { name } => gem_open(state, step_number, client, *name, answer),
         Call::PrimeHandleToFd { handle } => {
             prime_export(state, step_number, client, *handle, answer)
         }
@@ -170,7 +170,7 @@ pub fn share_call(
             prime_import(state, step_number, client, *token, answer)
         }
         Call::TokenClose { token } => {
-            *answer = token_close(state, client, *token);
+            token_close(state, client, *token, answer);
             Ok(())
         }
         _ => unreachable!(),
@@ -194,27 +194,27 @@ pub fn mode_call(
 {
     match *call {
         Call::GetResources => {
-            *answer = get_resources(state, caller);
+            get_resources(state, caller, answer);
             Ok(())
         }
         Call::GetPlaneResources => {
-            *answer = get_plane_resources(state, caller);
+            get_plane_resources(state, caller, answer);
             Ok(())
         }
         Call::GetCrtc { crtc } => {
-            *answer = get_crtc(state, caller, crtc);
+            get_crtc(state, caller, crtc, answer);
             Ok(())
         }
         Call::GetEncoder { encoder } => {
-            *answer = get_encoder(state, caller, encoder);
+            get_encoder(state, caller, encoder, answer);
             Ok(())
         }
         Call::GetConnector { connector } => {
-            *answer = get_connector(state, caller, connector);
+            get_connector(state, caller, connector, answer);
             Ok(())
         }
         Call::GetPlane { plane } => {
-            *answer = get_plane(state, caller, plane);
+            get_plane(state, caller, plane, answer);
             Ok(())
         }
         Call::SetCrtc {
@@ -222,7 +222,7 @@ pub fn mode_call(
             framebuffer,
             connector,
         } => {
-            *answer = set_crtc(state, caller, crtc, framebuffer, connector);
+            set_crtc(state, caller, crtc, framebuffer, connector, answer);
             Ok(())
         }
         Call::SetPlane {
@@ -230,7 +230,7 @@ pub fn mode_call(
             crtc,
             framebuffer,
         } => {
-            *answer = set_plane(state, caller, plane, crtc, framebuffer);
+            set_plane(state, caller, plane, crtc, framebuffer, answer);
             Ok(())
         }
         _ => unreachable!(),
@@ -253,7 +253,7 @@ pub fn framebuffer_call(
     ensures invariants { MeetsInvariants state.new }
 {
     match *call {
-        Call::GetFb { framebuffer } => { get_fb(state, step_number, caller, framebuffer, answer) }
+        Call::GetFb { framebuffer } => get_fb(state, step_number, caller, framebuffer, answer),
         Call::AddFb {
             width,
             height,
@@ -270,7 +270,7 @@ pub fn framebuffer_call(
             add_fb(state, step_number, caller.client, shape, handle, answer)
         }
         Call::RmFb { framebuffer } => {
-            *answer = rm_fb(state, caller.client, framebuffer);
+            rm_fb(state, caller.client, framebuffer, answer);
             Ok(())
         }
         _ => unreachable!(),
@@ -293,17 +293,17 @@ pub fn lease_call(
     ensures invariants { MeetsInvariants state.new }
 {
     match call {
-        Call::CreateLease { ids } => { create_lease(state, step_number, caller, ids, answer) }
+        Call::CreateLease { ids } => create_lease(state, step_number, caller, ids, answer),
         Call::ListLessees => {
-            *answer = list_lessees(state, caller);
+            list_lessees(state, caller, answer);
             Ok(())
         }
         Call::GetLease => {
-            *answer = get_lease(state, caller);
+            get_lease(state, caller, answer);
             Ok(())
         }
         Call::RevokeLease { lessee } => {
-            *answer = revoke_lease(state, caller, *lessee);
+            revoke_lease(state, caller, *lessee, answer);
             Ok(())
         }
         _ => unreachable!(),

@@ -47,7 +47,7 @@ pub fn create_lease(
             Ok(())
         }
         Err(LeaseFault::Denied(rule)) => {
-            *answer = Answer::Denied(rule);
+            answer.set_denied(rule);
             Ok(())
         }
         Err(LeaseFault::NoMemory) => Err(AllocError),
@@ -56,10 +56,10 @@ pub fn create_lease(
 
 /// MODE_REVOKE_LEASE (drm-uapi, leases; that a lessee which nobody redeemed goes is own): the lease of a direct lessee of the
 /// caller's master ends, and all that was lent from it. It takes no memory.
-pub fn revoke_lease(state: &mut State, caller: PrimaryCaller, lessee: u32) -> Answer
+pub fn revoke_lease(state: &mut State, caller: PrimaryCaller, lessee: u32, answer: &mut Answer)
     requires invariants { MeetsInvariants state.old }
     requires caller { IsPrimaryCaller state.old caller }
-    ensures refines { RefinesReply state.old caller.client (RevokeLease lessee) result state.new }
+    ensures refines { RefinesReply state.old caller.client (RevokeLease lessee) answer.new state.new }
     ensures invariants { MeetsInvariants state.new }
 {
     let member = caller.member;
@@ -67,18 +67,20 @@ pub fn revoke_lease(state: &mut State, caller: PrimaryCaller, lessee: u32) -> An
         unreachable!()
     };
     let Some(key) = state.masters.lessee(master.key, lessee) else {
-        return Answer::Denied(Rule::NoLessee);
+        answer.set_denied(Rule::NoLessee);
+        return;
     };
     let Some(found) = state.masters.of_key(key) else {
         unreachable!()
     };
     if !is_lent_by(found.lessor, member.master) {
-        return Answer::Denied(Rule::NotYourLessee);
+        answer.set_denied(Rule::NotYourLessee);
+        return;
     }
     state.leases.revoke(&mut state.masters, key);
     state.masters.laws();
     state.leases.laws();
-    Answer::Done
+    answer.set_done();
 }
 
 /// Whether a lessor, if there is one, is this master.

@@ -13,25 +13,25 @@ use drm_table::{Answer, ShownList};
 
 /// MODE_LIST_LESSEES (drm-uapi, leases; that they rise is own): the ids of the direct lessees of the caller's master whose
 /// lease isn't empty. It takes no memory.
-pub fn list_lessees(state: &State, caller: PrimaryCaller) -> Answer
+pub fn list_lessees(state: &State, caller: PrimaryCaller, answer: &mut Answer)
     requires invariants { MeetsInvariants state.now }
     requires caller { IsPrimaryCaller state.now caller }
-    ensures { RefinesReply state.now caller.client ListLessees result state.now }
+    ensures { RefinesReply state.now caller.client ListLessees answer.new state.now }
 {
     let Some(master) = state.masters.master(caller.member.master) else {
         unreachable!()
     };
-    Answer::List {
+    *answer = Answer::List {
         list: state.leases.list(&state.masters, master.key),
-    }
+    };
 }
 
 /// MODE_GET_LEASE (drm-uapi, leases; that an owner has a lease of all is own): the mode objects in the lease of the caller's
 /// master, rising; all CRTCs, planes and connectors where it is no lessee. It takes no memory.
-pub fn get_lease(state: &State, caller: PrimaryCaller) -> Answer
+pub fn get_lease(state: &State, caller: PrimaryCaller, answer: &mut Answer)
     requires invariants { MeetsInvariants state.now }
     requires caller { IsPrimaryCaller state.now caller }
-    ensures { RefinesReply state.now caller.client GetLease result state.now }
+    ensures { RefinesReply state.now caller.client GetLease answer.new state.now }
 {
     let Some(master) = state.masters.master(caller.member.master) else {
         unreachable!()
@@ -41,7 +41,7 @@ pub fn get_lease(state: &State, caller: PrimaryCaller) -> Answer
     } else {
         leasable(&state.modes)
     };
-    Answer::List { list }
+    *answer = Answer::List { list };
 }
 
 /// The CRTCs, planes and connectors, in this order. It takes no memory.

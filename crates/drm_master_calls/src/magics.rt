@@ -10,35 +10,33 @@ use drm_state::{PrimaryCaller, State};
 use drm_table::Answer;
 
 /// GET_MAGIC: the caller's number under its master, and where it has none the least free one. It takes no memory.
-pub fn get_magic(state: &mut State, caller: PrimaryCaller) -> Answer
+pub fn get_magic(state: &mut State, caller: PrimaryCaller, answer: &mut Answer)
     requires invariants { MeetsInvariants state.old }
     requires caller { IsPrimaryCaller state.old caller }
-    ensures refines { RefinesReply state.old caller.client GetMagic result state.new }
+    ensures refines { RefinesReply state.old caller.client GetMagic answer.new state.new }
     ensures invariants { MeetsInvariants state.new }
 {
     let Ok(number) = state.masters.magic(caller.client) else {
         unreachable!()
     };
     state.masters.laws();
-    Answer::Number {
-        value: number as u64,
-    }
+    answer.set_number(number as u64);
 }
 
 /// AUTH_MAGIC: the client that has this number under the caller's master is authenticated, and the number is spent. It takes
 /// no memory.
-pub fn auth_magic(state: &mut State, caller: PrimaryCaller, number: u32) -> Answer
+pub fn auth_magic(state: &mut State, caller: PrimaryCaller, number: u32, answer: &mut Answer)
     requires invariants { MeetsInvariants state.old }
     requires caller { IsPrimaryCaller state.old caller }
-    ensures refines { RefinesReply state.old caller.client (AuthMagic number) result state.new }
+    ensures refines { RefinesReply state.old caller.client (AuthMagic number) answer.new state.new }
     ensures invariants { MeetsInvariants state.new }
 {
     match state.masters.auth(caller.client, number) {
         Ok(authenticated) => {
             state.files.set_authenticated(authenticated);
             state.masters.laws();
-            Answer::Done
+            answer.set_done();
         }
-        Err(rule) => Answer::Denied(rule),
+        Err(rule) => answer.set_denied(rule),
     }
 }

@@ -32,20 +32,20 @@ pub fn set_master(
         Ok(SetDone::Made) => {
             state.files.set_authenticated(caller.client);
             state.masters.laws();
-            *answer = Answer::Done;
+            answer.set_done();
             Ok(())
         }
         Ok(SetDone::Already) => {
-            *answer = Answer::Done;
+            answer.set_done();
             Ok(())
         }
         Ok(SetDone::Again) => {
             state.masters.laws();
-            *answer = Answer::Done;
+            answer.set_done();
             Ok(())
         }
         Err(SetFault::Denied(rule)) => {
-            *answer = Answer::Denied(rule);
+            answer.set_denied(rule);
             Ok(())
         }
         Err(SetFault::NoMemory) => Err(AllocError),
@@ -53,17 +53,17 @@ pub fn set_master(
 }
 
 /// DROP_MASTER: the device has no master, and the client's stays its own. It takes no memory.
-pub fn drop_master(state: &mut State, caller: PrimaryCaller) -> Answer
+pub fn drop_master(state: &mut State, caller: PrimaryCaller, answer: &mut Answer)
     requires invariants { MeetsInvariants state.old }
     requires caller { IsPrimaryCaller state.old caller }
-    ensures refines { RefinesReply state.old caller.client DropMaster result state.new }
+    ensures refines { RefinesReply state.old caller.client DropMaster answer.new state.new }
     ensures invariants { MeetsInvariants state.new }
 {
     match state.masters.drop_master(caller.client, caller.flags.root) {
         Ok(()) => {
             state.masters.laws();
-            Answer::Done
+            answer.set_done();
         }
-        Err(rule) => Answer::Denied(rule),
+        Err(rule) => answer.set_denied(rule),
     }
 }

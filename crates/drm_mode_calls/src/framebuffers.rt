@@ -32,7 +32,7 @@ pub fn get_fb(
     ensures invariants { MeetsInvariants state.new }
 {
     let Some(row) = state.modes.fb(framebuffer) else {
-        *answer = Answer::Denied(Rule::NoFb);
+        answer.set_denied(Rule::NoFb);
         return Ok(());
     };
     if !gives_handle(caller) {
@@ -40,7 +40,7 @@ pub fn get_fb(
         return Ok(());
     }
     let Some(handle) = new_handle(state, step_number, caller.client, row.object, None)? else {
-        *answer = Answer::Denied(Rule::Full);
+        answer.set_denied(Rule::Full);
         return Ok(());
     };
     *answer = framebuffer_answer(row.shape, handle);
@@ -64,43 +64,42 @@ pub fn add_fb(
     ensures invariants { MeetsInvariants state.new }
 {
     let Some(object) = state.files.object_of(client, handle) else {
-        *answer = Answer::Denied(Rule::NoHandle);
+        answer.set_denied(Rule::NoHandle);
         return Ok(());
     };
     if !is_shape_over(shape, state.objects.size(object)) {
-        *answer = Answer::Denied(Rule::BadSize);
+        answer.set_denied(Rule::BadSize);
         return Ok(());
     }
     let framebuffer = match state.modes.addfb(client, shape, object) {
         Ok(framebuffer) => framebuffer,
         Err(AddFbFault::Full) => {
-            *answer = Answer::Denied(Rule::Full);
+            answer.set_denied(Rule::Full);
             return Ok(());
         }
         Err(AddFbFault::NoMemory) => return Err(AllocError),
     };
     state.modes.laws();
     state.objects.refer(object);
-    *answer = Answer::Number {
-        value: framebuffer as u64,
-    };
+    answer.set_number(framebuffer as u64);
     Ok(())
 }
 
 /// MODE_RMFB: the caller's framebuffer goes, what shows it goes dark, and its object goes with the last that refers to it
 /// (drm-uapi, mode setting). Where the caller made no such framebuffer, nothing changes. It takes no memory.
-pub fn rm_fb(state: &mut State, client: u32, framebuffer: u32) -> Answer
+pub fn rm_fb(state: &mut State, client: u32, framebuffer: u32, answer: &mut Answer)
     requires invariants { MeetsInvariants state.old }
     requires open_client { is_open_client state.old.files client ≡ true }
-    ensures refines { RefinesReply state.old client (RmFb framebuffer) result state.new }
+    ensures refines { RefinesReply state.old client (RmFb framebuffer) answer.new state.new }
     ensures invariants { MeetsInvariants state.new }
 {
     let Some(object) = state.modes.rmfb(client, framebuffer) else {
-        return Answer::Denied(Rule::NoFb);
+        answer.set_denied(Rule::NoFb);
+        return;
     };
     state.modes.laws();
     let _dead = state.objects.unrefer(object);
-    Answer::Done
+    answer.set_done();
 }
 
 /// Whether the caller is told of a framebuffer with a handle, as a current one and a root one are (drm-uapi, mode setting).

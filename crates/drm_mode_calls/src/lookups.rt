@@ -13,61 +13,59 @@ use drm_table::{Answer, Rule};
 
 /// MODE_GETCRTC (drm-uapi, mode setting): the framebuffer that a CRTC shows, 0 where it is dark. It is denied where the
 /// caller sees no such CRTC, and takes no memory.
-pub fn get_crtc(state: &State, caller: PrimaryCaller, crtc: u32) -> Answer
+pub fn get_crtc(state: &State, caller: PrimaryCaller, crtc: u32, answer: &mut Answer)
     requires invariants { MeetsInvariants state.now }
     requires caller { IsPrimaryCaller state.now caller }
-    ensures { RefinesReply state.now caller.client (GetCrtc crtc) result state.now }
+    ensures { RefinesReply state.now caller.client (GetCrtc crtc) answer.new state.now }
 {
     if !sees_object(state, caller, Kind::Crtc, crtc) {
-        return Answer::Denied(Rule::NoModeObject);
+        answer.set_denied(Rule::NoModeObject);
+        return;
     }
-    Answer::Number {
-        value: state.modes.shown(crtc) as u64,
-    }
+    answer.set_number(state.modes.shown(crtc) as u64);
 }
 
 /// MODE_GETENCODER (drm-uapi, mode setting): the possible CRTCs of an encoder, as a mask over those that the caller sees. It
 /// is denied where there is no such encoder, and takes no memory.
-pub fn get_encoder(state: &State, caller: PrimaryCaller, encoder: u32) -> Answer
+pub fn get_encoder(state: &State, caller: PrimaryCaller, encoder: u32, answer: &mut Answer)
     requires invariants { MeetsInvariants state.now }
     requires caller { IsPrimaryCaller state.now caller }
-    ensures { RefinesReply state.now caller.client (GetEncoder encoder) result state.now }
+    ensures { RefinesReply state.now caller.client (GetEncoder encoder) answer.new state.now }
 {
     if !sees_object(state, caller, Kind::Encoder, encoder) {
-        return Answer::Denied(Rule::NoModeObject);
+        answer.set_denied(Rule::NoModeObject);
+        return;
     }
-    Answer::Number {
-        value: visible_mask(state, caller, encoder) as u64,
-    }
+    answer.set_number(visible_mask(state, caller, encoder) as u64);
 }
 
 /// MODE_GETCONNECTOR (drm-uapi, mode setting; that a connector has one encoder is own): the encoder of a connector. It is
 /// denied where the caller sees no such connector, and takes no memory.
-pub fn get_connector(state: &State, caller: PrimaryCaller, connector: u32) -> Answer
+pub fn get_connector(state: &State, caller: PrimaryCaller, connector: u32, answer: &mut Answer)
     requires invariants { MeetsInvariants state.now }
     requires caller { IsPrimaryCaller state.now caller }
-    ensures { RefinesReply state.now caller.client (GetConnector connector) result state.now }
+    ensures { RefinesReply state.now caller.client (GetConnector connector) answer.new state.now }
 {
     if !sees_object(state, caller, Kind::Connector, connector) {
-        return Answer::Denied(Rule::NoModeObject);
+        answer.set_denied(Rule::NoModeObject);
+        return;
     }
-    Answer::Number {
-        value: state.modes.encoder_of(connector).unwrap_or(0) as u64,
-    }
+    answer.set_number(state.modes.encoder_of(connector).unwrap_or(0) as u64);
 }
 
 /// MODE_GETPLANE (drm-uapi, mode setting): the framebuffer that a plane shows, 0 where it is dark, and its possible CRTCs, as
 /// a mask over those that the caller sees. It is denied where the caller sees no such plane, and takes no memory.
-pub fn get_plane(state: &State, caller: PrimaryCaller, plane: u32) -> Answer
+pub fn get_plane(state: &State, caller: PrimaryCaller, plane: u32, answer: &mut Answer)
     requires invariants { MeetsInvariants state.now }
     requires caller { IsPrimaryCaller state.now caller }
-    ensures { RefinesReply state.now caller.client (GetPlane plane) result state.now }
+    ensures { RefinesReply state.now caller.client (GetPlane plane) answer.new state.now }
 {
     if !sees_object(state, caller, Kind::Plane, plane) {
-        return Answer::Denied(Rule::NoModeObject);
+        answer.set_denied(Rule::NoModeObject);
+        return;
     }
-    Answer::Plane {
+    *answer = Answer::Plane {
         framebuffer: state.modes.shown(plane),
         mask: visible_mask(state, caller, plane),
-    }
+    };
 }

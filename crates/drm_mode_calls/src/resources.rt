@@ -12,26 +12,26 @@ use drm_table::Answer;
 
 /// MODE_GETRESOURCES (drm-uapi, mode setting): the CRTCs and connectors that the caller sees, all encoders, and its own
 /// framebuffers, each list rising. It takes no memory.
-pub fn get_resources(state: &State, caller: PrimaryCaller) -> Answer
+pub fn get_resources(state: &State, caller: PrimaryCaller, answer: &mut Answer)
     requires invariants { MeetsInvariants state.now }
     requires caller { IsPrimaryCaller state.now caller }
-    ensures { RefinesReply state.now caller.client GetResources result state.now }
+    ensures { RefinesReply state.now caller.client GetResources answer.new state.now }
 {
-    Answer::Resources {
+    *answer = Answer::Resources {
         crtcs: visible(state, caller, Kind::Crtc),
         connectors: visible(state, caller, Kind::Connector),
         encoders: state.modes.ids(Kind::Encoder),
         framebuffers: state.modes.framebuffers_of(caller.client),
-    }
+    };
 }
 
 /// MODE_GETPLANERESOURCES (drm-uapi, mode setting): the planes that the caller sees, rising. It takes no memory.
-pub fn get_plane_resources(state: &State, caller: PrimaryCaller) -> Answer
+pub fn get_plane_resources(state: &State, caller: PrimaryCaller, answer: &mut Answer)
     requires invariants { MeetsInvariants state.now }
     requires caller { IsPrimaryCaller state.now caller }
-    ensures { RefinesReply state.now caller.client GetPlaneResources result state.now }
+    ensures { RefinesReply state.now caller.client GetPlaneResources answer.new state.now }
 {
-    Answer::List {
+    *answer = Answer::List {
         list: visible(state, caller, Kind::Plane),
-    }
+    };
 }

@@ -23,18 +23,20 @@ pub fn set_crtc(
     crtc: u32,
     framebuffer: u32,
     connector: u32,
-) -> Answer
+    answer: &mut Answer,
+)
     requires invariants { MeetsInvariants state.old }
     requires caller { IsPrimaryCaller state.old caller }
-    ensures refines { RefinesReply state.old caller.client (SetCrtc crtc framebuffer connector) result state.new }
+    ensures refines { RefinesReply state.old caller.client (SetCrtc crtc framebuffer connector) answer.new state.new }
     ensures invariants { MeetsInvariants state.new }
 {
     if let Some(rule) = crtc_refusal(state, caller, crtc, framebuffer, connector) {
-        return Answer::Denied(rule);
+        answer.set_denied(rule);
+        return;
     }
     state.modes.setcrtc(crtc, framebuffer);
     state.modes.laws();
-    Answer::Done
+    answer.set_done();
 }
 
 /// MODE_SETPLANE (drm-uapi, mode setting): a plane shows a framebuffer of any client on a CRTC, or goes dark where that is 0,
@@ -46,18 +48,20 @@ pub fn set_plane(
     plane: u32,
     crtc: u32,
     framebuffer: u32,
-) -> Answer
+    answer: &mut Answer,
+)
     requires invariants { MeetsInvariants state.old }
     requires caller { IsPrimaryCaller state.old caller }
-    ensures refines { RefinesReply state.old caller.client (SetPlane plane crtc framebuffer) result state.new }
+    ensures refines { RefinesReply state.old caller.client (SetPlane plane crtc framebuffer) answer.new state.new }
     ensures invariants { MeetsInvariants state.new }
 {
     if let Some(rule) = plane_refusal(state, caller, plane, crtc, framebuffer) {
-        return Answer::Denied(rule);
+        answer.set_denied(rule);
+        return;
     }
     state.modes.setplane(plane, framebuffer);
     state.modes.laws();
-    Answer::Done
+    answer.set_done();
 }
 
 /// The first rule of MODE_SETCRTC that fails; what comes after it isn't looked up.

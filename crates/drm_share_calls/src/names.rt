@@ -27,24 +27,22 @@ pub fn gem_flink(
     ensures invariants { MeetsInvariants state.new }
 {
     let Some(object) = state.files.object_of(client, handle) else {
-        *answer = Answer::Denied(Rule::NoHandle);
+        answer.set_denied(Rule::NoHandle);
         return Ok(());
     };
     if let Some(name) = state.names.name_of(object) {
-        *answer = Answer::Number { value: name as u64 };
+        answer.set_number(name as u64);
         return Ok(());
     }
     let given = match state.names.give(object) {
         Ok(given) => given,
         Err(ShareFault::Full) => {
-            *answer = Answer::Denied(Rule::Full);
+            answer.set_denied(Rule::Full);
             return Ok(());
         }
         Err(ShareFault::NoMemory) => return Err(AllocError),
     };
-    *answer = Answer::Number {
-        value: given as u64,
-    };
+    answer.set_number(given as u64);
     Ok(())
 }
 
@@ -62,12 +60,12 @@ pub fn gem_open(
     ensures invariants { MeetsInvariants state.new }
 {
     let Some(object) = state.names.lookup(name) else {
-        *answer = Answer::Denied(Rule::NoName);
+        answer.set_denied(Rule::NoName);
         return Ok(());
     };
     let size = state.objects.size(object);
     let Some(handle) = new_handle(state, step_number, client, object, None)? else {
-        *answer = Answer::Denied(Rule::Full);
+        answer.set_denied(Rule::Full);
         return Ok(());
     };
     *answer = Answer::Buffer { handle, size };

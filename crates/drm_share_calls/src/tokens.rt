@@ -27,22 +27,20 @@ pub fn prime_export(
     ensures invariants { MeetsInvariants state.new }
 {
     let Some(object) = state.files.object_of(client, handle) else {
-        *answer = Answer::Denied(Rule::NoHandle);
+        answer.set_denied(Rule::NoHandle);
         return Ok(());
     };
     let token = match state.tokens.export(client, object) {
         Ok(token) => token,
         Err(ShareFault::Full) => {
-            *answer = Answer::Denied(Rule::Full);
+            answer.set_denied(Rule::Full);
             return Ok(());
         }
         Err(ShareFault::NoMemory) => return Err(AllocError),
     };
     state.objects.refer(object);
     state.files.set_prime(client, handle, step_number);
-    *answer = Answer::Number {
-        value: token as u64,
-    };
+    answer.set_number(token as u64);
     Ok(())
 }
 
@@ -61,7 +59,7 @@ pub fn prime_import(
     ensures invariants { MeetsInvariants state.new }
 {
     let Some(object) = state.tokens.lookup(token) else {
-        *answer = Answer::Denied(Rule::NoToken);
+        answer.set_denied(Rule::NoToken);
         return Ok(());
     };
     let size = state.objects.size(object);
@@ -70,7 +68,7 @@ pub fn prime_import(
         return Ok(());
     }
     let Some(fresh) = new_handle(state, step_number, client, object, Some(step_number))? else {
-        *answer = Answer::Denied(Rule::Full);
+        answer.set_denied(Rule::Full);
         return Ok(());
     };
     *answer = Answer::Buffer {
@@ -82,15 +80,16 @@ pub fn prime_import(
 
 /// TOKEN_CLOSE: the token goes, if the caller exported it, and the object with the last that refers to it (own). It takes no
 /// memory and asks for no limit.
-pub fn token_close(state: &mut State, client: u32, token: u32) -> Answer
+pub fn token_close(state: &mut State, client: u32, token: u32, answer: &mut Answer)
     requires invariants { MeetsInvariants state.old }
     requires open_client { is_open_client state.old.files client ≡ true }
-    ensures refines { RefinesReply state.old client (TokenClose token) result state.new }
+    ensures refines { RefinesReply state.old client (TokenClose token) answer.new state.new }
     ensures invariants { MeetsInvariants state.new }
 {
     let Some(object) = state.tokens.close(client, token) else {
-        return Answer::Denied(Rule::NoToken);
+        answer.set_denied(Rule::NoToken);
+        return;
     };
     let _dead = state.objects.unrefer(object);
-    Answer::Done
+    answer.set_done();
 }

@@ -15,7 +15,9 @@ use Rattle.drm_table.specs.declared.fields.Field.TheVariants.{U32, U64}
 use Rattle.drm_table.specs.Audits as audits
 use Rattle.drm_table.specs.Fields.{Layout, IsShort, ids_in}
 use Rattle.drm_table.specs.Permit.{no_flags}
-use Rattle.drm_table.specs.Table.{TableRow, asked_number, call_number, flags_of, row_of, kind_row, kind_number, kind_word, kind_layout, call_kind_of, call_kind_of_word, all_kinds, buffer_call, share_call, master_call, mode_call, framebuffer_call, lease_call, device_call, call_row, call_with, IsReadBack, AreFieldsOf, HasWidths}
+use Rattle.drm_table.specs.declared.rows.Family.{Family}
+use Rattle.drm_table.specs.declared.rows.Family.TheVariants.{Device, Masters, Buffers, Sharing, Modes, Framebuffers, Leases}
+use Rattle.drm_table.specs.Table.{TableRow, asked_number, call_number, flags_of, row_of, kind_row, kind_number, kind_word, kind_layout, call_kind_of, call_kind_of_word, all_kinds, buffer_call, share_call, master_call, mode_call, framebuffer_call, lease_call, device_call, call_row, call_with, family_call, kind_family, IsReadBack, AreFieldsOf, HasWidths}
 use Rattle.drm_table.proofs.AuditKinds as kinds_of_audits
 use Rattle.drm_table.proofs.Found.{found-passes}
 use Rattle.drm_table.proofs.IdFields.{ids-back, ids-are, ids-widths}
@@ -70,15 +72,15 @@ word-of-its-own word kind e = (bytes_eq-Decides (kind_word kind) word).0 (found-
 -- ---- a call by its row and its fields
 
 audit-back : (kind : AuditKind) (from : ℕ) → call_with kinds.Audit (U32 (audits.kind_number kind) ∷ U32 from ∷ []) ≡ Some (calls.Audit kind from)
-unfolding call_with
+unfolding call_with kind_row
 audit-back kind from = rw (kinds_of_audits.kind-found kind) refl
 
 pub read-back : (call : Call) → IsReadBack call (call_row call)
-unfolding call_row call_with
+unfolding call_row call_with kind_row
 read-back (calls.Unknown n) = tt
 read-back (calls.BadLayout n) = tt
 read-back (calls.Audit kind from) = audit-back kind from
-read-back (calls.CreateLease ids) = ap (λ (o : Option (List ℕ)). option_or (option_map calls.CreateLease o) None) (ids-back ids)
+read-back (calls.CreateLease ids) = ap (λ (o : Option (List ℕ)). option_map calls.CreateLease o) (ids-back ids)
 read-back _ = refl
 
 -- the call of the row and the fields of a call is that call
@@ -100,24 +102,53 @@ made : (kind : CallKind) (fs : List Field) (o : Option Call) → MadeOf kind fs 
 made kind fs None e = tt
 made kind fs (Some call) e = e
 
-either : (kind : CallKind) (fs : List Field) (o p : Option Call) → MadeOf kind fs o → MadeOf kind fs p → MadeOf kind fs (option_or o p)
-either kind fs None p e f = f
-either kind fs (Some call) p e f = e
+-- each kind computes where the fields are its row's
+buffer-made : (kind : CallKind) (fs : List Field) → MadeOf kind fs (buffer_call kind fs)
+unfolding call_row
+buffer-made kinds.GemClose (U32 a ∷ []) = refl
+buffer-made kinds.BufCreate (U64 a ∷ []) = refl
+buffer-made kinds.StampWrite (U32 a ∷ U64 b ∷ []) = refl
+buffer-made kinds.StampRead (U32 a ∷ []) = refl
+buffer-made kinds.ListHandles (U32 a ∷ []) = refl
+buffer-made kinds.CreateDumb (U32 a ∷ U32 b ∷ U32 c ∷ []) = refl
+buffer-made kinds.DestroyDumb (U32 a ∷ []) = refl
+buffer-made _ _ = refl
 
--- the families whose fields are plain numbers: the fields are told apart as far as some row wants, then each kind computes
-plain : CallKind → List Field → Option Call
-plain kind fs = option_or (option_or (option_or (option_or (buffer_call kind fs) (share_call kind fs)) (master_call kind fs)) (mode_call kind fs)) (framebuffer_call kind fs)
+share-made : (kind : CallKind) (fs : List Field) → MadeOf kind fs (share_call kind fs)
+unfolding call_row
+share-made kinds.GemFlink (U32 a ∷ []) = refl
+share-made kinds.GemOpen (U32 a ∷ []) = refl
+share-made kinds.PrimeHandleToFd (U32 a ∷ []) = refl
+share-made kinds.PrimeFdToHandle (U32 a ∷ []) = refl
+share-made kinds.TokenClose (U32 a ∷ []) = refl
+share-made _ _ = refl
 
-plain-made : (fs : List Field) (kind : CallKind) → MadeOf kind fs (plain kind fs)
-unfolding plain call_row
-plain-made [] kinds.Version = refl
-plain-made (U32 a ∷ []) kinds.Version = refl
-plain-made (U64 a ∷ []) kinds.Version = refl
-plain-made (U32 a ∷ U64 b ∷ []) kinds.Version = refl
-plain-made (U32 a ∷ U32 b ∷ U32 c ∷ []) kinds.Version = refl
-plain-made (U32 a ∷ U32 b ∷ U32 c ∷ U32 d ∷ U32 e ∷ []) kinds.Version = refl
-plain-made _ kinds.Version = refl
-plain-made _ _ = refl
+master-made : (kind : CallKind) (fs : List Field) → MadeOf kind fs (master_call kind fs)
+unfolding call_row
+master-made kinds.GetMagic [] = refl
+master-made kinds.AuthMagic (U32 a ∷ []) = refl
+master-made kinds.SetMaster [] = refl
+master-made kinds.DropMaster [] = refl
+master-made _ _ = refl
+
+mode-made : (kind : CallKind) (fs : List Field) → MadeOf kind fs (mode_call kind fs)
+unfolding call_row
+mode-made kinds.GetResources [] = refl
+mode-made kinds.GetCrtc (U32 a ∷ []) = refl
+mode-made kinds.SetCrtc (U32 a ∷ U32 b ∷ U32 c ∷ []) = refl
+mode-made kinds.GetEncoder (U32 a ∷ []) = refl
+mode-made kinds.GetConnector (U32 a ∷ []) = refl
+mode-made kinds.GetPlaneResources [] = refl
+mode-made kinds.GetPlane (U32 a ∷ []) = refl
+mode-made kinds.SetPlane (U32 a ∷ U32 b ∷ U32 c ∷ []) = refl
+mode-made _ _ = refl
+
+framebuffer-made : (kind : CallKind) (fs : List Field) → MadeOf kind fs (framebuffer_call kind fs)
+unfolding call_row
+framebuffer-made kinds.GetFb (U32 a ∷ []) = refl
+framebuffer-made kinds.AddFb (U32 a ∷ U32 b ∷ U32 c ∷ U32 d ∷ U32 e ∷ []) = refl
+framebuffer-made kinds.RmFb (U32 a ∷ []) = refl
+framebuffer-made _ _ = refl
 
 audit-made : (number from : ℕ) (found : Option AuditKind) → audits.kind_of number ≡ found → MadeOf kinds.Audit (U32 number ∷ U32 from ∷ []) (option_map (λ kind. calls.Audit kind from) found)
 unfolding call_row
@@ -145,12 +176,18 @@ lease-made kinds.GetLease [] = refl
 lease-made kinds.RevokeLease (U32 lessee ∷ []) = refl
 lease-made _ _ = refl
 
+made-in : (family : Family) (kind : CallKind) (fs : List Field) → MadeOf kind fs (family_call family kind fs)
+made-in Buffers kind fs = buffer-made kind fs
+made-in Sharing kind fs = share-made kind fs
+made-in Masters kind fs = master-made kind fs
+made-in Modes kind fs = mode-made kind fs
+made-in Framebuffers kind fs = framebuffer-made kind fs
+made-in Leases kind fs = lease-made kind fs
+made-in Device kind fs = device-made kind fs
+
 pub fields-of : (kind : CallKind) (fs : List Field) → AreFieldsOf kind fs (call_with kind fs)
-unfolding call_with plain
-fields-of kind fs =
-    made kind fs (call_with kind fs)
-    (either kind fs (option_or (plain kind fs) (lease_call kind fs)) (device_call kind fs)
-    (either kind fs (plain kind fs) (lease_call kind fs) (plain-made fs kind) (lease-made kind fs)) (device-made kind fs))
+unfolding call_with
+fields-of kind fs = made kind fs (call_with kind fs) (made-in (kind_family kind) kind fs)
 
 pub has-widths : (call : Call) → HasWidths (call_row call)
 unfolding call_row kind_row

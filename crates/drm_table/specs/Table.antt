@@ -240,10 +240,6 @@ device_call _ _ = None
 unfoldable pub call_row : Call → Option (CallKind × List Field)
 call_row call = option_or (option_or (option_or (option_or (option_or (option_or (buffer_row call) (share_row call)) (master_row call)) (mode_row call)) (framebuffer_row call)) (lease_row call)) (device_row call)
 
--- the call of a row and these fields, if they are a call's
-unfoldable pub call_with : CallKind → List Field → Option Call
-call_with kind fs = option_or (option_or (option_or (option_or (option_or (option_or (buffer_call kind fs) (share_call kind fs)) (master_call kind fs)) (mode_call kind fs)) (framebuffer_call kind fs)) (lease_call kind fs)) (device_call kind fs)
-
 -- ---- what follows from it
 
 abbrev pub kind_number : CallKind → ℕ
@@ -257,6 +253,20 @@ kind_layout kind = (kind_row kind).layout
 
 abbrev pub kind_family : CallKind → Family
 kind_family kind = (kind_row kind).family
+
+-- the call of a family, of a row and these fields
+abbrev pub family_call : Family → CallKind → List Field → Option Call
+family_call Device kind fs = device_call kind fs
+family_call Masters kind fs = master_call kind fs
+family_call Buffers kind fs = buffer_call kind fs
+family_call Sharing kind fs = share_call kind fs
+family_call Modes kind fs = mode_call kind fs
+family_call Framebuffers kind fs = framebuffer_call kind fs
+family_call Leases kind fs = lease_call kind fs
+
+-- the call of a row and these fields, if they are a call's
+unfoldable pub call_with : CallKind → List Field → Option Call
+call_with kind fs = family_call (kind_family kind) kind fs
 
 -- the kind of a number, if it has a row
 unfoldable pub call_kind_of : ℕ → Option CallKind

@@ -75,3 +75,49 @@ pub enum Answer {
     /// The first rule that fails. No row was changed.
     Denied(Rule),
 }
+
+/// What most calls answer, written to the place of an answer. A caller that can answer in several ways has no place for each of them
+/// then, which it would have to clear.
+impl Answer {
+    ghost use Rattle.std.specs.Prelude.{◌≡◌};
+    ghost use Rattle.drm_table.specs.declared.answers.Answer.TheVariants as answers;
+
+    /// Replaces the answer by [`Answer::Done`].
+    ///
+    /// ```rust
+    /// let mut answer = Answer::Closed;
+    /// answer.set_done();
+    /// assert!(answer == Answer::Done);
+    /// ```
+    pub fn set_done(&mut self)
+        ensures done { self.new ≡ answers.Done }
+    {
+        *self = Answer::Done;
+    }
+
+    /// Replaces the answer by [`Answer::Number`].
+    ///
+    /// ```rust
+    /// let mut answer = Answer::Closed;
+    /// answer.set_number(7);
+    /// assert!(answer == Answer::Number { value: 7 });
+    /// ```
+    pub fn set_number(&mut self, value: u64)
+        ensures number { self.new ≡ answers.Number value }
+    {
+        *self = Answer::Number { value };
+    }
+
+    /// Replaces the answer by [`Answer::Denied`].
+    ///
+    /// ```rust
+    /// let mut answer = Answer::Closed;
+    /// answer.set_denied(Rule::Full);
+    /// assert!(answer == Answer::Denied(Rule::Full));
+    /// ```
+    pub fn set_denied(&mut self, rule: Rule)
+        ensures denied { self.new ≡ answers.Denied rule }
+    {
+        *self = Answer::Denied(rule);
+    }
+}

@@ -1,8 +1,9 @@
 //! What stands apart from the rules.
 
-ghost use Rattle.std.specs.Prelude.{◌≡◌};
+ghost use Rattle.std.specs.Prelude.{◌≡◌, Err};
 ghost use Rattle.drm_table.specs.Rules.{apart_errno, apart_name, apart_number, apart_of_number, apart_row};
 
+use crate::answers::Answer;
 use crate::errnos::{ENOMEM, ENOSPC};
 use crate::refusal_rows::{RefusalRow, row};
 
@@ -53,6 +54,19 @@ impl Apart {
         ensures { result.now ≡ apart_name self }
     {
         self.row().name
+    }
+
+    /// Replaces an outcome by this. A caller that seldom does so has no place of its own for it then, which it would have to clear.
+    ///
+    /// ```rust
+    /// let mut outcome = Ok(Answer::Done);
+    /// Apart::NoMemory.replace(&mut outcome);
+    /// assert!(outcome == Err(Apart::NoMemory));
+    /// ```
+    pub fn replace(self, outcome: &mut Result<Answer, Apart>)
+        ensures replaced { outcome.new ≡ Err self }
+    {
+        *outcome = Err(self);
     }
 
     /// What stands apart by a number, if it is one's.

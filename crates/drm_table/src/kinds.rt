@@ -78,12 +78,14 @@ impl CallKind {
         requires { length fields.now ≤ 32 }
         ensures { result ≡ call_with self fields.now }
     {
-        self.buffer_call(fields)
-            .or_else(|| self.share_call(fields))
-            .or_else(|| self.master_call(fields))
-            .or_else(|| self.mode_call(fields))
-            .or_else(|| self.framebuffer_call(fields))
-            .or_else(|| self.lease_call(fields))
-            .or_else(|| self.device_call(fields))
+        match self.family() {
+            Family::Device => self.device_call(fields),
+            Family::Masters => self.master_call(fields),
+            Family::Buffers => self.buffer_call(fields),
+            Family::Sharing => self.share_call(fields),
+            Family::Modes => self.mode_call(fields),
+            Family::Framebuffers => self.framebuffer_call(fields),
+            Family::Leases => self.lease_call(fields),
+        }
     }
 }

@@ -401,7 +401,7 @@ impl SharedDevice {
         let place = &mut participant.place;
         self.schedule_before_turn(rt);
         let Some(ticket) = self.draw(rt, place) else {
-            *outcome = Err(Apart::Worn);
+            Apart::Worn.replace(outcome);
             return;
         };
         self.wait_turn(rt, place, ticket);

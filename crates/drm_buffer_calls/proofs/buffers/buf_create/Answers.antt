@@ -28,8 +28,8 @@ accepted w c size a s r = call_verdict w c (BufCreate size) a ∙ rw (s, r) refl
 
 pub returns-then-not-is_buffer_size-clause-refines : goal.returns-then-not-is_buffer_size-clause-refines
 unfolding RefinesCall
-returns-then-not-is_buffer_size-clause-refines c = λ w s a.
-    denied c.args.state.now w (Ask c.args.client (BufCreate c.args.size)) BadSize (bad_shape w c.args.client c.args.size a (sym c.is_buffer_size.ensures ∙ c.if-not-is_buffer_size.true)) s.rows
+returns-then-not-is_buffer_size-clause-refines c = rw c.set_denied.ensures.denied (λ w s a.
+    denied c.args.state.now w (Ask c.args.client (BufCreate c.args.size)) BadSize (bad_shape w c.args.client c.args.size a (sym c.is_buffer_size.ensures ∙ c.if-not-is_buffer_size.true)) s.rows)
 
 pub returns-in_err-handle-clause-refines : goal.returns-in_err-handle-clause-refines
 unfolding RefinesCall MakesBuffer changed meaning
@@ -40,9 +40,9 @@ returns-in_err-handle-clause-refines c = λ w s a.
 
 pub returns-in_default-clause-refines : goal.returns-in_default-clause-refines
 unfolding RefinesCall MakesBuffer
-returns-in_default-clause-refines c = λ w s a.
+returns-in_default-clause-refines c = rw c.set_denied-in_default.ensures.denied (λ w s a.
     let made = made_none w c.args.client c.buffer_size-size.result c.new_buffer.new.state c.in_ok-handle.field-0 c.in_default.is (c.in_ok-handle.ensures.makes w s) in
-    denied c.new_buffer.new.state w (Ask c.args.client (BufCreate c.args.size)) Full (full w c.args.client c.args.size a (sym c.is_buffer_size.ensures ∙ c.if-not-is_buffer_size.false) made.0) made.1
+    denied c.new_buffer.new.state w (Ask c.args.client (BufCreate c.args.size)) Full (full w c.args.client c.args.size a (sym c.is_buffer_size.ensures ∙ c.if-not-is_buffer_size.false) made.0) made.1)
 
 pub returns-clause-refines : goal.returns-clause-refines
 unfolding RefinesCall MakesBuffer changed meaning answer_of

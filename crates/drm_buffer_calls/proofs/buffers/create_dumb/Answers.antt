@@ -32,9 +32,9 @@ size_is pitch width height bpp size p e = e ∙ ap (λ n. rounded_up 4096 (n * h
 
 pub returns-then-not-is_dumb_shape-clause-refines : goal.returns-then-not-is_dumb_shape-clause-refines
 unfolding RefinesCall
-returns-then-not-is_dumb_shape-clause-refines c = λ w s a.
+returns-then-not-is_dumb_shape-clause-refines c = rw c.set_denied.ensures.denied (λ w s a.
     denied c.args.state.now w (Ask c.args.client (CreateDumb c.args.pixels.width c.args.pixels.height c.args.pixels.bpp)) BadSize
-    (bad_shape w c.args.client c.args.pixels.width c.args.pixels.height c.args.pixels.bpp a (sym c.is_dumb_shape.ensures ∙ c.if-not-is_dumb_shape.true)) s.rows
+    (bad_shape w c.args.client c.args.pixels.width c.args.pixels.height c.args.pixels.bpp a (sym c.is_dumb_shape.ensures ∙ c.if-not-is_dumb_shape.true)) s.rows)
 
 pub returns-in_err-handle-clause-refines : goal.returns-in_err-handle-clause-refines
 unfolding RefinesCall MakesBuffer changed meaning
@@ -45,9 +45,9 @@ returns-in_err-handle-clause-refines c = λ w s a.
 
 pub returns-in_default-clause-refines : goal.returns-in_default-clause-refines
 unfolding RefinesCall MakesBuffer
-returns-in_default-clause-refines c = λ w s a.
+returns-in_default-clause-refines c = rw c.set_denied-in_default.ensures.denied (λ w s a.
     let made = made_none w c.args.client c.dumb_size-size.result c.new_buffer.new.state c.in_ok-handle.field-0 c.in_default.is (c.in_ok-handle.ensures.makes w s) in
-    denied c.new_buffer.new.state w (Ask c.args.client (CreateDumb c.args.pixels.width c.args.pixels.height c.args.pixels.bpp)) Full (full w c.args.client c.args.pixels.width c.args.pixels.height c.args.pixels.bpp a (sym c.is_dumb_shape.ensures ∙ c.if-not-is_dumb_shape.false) made.0) made.1
+    denied c.new_buffer.new.state w (Ask c.args.client (CreateDumb c.args.pixels.width c.args.pixels.height c.args.pixels.bpp)) Full (full w c.args.client c.args.pixels.width c.args.pixels.height c.args.pixels.bpp a (sym c.is_dumb_shape.ensures ∙ c.if-not-is_dumb_shape.false) made.0) made.1)
 
 pub returns-clause-refines : goal.returns-clause-refines
 unfolding RefinesCall MakesBuffer changed meaning answer_of

@@ -16,9 +16,9 @@ use Rattle.drm_client_calls.proofs.capabilities.set_client_cap.Goals as goal
 
 pub returns-then-not-is_settable-clause-refines : goal.returns-then-not-is_settable-clause-refines
 unfolding RefinesReply meaning
-returns-then-not-is_settable-clause-refines c = λ w h admitted.
+returns-then-not-is_settable-clause-refines c = rw c.set_denied.ensures.denied (λ w h admitted.
     denied c.args.state.now w (Ask c.args.client (SetClientCap c.args.cap c.args.value)) BadCap
-    (call_verdict w c.args.client (SetClientCap c.args.cap c.args.value) admitted ∙ ap (λ b. first_failing (check BadCap b ∷ [])) (sym c.is_settable.ensures ∙ c.if-not-is_settable.true)) h
+    (call_verdict w c.args.client (SetClientCap c.args.cap c.args.value) admitted ∙ ap (λ b. first_failing (check BadCap b ∷ [])) (sym c.is_settable.ensures ∙ c.if-not-is_settable.true)) h)
 
 pub returns-clause-invariants : goal.returns-clause-invariants
 returns-clause-invariants c =
@@ -26,9 +26,9 @@ returns-clause-invariants c =
 
 pub returns-clause-refines : goal.returns-clause-refines
 unfolding RefinesReply meaning changed answer_of
-returns-clause-refines c = λ w h admitted.
+returns-clause-refines c = rw c.set_done.ensures.done (λ w h admitted.
     let s = c.args.state.now in
     let on = c.args.value == 1 in
     carried_on (record s { files = c.set_universal.new.self }) w (Ask c.args.client (SetClientCap c.args.cap c.args.value)) Done (returns-clause-invariants c)
     (call_verdict w c.args.client (SetClientCap c.args.cap c.args.value) admitted ∙ ap (λ b. first_failing (check BadCap b ∷ [])) (sym c.is_settable.ensures ∙ c.if-not-is_settable.false)) refl
-    (subst (λ fs. Represents (record s { files = fs }) (record w { clients = with_universal c.args.client on w.clients })) (sym c.set_universal.ensures) (shown_represents s c.args.client on w h))
+    (subst (λ fs. Represents (record s { files = fs }) (record w { clients = with_universal c.args.client on w.clients })) (sym c.set_universal.ensures) (shown_represents s c.args.client on w h)))

@@ -31,9 +31,9 @@ use Rattle.drm_client_calls.proofs.closings.close.Goals as goal
 
 pub returns-in_default-clause-refines : goal.returns-in_default-clause-refines
 unfolding RefinesAnswer
-returns-in_default-clause-refines c = λ w h.
+returns-in_default-clause-refines c = rw c.set_denied.ensures.denied (λ w h.
     let absent = no_client c.args.state.now w h c.args.client (sym c.in_default.is ∙ c.flags_of.ensures.flags) in
-    denied c.args.state.now w (Close c.args.client) NoClient (closing_verdict w c.args.client ∙ rw absent refl) h
+    denied c.args.state.now w (Close c.args.client) NoClient (closing_verdict w c.args.client ∙ rw absent refl) h)
 
 pub close_tokens-requires : goal.close_tokens-requires
 close_tokens-requires c = (keys_of c.args.state.now.files.holds, framebuffer_keys c.args.state.now.modes.framebuffers, objects_counted c.args.state.now c.requires)

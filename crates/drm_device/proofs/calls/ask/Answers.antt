@@ -9,9 +9,9 @@ use Rattle.drm_device.proofs.calls.ask.Goals as goal
 
 pub returns-in-Err-clause-refines : goal.returns-in-Err-clause-refines
 unfolding Refines IsAdmission
-returns-in-Err-clause-refines c = λ w s.
+returns-in-Err-clause-refines c = rw c.set_denied.ensures.denied (λ w s.
     denied c.args.state.now w (Ask c.args.client c.args.call.now) c.in-Err.rule
-    (unadmitted w c.args.client c.args.call.now c.in-Err.rule (sym (c.in-Err.ensures.err w s.rows))) s.rows
+    (unadmitted w c.args.client c.args.call.now c.in-Err.rule (sym (c.in-Err.ensures.err w s.rows))) s.rows)
 
 pub returns-in-Ok-clause-refines : goal.returns-in-Ok-clause-refines
 unfolding Refines RefinesCall IsAdmission

@@ -13,17 +13,17 @@ use Rattle.drm_device.proofs.capabilities.get_cap.Goals as goal
 
 pub returns-in-1 : goal.returns-in-1
 unfolding RefinesReply meaning changed answer_of
-returns-in-1 c = λ w h a.
-    carried_on c.args.state.now w (Ask c.args.client (GetCap c.args.cap)) (Number 1) c.requires (call_verdict w c.args.client (GetCap c.args.cap) a ∙ rw c.in-1.is refl) (rw c.in-1.is refl) h
+returns-in-1 c = rw c.set_number.ensures.number (λ w h a.
+    carried_on c.args.state.now w (Ask c.args.client (GetCap c.args.cap)) (Number 1) c.requires (call_verdict w c.args.client (GetCap c.args.cap) a ∙ rw c.in-1.is refl) (rw c.in-1.is refl) h)
 
 pub returns-in-5 : goal.returns-in-5
 unfolding RefinesReply meaning changed answer_of
-returns-in-5 c = λ w h a.
-    carried_on c.args.state.now w (Ask c.args.client (GetCap c.args.cap)) (Number 3) c.requires (call_verdict w c.args.client (GetCap c.args.cap) a ∙ rw c.in-5.is refl) (rw c.in-5.is refl) h
+returns-in-5 c = rw c.set_number-in-5.ensures.number (λ w h a.
+    carried_on c.args.state.now w (Ask c.args.client (GetCap c.args.cap)) (Number 3) c.requires (call_verdict w c.args.client (GetCap c.args.cap) a ∙ rw c.in-5.is refl) (rw c.in-5.is refl) h)
 
 pub returns-in_default : goal.returns-in_default
 unfolding RefinesReply meaning
-returns-in_default c =
+returns-in_default c = rw c.set_denied.ensures.denied (
     let other : ((c.args.cap == 1) || (c.args.cap == 5)) ≡ false = grind (arith, nat_tests) in
     λ w h a.
-    denied c.args.state.now w (Ask c.args.client (GetCap c.args.cap)) BadCap (call_verdict w c.args.client (GetCap c.args.cap) a ∙ rw other refl) h
+    denied c.args.state.now w (Ask c.args.client (GetCap c.args.cap)) BadCap (call_verdict w c.args.client (GetCap c.args.cap) a ∙ rw other refl) h)

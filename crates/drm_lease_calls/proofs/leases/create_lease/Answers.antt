@@ -102,7 +102,7 @@ returns-in-Ok-clause-refines c = λ w r admitted.
 
 pub returns-in-Err-Denied-clause-refines : goal.returns-in-Err-Denied-clause-refines
 unfolding RefinesCall
-returns-in-Err-Denied-clause-refines c = λ w r admitted.
+returns-in-Err-Denied-clause-refines c = rw c.set_denied.ensures.denied (λ w r admitted.
     let s = c.args.state.now in
     let ids = c.args.ids.now in
     let client = c.args.caller.client in
@@ -113,7 +113,7 @@ returns-in-Err-Denied-clause-refines c = λ w r admitted.
     let own = own_master_is s w client c.args.caller.flags x r.rows file look in
     denied (record s { masters = c.create.new.masters; leases = c.create.new.self }) w (Ask client (CreateLease ids)) c.in-Err-Denied.rule
     (create_verdict s w c.requires.precondition.invariants r.rows c.args.caller c.requires.caller ids own admitted ∙ by.0)
-    (subst (λ (l : LeaseSet). Represents (record s { masters = c.create.new.masters; leases = l }) w) (sym by.1) (subst (λ (v : MasterSet). Represents (record s { masters = v }) w) (sym by.2) r.rows))
+    (subst (λ (l : LeaseSet). Represents (record s { masters = c.create.new.masters; leases = l }) w) (sym by.1) (subst (λ (v : MasterSet). Represents (record s { masters = v }) w) (sym by.2) r.rows)))
 
 pub returns-in-Err-NoMemory-clause-refines : goal.returns-in-Err-NoMemory-clause-refines
 unfolding RefinesCall meaning changed

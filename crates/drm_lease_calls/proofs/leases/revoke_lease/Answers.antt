@@ -69,18 +69,18 @@ looked v are m key id lessee x keyed e found_by at = ap (λ n. masters.lessee_of
 
 pub returns-in_default-lessee-clause-refines : goal.returns-in_default-lessee-clause-refines
 unfolding RefinesReply
-returns-in_default-lessee-clause-refines c = λ w h admitted.
+returns-in_default-lessee-clause-refines c = rw c.set_denied.ensures.denied (λ w h admitted.
     let s = c.args.state.now in
     let client = c.args.caller.client in
     let x = c.args.caller.member in
     let file = caller_file s (as_caller c.args.caller) c.requires.caller in
     let own = own_master_is s w client c.args.caller.flags x h file (sym c.requires.caller.member) in
     let none = none_looked s.masters x.master c.in-Some.master.key c.args.lessee c.lessee.result c.in-Some.ensures.keyed c.lessee.ensures.lessee c.in_default-lessee.is in
-    denied s w (Ask client (RevokeLease c.args.lessee)) NoLessee (revoke_verdict s w h client x.master c.args.lessee None own admitted none) h
+    denied s w (Ask client (RevokeLease c.args.lessee)) NoLessee (revoke_verdict s w h client x.master c.args.lessee None own admitted none) h)
 
 pub returns-then-not-is_lent_by-clause-refines : goal.returns-then-not-is_lent_by-clause-refines
 unfolding RefinesReply
-returns-then-not-is_lent_by-clause-refines c = λ w h admitted.
+returns-then-not-is_lent_by-clause-refines c = rw c.set_denied-then-not-is_lent_by.ensures.denied (λ w h admitted.
     let s = c.args.state.now in
     let client = c.args.caller.client in
     let x = c.args.caller.member in
@@ -89,7 +89,7 @@ returns-then-not-is_lent_by-clause-refines c = λ w h admitted.
     let own = own_master_is s w client c.args.caller.flags x h file (sym c.requires.caller.member) in
     let one = looked s.masters (masters_so s c.requires.invariants) x.master c.in-Some.master.key c.args.lessee c.in-Some-lessee.key lessee c.in-Some.ensures.keyed (sym c.in-Some-lessee.is ∙ c.lessee.ensures.lessee) c.lessee.ensures.keyed (sym c.of_key.ensures ∙ c.in-Some-of_key.is) in
     denied s w (Ask client (RevokeLease c.args.lessee)) NotYourLessee
-    (revoke_verdict s w h client x.master c.args.lessee (Some lessee) own admitted one ∙ ap (λ b. first_failing (check NotYourLessee b ∷ [])) (sym c.is_lent_by.ensures ∙ c.if-not-is_lent_by.true)) h
+    (revoke_verdict s w h client x.master c.args.lessee (Some lessee) own admitted one ∙ ap (λ b. first_failing (check NotYourLessee b ∷ [])) (sym c.is_lent_by.ensures ∙ c.if-not-is_lent_by.true)) h)
 
 pub unreachable-requires-in_default-of_key : goal.unreachable-requires-in_default-of_key
 unreachable-requires-in_default-of_key c =
@@ -115,7 +115,7 @@ returns-clause-invariants c =
 
 pub returns-clause-refines : goal.returns-clause-refines
 unfolding RefinesReply meaning changed answer_of
-returns-clause-refines c = λ w h admitted.
+returns-clause-refines c = rw c.set_done.ensures.done (λ w h admitted.
     let s = c.args.state.now in
     let client = c.args.caller.client in
     let x = c.args.caller.member in
@@ -132,4 +132,4 @@ returns-clause-refines c = λ w h admitted.
     (subst (λ m. Represents new (swept (ended w m))) (sym (ap (λ m. lessee_master w m c.args.lessee) own ∙ lessee_step_number s w h x.master c.args.lessee lessee one))
     (subst (λ (l : LeaseSet). Represents (record s { masters = c.revoke.new.masters; leases = l }) (swept (ended w lessee.step_number))) (sym left)
     (subst (λ (v : MasterSet). Represents (record s { masters = v; leases = leases.ended s.masters.masters lessee.step_number s.leases }) (swept (ended w lessee.step_number))) (sym now)
-    (revoked_represents s lessee.step_number c.requires.invariants (subst AreMasters now c.laws.ensures) (subst AreLeases left c.laws-2.ensures) w h))))
+    (revoked_represents s lessee.step_number c.requires.invariants (subst AreMasters now c.laws.ensures) (subst AreLeases left c.laws-2.ensures) w h)))))

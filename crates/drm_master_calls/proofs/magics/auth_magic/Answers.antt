@@ -54,7 +54,7 @@ returns-in-Err-clause-invariants c =
 
 pub returns-in-Err-clause-refines : goal.returns-in-Err-clause-refines
 unfolding RefinesReply meaning
-returns-in-Err-clause-refines c = λ w h admitted.
+returns-in-Err-clause-refines c = rw c.set_denied.ensures.denied (λ w h admitted.
     let s = c.args.state.now in
     let x = c.args.caller.member in
     let look = sym c.requires.caller.member in
@@ -65,7 +65,7 @@ returns-in-Err-clause-refines c = λ w h admitted.
     let none : is_some (model.magic_client w (model.caller_master w c.args.caller.client) c.args.number) ≡ false = ap (λ m. is_some (model.magic_client w m c.args.number)) own ∙ opens s w h x.master c.args.number ∙ ap is_some by.0 in
     denied (record s { masters = c.auth.new.self }) w (Ask c.args.caller.client (AuthMagic c.args.number)) c.in-Err.rule
     (call_verdict w c.args.caller.client (AuthMagic c.args.number) admitted ∙ ap (λ b. first_failing (check NoMagic b ∷ [])) none ∙ ap Some (sym by.1))
-    (subst (λ v. Represents (record s { masters = v }) w) (sym by.2) h)
+    (subst (λ v. Represents (record s { masters = v }) w) (sym by.2) h))
 
 pub returns-in-Ok-clause-invariants : goal.returns-in-Ok-clause-invariants
 returns-in-Ok-clause-invariants c =
@@ -85,7 +85,7 @@ returns-in-Ok-clause-invariants c =
 
 pub returns-in-Ok-clause-refines : goal.returns-in-Ok-clause-refines
 unfolding RefinesReply meaning changed answer_of
-returns-in-Ok-clause-refines c = λ w h admitted.
+returns-in-Ok-clause-refines c = rw c.set_done.ensures.done (λ w h admitted.
     let s = c.args.state.now in
     let x = c.args.caller.member in
     let n = c.args.number in
@@ -102,4 +102,4 @@ returns-in-Ok-clause-refines c = λ w h admitted.
     (subst (λ o. Represents new (record w { clients = model.with_authenticated o w.clients; magics = model.with_spent x.master n w.magics })) (sym it)
     (subst (λ fs. Represents (record s { files = fs; masters = c.auth.new.self }) (record w { clients = model.with_authenticated (Some by.0.client) w.clients; magics = model.with_spent x.master n w.magics })) (sym (c.set_authenticated.ensures ∙ ap (with_authenticated s.files) by.2))
     (subst (λ v. Represents (record s { files = with_authenticated s.files by.0.client; masters = v }) (record w { clients = model.with_authenticated (Some by.0.client) w.clients; magics = model.with_spent x.master n w.magics })) (sym by.3)
-    (spent_represents s w x.master n by.0 c.requires.invariants by.1 h)))))
+    (spent_represents s w x.master n by.0 c.requires.invariants by.1 h))))))

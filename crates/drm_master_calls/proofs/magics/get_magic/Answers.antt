@@ -68,7 +68,7 @@ module _ (s : State) (w : Rows) (c n : ℕ) (x : Member) (new : MasterSet) (look
 
 pub returns-clause-refines : goal.returns-clause-refines
 unfolding RefinesReply meaning changed answer_of
-returns-clause-refines c = λ w h admitted.
+returns-clause-refines c = rw c.set_number.ensures.number (λ w h admitted.
     let s = c.args.state.now in
     let x = c.args.caller.member in
     let look = sym c.requires.caller.member in
@@ -77,4 +77,4 @@ returns-clause-refines c = λ w h admitted.
     let gave = subst (λ o. IfSome o (λ y. GaveMagic s.masters y y.magic c.in-Ok.number c.magic.new.self)) look c.in-Ok.ensures.given in
     carried_on (record s { masters = c.magic.new.self }) w (Ask c.args.caller.client GetMagic) (Number c.in-Ok.number) (returns-clause-invariants c) (call_verdict w c.args.caller.client GetMagic admitted)
     (ap Number (answer_by s w c.args.caller.client c.in-Ok.number x c.magic.new.self look c.requires.invariants h own x.magic refl gave))
-    (rows_by s w c.args.caller.client c.in-Ok.number x c.magic.new.self look c.requires.invariants h own x.magic refl gave)
+    (rows_by s w c.args.caller.client c.in-Ok.number x c.magic.new.self look c.requires.invariants h own x.magic refl gave))

@@ -26,7 +26,7 @@ returns-in-Ok-clause-invariants c =
 
 pub returns-in-Ok-clause-refines : goal.returns-in-Ok-clause-refines
 unfolding RefinesReply meaning changed answer_of
-returns-in-Ok-clause-refines c = λ w h admitted.
+returns-in-Ok-clause-refines c = rw c.set_done.ensures.done (λ w h admitted.
     let s = c.args.state.now in
     let file = caller_file s (as_caller c.args.caller) c.requires.caller in
     let look = sym c.requires.caller.member in
@@ -34,11 +34,11 @@ returns-in-Ok-clause-refines c = λ w h admitted.
     let by = subst (λ r. DroppedBy s.masters c.args.caller.member c.args.caller.flags.root r c.drop_master.new.self) c.in-Ok.is done in
     let none = drop_verdict s w c.args.caller.client c.args.caller.flags c.args.caller.member h file look c.args.caller.flags.root (caller_root s (as_caller c.args.caller) c.requires.caller) admitted ∙ by.0 in
     carried_on (record s { masters = c.drop_master.new.self }) w (Ask c.args.caller.client DropMaster) Done (returns-in-Ok-clause-invariants c) none refl
-    (subst (λ v. Represents (record s { masters = v }) (record w { device_master = None })) (sym by.1) (device_represents s w None h))
+    (subst (λ v. Represents (record s { masters = v }) (record w { device_master = None })) (sym by.1) (device_represents s w None h)))
 
 pub returns-in-Err-clause-refines : goal.returns-in-Err-clause-refines
 unfolding RefinesReply meaning
-returns-in-Err-clause-refines c = λ w h admitted.
+returns-in-Err-clause-refines c = rw c.set_denied.ensures.denied (λ w h admitted.
     let s = c.args.state.now in
     let file = caller_file s (as_caller c.args.caller) c.requires.caller in
     let look = sym c.requires.caller.member in
@@ -46,4 +46,4 @@ returns-in-Err-clause-refines c = λ w h admitted.
     let by = subst (λ r. DroppedBy s.masters c.args.caller.member c.args.caller.flags.root r c.drop_master.new.self) c.in-Err.is done in
     denied (record s { masters = c.drop_master.new.self }) w (Ask c.args.caller.client DropMaster) c.in-Err.rule
     (drop_verdict s w c.args.caller.client c.args.caller.flags c.args.caller.member h file look c.args.caller.flags.root (caller_root s (as_caller c.args.caller) c.requires.caller) admitted ∙ by.0)
-    (subst (λ v. Represents (record s { masters = v }) w) (sym by.1) h)
+    (subst (λ v. Represents (record s { masters = v }) w) (sym by.1) h))

@@ -45,7 +45,7 @@ returns-in-Ok-Already-clause-invariants c =
 
 pub returns-in-Ok-Already-clause-refines : goal.returns-in-Ok-Already-clause-refines
 unfolding RefinesCall meaning changed answer_of
-returns-in-Ok-Already-clause-refines c = λ w r admitted.
+returns-in-Ok-Already-clause-refines c = rw c.set_done-in-Ok-Already.ensures.done (λ w r admitted.
     let s = c.args.state.now in
     let look = sym c.requires.caller.member in
     let x = c.args.caller.member in
@@ -54,7 +54,7 @@ returns-in-Ok-Already-clause-refines c = λ w r admitted.
     let checks = set_verdict s w c.args.caller.client c.args.caller.flags x r.rows file look c.args.caller.flags.root (caller_root s (as_caller c.args.caller) c.requires.caller) admitted ∙ by.0 in
     let current : is_current w c.args.caller.client ≡ true = current_is s w c.args.caller.client c.args.caller.flags x r.rows file look ∙ by.1.0 in
     carried_on (record s { masters = c.set.new.self }) w (Ask c.args.caller.client SetMaster) Done (returns-in-Ok-Already-clause-invariants c) checks refl
-    (subst (λ b. Represents (record s { masters = c.set.new.self }) (mastered w c.args.caller.client b (is_master w c.args.caller.client))) (sym current) (subst (λ v. Represents (record s { masters = v }) w) (sym by.1.1) r.rows))
+    (subst (λ b. Represents (record s { masters = c.set.new.self }) (mastered w c.args.caller.client b (is_master w c.args.caller.client))) (sym current) (subst (λ v. Represents (record s { masters = v }) w) (sym by.1.1) r.rows)))
 
 pub returns-in-Ok-Again-clause-invariants : goal.returns-in-Ok-Again-clause-invariants
 returns-in-Ok-Again-clause-invariants c =
@@ -66,7 +66,7 @@ returns-in-Ok-Again-clause-invariants c =
 
 pub returns-in-Ok-Again-clause-refines : goal.returns-in-Ok-Again-clause-refines
 unfolding RefinesCall meaning changed answer_of
-returns-in-Ok-Again-clause-refines c = λ w r admitted.
+returns-in-Ok-Again-clause-refines c = rw c.set_done-in-Ok-Again.ensures.done (λ w r admitted.
     let s = c.args.state.now in
     let look = sym c.requires.caller.member in
     let x = c.args.caller.member in
@@ -79,7 +79,7 @@ returns-in-Ok-Again-clause-refines c = λ w r admitted.
     (subst (λ b. Represents (record s { masters = c.set.new.self }) (mastered w c.args.caller.client b (is_master w c.args.caller.client))) (sym current)
     (subst (λ b. Represents (record s { masters = c.set.new.self }) (mastered w c.args.caller.client false b)) (sym own)
     (subst (λ d. Represents (record s { masters = c.set.new.self }) (record w { device_master = d })) (sym (its_master s w c.args.caller.client c.args.caller.flags x r.rows file look))
-    (subst (λ v. Represents (record s { masters = v }) (record w { device_master = Some x.master })) (sym by.1.2) (device_represents s w (Some x.master) r.rows)))))
+    (subst (λ v. Represents (record s { masters = v }) (record w { device_master = Some x.master })) (sym by.1.2) (device_represents s w (Some x.master) r.rows))))))
 
 pub returns-in-Ok-Made-clause-invariants : goal.returns-in-Ok-Made-clause-invariants
 returns-in-Ok-Made-clause-invariants c =
@@ -94,7 +94,7 @@ returns-in-Ok-Made-clause-invariants c =
 
 pub returns-in-Ok-Made-clause-refines : goal.returns-in-Ok-Made-clause-refines
 unfolding RefinesCall meaning changed answer_of
-returns-in-Ok-Made-clause-refines c = λ w r admitted.
+returns-in-Ok-Made-clause-refines c = rw c.set_done.ensures.done (λ w r admitted.
     let s = c.args.state.now in
     let look = sym c.requires.caller.member in
     let x = c.args.caller.member in
@@ -112,7 +112,7 @@ returns-in-Ok-Made-clause-refines c = λ w r admitted.
     (subst (λ fs. Represents (record s { files = fs; masters = c.set.new.self }) (swept (own_rows w c.args.caller.client c.args.step_number))) (sym c.set_authenticated.ensures)
     (subst (λ n. Represents (record s { files = with_authenticated s.files n; masters = c.set.new.self }) (swept (own_rows w n c.args.step_number))) same.0
     (subst (λ v. Represents (record s { files = with_authenticated s.files x.client; masters = v }) (swept (own_rows w x.client c.args.step_number))) (sym (by.1.2.2 ∙ last_remade x.client by.1.2.0 c.args.step_number s.masters c.requires.precondition.later.masters))
-    (remade_represents s x by.1.2.0 c.args.step_number c.requires.precondition.invariants c.requires.precondition.later.leases.tokens (subst AreMasters (by.1.2.2 ∙ last_remade x.client by.1.2.0 c.args.step_number s.masters c.requires.precondition.later.masters) c.laws.ensures) same.1 by.1.1 w r.rows)))))))
+    (remade_represents s x by.1.2.0 c.args.step_number c.requires.precondition.invariants c.requires.precondition.later.leases.tokens (subst AreMasters (by.1.2.2 ∙ last_remade x.client by.1.2.0 c.args.step_number s.masters c.requires.precondition.later.masters) c.laws.ensures) same.1 by.1.1 w r.rows))))))))
 
 pub returns-in-Err-Denied-clause-invariants : goal.returns-in-Err-Denied-clause-invariants
 returns-in-Err-Denied-clause-invariants c =
@@ -124,14 +124,14 @@ returns-in-Err-Denied-clause-invariants c =
 
 pub returns-in-Err-Denied-clause-refines : goal.returns-in-Err-Denied-clause-refines
 unfolding RefinesCall meaning
-returns-in-Err-Denied-clause-refines c = rw c.in-Err-Denied.field-0-is λ w r admitted.
+returns-in-Err-Denied-clause-refines c = rw (c.set_denied.ensures.denied, c.in-Err-Denied.field-0-is) (λ w r admitted.
     let s = c.args.state.now in
     let look = sym c.requires.caller.member in
     let x = c.args.caller.member in
     let by = came s x c.args.caller.flags.root c.args.step_number c.set.new.self look (c.in-Err-Denied.is ∙ ap Err c.in-Err-Denied.field-0-is) c.set.ensures.set in
     let file = caller_file s (as_caller c.args.caller) c.requires.caller in
     let checks = set_verdict s w c.args.caller.client c.args.caller.flags x r.rows file look c.args.caller.flags.root (caller_root s (as_caller c.args.caller) c.requires.caller) admitted ∙ by.0 in
-    denied (record s { masters = c.set.new.self }) w (Ask c.args.caller.client SetMaster) c.in-Err-Denied.rule checks (subst (λ v. Represents (record s { masters = v }) w) (sym by.1) r.rows)
+    denied (record s { masters = c.set.new.self }) w (Ask c.args.caller.client SetMaster) c.in-Err-Denied.rule checks (subst (λ v. Represents (record s { masters = v }) w) (sym by.1) r.rows))
 
 pub returns-in-Err-NoMemory-clause-invariants : goal.returns-in-Err-NoMemory-clause-invariants
 returns-in-Err-NoMemory-clause-invariants c =

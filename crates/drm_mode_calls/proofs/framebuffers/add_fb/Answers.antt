@@ -44,9 +44,9 @@ fits shape size = is_dumb_shape shape.width shape.height shape.bpp && fits_objec
 
 pub returns-in_default-clause-refines : goal.returns-in_default-clause-refines
 unfolding RefinesCall meaning
-returns-in_default-clause-refines c = λ w r a.
+returns-in_default-clause-refines c = rw c.set_denied.ensures.denied (λ w r a.
     let none = holds_it c.args.state.now w r.rows c.args.client c.args.handle _ None c.object_of.ensures.object c.in_default.is in
-    denied c.args.state.now w (Ask c.args.client (asks c.args.shape c.args.handle)) NoHandle (call_verdict w c.args.client (asks c.args.shape c.args.handle) a ∙ rw none refl) r.rows
+    denied c.args.state.now w (Ask c.args.client (asks c.args.shape c.args.handle)) NoHandle (call_verdict w c.args.client (asks c.args.shape c.args.handle) a ∙ rw none refl) r.rows)
 
 pub size-requires : goal.size-requires
 size-requires c = key_there c.args.state.now c.args.client c.args.handle c.in-Some.object _ c.requires.precondition.invariants c.object_of.ensures.object c.in-Some.is
@@ -73,20 +73,20 @@ module _ (s : State) (c n key : ℕ) (t : MeetsInvariants s) (found : Some key �
 
 pub returns-then-not-is_shape_over-clause-refines : goal.returns-then-not-is_shape_over-clause-refines
 unfolding RefinesCall meaning
-returns-then-not-is_shape_over-clause-refines c = λ w r a.
+returns-then-not-is_shape_over-clause-refines c = rw c.set_denied-then-not-is_shape_over.ensures.denied (λ w r a.
     let it = tested c.args.state.now c.args.client c.args.handle c.in-Some.object c.requires.precondition.invariants (sym c.in-Some.is ∙ c.object_of.ensures.object) c.args.shape c.size.result c.is_shape_over.result c.size.ensures c.is_shape_over.ensures w r.rows in
     let bad = it.lies ∙ c.if-not-is_shape_over.true in
-    denied c.args.state.now w (Ask c.args.client (asks c.args.shape c.args.handle)) BadSize (call_verdict w c.args.client (asks c.args.shape c.args.handle) a ∙ rw (it.has, it.object, bad) refl) r.rows
+    denied c.args.state.now w (Ask c.args.client (asks c.args.shape c.args.handle)) BadSize (call_verdict w c.args.client (asks c.args.shape c.args.handle) a ∙ rw (it.has, it.object, bad) refl) r.rows)
 
 pub returns-in-Err-Full-clause-refines : goal.returns-in-Err-Full-clause-refines
 unfolding RefinesCall meaning
-returns-in-Err-Full-clause-refines c = λ w r a.
+returns-in-Err-Full-clause-refines c = rw c.set_denied-in-Err-Full.ensures.denied (λ w r a.
     let s = c.args.state.now in
     let it = tested c.args.state.now c.args.client c.args.handle c.in-Some.object c.requires.precondition.invariants (sym c.in-Some.is ∙ c.object_of.ensures.object) c.args.shape c.size.result c.is_shape_over.result c.size.ensures c.is_shape_over.ensures w r.rows in
     let good = it.lies ∙ c.if-not-is_shape_over.false in
     let none = free_framebuffer_is s w c.requires.precondition.invariants r.rows ∙ c.in-Err-Full.ensures.full.0 (subst IsFull (sym c.in-Err-Full.field-0-is) tt) in
     denied (record s { modes = c.addfb.new.self }) w (Ask c.args.client (asks c.args.shape c.args.handle)) Full (call_verdict w c.args.client (asks c.args.shape c.args.handle) a ∙ rw (it.has, it.object, good, none) refl)
-    (subst (λ ms. Represents (record s { modes = ms }) w) (sym c.in-Err-Full.ensures.err) r.rows)
+    (subst (λ ms. Represents (record s { modes = ms }) w) (sym c.in-Err-Full.ensures.err) r.rows))
 
 -- the framebuffers with one more
 abbrev more : Rows → ℕ → ℕ → Shape → List FramebufferRow
@@ -119,7 +119,7 @@ returns-clause-invariants c =
 
 pub returns-clause-refines : goal.returns-clause-refines
 unfolding RefinesCall meaning changed answer_of
-returns-clause-refines c = λ w r a.
+returns-clause-refines c = rw c.set_number.ensures.number (λ w r a.
     let s = c.args.state.now in
     let t = c.requires.precondition.invariants in
     let id = c.in-Ok.framebuffer in
@@ -133,4 +133,4 @@ returns-clause-refines c = λ w r a.
     (rw it.object
     (subst (λ ms. Represents (record s { modes = ms; objects = c.refer.new.self }) after) (sym c.in-Ok.ensures.ok)
     (subst (λ x. Represents (record s { modes = with_framebuffer s.modes (framebuffer id c.args.client c.args.shape c.in-Some.object); objects = x }) after) (sym c.refer.ensures)
-    (framed s id c.args.client c.in-Some.object c.args.shape t (named c.args.state.now c.args.client c.args.handle c.in-Some.object c.requires.precondition.invariants (sym c.in-Some.is ∙ c.object_of.ensures.object)) are w o r.rows refl (ap (λ f. unwrap_or f 0) free)))))
+    (framed s id c.args.client c.in-Some.object c.args.shape t (named c.args.state.now c.args.client c.args.handle c.in-Some.object c.requires.precondition.invariants (sym c.in-Some.is ∙ c.object_of.ensures.object)) are w o r.rows refl (ap (λ f. unwrap_or f 0) free))))))

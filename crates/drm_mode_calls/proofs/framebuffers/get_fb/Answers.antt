@@ -35,10 +35,10 @@ new_handle-requires-clause-open_client c = caller_open c.args.state.now (as_call
 
 pub returns-in_default-clause-refines : goal.returns-in_default-clause-refines
 unfolding RefinesCall meaning
-returns-in_default-clause-refines c = λ w r a.
+returns-in_default-clause-refines c = rw c.set_denied.ensures.denied (λ w r a.
     let s = c.args.state.now in
     let none = framebuffer_is s w c.requires.precondition.invariants r.rows c.args.framebuffer ∙ sym c.fb.ensures.there ∙ ap is_some c.in_default.is in
-    denied s w (Ask c.args.caller.client (GetFb c.args.framebuffer)) NoFb (call_verdict w c.args.caller.client (GetFb c.args.framebuffer) a ∙ rw none refl) r.rows
+    denied s w (Ask c.args.caller.client (GetFb c.args.framebuffer)) NoFb (call_verdict w c.args.caller.client (GetFb c.args.framebuffer) a ∙ rw none refl) r.rows)
 
 pub returns-then-not-gives_handle-clause-refines : goal.returns-then-not-gives_handle-clause-refines
 unfolding RefinesCall meaning changed answer_of
@@ -66,12 +66,12 @@ returns-in_err-handle-clause-refines c = λ w r a.
 
 pub returns-in_default-2-clause-refines : goal.returns-in_default-2-clause-refines
 unfolding RefinesCall AddsHandle meaning
-returns-in_default-2-clause-refines c = λ w r a.
+returns-in_default-2-clause-refines c = rw c.set_denied-in_default-2.ensures.denied (λ w r a.
     let s = c.args.state.now in
     let there = framebuffer_is s w c.requires.precondition.invariants r.rows c.args.framebuffer ∙ sym c.fb.ensures.there ∙ ap is_some c.in-Some.is in
     let gives = given s w c.args.caller c.requires.caller r.rows ∙ sym c.gives_handle.ensures ∙ c.if-not-gives_handle.false in
     let came = added_none w c.args.caller.client (step_number_at s.objects.objects c.in-Some.row.object) None c.new_handle.new.state c.in_ok-handle.field-0 c.in_default-2.is (c.in_ok-handle.ensures.adds w r.rows) in
-    denied c.new_handle.new.state w (Ask c.args.caller.client (GetFb c.args.framebuffer)) Full (call_verdict w c.args.caller.client (GetFb c.args.framebuffer) a ∙ rw (there, gives, came.0) refl) came.1
+    denied c.new_handle.new.state w (Ask c.args.caller.client (GetFb c.args.framebuffer)) Full (call_verdict w c.args.caller.client (GetFb c.args.framebuffer) a ∙ rw (there, gives, came.0) refl) came.1)
 
 pub returns-clause-refines : goal.returns-clause-refines
 unfolding RefinesCall AddsHandle meaning changed answer_of

@@ -29,11 +29,11 @@ is_own s w c f o r t h e g = own_framebuffer s w t h c f ∙ sym (is_some-map (�
 
 pub returns-in_default-clause-refines : goal.returns-in_default-clause-refines
 unfolding RefinesReply meaning
-returns-in_default-clause-refines c = λ w h a.
+returns-in_default-clause-refines c = rw c.set_denied.ensures.denied (λ w h a.
     let s = c.args.state.now in
     let none = is_own s w c.args.client c.args.framebuffer c.rmfb.result None c.requires.invariants h c.rmfb.ensures.object c.in_default.is in
     denied (record s { modes = c.rmfb.new.self }) w (Ask c.args.client (RmFb c.args.framebuffer)) NoFb (call_verdict w c.args.client (RmFb c.args.framebuffer) a ∙ rw none refl)
-    (subst (λ ms. Represents (record s { modes = ms }) w) (sym c.in_default.ensures.none) h)
+    (subst (λ ms. Represents (record s { modes = ms }) w) (sym c.in_default.ensures.none) h))
 
 pub unrefer-dead-requires : goal.unrefer-dead-requires
 unrefer-dead-requires c =
@@ -41,7 +41,7 @@ unrefer-dead-requires c =
     has_reference s.objects c.in-Some.object (keys_of s.files.holds) (referring s.tokens.tokens (others c.args.framebuffer s.modes.framebuffers))
     (frame_invariants s c.args.client c.args.framebuffer c.in-Some.object c.requires.invariants (sym c.in-Some.is ∙ c.rmfb.ensures.object))
 
-step : (c : goal.After-unrefer-dead) → IsStep c.args.state.now.objects.objects (keys_of c.args.state.now.files.holds) (referring c.args.state.now.tokens.tokens (others c.args.framebuffer c.args.state.now.modes.framebuffers)) c.unrefer-dead.new.self
+step : (c : goal.After-set_done) → IsStep c.args.state.now.objects.objects (keys_of c.args.state.now.files.holds) (referring c.args.state.now.tokens.tokens (others c.args.framebuffer c.args.state.now.modes.framebuffers)) c.unrefer-dead.new.self
 step c =
     let s = c.args.state.now in
     unreferred_step s.objects c.unrefer-dead.new.self c.in-Some.object (keys_of s.files.holds) (referring s.tokens.tokens (others c.args.framebuffer s.modes.framebuffers)) c.unrefer-dead.result
@@ -56,10 +56,10 @@ returns-clause-invariants c =
 
 pub returns-clause-refines : goal.returns-clause-refines
 unfolding RefinesReply meaning changed answer_of
-returns-clause-refines c = λ w h a.
+returns-clause-refines c = rw c.set_done.ensures.done (λ w h a.
     let s = c.args.state.now in
     let one = is_own s w c.args.client c.args.framebuffer c.rmfb.result (Some c.in-Some.object) c.requires.invariants h c.rmfb.ensures.object c.in-Some.is in
     carried (record s { modes = c.rmfb.new.self; objects = c.unrefer-dead.new.self }) w (Ask c.args.client (RmFb c.args.framebuffer)) Done (call_verdict w c.args.client (RmFb c.args.framebuffer) a ∙ rw one refl) refl
     (subst (λ ms. Represents (record s { modes = ms; objects = c.unrefer-dead.new.self }) (swept (record w { framebuffers = without (model.is_framebuffer_of c.args.client c.args.framebuffer) w.framebuffers }))) (sym c.in-Some.ensures.removed)
     (unframed s c.args.client c.args.framebuffer c.in-Some.object c.requires.invariants (sym c.in-Some.is ∙ c.rmfb.ensures.object) c.unrefer-dead.new.self (step c)
-    (unrefer_limit s.objects c.unrefer-dead.new.self c.in-Some.object c.unrefer-dead.result c.unrefer-dead.ensures.gone c.unrefer-dead.ensures.stays) (subst AreModes c.in-Some.ensures.removed c.laws.ensures) w h))
+    (unrefer_limit s.objects c.unrefer-dead.new.self c.in-Some.object c.unrefer-dead.result c.unrefer-dead.ensures.gone c.unrefer-dead.ensures.stays) (subst AreModes c.in-Some.ensures.removed c.laws.ensures) w h)))

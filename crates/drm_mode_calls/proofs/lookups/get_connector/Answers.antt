@@ -17,17 +17,17 @@ use Rattle.drm_mode_calls.proofs.lookups.get_connector.Goals as goal
 
 pub returns-then-not-sees_object : goal.returns-then-not-sees_object
 unfolding RefinesReply meaning
-returns-then-not-sees_object c = λ w h a.
+returns-then-not-sees_object c = rw c.set_denied.ensures.denied (λ w h a.
     let s = c.args.state.now in
     let x = c.args.connector in
     let unseen : model.sees_connector w c.args.caller.client x ≡ false = connector_seen s w c.args.caller c.requires.caller h x ∙ sym c.sees_object.ensures ∙ c.if-not-sees_object.true in
-    denied s w (Ask c.args.caller.client (GetConnector x)) NoModeObject (call_verdict w c.args.caller.client (GetConnector x) a ∙ ap (λ b. first_failing (check NoModeObject b ∷ [])) unseen) h
+    denied s w (Ask c.args.caller.client (GetConnector x)) NoModeObject (call_verdict w c.args.caller.client (GetConnector x) a ∙ ap (λ b. first_failing (check NoModeObject b ∷ [])) unseen) h)
 
 pub returns : goal.returns
 unfolding RefinesReply meaning changed answer_of
-returns c = λ w h a.
+returns c = rw c.set_number.ensures.number (λ w h a.
     let s = c.args.state.now in
     let x = c.args.connector in
     let seen : model.sees_connector w c.args.caller.client x ≡ true = connector_seen s w c.args.caller c.requires.caller h x ∙ sym c.sees_object.ensures ∙ c.if-not-sees_object.false in
     carried_on s w (Ask c.args.caller.client (GetConnector x)) (Number c.unwrap_or.result) c.requires.invariants (call_verdict w c.args.caller.client (GetConnector x) a ∙ ap (λ b. first_failing (check NoModeObject b ∷ [])) seen)
-    (ap Number (c.unwrap_or.ensures ∙ ap (λ o. unwrap_or o 0) (c.encoder_of.ensures ∙ ap (λ t. encoder_of t x) (sym (topology_is s w h))))) h
+    (ap Number (c.unwrap_or.ensures ∙ ap (λ o. unwrap_or o 0) (c.encoder_of.ensures ∙ ap (λ t. encoder_of t x) (sym (topology_is s w h))))) h)

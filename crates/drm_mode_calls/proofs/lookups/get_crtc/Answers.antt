@@ -16,17 +16,17 @@ use Rattle.drm_mode_calls.proofs.lookups.get_crtc.Goals as goal
 
 pub returns-then-not-sees_object : goal.returns-then-not-sees_object
 unfolding RefinesReply meaning
-returns-then-not-sees_object c = λ w h a.
+returns-then-not-sees_object c = rw c.set_denied.ensures.denied (λ w h a.
     let s = c.args.state.now in
     let x = c.args.crtc in
     let unseen : model.sees_crtc w c.args.caller.client x ≡ false = crtc_seen s w c.args.caller c.requires.caller h x ∙ sym c.sees_object.ensures ∙ c.if-not-sees_object.true in
-    denied s w (Ask c.args.caller.client (GetCrtc x)) NoModeObject (call_verdict w c.args.caller.client (GetCrtc x) a ∙ ap (λ b. first_failing (check NoModeObject b ∷ [])) unseen) h
+    denied s w (Ask c.args.caller.client (GetCrtc x)) NoModeObject (call_verdict w c.args.caller.client (GetCrtc x) a ∙ ap (λ b. first_failing (check NoModeObject b ∷ [])) unseen) h)
 
 pub returns : goal.returns
 unfolding RefinesReply meaning changed answer_of
-returns c = λ w h a.
+returns c = rw c.set_number.ensures.number (λ w h a.
     let s = c.args.state.now in
     let x = c.args.crtc in
     let seen : model.sees_crtc w c.args.caller.client x ≡ true = crtc_seen s w c.args.caller c.requires.caller h x ∙ sym c.sees_object.ensures ∙ c.if-not-sees_object.false in
     carried_on s w (Ask c.args.caller.client (GetCrtc x)) (Number c.shown.result) c.requires.invariants (call_verdict w c.args.caller.client (GetCrtc x) a ∙ ap (λ b. first_failing (check NoModeObject b ∷ [])) seen)
-    (ap Number (c.shown.ensures ∙ sym (shown_is s w h x))) h
+    (ap Number (c.shown.ensures ∙ sym (shown_is s w h x))) h)

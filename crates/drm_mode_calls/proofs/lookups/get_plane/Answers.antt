@@ -16,11 +16,11 @@ use Rattle.drm_mode_calls.proofs.lookups.get_plane.Goals as goal
 
 pub returns-then-not-sees_object : goal.returns-then-not-sees_object
 unfolding RefinesReply meaning
-returns-then-not-sees_object c = λ w h a.
+returns-then-not-sees_object c = rw c.set_denied.ensures.denied (λ w h a.
     let s = c.args.state.now in
     let x = c.args.plane in
     let unseen : model.sees_plane w c.args.caller.client x ≡ false = plane_seen s w c.args.caller c.requires.caller h x ∙ sym c.sees_object.ensures ∙ c.if-not-sees_object.true in
-    denied s w (Ask c.args.caller.client (GetPlane x)) NoModeObject (call_verdict w c.args.caller.client (GetPlane x) a ∙ ap (λ b. first_failing (check NoModeObject b ∷ [])) unseen) h
+    denied s w (Ask c.args.caller.client (GetPlane x)) NoModeObject (call_verdict w c.args.caller.client (GetPlane x) a ∙ ap (λ b. first_failing (check NoModeObject b ∷ [])) unseen) h)
 
 pub returns : goal.returns
 unfolding RefinesReply meaning changed answer_of

@@ -19,17 +19,17 @@ use Rattle.drm_mode_calls.proofs.scanout.set_plane.Goals as goal
 
 pub returns-in-Some-clause-refines : goal.returns-in-Some-clause-refines
 unfolding RefinesReply
-returns-in-Some-clause-refines c = λ w h a.
+returns-in-Some-clause-refines c = rw c.set_denied.ensures.denied (λ w h a.
     let s = c.args.state.now in
     denied s w (Ask c.args.caller.client (SetPlane c.args.plane c.args.crtc c.args.framebuffer)) c.in-Some.rule
-    (plane_verdict s w c.args.caller c.requires.caller h c.args.plane c.args.crtc c.args.framebuffer a ∙ sym c.plane_refusal.ensures ∙ c.in-Some.is) h
+    (plane_verdict s w c.args.caller c.requires.caller h c.args.plane c.args.crtc c.args.framebuffer a ∙ sym c.plane_refusal.ensures ∙ c.in-Some.is) h)
 
 pub returns-clause-invariants : goal.returns-clause-invariants
 returns-clause-invariants c = shown_invariants c.args.state.now c.setplane.new.self c.requires.invariants c.laws.ensures (ap (λ (set : ModeSet). set.framebuffers) c.setplane.ensures)
 
 pub returns-clause-refines : goal.returns-clause-refines
 unfolding RefinesReply meaning changed answer_of
-returns-clause-refines c = λ w h a.
+returns-clause-refines c = rw c.set_done.ensures.done (λ w h a.
     let s = c.args.state.now in
     let seen = sees_plane_route s c.args.caller c.args.plane c.args.crtc c.args.framebuffer in
     let there = can_show s.modes c.args.framebuffer in
@@ -39,4 +39,4 @@ returns-clause-refines c = λ w h a.
     let place = plane_place s c.requires.invariants c.args.plane it in
     carried_on (record s { modes = c.setplane.new.self }) w (Ask c.args.caller.client (SetPlane c.args.plane c.args.crtc c.args.framebuffer)) Done (returns-clause-invariants c)
     (plane_verdict s w c.args.caller c.requires.caller h c.args.plane c.args.crtc c.args.framebuffer a ∙ none) refl
-    (subst (λ m. Represents (record s { modes = m }) (record w { shown = model.with_shown w c.args.plane c.args.framebuffer })) (sym c.setplane.ensures) (scanout_represents s w c.args.plane c.args.framebuffer h place.0 place.1))
+    (subst (λ m. Represents (record s { modes = m }) (record w { shown = model.with_shown w c.args.plane c.args.framebuffer })) (sym c.setplane.ensures) (scanout_represents s w c.args.plane c.args.framebuffer h place.0 place.1)))

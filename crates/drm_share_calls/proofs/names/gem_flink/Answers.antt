@@ -26,9 +26,9 @@ use Rattle.drm_share_calls.proofs.names.gem_flink.Goals as goal
 
 pub returns-in_default-clause-refines : goal.returns-in_default-clause-refines
 unfolding RefinesCall meaning
-returns-in_default-clause-refines c = λ w r a.
+returns-in_default-clause-refines c = rw c.set_denied.ensures.denied (λ w r a.
     let none = holds_it c.args.state.now w r.rows c.args.client c.args.handle _ None c.object_of.ensures.object c.in_default.is in
-    denied c.args.state.now w (Ask c.args.client (GemFlink c.args.handle)) NoHandle (call_verdict w c.args.client (GemFlink c.args.handle) a ∙ rw none refl) r.rows
+    denied c.args.state.now w (Ask c.args.client (GemFlink c.args.handle)) NoHandle (call_verdict w c.args.client (GemFlink c.args.handle) a ∙ rw none refl) r.rows)
 
 -- a new name makes the list of names longer
 longer : (w : Rows) (o : ℕ) → IsLonger w (record w { names = w.names ++ record { name = unwrap_or (free_name w) 0; object = o } ∷ [] })
@@ -36,18 +36,18 @@ longer w o = inr (inr (inr (inr (inr (inl (omega (arith, length-append w.names (
 
 pub returns-in-Some-name_of-clause-refines : goal.returns-in-Some-name_of-clause-refines
 unfolding RefinesCall meaning changed answer_of
-returns-in-Some-name_of-clause-refines c = λ w r a.
+returns-in-Some-name_of-clause-refines c = rw c.set_number.ensures.number (λ w r a.
     let s = c.args.state.now in
     let found = sym c.in-Some.is ∙ c.object_of.ensures.object in
     let one = has_it s c.args.client c.args.handle c.in-Some.object c.requires.precondition.invariants found w r.rows in
     let number = object_is s c.args.client c.args.handle c.in-Some.object c.requires.precondition.invariants found w r.rows in
     let had = name_is s c.args.client c.args.handle c.in-Some.object c.requires.precondition.invariants found w r.rows c.name_of.ensures.names ∙ sym c.name_of.ensures.name ∙ c.in-Some-name_of.is in
     carried_on s w (Ask c.args.client (GemFlink c.args.handle)) (Number c.in-Some-name_of.name) c.requires.precondition.invariants (call_verdict w c.args.client (GemFlink c.args.handle) a ∙ rw (one, number, had) refl) (rw (number, had) refl)
-    (rw (number, had) r.rows)
+    (rw (number, had) r.rows))
 
 pub returns-in-Err-Full-clause-refines : goal.returns-in-Err-Full-clause-refines
 unfolding RefinesCall meaning
-returns-in-Err-Full-clause-refines c = λ w r a.
+returns-in-Err-Full-clause-refines c = rw c.set_denied-in-Err-Full.ensures.denied (λ w r a.
     let s = c.args.state.now in
     let found = sym c.in-Some.is ∙ c.object_of.ensures.object in
     let one = has_it s c.args.client c.args.handle c.in-Some.object c.requires.precondition.invariants found w r.rows in
@@ -55,7 +55,7 @@ returns-in-Err-Full-clause-refines c = λ w r a.
     let had = name_is s c.args.client c.args.handle c.in-Some.object c.requires.precondition.invariants found w r.rows c.name_of.ensures.names ∙ sym c.name_of.ensures.name ∙ c.in_default-name_of.is in
     let none = free_name_found s w r.rows ∙ c.in-Err-Full.ensures.full.0 (subst IsFull (sym c.in-Err-Full.field-0-is) tt) in
     denied (record s { names = c.give.new.self }) w (Ask c.args.client (GemFlink c.args.handle)) Full (call_verdict w c.args.client (GemFlink c.args.handle) a ∙ rw (one, number, had, none) refl)
-    (subst (λ ns. Represents (record s { names = ns }) w) (sym c.in-Err-Full.ensures.err) r.rows)
+    (subst (λ ns. Represents (record s { names = ns }) w) (sym c.in-Err-Full.ensures.err) r.rows))
 
 pub returns-in-Err-NoMemory-clause-refines : goal.returns-in-Err-NoMemory-clause-refines
 unfolding RefinesCall meaning changed
@@ -78,7 +78,7 @@ returns-clause-invariants c =
 
 pub returns-clause-refines : goal.returns-clause-refines
 unfolding RefinesCall meaning changed answer_of
-returns-clause-refines c = λ w r a.
+returns-clause-refines c = rw c.set_number-2.ensures.number (λ w r a.
     let s = c.args.state.now in
     let found = sym c.in-Some.is ∙ c.object_of.ensures.object in
     let one = has_it s c.args.client c.args.handle c.in-Some.object c.requires.precondition.invariants found w r.rows in
@@ -89,4 +89,4 @@ returns-clause-refines c = λ w r a.
     carried (record s { names = c.give.new.self }) w (Ask c.args.client (GemFlink c.args.handle)) (Number c.in-Ok.given) (call_verdict w c.args.client (GemFlink c.args.handle) a ∙ rw (one, number, had, free) refl) (rw (number, had, free) refl)
     (rw (number, had)
     (subst (λ ns. Represents (record s { names = ns }) (swept (record w { names = w.names ++ record { name = unwrap_or (free_name w) 0; object = o } ∷ [] }))) (sym c.in-Ok.ensures.ok)
-    (flinked s c.in-Ok.given c.in-Some.object c.requires.precondition.invariants (among s c.args.client c.args.handle c.in-Some.object c.requires.precondition.invariants found) w o r.rows refl (ap (λ f. unwrap_or f 0) free))))
+    (flinked s c.in-Ok.given c.in-Some.object c.requires.precondition.invariants (among s c.args.client c.args.handle c.in-Some.object c.requires.precondition.invariants found) w o r.rows refl (ap (λ f. unwrap_or f 0) free)))))

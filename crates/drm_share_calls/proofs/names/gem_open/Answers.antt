@@ -17,9 +17,9 @@ use Rattle.drm_share_calls.proofs.names.gem_open.Goals as goal
 
 pub returns-in_default-clause-refines : goal.returns-in_default-clause-refines
 unfolding RefinesCall meaning
-returns-in_default-clause-refines c = λ w r a.
+returns-in_default-clause-refines c = rw c.set_denied.ensures.denied (λ w r a.
     let none = no_name c.args.state.now w r.rows c.args.name c.lookup.ensures.names (sym c.in_default.is ∙ c.lookup.ensures.object) in
-    denied c.args.state.now w (Ask c.args.client (GemOpen c.args.name)) NoName (call_verdict w c.args.client (GemOpen c.args.name) a ∙ rw none refl) r.rows
+    denied c.args.state.now w (Ask c.args.client (GemOpen c.args.name)) NoName (call_verdict w c.args.client (GemOpen c.args.name) a ∙ rw none refl) r.rows)
 
 pub new_handle-requires-clause-known : goal.new_handle-requires-clause-known
 new_handle-requires-clause-known c = name_known c.args.state.now c.requires.precondition.invariants c.args.name c.in-Some.object (sym c.in-Some.is ∙ c.lookup.ensures.object)
@@ -38,10 +38,10 @@ returns-in_err-handle-clause-refines c = λ w r a.
 
 pub returns-in_default-2-clause-refines : goal.returns-in_default-2-clause-refines
 unfolding RefinesCall AddsHandle meaning
-returns-in_default-2-clause-refines c = λ w r a.
+returns-in_default-2-clause-refines c = rw c.set_denied-in_default-2.ensures.denied (λ w r a.
     let there = name_there c.args.state.now w r.rows c.args.name c.in-Some.object c.lookup.ensures.names (sym c.in-Some.is ∙ c.lookup.ensures.object) in
     let came = added_none w c.args.client (step_number_at c.args.state.now.objects.objects c.in-Some.object) None c.new_handle.new.state c.in_ok-handle.field-0 c.in_default-2.is (c.in_ok-handle.ensures.adds w r.rows) in
-    denied c.new_handle.new.state w (Ask c.args.client (GemOpen c.args.name)) Full (call_verdict w c.args.client (GemOpen c.args.name) a ∙ rw (there, came.0) refl) came.1
+    denied c.new_handle.new.state w (Ask c.args.client (GemOpen c.args.name)) Full (call_verdict w c.args.client (GemOpen c.args.name) a ∙ rw (there, came.0) refl) came.1)
 
 pub returns-clause-refines : goal.returns-clause-refines
 unfolding RefinesCall AddsHandle changed meaning answer_of

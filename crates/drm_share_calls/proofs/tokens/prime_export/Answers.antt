@@ -31,19 +31,19 @@ longer w c h o = inr (inr (inr (inr (inr (inr (inl (omega (arith, length-append 
 
 pub returns-in_default-clause-refines : goal.returns-in_default-clause-refines
 unfolding RefinesCall meaning
-returns-in_default-clause-refines c = λ w r a.
+returns-in_default-clause-refines c = rw c.set_denied.ensures.denied (λ w r a.
     let none = holds_it c.args.state.now w r.rows c.args.client c.args.handle _ None c.object_of.ensures.object c.in_default.is in
-    denied c.args.state.now w (Ask c.args.client (PrimeHandleToFd c.args.handle)) NoHandle (call_verdict w c.args.client (PrimeHandleToFd c.args.handle) a ∙ rw none refl) r.rows
+    denied c.args.state.now w (Ask c.args.client (PrimeHandleToFd c.args.handle)) NoHandle (call_verdict w c.args.client (PrimeHandleToFd c.args.handle) a ∙ rw none refl) r.rows)
 
 pub returns-in-Err-Full-clause-refines : goal.returns-in-Err-Full-clause-refines
 unfolding RefinesCall meaning
-returns-in-Err-Full-clause-refines c = λ w r a.
+returns-in-Err-Full-clause-refines c = rw c.set_denied-in-Err-Full.ensures.denied (λ w r a.
     let s = c.args.state.now in
     let found = sym c.in-Some.is ∙ c.object_of.ensures.object in
     let one = has_it s c.args.client c.args.handle c.in-Some.object c.requires.precondition.invariants found w r.rows in
     let none = next_token_found s w r.rows ∙ c.in-Err-Full.ensures.full.0 (subst IsFull (sym c.in-Err-Full.field-0-is) tt) in
     denied (record s { tokens = c.export.new.self }) w (Ask c.args.client (PrimeHandleToFd c.args.handle)) Full (call_verdict w c.args.client (PrimeHandleToFd c.args.handle) a ∙ rw (one, none) refl)
-    (subst (λ ts. Represents (record s { tokens = ts }) w) (sym c.in-Err-Full.ensures.err) r.rows)
+    (subst (λ ts. Represents (record s { tokens = ts }) w) (sym c.in-Err-Full.ensures.err) r.rows))
 
 pub returns-in-Err-NoMemory-clause-refines : goal.returns-in-Err-NoMemory-clause-refines
 unfolding RefinesCall meaning changed
@@ -74,7 +74,7 @@ returns-clause-invariants c =
 
 pub returns-clause-refines : goal.returns-clause-refines
 unfolding RefinesCall meaning changed answer_of
-returns-clause-refines c = λ w r a.
+returns-clause-refines c = rw c.set_number.ensures.number (λ w r a.
     let s = c.args.state.now in
     let found = sym c.in-Some.is ∙ c.object_of.ensures.object in
     let one = has_it s c.args.client c.args.handle c.in-Some.object c.requires.precondition.invariants found w r.rows in
@@ -88,4 +88,4 @@ returns-clause-refines c = λ w r a.
     (subst (λ fs. Represents (record s { files = fs; tokens = c.export.new.self; objects = c.refer.new.self }) after) (sym c.set_prime.ensures)
     (subst (λ ts. Represents (record s { files = files.with_export_order s.files c.args.client c.args.handle c.args.step_number; tokens = ts; objects = c.refer.new.self }) after) (sym c.in-Ok.ensures.ok)
     (subst (λ x. Represents (record s { files = files.with_export_order s.files c.args.client c.args.handle c.args.step_number; tokens = tokens.with_token s.tokens (tokens.token c.in-Ok.token c.args.client c.in-Some.object); objects = x }) after) (sym c.refer.ensures)
-    (exported s c.args.client c.args.handle c.in-Some.object c.args.step_number c.in-Ok.token c.requires.precondition.invariants (among s c.args.client c.args.handle c.in-Some.object c.requires.precondition.invariants found) w o r.rows refl (ap (λ f. unwrap_or f 0) free) r.step_number_is)))))
+    (exported s c.args.client c.args.handle c.in-Some.object c.args.step_number c.in-Ok.token c.requires.precondition.invariants (among s c.args.client c.args.handle c.in-Some.object c.requires.precondition.invariants found) w o r.rows refl (ap (λ f. unwrap_or f 0) free) r.step_number_is))))))

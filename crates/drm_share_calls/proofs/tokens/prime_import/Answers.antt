@@ -18,9 +18,9 @@ use Rattle.drm_share_calls.proofs.tokens.prime_import.Goals as goal
 
 pub returns-in_default-clause-refines : goal.returns-in_default-clause-refines
 unfolding RefinesCall meaning
-returns-in_default-clause-refines c = λ w r a.
+returns-in_default-clause-refines c = rw c.set_denied.ensures.denied (λ w r a.
     let none = no_token c.args.state.now w r.rows c.args.token c.lookup.ensures.tokens (sym c.in_default.is ∙ c.lookup.ensures.object) in
-    denied c.args.state.now w (Ask c.args.client (PrimeFdToHandle c.args.token)) NoToken (call_verdict w c.args.client (PrimeFdToHandle c.args.token) a ∙ rw none refl) r.rows
+    denied c.args.state.now w (Ask c.args.client (PrimeFdToHandle c.args.token)) NoToken (call_verdict w c.args.client (PrimeFdToHandle c.args.token) a ∙ rw none refl) r.rows)
 
 pub new_handle-requires-clause-known : goal.new_handle-requires-clause-known
 new_handle-requires-clause-known c = token_known c.args.state.now c.args.token c.in-Some.object (sym c.in-Some.is ∙ c.lookup.ensures.object)
@@ -53,13 +53,13 @@ returns-in_err-fresh-clause-refines c = λ w r a.
 
 pub returns-in_default-2-clause-refines : goal.returns-in_default-2-clause-refines
 unfolding RefinesCall AddsHandle meaning
-returns-in_default-2-clause-refines c = λ w r a.
+returns-in_default-2-clause-refines c = rw c.set_denied-in_default-2.ensures.denied (λ w r a.
     let s = c.args.state.now in
     let found = sym c.in-Some.is ∙ c.lookup.ensures.object in
     let there = token_there s w r.rows c.args.token c.in-Some.object c.lookup.ensures.tokens found in
     let had = prime_found s w c.args.client c.in-Some.object c.requires.precondition.invariants r.rows (token_known s c.args.token c.in-Some.object found) ∙ sym c.prime_handle.ensures.handle ∙ c.in_default-prime_handle.is in
     let came = added_none w c.args.client (step_number_at s.objects.objects c.in-Some.object) (Some c.args.step_number) c.new_handle.new.state c.in_ok-fresh.field-0 c.in_default-2.is (c.in_ok-fresh.ensures.adds w r.rows) in
-    denied c.new_handle.new.state w (Ask c.args.client (PrimeFdToHandle c.args.token)) Full (call_verdict w c.args.client (PrimeFdToHandle c.args.token) a ∙ rw (there, had, came.0) refl) came.1
+    denied c.new_handle.new.state w (Ask c.args.client (PrimeFdToHandle c.args.token)) Full (call_verdict w c.args.client (PrimeFdToHandle c.args.token) a ∙ rw (there, had, came.0) refl) came.1)
 
 pub returns-clause-refines : goal.returns-clause-refines
 unfolding RefinesCall AddsHandle changed meaning answer_of

@@ -30,11 +30,11 @@ is_own s w c n o r h e f = own_token_found s w c n h ∙ sym (is_some-map (λ (x
 
 pub returns-in_default-clause-refines : goal.returns-in_default-clause-refines
 unfolding RefinesReply meaning
-returns-in_default-clause-refines c = λ w h a.
+returns-in_default-clause-refines c = rw c.set_denied.ensures.denied (λ w h a.
     let s = c.args.state.now in
     let none = is_own s w c.args.client c.args.token c.close.result None h c.close.ensures.object c.in_default.is in
     denied (record s { tokens = c.close.new.self }) w (Ask c.args.client (TokenClose c.args.token)) NoToken (call_verdict w c.args.client (TokenClose c.args.token) a ∙ rw none refl)
-    (subst (λ ts. Represents (record s { tokens = ts }) w) (sym c.in_default.ensures.none) h)
+    (subst (λ ts. Represents (record s { tokens = ts }) w) (sym c.in_default.ensures.none) h))
 
 pub unrefer-dead-requires : goal.unrefer-dead-requires
 unrefer-dead-requires c =
@@ -42,7 +42,7 @@ unrefer-dead-requires c =
     has_reference s.objects c.in-Some.object (keys_of s.files.holds) (referring (without_token s.tokens c.args.token).tokens s.modes.framebuffers)
     (token_invariants s c.args.client c.args.token c.in-Some.object c.requires.invariants c.close.ensures.tokens (sym c.in-Some.is ∙ c.close.ensures.object))
 
-step : (c : goal.After-unrefer-dead) → IsStep c.args.state.now.objects.objects (keys_of c.args.state.now.files.holds) (referring (without_token c.args.state.now.tokens c.args.token).tokens c.args.state.now.modes.framebuffers) c.unrefer-dead.new.self
+step : (c : goal.After-set_done) → IsStep c.args.state.now.objects.objects (keys_of c.args.state.now.files.holds) (referring (without_token c.args.state.now.tokens c.args.token).tokens c.args.state.now.modes.framebuffers) c.unrefer-dead.new.self
 step c =
     let s = c.args.state.now in
     unreferred_step s.objects c.unrefer-dead.new.self c.in-Some.object (keys_of s.files.holds) (referring (without_token s.tokens c.args.token).tokens s.modes.framebuffers) c.unrefer-dead.result
@@ -57,10 +57,10 @@ returns-clause-invariants c =
 
 pub returns-clause-refines : goal.returns-clause-refines
 unfolding RefinesReply meaning changed answer_of
-returns-clause-refines c = λ w h a.
+returns-clause-refines c = rw c.set_done.ensures.done (λ w h a.
     let s = c.args.state.now in
     let one = is_own s w c.args.client c.args.token c.close.result (Some c.in-Some.object) h c.close.ensures.object c.in-Some.is in
     carried (record s { tokens = c.close.new.self; objects = c.unrefer-dead.new.self }) w (Ask c.args.client (TokenClose c.args.token)) Done (call_verdict w c.args.client (TokenClose c.args.token) a ∙ rw one refl) refl
     (subst (λ ts. Represents (record s { tokens = ts; objects = c.unrefer-dead.new.self }) (swept (record w { tokens = without (is_token_of c.args.client c.args.token) w.tokens }))) (sym c.in-Some.ensures.closed)
     (closed s c.args.client c.args.token c.in-Some.object c.requires.invariants c.close.ensures.tokens (sym c.in-Some.is ∙ c.close.ensures.object) c.unrefer-dead.new.self (step c)
-    (unrefer_limit s.objects c.unrefer-dead.new.self c.in-Some.object c.unrefer-dead.result c.unrefer-dead.ensures.gone c.unrefer-dead.ensures.stays) w h))
+    (unrefer_limit s.objects c.unrefer-dead.new.self c.in-Some.object c.unrefer-dead.result c.unrefer-dead.ensures.gone c.unrefer-dead.ensures.stays) w h)))

@@ -11,7 +11,7 @@ use Rattle.drm_device.proofs.device.Device.step_at.Goals as goal
 
 pub returns-then-not-has_room-clause-step : goal.returns-then-not-has_room-clause-step
 unfolding Step
-returns-then-not-has_room-clause-step c = (not-false _ (sym c.has_room.ensures ∙ c.if-not-has_room.true), refl)
+returns-then-not-has_room-clause-step c = rw c.replace.ensures.replaced ((not-false _ (sym c.has_room.ensures ∙ c.if-not-has_room.true), refl))
 
 pub advance_at-requires : goal.advance_at-requires
 advance_at-requires c = precondition c.self.inside c.len.result c.self.invariant c.len.ensures
@@ -46,11 +46,11 @@ returns-clause-step c =
 
 pub returns-in_default-clause-step : goal.returns-in_default-clause-step
 unfolding Step Refines
-returns-in_default-clause-step c =
+returns-in_default-clause-step c = rw c.replace-in_default.ensures.replaced (
     let room = not-true _ (sym c.has_room.ensures ∙ c.if-not-has_room.false) in
     let out = c.in_default.ensures.err (rows_of (value_of c.self.inside)) (stands c.self.inside c.len.result c.self.invariant c.len.ensures) in
     let fixed = topology_same c.self.inside c.advance_at.new.state (rows_of (value_of c.self.inside)) out.1 refl in
-    (room, rw (← ap rows_of c.self.view_is) out.0, ap rows_of (same_history c.self.inside c.advance_at.new.state fixed ∙ c.self.view_is))
+    (room, rw (← ap rows_of c.self.view_is) out.0, ap rows_of (same_history c.self.inside c.advance_at.new.state fixed ∙ c.self.view_is)))
 
 pub returns-clause-few : goal.returns-clause-few
 unfolding Refines
@@ -71,9 +71,9 @@ returns-clause-err c = rw (opened c.advance_at.new.outcome c.in-Ok.ensures.answe
 
 pub returns-in_default-clause-err : goal.returns-in_default-clause-err
 unfolding Refines
-returns-in_default-clause-err c =
+returns-in_default-clause-err c = rw c.replace-in_default.ensures.replaced (
     let out = c.in_default.ensures.err (rows_of (value_of c.self.inside)) (stands c.self.inside c.len.result c.self.invariant c.len.ensures) in
-    same_history c.self.inside c.advance_at.new.state (topology_same c.self.inside c.advance_at.new.state (rows_of (value_of c.self.inside)) out.1 refl) ∙ c.self.view_is
+    same_history c.self.inside c.advance_at.new.state (topology_same c.self.inside c.advance_at.new.state (rows_of (value_of c.self.inside)) out.1 refl) ∙ c.self.view_is)
 
 pub returns-in_default-clause-found_room : goal.returns-in_default-clause-found_room
 returns-in_default-clause-found_room c = (invariant_of-self c).found_room
