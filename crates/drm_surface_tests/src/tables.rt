@@ -1,8 +1,8 @@
 //! The surface of `drm_table`.
 
 use drm_table::{
-    Apart, AuditPage, AuditRow, Call, Event, IdList, Opening, Row, RowFlags, Rule, ShownList,
-    Standing, permit, row,
+    Answer, Apart, AuditPage, AuditRow, Call, Event, IdList, Opening, Row, RowFlags, Rule,
+    ShownList, Standing, permit, row,
 };
 
 /// The look-up of a row, and the tests of its flags.
@@ -13,6 +13,14 @@ pub fn look_ups(number: u16, flags: RowFlags, standing: Standing) -> (Option<Row
 /// The number, the errno and the name of a rule.
 pub fn rules(rule: Rule) -> (u32, u32, &'static str) {
     (rule.number(), rule.errno(), rule.name())
+}
+
+/// The answers and faults that replace those of a place.
+pub fn replacements() {
+    let _done: fn(&mut Answer) = Answer::set_done;
+    let _number: fn(&mut Answer, u64) = Answer::set_number;
+    let _denied: fn(&mut Answer, Rule) = Answer::set_denied;
+    let _fault: fn(Apart, &mut Result<Answer, Apart>) = Apart::replace;
 }
 
 /// The calls that fill the lists and the page.
