@@ -123,6 +123,7 @@ def read_topology(text: str) -> Tuple[Topology, FrozenSet[int]]:
 
 # what each driver takes, and the server answers as it does: a pitch of whole pixels, and a handle that is there
 SHAPE, FRAMEBUFFER = (64, 64, 32), (64, 64, 256, 32)
+HANDLE_CALLS = ("addfb", "gem_flink", "prime_export", "stamp_read", "stamp_write", "gem_close", "destroy_dumb")
 MODE_CALLS = {word for word, row in CALLS.items() if row[0] >= 0xA0} - {"create_dumb", "destroy_dumb"}
 
 
@@ -223,15 +224,29 @@ class Drawing:
             return f"{draw.choice(('open', 'open', 'open2'))} {label} {opening_of(draw, Seen(self.plain))}"
         if chance < 0.15:
             return f"close {label}"
-        caller = draw.choice(self.open_labels() or [label]) if draw.random() < 0.97 else label
+        caller = draw.choice(self.current_labels() or [label]) if draw.random() < 0.97 else label
         if draw.random() < 0.01:
             return f"{caller} {draw.choice(('raw 255', 'raw 178', 'raw 0'))}"
-        word = draw.choice(self.words)
+        word = self.word(labels.get(caller, 0))
         return " ".join(map(str, (caller, word, *self.fields(word, labels.get(caller, 0)))))
 
-    def open_labels(self) -> List[str]:
-        """The labels of open clients."""
-        return [label for label, client in sorted(self.plain.labels.items()) if client in self.plain.clients]
+    def word(self, caller: int) -> str:
+        """A random call: more leases and fewer masters that are dropped, and a buffer for a client that has none."""
+        word, client = self.draw.choice(self.words), self.plain.clients.get(caller)
+        if self.draw.random() < 0.2:
+            return word
+        if word == "drop_master" and "create_lease" in self.words:
+            return "create_lease"
+        if word in HANDLE_CALLS and client and not client.handles:
+            return "buf_create" if client.render and "buf_create" in self.words else "create_dumb"
+        return word
+
+    def current_labels(self) -> List[str]:
+        """The labels of current clients, or for every other line those of all open ones."""
+        clients = self.plain.clients
+        labels = [label for label, client in sorted(self.plain.labels.items()) if client in clients]
+        current = [label for label in labels if self.plain.is_current(clients[self.plain.labels[label]])]
+        return current if current and self.draw.random() < 0.5 else labels
 
     def is_answered_alike(self, line: str) -> bool:
         """Whether all devices answer the line alike. If not, they are as they were before it."""
