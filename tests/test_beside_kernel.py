@@ -163,6 +163,17 @@ class BesideKernelTests(FolderCase):
             result = compare_errnos("6.12", "6.12", library, printed)
             expect(f"with {len(changes)} changes", (len(result.unexplained), len(result.missing)), wanted)
 
+    def test_scripts_on_a_device_of_this_machine(self):
+        """The library for libdrm programs is that device, which answers these lines as the server does."""
+        want_libdrm()
+        words = ["tools/beside-kernel", "--here", "/dev/dri/card0", "examples/rows/lessees_show_what_they_lease.script"]
+        ran = run("tools/with-server", "--libdrm", "--render", *words, cwd=REPOSITORY)
+        expect("the status", (ran.returncode, ran.stderr.count("Traceback")), (0, 0))
+        counts = "1 scripts, 25 lines compared: 0 differences as expected, 0 not explained, 0 expected ones missing"
+        expect("the counts", counts in ran.stdout, True)
+        ran = run("tools/beside-kernel", "--here", self.folder / "card0", cwd=REPOSITORY)
+        expect("a device that does not exist", (ran.returncode, "there is no such device" in ran.stderr), (2, True))
+
     def test_command_line(self):
         command = REPOSITORY / "tools/beside-kernel"
         expect("help", run(command, "--help").returncode, 0)
@@ -177,10 +188,10 @@ class BesideKernelTests(FolderCase):
             asked = ask_server(MODULE, scripts)
             models = model_scripts(asked, kernel.series)
             text = "".join(bundled(script, model) for script, model in zip(scripts, models))
-            booted = kernels.boot(kernel, {"zirkoshe": text}, build_program(), SECONDS)
+            booted = kernels.boot(kernel, {MODULE.driver: text}, build_program(), SECONDS)
         except (kernels.Missing, kernels.Slow) as reason:
             raise Skipped(str(reason)) from None
-        result = compare(kernel.version, kernel.series, asked, models, booted.answers["zirkoshe"])
+        result = compare(kernel.version, kernel.series, asked, models, booted.answers[MODULE.driver])
         expect("what is wrong", (result.unexplained, result.missing), ([], []))
         expect("lines", result.lines, sum(map(len, asked.server)) - sum(result.left_out.values()))
         expect("differences", len(result.explained) > 0, True)

@@ -143,7 +143,7 @@ class Device(NamedTuple):
 
 # the calls whose answers are the driver's
 DRIVERS_CALLS = frozenset({"audit", "buf_create", "stamp_write", "stamp_read", "list_handles", "version", "get_cap"})
-MODULE = Device("zirkoshe", is_module=True)
+MODULE = Device("zirkoshe_card", is_module=True)
 
 
 def other_device(driver: str, text: str) -> Device:

@@ -50,7 +50,6 @@ COMPILE = [
     "-Wextra",
     "-Wpedantic",
     "-Wshadow",
-    "-static",
     "-I",
     str(HEADERS.parent),
 ]
@@ -71,7 +70,7 @@ done
 /bin/busybox stty -F /dev/ttyS1 raw
 exec > /dev/ttyS1 2>&1
 echo "kernel $(/bin/busybox uname -r)"
-for driver in zirkoshe virtio_gpu vgem; do
+for driver in zirkoshe_card virtio_gpu vgem; do
     echo "device $driver"
     /bin/drm_script --driver $driver --topology
     echo "scripts $driver"
@@ -79,8 +78,8 @@ for driver in zirkoshe virtio_gpu vgem; do
 done
 if [ -f /bin/program ]; then
     # the module once more, with a vertical blanking, in place of all devices
-    for module in zirkoshe virtio-gpu vgem; do /bin/busybox rmmod $module; done
-    /bin/busybox insmod /modules/*-zirkoshe.ko topology=TOPOLOGY blanks=1
+    for module in zirkoshe_card virtio-gpu vgem; do /bin/busybox rmmod $module; done
+    /bin/busybox insmod /modules/*-zirkoshe_card.ko topology=TOPOLOGY blanks=1
     echo "device program"
     echo "scripts program"
     /bin/program /dev/dri/card* /dev/dri/renderD*
@@ -265,15 +264,15 @@ def remove_older(built: pathlib.Path, pattern: str) -> None:
 
 def build_module(kernel: Kernel) -> pathlib.Path:
     """The module, built against the headers of a kernel."""
-    built = kernel.folder / f"zirkoshe-{mark_of_sources()}.ko"
+    built = kernel.folder / f"zirkoshe_card-{mark_of_sources()}.ko"
     if not built.exists():
         with tempfile.TemporaryDirectory(prefix="drm-module-") as room:
             copy = pathlib.Path(room) / "kernel"
             shutil.copytree(SOURCES, copy)
             settings = [f"M={copy}/module", "CC=gcc", "CONFIG_DEBUG_INFO_BTF_MODULES="]
             run("make", "-C", kernel.headers, *settings, "modules")
-            shutil.copy(copy / "module/zirkoshe.ko", built)
-        remove_older(built, "zirkoshe-*.ko")
+            shutil.copy(copy / "module/zirkoshe_card.ko", built)
+        remove_older(built, "zirkoshe_card-*.ko")
     return built
 
 
@@ -281,7 +280,7 @@ def build_runner() -> pathlib.Path:
     """The program drm_script, without shared libraries."""
     built = cache() / f"drm_script-{mark_of_sources()}"
     if not built.exists():
-        run(*COMPILE, "-o", built, *sorted(SOURCES.glob("*.c")))
+        run(*COMPILE, "-static", "-o", built, *sorted(SOURCES.glob("*.c")))
         remove_older(built, "drm_script-*")
     return built
 
@@ -314,7 +313,7 @@ def make_initramfs(
         (root / name).mkdir(parents=True)
     shutil.copy(find_program("busybox") or "busybox", root / "bin/busybox")
     shutil.copy(build_runner(), root / "bin/drm_script")
-    loaded = [*modules_of(kernel), ("zirkoshe", build_module(kernel).read_bytes())]
+    loaded = [*modules_of(kernel), ("zirkoshe_card", build_module(kernel).read_bytes())]
     for place, (name, data) in enumerate(loaded):
         (root / "modules" / f"{place:02}-{name}.ko").write_bytes(data)
     for driver, text in scripts.items():

@@ -11,7 +11,7 @@
 #include <drm.h>
 #endif
 
-#define ZIRKOSHE_DRIVER "zirkoshe"
+#define ZIRKOSHE_DRIVER "zirkoshe_card"
 #define ZIRKOSHE_LISTED 64
 
 /* The create call of this driver: it takes 1 to 64 GiB, rounds up to 4,096, and is for render

@@ -132,9 +132,9 @@ static int open_file(struct session *session, const struct line *line)
     return open(is_render ? session->device->render : session->device->card, O_RDWR | O_CLOEXEC);
 }
 
-static void set_universal_planes(int file, bool universal)
+static void turn_universal_planes_on(int file)
 {
-    struct drm_set_client_cap planes = {DRM_CLIENT_CAP_UNIVERSAL_PLANES, universal};
+    struct drm_set_client_cap planes = {DRM_CLIENT_CAP_UNIVERSAL_PLANES, 1};
 
     ioctl(file, DRM_IOCTL_SET_CLIENT_CAP, &planes);
 }
@@ -161,8 +161,8 @@ static void open_client(struct session *session, const struct line *line)
         answer_errno(session);
         return;
     }
-    if (strcmp(line->word, "render") != 0)
-        set_universal_planes(client->file, line->universal);
+    if (line->universal && strcmp(line->word, "render") != 0)
+        turn_universal_planes_on(client->file);
     session->client_count++;
     session->labels[line->label - 'a'] = session->client_count;
     answer(session, "client %u", number ? (unsigned)number : session->client_count);
