@@ -25,8 +25,11 @@ from kernel_scripts import (  # noqa: E402
     read_trials,
     scripts_of_examples,
 )
+from kernel_standings import CALLS, scripts_of_standings  # noqa: E402
 from libdrm_errnos import FILE as ERRNOS  # noqa: E402
 from libdrm_errnos import build_program, compare_errnos, errnos_of_the_library, wrong_errnos  # noqa: E402
+
+import plain_device  # noqa: E402
 
 LIBDRM = REPOSITORY / "docs/LIBDRM.md"
 # how long a boot of the test may take, of three attempts
@@ -81,13 +84,16 @@ class BesideKernelTests(FolderCase):
 
     def test_differences_are_those_of_the_device_in_python(self):
         """The device of each series answers as the server does, but for the differences that the files expect."""
-        scripts = scripts_of_examples()
+        scripts = scripts_of_examples() + scripts_of_standings()
         asked = ask_server(MODULE, scripts)
         for series in kernels.SERIES:
             models = model_scripts(asked, series)
             result = compare(series, series, asked, models, printed(scripts, models))
             expect(f"{series}: what is wrong", (result.unexplained, result.missing), ([], []))
             expect(f"{series}: scripts", result.scripts, len(scripts))
+
+    def test_each_call_is_made_by_each_kind_of_client(self):
+        expect("calls", {call.split()[0] for call in CALLS}, {*plain_device.CALLS, "raw"} - {"audit"})
 
     def test_another_answer_of_a_kernel_is_found(self):
         """A difference that no file explains, and an expected one that does not show."""

@@ -29,7 +29,15 @@ COMMANDS = ("drm-client", "drm-audit")
 # likewise, seen from the tests
 BESIDE = tuple(
     f"../tools/{name}.py"
-    for name in ("kernels", "kernel_device", "kernel_scripts", "comparison", "linux_page", "libdrm_errnos")
+    for name in (
+        "kernels",
+        "kernel_device",
+        "kernel_scripts",
+        "comparison",
+        "linux_page",
+        "libdrm_errnos",
+        "kernel_standings",
+    )
 )
 TOOLS = ("all", "../bench/instructions", "../tools/check", "../tools/beside-kernel", "../clients/libdrm/logind", *BESIDE)
 

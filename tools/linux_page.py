@@ -8,6 +8,7 @@ from typing import Iterator, List, Sequence, Tuple
 
 from comparison import Result
 from kernel_scripts import EXAMPLES, REPOSITORY, Page, Script, read_page, read_script
+from kernel_standings import STANDINGS
 
 PAGE = REPOSITORY / "docs/LINUX.md"
 # the subjects of the differences, in the order of the page
@@ -116,8 +117,8 @@ def compared_text(results: Sequence[Result], machine: str, seconds: float) -> st
 On {day}, with Debian's kernels in QEMU, in {seconds / 60:.1f} minutes on {machine}:
 
 {table(head, list(result_rows(results)))}
-The scripts of the module are all worked rows (`examples/rows`), all of `examples/linux`, and 1,000 random ones of 120
-lines. 500 of the random scripts, and all of the other drivers, are drawn so that no line is expected to be answered
+The scripts of the module are all worked rows (`examples/rows`), all of `examples/linux`, {len(STANDINGS)} in which a
+client of each kind makes each call (`tools/kernel_standings.py`), and 1,000 random ones of 120 lines. 500 of the random scripts, and all of the other drivers, are drawn so that no line is expected to be answered
 differently. The other 500 are drawn freely: most of their differences follow from an earlier one, such as a client or
 a descriptor that is not open. {reasons}
 
