@@ -7,7 +7,17 @@ scripts. The last line is `N passed, M failed`. Standard library only.
 import sys
 
 sys.dont_write_bytecode = True
-from support import REPOSITORY, FolderCase, Skipped, expect, run, run_tests, want_libdrm, want_program  # noqa: E402
+from support import (  # noqa: E402
+    REPOSITORY,
+    FolderCase,
+    Skipped,
+    expect,
+    run,
+    run_program,
+    run_tests,
+    want_libdrm,
+    want_program,
+)
 
 import kernels  # noqa: E402
 import linux_page  # noqa: E402
@@ -15,6 +25,7 @@ from comparison import Asked, ask_server, compare, model_scripts  # noqa: E402
 from kernel_scripts import (  # noqa: E402
     EXAMPLES,
     MODULE,
+    MODULES,
     VIRTIO,
     Script,
     bundled,
@@ -23,6 +34,7 @@ from kernel_scripts import (  # noqa: E402
     read_page,
     read_script,
     read_trials,
+    scripts_of,
     scripts_of_examples,
 )
 from kernel_standings import CALLS, scripts_of_standings  # noqa: E402
@@ -42,7 +54,7 @@ SCRIPT = "open a card -> client 1\na setcrtc 1 0 99 -> denied 30 NoModeObject 2\
 
 def pages():
     """The files of examples/linux."""
-    return sorted((EXAMPLES / "linux").glob("*.script"))
+    return sorted((EXAMPLES / "linux").rglob("*.script"))
 
 
 def answers_of(model):
@@ -84,13 +96,22 @@ class BesideKernelTests(FolderCase):
 
     def test_differences_are_those_of_the_device_in_python(self):
         """The device of each series answers as the server does, but for the differences that the files expect."""
-        scripts = scripts_of_examples() + scripts_of_standings()
-        asked = ask_server(MODULE, scripts)
+        runs = [ask_server(device, scripts_of(f"linux/{device.driver}")) for device in MODULES]
+        runs.append(ask_server(MODULE, scripts_of_examples() + scripts_of_standings()))
         for series in kernels.SERIES:
-            models = model_scripts(asked, series)
-            result = compare(series, series, asked, models, printed(scripts, models))
-            expect(f"{series}: what is wrong", (result.unexplained, result.missing), ([], []))
-            expect(f"{series}: scripts", result.scripts, len(scripts))
+            for asked in runs:
+                models = model_scripts(asked, series)
+                result = compare(series, series, asked, models, printed(asked.scripts, models))
+                expect(f"{series}: what is wrong", (result.unexplained, result.missing), ([], []))
+        known = {script.name for asked in runs for script in asked.scripts}
+        expect("files that are no script of a topology", {read_script(path).name for path in pages()} - known, set())
+
+    def test_files_of_other_topologies(self):
+        for device in MODULES:
+            files = sorted((EXAMPLES / "linux" / device.driver).glob("*.script"))
+            topology = EXAMPLES / "topologies" / f"{device.driver}.topology"
+            if files:
+                expect("the check", run_program("check", "--topology", topology, *files).returncode, 0)
 
     def test_each_call_is_made_by_each_kind_of_client(self):
         expect("calls", {call.split()[0] for call in CALLS}, {*plain_device.CALLS, "raw"} - {"audit"})
@@ -194,7 +215,7 @@ class BesideKernelTests(FolderCase):
             asked = ask_server(MODULE, scripts)
             models = model_scripts(asked, kernel.series)
             text = "".join(bundled(script, model) for script, model in zip(scripts, models))
-            booted = kernels.boot(kernel, {MODULE.driver: text}, build_program(), SECONDS)
+            booted = kernels.boot(kernel, kernels.Load({MODULE.driver: text}, {}, build_program()), SECONDS)
         except (kernels.Missing, kernels.Slow) as reason:
             raise Skipped(str(reason)) from None
         result = compare(kernel.version, kernel.series, asked, models, booted.answers[MODULE.driver])

@@ -16,7 +16,7 @@ SERVERS = 2
 
 
 class Difference(NamedTuple):
-    """A line to which a kernel and the server answer differently, and the files of examples/linux that explain it."""
+    """A line to which a kernel and the server answer differently, and the files that explain it."""
 
     kernel: str
     script: str
@@ -104,7 +104,7 @@ def kernel_answers(lines: List[str]) -> Dict[str, Dict[int, str]]:
 def explanation(line: Modelled, answer: str) -> Tuple[str, ...]:
     """The files that explain an answer of a kernel, or none."""
     known = {compared(one) for one in line.answer.split(" or ")}
-    return tuple(line.files) if answer in known else ()
+    return tuple(f"examples/linux/{file}.script" for file in line.files) if answer in known else ()
 
 
 class Comparing:
@@ -165,7 +165,7 @@ def line_of(found: Difference) -> str:
 def counts_of(result: Result) -> List[str]:
     """The counts of a comparison, as lines."""
     causes = collections.Counter(found.files[0] for found in result.explained)
-    lines = [f"{count} differences by {cause}.script" for cause, count in sorted(causes.items())]
+    lines = [f"{count} differences by {cause}" for cause, count in sorted(causes.items())]
     lines += [f"{count} lines left out: {reason}" for reason, count in sorted(result.left_out.items())]
     summary = (
         f"{result.scripts} scripts, {result.lines} lines compared: {len(result.explained)} differences as expected,"

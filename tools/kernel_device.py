@@ -83,6 +83,8 @@ class KernelDevice(Plain):
         self.magics: Dict[int, Dict[int, Optional[int]]] = {}
         # the newest number that a framebuffer had, so that lists have them in the order of their additions
         self.added: Dict[int, int] = {}
+        # the CRTC on which a plane showed something last
+        self.crtc_of_plane: Dict[int, int] = {}
 
     # the lines of a script
 
@@ -351,14 +353,20 @@ class KernelDevice(Plain):
         fail_unless((fb == 0) == (connector == 0), EINVAL)
         fail_unless(connector == 0 or connector in top.connectors and self.sees(client, connector), ENOENT)
         fail_unless(connector == 0 or crtc in top.encoders[top.connectors[connector]], EINVAL)
+        self.crtc_of_plane[plane] = crtc
         return str(self.show(plane, fb))
 
     def setplane(self, client: Any, plane: int, crtc: int, fb: int) -> str:
+        """The order of the core. A plane does not move from one CRTC to another while it shows something."""
         top = self.topology
         fail_unless(self.controls_plane(client, plane), ENOENT)
         fail_unless(fb == 0 or crtc in top.crtcs and self.sees(client, crtc), ENOENT)
         fail_unless(fb == 0 or fb in self.framebuffers, ENOENT)
         fail_unless(fb == 0 or crtc in top.planes[plane].crtcs, EINVAL)
+        if fb and plane in self.shown and self.crtc_of_plane[plane] != crtc:
+            self.differs("laptop/plane_that_moves")
+            raise Failed(EINVAL)
+        self.crtc_of_plane[plane] = crtc
         return str(self.show(plane, fb))
 
     def show(self, thing: int, fb: int) -> str:

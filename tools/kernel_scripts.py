@@ -90,9 +90,14 @@ def read_trials(path: pathlib.Path) -> Tuple[Script, Dict[int, str]]:
     return script._replace(is_page=True), {number: row[2] for number, row in enumerate(rows, 1) if row[1]}
 
 
+def scripts_of(folder: str) -> List[Script]:
+    """The scripts of a folder of examples."""
+    return [read_script(path) for path in sorted((EXAMPLES / folder).glob("*.script"))]
+
+
 def scripts_of_examples() -> List[Script]:
-    """The worked rows and the files of examples/linux."""
-    return [read_script(path) for folder in ("rows", "linux") for path in sorted((EXAMPLES / folder).glob("*.script"))]
+    """The worked rows and the files of examples/linux, on the test topology."""
+    return scripts_of("rows") + scripts_of("linux")
 
 
 def read_topology(text: str) -> Tuple[Topology, FrozenSet[int]]:
@@ -154,10 +159,17 @@ def other_device(driver: str, text: str) -> Device:
     return Device(driver, topology, cursors, text, DRIVERS_CALLS)
 
 
+def module_device(name: str, text: str) -> Device:
+    """A device of the module with this topology file."""
+    topology, cursors = read_topology(text)
+    return Device(name, topology, cursors, text, is_module=True)
+
+
 VIRTIO = other_device(
     "virtio_gpu", "crtcs 2\nprimary 1\ncursor 1\nprimary 2\ncursor 2\nencoder 1\nencoder 2\nconnector 1\nconnector 2\n"
 )
 VGEM = other_device("vgem", "crtcs 0\n")
+MODULES = [module_device(path.stem, path.read_text()) for path in sorted((EXAMPLES / "topologies").glob("*.topology"))]
 
 
 def outputs_of(topology: Topology) -> List[Tuple[int, ...]]:
@@ -203,14 +215,20 @@ class Drawing:
         from test_random import Seen, fields_of
 
         fields: Tuple[int, ...] = fields_of(word, self.draw, Seen(self.plain), caller)
-        if self.device.is_module:
-            return fields
-        if word == "create_dumb":
+        if word == "create_dumb" and not self.device.is_module:
             return SHAPE
-        if word == "addfb":
+        if word == "addfb" and not self.device.is_module:
             held = self.plain.clients[caller].handles if caller in self.plain.clients else ()
             return (*FRAMEBUFFER, self.draw.choice(sorted(held) or [0]))
-        if word in ("getcrtc", "getencoder", "getconnector", "getplane", "setcrtc", "setplane", "create_lease"):
+        if self.device.topology is not TEST_TOPOLOGY and word in (
+            "getcrtc",
+            "getencoder",
+            "getconnector",
+            "getplane",
+            "setcrtc",
+            "setplane",
+            "create_lease",
+        ):
             return self.mode_fields(word, fields[1] if word == "setcrtc" else fields[-1] if word == "setplane" else 0)
         return fields
 

@@ -76,9 +76,18 @@ for driver in zirkoshe_card virtio_gpu vgem; do
     echo "scripts $driver"
     [ ! -f /scripts/$driver ] || /bin/drm_script --driver $driver /scripts/$driver
 done
+# the module once more, with other topologies, in place of all devices
+for module in zirkoshe_card virtio-gpu vgem; do /bin/busybox rmmod $module; done
+for device in /topologies/*; do
+    [ -f $device ] || continue
+    /bin/busybox insmod /modules/*-zirkoshe_card.ko topology=$(/bin/busybox cat $device)
+    echo "device ${device#/topologies/}"
+    /bin/drm_script --topology
+    echo "scripts ${device#/topologies/}"
+    /bin/drm_script /scripts/${device#/topologies/}
+    /bin/busybox rmmod zirkoshe_card
+done
 if [ -f /bin/program ]; then
-    # the module once more, with a vertical blanking, in place of all devices
-    for module in zirkoshe_card virtio-gpu vgem; do /bin/busybox rmmod $module; done
     /bin/busybox insmod /modules/*-zirkoshe_card.ko topology=TOPOLOGY blanks=1
     echo "device program"
     echo "scripts program"
@@ -125,8 +134,16 @@ class Program(NamedTuple):
     topology: str
 
 
+class Load(NamedTuple):
+    """What a kernel runs: the scripts of each device, the topologies of those that the module has one after the other, and a program."""
+
+    scripts: Dict[str, str]
+    topologies: Dict[str, str] = {}
+    program: Optional[Program] = None
+
+
 class Booted(NamedTuple):
-    """What a boot printed: the release, the topology of each driver's device, and the lines of its scripts."""
+    """What a boot printed: the release, the topology of each device, and the lines of its scripts."""
 
     release: str
     topologies: Dict[str, str]
@@ -304,23 +321,23 @@ def parameter_of(topology: str) -> str:
     return ",".join(f"{word}:{'+'.join(numbers)}" for word, *numbers in lines)
 
 
-def make_initramfs(
-    kernel: Kernel, scripts: Dict[str, str], program: Optional[Program], room: pathlib.Path
-) -> pathlib.Path:
-    """An archive with busybox, the modules, drm_script, the scripts of each driver, and a program."""
+def make_initramfs(kernel: Kernel, load: Load, room: pathlib.Path) -> pathlib.Path:
+    """An archive with busybox, the modules, drm_script, the scripts of each device, and a program."""
     root = room / "root"
-    for name in ("bin", "dev", "proc", "sys", "modules", "scripts"):
+    for name in ("bin", "dev", "proc", "sys", "modules", "scripts", "topologies"):
         (root / name).mkdir(parents=True)
     shutil.copy(find_program("busybox") or "busybox", root / "bin/busybox")
     shutil.copy(build_runner(), root / "bin/drm_script")
     loaded = [*modules_of(kernel), ("zirkoshe_card", build_module(kernel).read_bytes())]
     for place, (name, data) in enumerate(loaded):
         (root / "modules" / f"{place:02}-{name}.ko").write_bytes(data)
-    for driver, text in scripts.items():
+    for driver, text in load.scripts.items():
         (root / "scripts" / driver).write_text(text)
-    if program is not None:
-        shutil.copy(program.path, root / "bin/program")
-    (root / "init").write_text(INIT.replace("TOPOLOGY", program.topology if program else ""))
+    for name, topology in load.topologies.items():
+        (root / "topologies" / name).write_text(parameter_of(topology))
+    if load.program is not None:
+        shutil.copy(load.program.path, root / "bin/program")
+    (root / "init").write_text(INIT.replace("TOPOLOGY", load.program.topology if load.program else ""))
     (root / "init").chmod(0o755)
     names = "".join(f"{path.relative_to(root)}\n" for path in sorted(root.rglob("*")))
     packed = subprocess.run(
@@ -359,13 +376,11 @@ def read_boot(text: str) -> Optional[Booted]:
     return booted
 
 
-def attempt(
-    kernel: Kernel, scripts: Dict[str, str], program: Optional[Program], seconds: int
-) -> Tuple[Optional[Booted], str]:
+def attempt(kernel: Kernel, load: Load, seconds: int) -> Tuple[Optional[Booted], str]:
     """Boots a kernel once. Returns what it printed, or nothing and why it did not reach its end."""
     with tempfile.TemporaryDirectory(prefix="drm-kernel-") as name:
         room = pathlib.Path(name)
-        command = emulator(kernel, make_initramfs(kernel, scripts, program, room), room)
+        command = emulator(kernel, make_initramfs(kernel, load, room), room)
         try:
             subprocess.run(command, timeout=seconds, stdin=subprocess.DEVNULL, check=True)
         except subprocess.TimeoutExpired:
@@ -374,11 +389,11 @@ def attempt(
         return read_boot((room / "answers").read_text(errors="replace")), console[-CONSOLE:]
 
 
-def boot(kernel: Kernel, scripts: Dict[str, str], program: Optional[Program] = None, seconds: int = SECONDS) -> Booted:
-    """Boots a kernel, and runs the scripts of each driver and the program. A boot that fails is tried again."""
+def boot(kernel: Kernel, load: Load, seconds: int = SECONDS) -> Booted:
+    """Boots a kernel, and runs all of the load. A boot that fails is tried again."""
     reasons = []
     for _ in range(BOOTS):
-        booted, reason = attempt(kernel, scripts, program, seconds)
+        booted, reason = attempt(kernel, load, seconds)
         if booted is not None:
             return booted
         reasons.append(reason)

@@ -66,7 +66,7 @@ def compare_errnos(kernel: str, series: str, library: Dict[str, str], printed: L
         if name not in library:
             continue
         came, here = errnos.get(name, "nothing"), library[name]
-        found = Difference(result.kernel, script.name, number, name, here, came, (FILE.stem,))
+        found = Difference(result.kernel, script.name, number, name, here, came, (script.name,))
         if came != here and came == expected.get(number):
             result.explained.append(found)
         elif came != here:

@@ -7,7 +7,7 @@ import pathlib
 from typing import Iterator, List, Sequence, Tuple
 
 from comparison import Result
-from kernel_scripts import EXAMPLES, REPOSITORY, Page, Script, read_page, read_script
+from kernel_scripts import EXAMPLES, MODULES, REPOSITORY, Page, Script, read_page, read_script
 from kernel_standings import STANDINGS
 
 PAGE = REPOSITORY / "docs/LINUX.md"
@@ -18,6 +18,7 @@ COMPARED = "## What was compared\n"
 NEXT = "## Scripts on a kernel\n"
 # the comparison that LIBDRM has
 ERRNOS = "libdrm_errnos"
+TOPOLOGIES = {device.driver for device in MODULES}
 
 INTRODUCTION = """\
 # Differences from Linux
@@ -32,6 +33,8 @@ Each file of `examples/linux` is a script, in [this form](FORMATS.md#scripts), w
 series. `errno N` is any refusal. This command checks the server's answers:
 
     ./drm_server check examples/linux/*.script
+
+The scripts in `examples/linux/laptop` are for the topology `examples/topologies/laptop.topology`.
 
 """
 
@@ -79,7 +82,7 @@ def row_of(path: pathlib.Path, page: Page) -> Tuple[str, ...]:
 
 def rows_of(subject: str) -> List[Tuple[str, ...]]:
     """The rows of a subject, in the order of their titles."""
-    pages = [(path, read_page(path)) for path in sorted((EXAMPLES / "linux").glob("*.script"))]
+    pages = [(path, read_page(path)) for path in sorted((EXAMPLES / "linux").rglob("*.script"))]
     return [row_of(path, page) for path, page in pages if page.subject == subject]
 
 
@@ -104,7 +107,8 @@ def result_rows(results: Sequence[Result]) -> Iterator[Tuple[str, ...]]:
             continue
         version, _, driver = result.kernel.partition(" ")
         counts = (result.scripts, result.lines, len(result.explained), len(result.unexplained))
-        yield (version, driver or "the module", *(f"{count:,}" for count in counts))
+        named = f"the module, `{driver}`" if driver in TOPOLOGIES else f"`{driver}`" if driver else "the module"
+        yield (version, named, *(f"{count:,}" for count in counts))
 
 
 def compared_text(results: Sequence[Result], machine: str, seconds: float) -> str:
@@ -117,9 +121,10 @@ def compared_text(results: Sequence[Result], machine: str, seconds: float) -> st
 On {day}, with Debian's kernels in QEMU, in {seconds / 60:.1f} minutes on {machine}:
 
 {table(head, list(result_rows(results)))}
-The scripts of the module are all worked rows (`examples/rows`), all of `examples/linux`, {len(STANDINGS)} in which a
-client of each kind makes each call (`tools/kernel_standings.py`), and 1,000 random ones of 120 lines. 500 of the random scripts, and all of the other drivers, are drawn so that no line is expected to be answered
-differently. The other 500 are drawn freely: most of their differences follow from an earlier one, such as a client or
-a descriptor that is not open. {reasons}
+On the module with the test topology, these are all worked rows (`examples/rows`), all of `examples/linux`,
+{len(STANDINGS)} scripts in which a client of each kind makes each call (`tools/kernel_standings.py`), and 1,000 random ones
+of 120 lines. The module also has each topology of `examples/topologies`. Half of its random scripts, and all of the other
+drivers, are drawn so that no line is expected to be answered differently. The others are drawn freely: most of their
+differences follow from an earlier one, such as a client or a descriptor that is not open. {reasons}
 
 """

@@ -89,13 +89,27 @@ static int create_crtc(struct drm_device *device, struct mode_objects *objects, 
 // none, its first one.
 static void choose_plane(struct mode_objects *objects, unsigned int i)
 {
-    struct drm_crtc *crtc = &objects->crtcs[objects->topology->first_crtcs[i]].base;
-    enum drm_plane_type type = objects->topology->types[i];
+    const struct topology *topology = objects->topology;
+    struct drm_crtc *first = &objects->crtcs[topology->first_crtcs[i]].base;
+    unsigned int crtc;
 
-    if (type == DRM_PLANE_TYPE_CURSOR)
-        crtc->cursor = &objects->planes[i];
-    else if (type == DRM_PLANE_TYPE_PRIMARY || !crtc->primary)
-        crtc->primary = &objects->planes[i];
+    if (topology->types[i] == DRM_PLANE_TYPE_CURSOR)
+        first->cursor = &objects->planes[i];
+    if (topology->types[i] == DRM_PLANE_TYPE_PRIMARY)
+        first->primary = &objects->planes[i];
+    for (crtc = 0; crtc < topology->crtcs && topology->types[i] == DRM_PLANE_TYPE_OVERLAY; crtc++) {
+        if (topology->plane_crtcs[i] & BIT(crtc) && !objects->crtcs[crtc].base.primary)
+            objects->crtcs[crtc].base.primary = &objects->planes[i];
+    }
+}
+
+static bool has_planes(const struct mode_objects *objects)
+{
+    unsigned int crtc = 0;
+
+    while (crtc < objects->topology->crtcs && objects->crtcs[crtc].base.primary)
+        crtc++;
+    return crtc == objects->topology->crtcs;
 }
 
 static int create_plane(struct drm_device *device, struct mode_objects *objects, unsigned int i)
@@ -176,6 +190,9 @@ int zirkoshe_create_mode_objects(struct drm_device *device, const struct topolog
     objects->blanks = blanks;
     for (i = 0; i < count && !result; i++)
         result = create_object(device, objects, i);
+    // the core would fail at a MODE_SETCRTC of a CRTC without one
+    if (!result && !has_planes(objects))
+        result = -EINVAL;
     if (!result && blanks)
         result = drm_vblank_init(device, topology->crtcs);
     if (!result)
