@@ -17,7 +17,7 @@ from typing import Dict, List, NamedTuple, Tuple
 sys.dont_write_bytecode = True
 from support import REPOSITORY, FolderCase, Skipped, expect, run, run_tests, want_program  # noqa: E402
 
-from libdrm_support import LOGIND, library, want_logind  # noqa: E402
+from libdrm_support import LOGIND, library, supervisor, want_logind  # noqa: E402
 
 PAGE = REPOSITORY / "docs/LIBDRM.md"
 HEAD = "| program | version | requests | how far | frames | last failing request |"
@@ -57,6 +57,8 @@ exec sleep {SHOWING} && swaymsg exit
 END
 WLR_RENDERER=pixman $somebody sway -c config
 """
+# the supervisor preloads nothing
+SUPERVISED_SWAY = SWAY.replace("export LD_PRELOAD=$PWD/library.so\n", "")
 CAGE = f"""\
 {SOMEBODY}WLR_RENDERER=pixman $somebody cage -- timeout {SHOWING} weston-presentation-shm
 """
@@ -103,6 +105,7 @@ KWIN = f"""\
 cp "$(command -v kwin_wayland)" .
 {LOGGED_IN} ./kwin_wayland --drm --no-lockscreen --no-global-shortcuts --socket shown weston-simple-shm
 """
+KMSCUBE = f"(sleep {SHOWING}; echo) | kmscube"
 MPV = f"mpv --no-config --no-audio --vo=drm --length={SHOWING} av://lavfi:testsrc=size=320x240:rate=30"
 
 # how far a program can get
@@ -132,11 +135,13 @@ PROGRAMS = (
         "(sleep 1; echo) | modetest -M zirkoshe -a -P 3@1:1024x768 -s 7@1:1024x768",
         SETS,
     ),
-    Program("kmscube", "kmscube", f"(sleep {SHOWING}; echo) | kmscube", SHOWS),
+    Program("kmscube", "kmscube", KMSCUBE, SHOWS),
     Program("glmark2-es2-drm", "glmark2-es2-drm", f"glmark2-es2-drm -b build:duration={SHOWING}", SHOWS, ("--udev",)),
     Program("mpv --vo=drm", "mpv", MPV, SHOWS),
     Program("weston", "weston", WESTON, SHOWS, SEAT + LAPTOP, ("weston-presentation-shm",)),
     Program("sway", "sway", SWAY, SHOWS, (), WLROOTS + ("swaymsg",)),
+    Program("sway --seccomp", "sway", SUPERVISED_SWAY, SHOWS, ("--seccomp",), WLROOTS + ("swaymsg",)),
+    Program("kmscube --seccomp", "kmscube", KMSCUBE, SHOWS, ("--seccomp",)),
     Program("cage", "cage", CAGE, SHOWS, (), WLROOTS + ("Xwayland",)),
     Program("phoc", "phoc", PHOC, SHOWS, (), WLROOTS, TIMED_OUT),
     Program("wayfire", "wayfire", WAYFIRE, SHOWS, (), WLROOTS, TIMED_OUT),
@@ -183,6 +188,8 @@ def run_program_of_table(folder, program):
         want_program(name)
     if program.options and "--udev" in program.options:
         want_program("umockdev-run")
+    if "--seccomp" in program.options:
+        supervisor()
     if str(LOGIND) in program.command:
         want_logind()
     if "setpriv" in program.needs and os.geteuid() != 0:
@@ -191,7 +198,8 @@ def run_program_of_table(folder, program):
     # somebody else perhaps can't read the folders above the library
     shutil.copy(library(), folder / "library.so")
     folder.chmod(0o700)
-    journal, words = folder / "journal", ["--libdrm", *program.options]
+    journal = folder / "journal"
+    words = [*([] if "--seccomp" in program.options else ["--libdrm"]), *program.options]
     ran = run(
         *(REPOSITORY / "tools/with-server", *words, "--journal", journal, "sh", "-c", program.command),
         env=given,

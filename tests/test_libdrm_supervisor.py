@@ -142,6 +142,41 @@ a goroutine darkens: 0
 """
 
 
+LOOKS = """
+ls -l /dev/dri | awk 'NR > 1 {print $1, $5, $6, $NF}'
+stat -c '%F %t:%T' /dev/dri/card0 /dev/dri/renderD128
+stat -c '%F %t:%T' - < /dev/dri/card0
+realpath /dev/dri/../dri/card0
+cat /sys/dev/char/226:0/uevent
+readlink /sys/dev/char/226:0/device/subsystem
+test -d /sys/dev/char/226:128/device/drm && test -r /dev/dri/card0 && ! test -x /dev/dri/card0 && echo readable
+test -e /dev/dri/card1 || echo none
+modetest -M zirkoshe -e | awk '/^[0-9]/ {print $1, $4}'
+drmdevice | grep -E 'Devices reported|nodes\\[|fullname' | sort -u
+"""
+FINDINGS_OF_LOOKS = """\
+crw-rw-rw- 226, 0 card0
+crw-rw-rw- 226, 128 renderD128
+character special file e2:0
+character special file e2:80
+character special file e2:0
+/dev/dri/card0
+MAJOR=226
+MINOR=0
+DEVNAME=dri/card0
+DEVTYPE=drm_minor
+../../../bus/platform
+readable
+none
+5 0x00000003
+6 0x00000002
+--- Devices reported 1 ---
+|       +-> fullname\tzirkoshe
+|   +-> nodes[0] /dev/dri/card0
+|   +-> nodes[2] /dev/dri/renderD128
+"""
+
+
 def static_program():
     """The program of the tests, compiled once without a library that is loaded."""
     words = [word for word in want_libdrm() if word.startswith("-I")]
@@ -204,6 +239,16 @@ class LibdrmSupervisorTests(FolderCase):
         ran = run("go", "build", "-o", program, REPOSITORY / "tests/supervised.go", env=given)
         expect("what go says", (ran.returncode, ran.stdout + ran.stderr), (0, ""))
         expect_end(run(WITH_SERVER, "--seccomp", program), 0, "", FINDINGS_IN_GO)
+
+    def test_files_of_the_device(self):
+        """By a shell and by libdrm: what they look at and list. No folder is left."""
+        supervisor()
+        for name in ("modetest", "drmdevice"):
+            want_program(name)
+        given = {**os.environ, "TMPDIR": str(self.folder)}
+        ran = run(WITH_SERVER, "--seccomp", "--render", "sh", "-c", LOOKS, env=given)
+        expect_end(ran, 0, "", FINDINGS_OF_LOOKS)
+        expect("what is left", list(self.folder.iterdir()), [])
 
     def test_requests_are_traced(self):
         """As the library traces them: what the server refused by its rule."""
