@@ -331,10 +331,6 @@ pub some_of : (o : Option ℕ) → is_some o ≡ true → (n : ℕ) × (o ≡ So
 some_of None there = absurd (false≢true there)
 some_of (Some n) there = (n, refl)
 
-pub none_of : (o : Option ℕ) → is_some o ≡ false → o ≡ None
-none_of None absent = refl
-none_of (Some n) absent = absurd (false≢true (sym absent))
-
 -- rooms that are made
 
 abbrev pub alone : Neighbours

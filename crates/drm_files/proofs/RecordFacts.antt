@@ -7,6 +7,7 @@ use Rattle.std.specs.FinMap as fin
 use Rattle.std.specs.FinMap.Entries.{is_sorted}
 use Rattle.std.proofs.lemmas.Bool.{cases_eq, false≢true}
 use Rattle.std.proofs.lemmas.Bool.Decides.{nat_tests}
+use Rattle.drm_lists.proofs.Found.{is_some-false}
 use Rattle.drm_index_array.specs.Least.{least}
 use Rattle.drm_index_array.proofs.Least.{least-same}
 use Rattle.drm_index_array.proofs.MarkedLemmas.{get-insert, get-remove, insert_same, same_by_gets}
@@ -34,11 +35,7 @@ module _ (limit last : ℕ) (m : fin.FinMap nat_cmp FileRecord) where
   open_client_is c = ap is_some (find_client m c) ∙ some_of (λ r. client c r.flags) (fin.get m c)
 
   pub absent_none : (c : ℕ) → is_open_client (lists_of limit last m) c ≡ false → fin.get m c ≡ None
-  absent_none c absent = none_of (fin.get m c) (sym (open_client_is c) ∙ absent)
-    where
-      none_of : (x : Option FileRecord) → is_some x ≡ false → x ≡ None
-      none_of None h = refl
-      none_of (Some x) h = absurd (false≢true (sym h))
+  absent_none c absent = is_some-false (fin.get m c) (sym (open_client_is c) ∙ absent)
 
   pub nobody : (c : ℕ) → is_open_client (lists_of limit last m) c ≡ true → None ≡ fin.get m c → ⊥
   nobody c open_client none = false≢true (ap is_some none ∙ sym (open_client_is c) ∙ open_client)

@@ -6,6 +6,7 @@ use Rattle.std.specs.FinMap.{nat_cmp-IsAntisymmetric}
 use Rattle.std.specs.FinMap.Entries.{find, where_key, is_sorted, below_all, is_sorted-where_key, find-where_key, same_entries}
 use Rattle.std.proofs.lemmas.Bool.{cases_lt, cases_eq, false≢true}
 use Rattle.std.proofs.lemmas.Bool.Decides.{nat_tests}
+use Rattle.drm_lists.proofs.Found.{is_some-false}
 use Rattle.drm_index_array.specs.Least.{least, IsLeast}
 use Rattle.drm_index_array.proofs.Least.{least_some}
 use Rattle.drm_index_array.proofs.MarkedLemmas.{get-remove, eq_by_cmp-nat_cmp}
@@ -29,10 +30,6 @@ lt_test a b le = grind (arith, nat_tests)
 true_T : (b : Bool) → b ≡ true → T b
 true_T true e = tt
 true_T false e = absurd (false≢true e)
-
-none_of : {X : Type 0} (x : Option X) → is_some x ≡ false → x ≡ None
-none_of None e = refl
-none_of (Some x) e = absurd (false≢true (sym e))
 
 some_there : {X : Type 0} (x : Option X) → is_some x ≡ true → None ≡ x → ⊥
 some_there x e none = false≢true (ap is_some none ∙ e)
@@ -63,7 +60,7 @@ module _ {X : Type 0} where
         find_from from q ∙ at q ∙ (λ i. cond (sym (eq_by_cmp-nat_cmp q h) i) (Some v) (sym (find_from (h + 1) q) i)))
       where
         below : (q : ℕ) → q < h → (b : Bool) → nat_le from q ≡ b → cond b (fin.get m q) None ≡ None
-        below q lt true le = none_of (fin.get m q) (is.none_below q (at_least le) lt)
+        below q lt true le = is_some-false (fin.get m q) (is.none_below q (at_least le) lt)
           where
             at_least : nat_le from q ≡ true → from ≤ q
             at_least le = grind (arith, nat_tests)
@@ -90,7 +87,7 @@ module _ {X : Type 0} where
         same_entries nat_cmp nat_cmp_total nat_cmp-IsAntisymmetric _ [] (sorted_from from) tt (λ q. find_from from q ∙ at q (nat_le from q) refl)
       where
         at : (q : ℕ) (b : Bool) → nat_le from q ≡ b → cond b (fin.get m q) None ≡ None
-        at q true le = none_of (fin.get m q) (none q (at_least le))
+        at q true le = is_some-false (fin.get m q) (none q (at_least le))
           where
             at_least : nat_le from q ≡ true → from ≤ q
             at_least le = grind (arith, nat_tests)
@@ -125,7 +122,7 @@ module _ {X : Type 0} where
                 | inl same ↦
                     (λ i. cond (eqb_same q h same i) None (fin.get m q)) ∙ (λ i. cond (sym (le_no (h + 1) q (omega (arith, same))) i) (fin.get m q) None)
                 | inr apart ↦
-                    (λ i. cond (eqb_other q h apart i) None (fin.get m q)) ∙ none_of (fin.get m q) (is.none_below q (omega arith) (omega (arith, le, apart)))
+                    (λ i. cond (eqb_other q h apart i) None (fin.get m q)) ∙ is_some-false (fin.get m q) (is.none_below q (omega arith) (omega (arith, le, apart)))
                     ∙ (λ i. cond (sym (le_no (h + 1) q (omega (arith, le, apart))) i) (fin.get m q) None)
               ]
             ]

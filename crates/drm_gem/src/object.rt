@@ -26,7 +26,8 @@ pub struct Object {
     pub refs: u32,
 }
 
-/// An object that is gone, since nothing refers to it any more.
+/// An object that is gone, since nothing refers to it any more: what an owner of its memory would free. A device's
+/// buffers have no memory, so its calls drop this.
 ///
 /// ```rust
 /// let mut objects = Objects::new(alloc, 1);

@@ -17,6 +17,9 @@ use Rattle.drm_index_array.proofs.RootLemmas.{view_few}
 use Rattle.drm_index_array.proofs.TableLemmas.{get-table, get-table_past}
 use Rattle.drm_index_array.proofs.SlotLemmas.{value_in, index_in_span, child_span, slot_fits}
 
+zero_more : (r : ℕ) → r ≡ 0 + r
+zero_more r = omega arith
+
 -- the indices of a slot, and those before and after it, make up the node's
 slots_span : (height at : ℕ) → at < 64 → at * width height + (width height + (span height - (at * width height + width height))) ≡ span height
 slots_span height at lt =
@@ -49,9 +52,6 @@ module _ {T : Type 0} where
   -- the entries at the indices of a slot are those below it
   pub slot_counted : (height : ℕ) (slots : List (Slot T)) (at : ℕ) → at < 64 → passing (taken height slots) (at * width height) (width height) ≡ entries_below height (slot slots at)
   slot_counted height slots at lt = passing-moved _ _ (at * width height) 0 (width height) (λ r within. ap is_some (value_in height slots at r lt within) ∙ ap (λ n. is_some (below (slot slots at) n)) (zero_more r))
-    where
-      zero_more : (r : ℕ) → r ≡ 0 + r
-      zero_more r = omega arith
 
   all_counted : (height : ℕ) (slots : List (Slot T)) → map.len (view_of height slots).items ≡ passing (taken height slots) 0 (span height)
   all_counted height slots = len_counted _ (span height) (λ k le. ap is_some (get-table_past (span height) (look height slots) k le))
@@ -132,9 +132,6 @@ module _ {T : Type 0} {height : ℕ} {slots : List (Slot T)} {v : Tree T} (words
       before = passed before;
     })
       where
-        zero_more : (r : ℕ) → r ≡ 0 + r
-        zero_more r = omega arith
-
         passed : passing (taken height slots) 0 (at * width height) + left ≡ position → passing (taken height slots) 0 (at * width height + n) ≡ position
         passed before =
             let w = width height in

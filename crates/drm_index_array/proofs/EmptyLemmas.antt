@@ -4,7 +4,7 @@ use Rattle.std.specs.FinMap as map
 use Rattle.std.specs.Ordering.{nat_cmp}
 use Rattle.std.proofs.lemmas.List.{length-replicate}
 use Rattle.std.proofs.lemmas.Nat.Bits.{bit_at-zero}
-use Rattle.drm_index_array.proofs.MarkedLemmas.{same_by_gets}
+use Rattle.drm_index_array.proofs.MarkedLemmas.{same_by_gets, same_branch}
 use Rattle.drm_index_array.specs.declared.marks.Mark.TheVariants.{M0, M1, M2}
 use Rattle.drm_index_array.specs.Marked.{Marked}
 use Rattle.drm_index_array.specs.Word.{has_bit, tells_of}
@@ -23,10 +23,6 @@ no_words = record { present = 0; full = 0; m0 = 0; m1 = 0; m2 = 0 }
 
 no_bit : (i : ℕ) → has_bit 0 i ≡ false
 no_bit i = rw (bit_at-zero i) refl
-
-same_either : {X : Type 0} (b : Bool) (x : X) → cond b x x ≡ x
-same_either true x = refl
-same_either false x = refl
 
 module _ (T : Type 0) where
   abbrev pub vacants : ℕ → List (Slot T)
@@ -64,7 +60,7 @@ module _ (T : Type 0) where
   empty_view height = ap (λ items. record { height = height; items = items }) (same_by_gets _ _ (λ k.
       get-table (span height) (look height (vacants 64)) k
       ∙ ap (λ s. cond (ltb k (span height)) (below s (k % width height)) None) (slot_vacant 64 (k / width height))
-      ∙ same_either _ None ∙ sym (map.get-empty nat_cmp k)))
+      ∙ same_branch _ None ∙ sym (map.get-empty nat_cmp k)))
 
   pub empty_node : (height : ℕ) → height ≤ 5 → IsNode height (vacants 64) no_words 0
   empty_node height low = record {

@@ -1,5 +1,5 @@
 -- A node, of which one value is lent for writing.
-use Rattle.std.proofs.Common.{◌≡◌, ℕ, ◌<◌, ◌-◌, Bool, true, false, cond, eqb, List, set, Option, Some, None, is_some, option_map, refl, sym, ap, ◌∙◌, subst, inl, inr, arith}
+use Rattle.std.proofs.Common.{◌≡◌, ℕ, ◌<◌, ◌-◌, cond, eqb, List, set, Option, Some, None, is_some, option_map, refl, sym, ap, ◌∙◌, subst, inl, inr, arith}
 use mathlib.Core.Option as maybe
 use base.Fml.{GName}
 use borrow.Follows.Closed.{read_of}
@@ -19,7 +19,7 @@ use Rattle.drm_index_array.specs.declared.words.Words.{Words}
 use Rattle.drm_index_array.specs.declared.tree.Slot.{Slot}
 use Rattle.drm_index_array.specs.declared.tree.Slot.TheVariants.{Vacant, Value, Child}
 use Rattle.drm_index_array.proofs.Least.{least-same}
-use Rattle.drm_index_array.proofs.MarkedLemmas.{get-rewrite, len-set_value}
+use Rattle.drm_index_array.proofs.MarkedLemmas.{same_branch, get-rewrite, len-set_value}
 use Rattle.drm_index_array.proofs.SlotLemmas.{Spot}
 use Rattle.drm_index_array.proofs.EditLemmas.{used_set, edited_sound, edited_view, was_fits, value_was, rest_in_slot}
 
@@ -46,12 +46,8 @@ module _ {T : Type 0} where
   get-set_value : (a : map.FinMap Rattle.std.specs.Ordering.nat_cmp (Marked T)) (i : ℕ) (w : T) (k : ℕ) → map.get (set_value a i w) k ≡ cond (eqb k i) (option_valued w (map.get a i)) (map.get a k)
   get-set_value a i w k = get-rewrite a i (valued w) k ∙ branch_at (option_valued w) (map.get a) k i (map.get a k)
 
-  same_branch : (b : Bool) → None ≡ cond {A = Option (Marked T)} b None None
-  same_branch true = refl
-  same_branch false = refl
-
   below-slot_with_value : (height : ℕ) (s : Slot T) → SlotFits height s → (rest r : ℕ) → rest < width height → r < width height → (w : T) → below (slot_with_value s rest w) r ≡ cond (eqb r rest) (option_valued w (below s rest)) (below s r)
-  below-slot_with_value height Vacant fits rest r lt less w = same_branch (eqb r rest)
+  below-slot_with_value height Vacant fits rest r lt less w = sym (same_branch (eqb r rest) None)
   below-slot_with_value height (Value e) fits rest r lt less w =
       let one : rest < width 0 = subst (λ h. rest < width h) fits lt in
       let two : r < width 0 = subst (λ h. r < width h) fits less in

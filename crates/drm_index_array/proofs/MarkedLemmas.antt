@@ -30,7 +30,7 @@ get-remove m k q = map.get-remove nat_cmp_total m k q ∙ ap (λ b. cond b None 
 pub same_by_gets : {X : Type 0} (m n : map.FinMap nat_cmp X) → ((q : ℕ) → map.get m q ≡ map.get n q) → m ≡ n
 same_by_gets m n same = map.same_map nat_cmp_total nat_cmp-IsAntisymmetric m n same
 
-same_branch : {Y : Type 0} (b : Bool) (x : Y) → cond b x x ≡ x
+pub same_branch : {Y : Type 0} (b : Bool) (x : Y) → cond b x x ≡ x
 same_branch true x = refl
 same_branch false x = refl
 
@@ -74,9 +74,9 @@ option_map_or-cond : {Y Z : Type 0} (f : Y → Z) (d : Z) (b : Bool) (x y : Opti
 option_map_or-cond f d true x y = refl
 option_map_or-cond f d false x y = refl
 
-cond_same : {Y : Type 0} (b : Bool) (x : Y) → cond b x x ≡ x
-cond_same true x = refl
-cond_same false x = refl
+without_false : (b c : Bool) → cond b false c ≡ (not b && c)
+without_false true c = refl
+without_false false c = refl
 
 -- the branch for equal numbers is used only at equal numbers
 cond_at : {Y : Type 0} (q i : ℕ) (x y z : Y) → (q ≡ i → x ≡ y) → cond (eqb q i) x z ≡ cond (eqb q i) y z
@@ -99,7 +99,7 @@ module _ {X : Type 0} where
   unfolding rewrite
   get-rewrite a i f q =
       elim (map.get a i) as (λ o. map.get a i ≡ o → map.get (rewritten a i f o) q ≡ cond (eqb q i) (option_map f (map.get a q)) (map.get a q)) [
-        | None ↦ λ none. sym (cond_same (eqb q i) _) ∙ cond_at q i _ _ _ (λ e. rw (e, none) refl)
+        | None ↦ λ none. sym (same_branch (eqb q i) _) ∙ cond_at q i _ _ _ (λ e. rw (e, none) refl)
         | Some s ↦ λ some. get-insert a i (f s) q ∙ cond_at q i _ _ _ (λ e. rw (e, some) refl)
       ] refl
 
@@ -125,7 +125,7 @@ module _ {X : Type 0} where
       ap (option_map (λ s. s.value)) (get-rewrite a i (λ s. with_mark s m b) q)
       ∙ option_map-cond (λ s. s.value) (eqb q i) _ _
       ∙ ap (λ x. cond (eqb q i) x (get a q)) (kept m (map.get a q))
-      ∙ cond_same (eqb q i) _
+      ∙ same_branch (eqb q i) _
     where
       kept : (m : Mark) (o : Option (Marked X)) → option_map (λ s. s.value) (option_map (λ s. with_mark s m b) o) ≡ option_map (λ s. s.value) o
       kept m None = refl
@@ -231,21 +231,17 @@ module _ {X : Type 0} where
           same_marks _ m (marked_in a m) (λ q.
           is_marked-insert a i v q m
           ∙ cond_at q i _ _ _ (λ e. sym (rw e (absent_unmarked a i m none)))
-          ∙ cond_same (eqb q i) _
+          ∙ same_branch (eqb q i) _
           ∙ sym (contains-marked_in a m q))
 
   pub array_of-remove : (a : MarkedMap X) (i : ℕ) → array_of (map.remove a i) ≡ without_item (array_of a) i
   array_of-remove a i = by_parts _ _ (values-remove a i) (less M0) (less M1) (less M2)
     where
-      test : (b c : Bool) → cond b false c ≡ (not b && c)
-      test true c = refl
-      test false c = refl
-
       less : (m : Mark) → marked_in (map.remove a i) m ≡ set.remove (marked_in a m) i
       less m =
           same_marks _ m _ (λ q.
           is_marked-remove a i q m
-          ∙ test (eqb q i) _
+          ∙ without_false (eqb q i) _
           ∙ (λ j. not (sym (eq_by_cmp-nat_cmp q i) j) && sym (contains-marked_in a m q) j)
           ∙ sym (set.contains-remove nat_cmp_total (marked_in a m) i q))
 
@@ -266,14 +262,14 @@ module _ {X : Type 0} where
           same_marks _ m (marked_in a m) (λ q.
           is_marked-rewrite a i (λ s. record s { value = v }) q m
           ∙ ap (λ b. cond (eqb q i) b (is_marked a q m)) (inner m (map.get a q))
-          ∙ cond_same (eqb q i) _
+          ∙ same_branch (eqb q i) _
           ∙ sym (contains-marked_in a m q))
 
   -- a mark that a rewrite keeps
   kept_mark : (a : MarkedMap X) (i : ℕ) (f : Marked X → Marked X) (n : Mark) → ((s : Marked X) → mark_of (f s) n ≡ mark_of s n) → marked_in (rewrite a i f) n ≡ marked_in a n
   kept_mark a i f n keeps =
       same_marks _ n (marked_in a n) (λ q.
-      is_marked-rewrite a i f q n ∙ ap (λ b. cond (eqb q i) b (is_marked a q n)) (inner (map.get a q)) ∙ cond_same (eqb q i) _ ∙ sym (contains-marked_in a n q))
+      is_marked-rewrite a i f q n ∙ ap (λ b. cond (eqb q i) b (is_marked a q n)) (inner (map.get a q)) ∙ same_branch (eqb q i) _ ∙ sym (contains-marked_in a n q))
     where
       inner : (o : Option (Marked X)) → option_map_or (λ s. mark_of (f s) n) o false ≡ option_map_or (λ s. mark_of s n) o false
       inner None = refl
@@ -303,14 +299,10 @@ module _ {X : Type 0} where
       same_marks _ m _ (λ q.
       is_marked-rewrite a i f q m
       ∙ ap (λ b. cond (eqb q i) b (is_marked a q m)) (written (map.get a q))
-      ∙ test (eqb q i) _
+      ∙ without_false (eqb q i) _
       ∙ (λ j. not (sym (eq_by_cmp-nat_cmp q i) j) && sym (contains-marked_in a m q) j)
       ∙ sym (set.contains-remove nat_cmp_total (marked_in a m) i q))
     where
-      test : (b c : Bool) → cond b false c ≡ (not b && c)
-      test true c = refl
-      test false c = refl
-
       written : (o : Option (Marked X)) → option_map_or (λ s. mark_of (f s) m) o false ≡ false
       written None = refl
       written (Some s) = clears s

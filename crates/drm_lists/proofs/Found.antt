@@ -13,6 +13,10 @@ pub is_some-map : {X Y : Type 0} (f : X → Y) → (o : Option X) → is_some (o
 is_some-map f None = refl
 is_some-map f (Some x) = refl
 
+pub is_some-false : {X : Type 0} (o : Option X) → is_some o ≡ false → o ≡ None
+is_some-false None h = refl
+is_some-false (Some x) h = absurd (let e : true ≡ false = h in cc)
+
 pub on_some : {X : Type 0} (o : Option X) (P : Type 0) → is_some o ≡ true → OnSome o P → P
 on_some None P h p = absurd (let e : false ≡ true = h in cc)
 on_some (Some x) P h p = p

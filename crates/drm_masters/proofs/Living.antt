@@ -1,5 +1,5 @@
 -- Chains of masters, which masters stay, and what a sweep leaves.
-use Rattle.std.proofs.Common.{◌≡◌, ℕ, ◌<◌, Bool, true, false, not, ◌&&◌, ◌||◌, inl, inr, List, Option, None, Some, refl, sym, ap, subst, ◌∙◌, eq-eqb, arith}
+use Rattle.std.proofs.Common.{◌≡◌, ℕ, ◌<◌, Bool, true, false, ◌&&◌, ◌||◌, inl, inr, List, Option, None, Some, refl, sym, ap, subst, ◌∙◌, eq-eqb, arith}
 use Rattle.std.specs.List.{list_any, AllByRecursion}
 use Rattle.std.specs.Option.{is_some, option_and_then}
 use Rattle.std.proofs.lemmas.Bool.{eqb-true, or_left, or_right, and_parts, and_from}
@@ -28,10 +28,6 @@ others_apart ms birth fresh = each_fails (is_step_number birth) ms (sym (is_some
 
 abbrev pub Older : List Master → Type 0
 Older ms = AllByRecursion (HasOlderLessor ms) ms
-
-pub not_false : (b : Bool) → not b ≡ false → b ≡ true
-not_false true h = refl
-not_false false h = absurd (let e : true ≡ false = h in cc)
 
 -- whether an option is this one, as what it is
 pub is_this : (n : ℕ) (o : Option ℕ) → is_option n o ≡ true → o ≡ Some n

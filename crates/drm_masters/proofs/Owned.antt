@@ -12,7 +12,7 @@ use Rattle.drm_lists.specs.Chains.{top_of}
 use Rattle.drm_lists.proofs.Chains.{top_some}
 use Rattle.drm_lists.proofs.Lists.{all_weaker, all_each}
 use Rattle.drm_lists.proofs.Each.{none_passes}
-use Rattle.drm_lists.proofs.Found.{is_some-find, find_none}
+use Rattle.drm_lists.proofs.Found.{is_some-false, is_some-find, find_none}
 use Rattle.drm_lists.proofs.Placed.{all_placed}
 use Rattle.drm_lists.proofs.Numbers.{flipped, same_either}
 use Rattle.drm_lists.proofs.Rising.{found, any_found, all_found, find_where}
@@ -137,15 +137,11 @@ module _ (ms : List Master) (x : Master) (fresh : IsFresh ms x.step_number) wher
 pub free_id : (ms : List Master) (rise : Rise ms) (x : Master) (ids : Ids) → AreIdsOf ms ids → ((l : ℕ) → x.lessor ≡ Some l → list_any (is_lessee_of ms (owner_of ms l) x.lessee_id) ms ≡ false) → (p q : ℕ) → has_id (owner_to_be ms x) x.lessor x.lessee_id p q ≡ true → ids p q ≡ None
 free_id ms rise x ids are other p q h = by_lessor x.lessor refl h
   where
-    none_is : (n : Option ℕ) → is_some n ≡ false → n ≡ None
-    none_is None e = refl
-    none_is (Some m) e = absurd (false≢true (sym e))
-
     by_lessor : (r : Option ℕ) → x.lessor ≡ r → (is_some r && ((p == option_map_or (owner_of ms) r x.step_number) && (q == x.lessee_id))) ≡ true → ids p q ≡ None
     by_lessor None e k = absurd (false≢true k)
     by_lessor (Some l) e k =
         let w = and_parts (p == owner_of ms l) (q == x.lessee_id) k in
-        none_is (ids p q) ((λ i. is_some (ids (eqb-true p (owner_of ms l) w.0 i) (eqb-true q x.lessee_id w.1 i))) ∙ taken_by ms rise ids are (owner_of ms l) x.lessee_id ∙ other l e)
+        is_some-false (ids p q) ((λ i. is_some (ids (eqb-true p (owner_of ms l) w.0 i) (eqb-true q x.lessee_id w.1 i))) ∙ taken_by ms rise ids are (owner_of ms l) x.lessee_id ∙ other l e)
 
 pub vacant_id : (ms : List Master) (rise : Rise ms) (x : Master) (ids : Ids) → AreIdsOf ms ids → ((l : ℕ) → x.lessor ≡ Some l → list_any (is_lessee_of ms (owner_of ms l) x.lessee_id) ms ≡ false) → (l : ℕ) → x.lessor ≡ Some l → ids (owner_to_be ms x) x.lessee_id ≡ None
 vacant_id ms rise x ids are other l e = free_id ms rise x ids are other (owner_to_be ms x) x.lessee_id (λ i. is_some (e i) && (eq-eqb (owner_to_be ms x) (owner_to_be ms x) refl i && eq-eqb x.lessee_id x.lessee_id refl i))

@@ -1,10 +1,11 @@
 use Rattle.std.proofs.Common.{◌≡◌, Some, refl, ap, sym, ◌∙◌}
 use Rattle.std.specs.FinMap.{insert}
 use Rattle.std.specs.Option.{option_or}
+use Rattle.drm_lists.proofs.Found.{is_some-false}
 use Rattle.drm_index_array.proofs.MarkedLemmas.{insert_same}
 use Rattle.drm_files.specs.Files.{FileLists, with_export_order}
 use Rattle.drm_files.proofs.Calls.{given}
-use Rattle.drm_files.proofs.InOrder.{some_of, none_of}
+use Rattle.drm_files.proofs.InOrder.{some_of}
 use Rattle.drm_files.proofs.RecordFacts.{nobody, has_none, are-unchanged, are-put}
 use Rattle.drm_files.proofs.files.Files.set_prime.Goals as goal
 
@@ -53,7 +54,7 @@ returns c =
     let inside = c.self.inside in
     let old = c.in-Some.record.now in
     let held = c.in-Some-get.held.now in
-    let none = none_of held.export_order (sym c.if-is_some.ensures) in
+    let none = is_some-false held.export_order (sym c.if-is_some.ensures) in
     let slots : c.give_order.new.self.handles.slots ≡ insert old.handles.slots c.args.handle (record { object = held.object; export_order = option_or held.export_order (Some c.args.export_order) }) =
     ap (λ t. t.slots) c.give_order.ensures.handles ∙ sym (ap (λ p. insert old.handles.slots c.args.handle (record { object = held.object; export_order = option_or p (Some c.args.export_order) })) none) in
     given inside.open_limit inside.last_handle inside.clients.items c.args.client old c.give_order.new.self c.args.handle held c.args.export_order (sym c.in-Some.ensures.value) (sym c.in-Some-get.ensures.value) c.give_order.ensures.flags slots

@@ -1,9 +1,10 @@
 use Rattle.std.proofs.Common.{◌≡◌, ℕ, None, cond, eqb, refl, sym, ap, subst, ◌∙◌}
 use Rattle.std.specs.FinMap as fin
+use Rattle.drm_lists.proofs.Found.{is_some-false}
 use Rattle.drm_files.specs.declared.orders.ExportOrders.{ExportOrders}
 use Rattle.drm_index_array.proofs.MarkedLemmas.{get-remove}
 use Rattle.drm_files.specs.ExportOrders.{AreJoined}
-use Rattle.drm_files.proofs.InOrder.{forgotten_placed, forgotten_unplaced, some_of, none_of}
+use Rattle.drm_files.proofs.InOrder.{forgotten_placed, forgotten_unplaced, some_of}
 use Rattle.drm_files.proofs.orders.ExportOrders.forget.Goals.{then-was_placed, else-was_placed}
 use Rattle.drm_files.proofs.orders.ExportOrders.forget.Goals as goal
 
@@ -22,7 +23,7 @@ returns c = λ slots x order there for is.
           (subst (λ s. AreJoined old c.args.object w.previous-previous.result w.next-next.result s) (sym w.self-is) (subst (λ o. AreJoined old o w.previous-previous.result w.next-next.result w.join.new.self) d w.join.ensures))
           links refl
       | else-was_placed w ↦
-          forgotten_unplaced slots old order c.args.object h x there for _ (none_of x.export_order (is ∙ w.if-was_placed.false))
+          forgotten_unplaced slots old order c.args.object h x there for _ (is_some-false x.export_order (is ∙ w.if-was_placed.false))
           (λ k. links k ∙ ap (λ (s : ExportOrders). cond (eqb k h) None (fin.get s.links.items k)) w.self-is)
           (ap (λ (s : ExportOrders). s.ends) w.self-is)
     ]

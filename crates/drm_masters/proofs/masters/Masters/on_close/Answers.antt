@@ -5,12 +5,11 @@ use Rattle.drm_masters.specs.declared.rows.Member.{Member}
 use Rattle.drm_masters.specs.Fields.{set_of}
 use Rattle.drm_masters.specs.Masters.{MasterSet, AreMasters, member_of, master_at, is_client, IsKeyOf, is_living, swept}
 use Rattle.drm_masters.specs.Calls as calls
-use Rattle.drm_masters.proofs.Living.{not_false}
 use Rattle.drm_masters.proofs.Pushed.{kept_keyed, kept_key}
 use Rattle.drm_masters.proofs.Upward.{OthersUsed}
 use Rattle.drm_masters.proofs.Sound.{sound, swept_are, gone_ties, gone_used, own_are, client_found, master_there, at_step_number, keyed_fewer, known}
 use Rattle.drm_masters.proofs.masters.Masters.on_close.Goals as goal
-use Rattle.std.proofs.lemmas.Bool.{not-true}
+use Rattle.std.proofs.lemmas.Bool.{not-true, not-false}
 
 pub sweep_up-requires-clause-others : goal.sweep_up-requires-clause-others
 sweep_up-requires-clause-others c =
@@ -88,5 +87,5 @@ returns c =
     let key = kept_key x.master true v.masters so.keyed c.in-Some.master (at_step_number v.masters x.master c.in-Some.master found).1 in
     let masters : c.set_kept.new.self.items ≡ (calls.with_kept x.master true v).masters = c.set_kept.ensures ∙ ap (λ (w : MasterSet). (calls.with_kept x.master true w).masters) c.self.view_is in
     let own_key : (key : ℕ) × (Some c.in-Some.master.key ≡ Some key) × IsKeyOf new.masters x.master key = (c.in-Some.master.key, refl, subst (λ l. IsKeyOf l x.master c.in-Some.master.key) (sym masters) (subst (λ n. IsKeyOf (calls.with_kept x.master true v).masters n c.in-Some.master.key) num key)) in
-    subst (λ o. calls.ClosedBy v o (Some c.in-Some.master.key) new) (sym look) (subst (λ b. calls.ClosedOf v x b (Some c.in-Some.master.key) new) (sym (not_false x.is_master c.if-not-member.false))
+    subst (λ o. calls.ClosedBy v o (Some c.in-Some.master.key) new) (sym look) (subst (λ b. calls.ClosedOf v x b (Some c.in-Some.master.key) new) (sym (not-false x.is_master c.if-not-member.false))
     (own_key, (λ i. record (set_of c.self.inside) { members = gone i; masters = c.set_kept.ensures i; device_master = c.device_without-self-inside.ensures i }) ∙ ap (calls.closed_own x.client x.master) c.self.view_is))
