@@ -39,7 +39,14 @@ BESIDE = tuple(
         "kernel_standings",
     )
 )
-TOOLS = ("all", "../bench/instructions", "../tools/check", "../tools/beside-kernel", "../clients/libdrm/logind", *BESIDE)
+TOOLS = (
+    "all",
+    "../bench/instructions",
+    "../tools/check",
+    "../tools/beside-kernel",
+    "../clients/libdrm/logind",
+    *BESIDE,
+)
 
 
 # Python
