@@ -4,6 +4,7 @@ from __future__ import annotations
 
 import datetime
 import pathlib
+import textwrap
 from typing import Iterator, List, Sequence, Tuple
 
 from comparison import Result
@@ -116,15 +117,15 @@ def compared_text(results: Sequence[Result], machine: str, seconds: float) -> st
     day = datetime.date.today().isoformat()
     head = ("kernel", "driver", "scripts", "lines compared", "differences as listed here", "others")
     left_out = {reason: count for result in results for reason, count in result.left_out.items()}
-    reasons = " ".join(f"{count} lines are left out ({reason})." for reason, count in sorted(left_out.items()))
-    return f"""\
-On {day}, with Debian's kernels in QEMU, in {seconds / 60:.1f} minutes on {machine}:
-
-{table(head, list(result_rows(results)))}
-On the module with the test topology, these are all worked rows (`examples/rows`), all of `examples/linux`,
-{len(STANDINGS)} scripts in which a client of each kind makes each call (`tools/kernel_standings.py`), and 1,000 random ones
-of 120 lines. The module also has each topology of `examples/topologies`. Half of its random scripts, and all of the other
-drivers, are drawn so that no line is expected to be answered differently. The others are drawn freely: most of their
-differences follow from an earlier one, such as a client or a descriptor that is not open. {reasons}
-
-"""
+    reasons = "; ".join(f"{count} that are {reason}" for reason, count in sorted(left_out.items()))
+    text = [
+        f"On {day}, with Debian's kernels in QEMU, in {seconds / 60:.1f} minutes on {machine}:",
+        table(head, list(result_rows(results))).rstrip("\n"),
+        "All worked rows (`examples/rows`) and all of `examples/linux` ran on the module with the test topology. In"
+        f" {len(STANDINGS)} further scripts, a client of each kind makes each call (`tools/kernel_standings.py`). The other"
+        " scripts are random, of 120 lines each. The module also had each topology of `examples/topologies`.",
+        "Half of the module's random scripts, and all of the other drivers, are drawn so that no line is expected to be"
+        " answered differently. The others are drawn freely. Most of their differences follow from an earlier one, such as"
+        f" a client or a descriptor that is not open. Some lines are left out: {reasons}.",
+    ]
+    return "".join(f"{part if part.startswith('|') else textwrap.fill(part, 120)}\n\n" for part in text)

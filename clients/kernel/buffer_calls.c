@@ -76,7 +76,7 @@ static void make_audit(struct session *session, const struct line *line,
 {
     (void)line;
     (void)caller;
-    answer(session, "left out: not a call of the kernel");
+    answer(session, "left out: no call of a kernel");
 }
 
 // A call of this number with a structure of no bytes. A driver's number is the driver's own, and a
@@ -86,9 +86,9 @@ static void make_raw(struct session *session, const struct line *line, const str
     uint64_t number = line->fields[0];
 
     if (number > MOST_REQUEST)
-        answer(session, "left out: not a number of an ioctl");
+        answer(session, "left out: no number of an ioctl");
     else if (number >= DRM_COMMAND_BASE && number < DRM_COMMAND_END)
-        answer(session, "left out: not a call of the kernel");
+        answer(session, "left out: no call of a kernel");
     else if (make_ioctl(caller, _IO(DRM_IOCTL_BASE, (unsigned)number), NULL) != 0)
         answer_errno(session);
     else
