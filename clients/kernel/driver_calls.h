@@ -1,3 +1,4 @@
+/* SPDX-License-Identifier: GPL-2.0-only */
 /*
  * The driver calls of the module, numbered and shaped for an ioctl: each driver has the numbers
  * from 0x40 (DRM_COMMAND_BASE) to itself. The module and drm_script include it.

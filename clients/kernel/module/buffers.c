@@ -1,3 +1,4 @@
+// SPDX-License-Identifier: GPL-2.0-only
 // Objects without memory: a stamp represents the contents. Handles, names and descriptors are the
 // core's.
 #include <linux/slab.h>

@@ -1,3 +1,4 @@
+/* SPDX-License-Identifier: GPL-2.0-only */
 /* The parts of the module: a DRM device without hardware, with the mode objects of a topology. */
 #ifndef ZIRKOSHE_CARD_H
 #define ZIRKOSHE_CARD_H

@@ -1,3 +1,4 @@
+// SPDX-License-Identifier: GPL-2.0-only
 // CRTCs without hardware: those that never blank, and those with a timer for the vertical blanking.
 #include <drm/drm_atomic.h>
 #include <drm/drm_atomic_helper.h>

@@ -1,3 +1,4 @@
+// SPDX-License-Identifier: GPL-2.0-only
 // The driver of a DRM device without hardware. All access rules are the unchanged core's.
 #include <linux/module.h>
 #include <linux/platform_device.h>

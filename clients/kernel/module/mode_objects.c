@@ -1,3 +1,4 @@
+// SPDX-License-Identifier: GPL-2.0-only
 // The mode objects of a topology, created in the order of their ids.
 #include <drm/drm_atomic_helper.h>
 #include <drm/drm_atomic_state_helper.h>

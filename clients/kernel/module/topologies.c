@@ -1,3 +1,4 @@
+// SPDX-License-Identifier: GPL-2.0-only
 // The topology of a module's parameter.
 #include <linux/bitops.h>
 #include <linux/slab.h>
