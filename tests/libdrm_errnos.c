@@ -1,5 +1,5 @@
 /* For tests: requests that fail, each as an ioctl, and the errno of each. The same program runs
- * behind the library for libdrm programs and on a kernel. The argument is the card.
+ * with the library for libdrm programs and on a kernel. The argument is the card.
  */
 #define _GNU_SOURCE
 #include "libdrm_errnos.h"

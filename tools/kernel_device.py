@@ -1,7 +1,7 @@
 """What a kernel answers, in plain Python: the device of tests/plain_device.py, changed by each difference that examples/linux has.
 
 A method that departs from the rules names the file of examples/linux that shows the difference. So an answer of a kernel that this
-device gives too is explained by that file, in any script. An answer is a script's line, or `errno N` for any denial or fault.
+device returns too is explained by that file, in any script. An answer is a script's line, or `errno N` for any denial or fault.
 """
 
 from __future__ import annotations

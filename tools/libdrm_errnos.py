@@ -31,7 +31,7 @@ def build_program() -> kernels.Program:
 
 
 def errnos_of_the_library() -> Dict[str, str]:
-    """The errno of each request behind the library, with a server of its own."""
+    """The errno of each request with the library and its own server."""
     with tempfile.TemporaryDirectory(prefix="drm-errnos-") as room:
         program = pathlib.Path(room) / "libdrm_errnos"
         kernels.run(*COMPILE, "-o", program, *SOURCES)
@@ -46,7 +46,7 @@ def errnos_of(printed: List[str]) -> Dict[str, str]:
 
 
 def wrong_errnos(errnos: Dict[str, str]) -> List[str]:
-    """The requests whose errno behind the library is not that of the file."""
+    """The requests whose errno with the library is not that of the file."""
     script, known = read_trials(FILE)
     names = {script.lines[number - 1]: errno for number, errno in known.items()}
     return [

@@ -32,7 +32,7 @@ struct options {
     int first_file;
 };
 
-// A line of a script. Returns whether the script goes on.
+// A line of a script. Returns whether the script continues.
 static bool run_line(struct session *session, unsigned number, char *text)
 {
     struct line line;
@@ -61,8 +61,7 @@ static void run_lines(const struct device *device, char *text)
         printf("no memory\n");
 }
 
-// Each script has a process of its own, so that what its clients held is gone before the next one
-// begins.
+// Each script has its own process, so that its clients are closed before the next script begins.
 static int run_script(const struct device *device, const char *name, char *text)
 {
     int status = 0;
@@ -82,26 +81,32 @@ static int run_script(const struct device *device, const char *name, char *text)
     return 0;
 }
 
-// The scripts of a text, each of which but the first begins behind a line `= NAME`.
+// The next line `= NAME`, or a null pointer.
+static char *find_name(char *text)
+{
+    char *end = strstr(text, "\n= ");
+
+    if (strncmp(text, "= ", 2) == 0)
+        return text;
+    return end ? end + 1 : NULL;
+}
+
+// The scripts of a text. What precedes the first line `= NAME` is a script with the file's name.
 static int run_text(const struct device *device, const char *name, char *text)
 {
     int failed = 0;
 
     while (text) {
-        char *next = strncmp(text, "= ", 2) == 0 ? text : strstr(text, "\n= ");
+        char *line = find_name(text);
 
-        if (next && next != text)
-            *next++ = '\0';
-        if (next != text && *text)
+        if (line)
+            *line = '\0';
+        if (*text)
             failed |= run_script(device, name, text);
-        if (!next)
-            break;
-        name = next + 2;
-        text = strchr(next, '\n');
+        name = line ? line + 2 : name;
+        text = line ? strchr(line + 2, '\n') : NULL;
         if (text)
             *text++ = '\0';
-        if (text && strncmp(text, "= ", 2) == 0)
-            continue;
     }
     return failed;
 }

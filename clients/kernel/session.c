@@ -15,8 +15,8 @@
 
 #include "calls.h"
 
-// an id that the kernel gives no object, so that a number of the script that is not bound names
-// none
+// an id that the kernel allocates to no object, so that a number of the script that is not bound
+// names none
 #define NO_OBJECT 0x40000000U
 
 void answer(struct session *session, const char *format, ...)
@@ -139,7 +139,7 @@ static void turn_universal_planes_on(int file)
     ioctl(file, DRM_IOCTL_SET_CLIENT_CAP, &planes);
 }
 
-// The kernel gives a client no number: it is the script's or, if none is expected, the number of
+// A client has no number in the kernel: it is the script's or, if none is expected, the number of
 // clients so far.
 static void open_client(struct session *session, const struct line *line)
 {
