@@ -106,5 +106,6 @@ int main(int count, char **words)
     run_trials(&context, mode_trials);
     run_trials(&context, blank_trials);
     run_trials(&context, atomic_trials);
+    run_trials(&context, lease_trials);
     return 0;
 }

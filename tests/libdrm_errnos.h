@@ -17,6 +17,9 @@ struct context {
     int card;
     int guest;
     int render;
+    /* a lessee of the second CRTC, its primary plane and the second connector, once there is one */
+    int lessee;
+    uint32_t lessee_id;
     uint32_t crtcs[2];
     /* the primary planes, the overlay plane, and the cursor planes */
     uint32_t planes[MOST_PLANES];
@@ -36,14 +39,27 @@ struct trial {
     int (*make)(struct context *context);
 };
 
+/* A property of an object, and its value. A name that the object lacks is a property that does not
+ * exist. */
+struct set {
+    uint32_t object;
+    const char *name;
+    uint64_t value;
+};
+
 /* Each table ends with a row without a name. */
 extern const struct trial core_trials[];
 extern const struct trial mode_trials[];
 extern const struct trial blank_trials[];
 extern const struct trial atomic_trials[];
+extern const struct trial lease_trials[];
 
 /* A mode of this size. A frame takes a fifth of a second. */
 struct drm_mode_modeinfo mode_of(uint32_t width, uint32_t height);
+
+/* An atomic commit by this descriptor. */
+int commit_of(struct context *context, int file, uint32_t flags, const struct set *sets,
+              uint32_t count);
 
 /* MODE_SETCRTC of a framebuffer on a CRTC and a connector by their positions, or of none. */
 int show(struct context *context, int crtc, uint32_t fb, int connector);

@@ -12,14 +12,6 @@
 #define MODESET DRM_MODE_ATOMIC_ALLOW_MODESET
 #define TEST DRM_MODE_ATOMIC_TEST_ONLY
 
-/* A property of an object, and its value; a name that the object lacks is a property that does not
- * exist. */
-struct set {
-    uint32_t object;
-    const char *name;
-    uint64_t value;
-};
-
 static uint32_t property_of(struct context *context, uint32_t object, const char *name)
 {
     uint32_t ids[64];
@@ -40,8 +32,8 @@ static uint32_t property_of(struct context *context, uint32_t object, const char
     return NO_ID;
 }
 
-static int commit_of(struct context *context, int file, uint32_t flags, const struct set *sets,
-                     uint32_t count)
+int commit_of(struct context *context, int file, uint32_t flags, const struct set *sets,
+              uint32_t count)
 {
     uint32_t objects[MOST], counts[MOST], properties[MOST], i;
     uint64_t values[MOST];

@@ -54,7 +54,8 @@ uint32_t kernel_object(const struct session *session, uint32_t script)
 
     if (script == 0 || script == UINT32_MAX)
         return script;
-    return find_kernel_number(&session->objects, script, &kernel) ? kernel : NO_OBJECT + script;
+    return find_kernel_number(&session->objects, script, &kernel) ? kernel
+                                                                  : NO_OBJECT | script % NO_OBJECT;
 }
 
 uint32_t script_object(const struct session *session, uint32_t kernel)
