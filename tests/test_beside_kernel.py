@@ -128,6 +128,9 @@ class BesideKernelTests(FolderCase):
             ]
             result = compare("6.1", "6.1", asked, models, changed)
             expect(f"what {came} is", (len(result.unexplained), len(result.missing)), wanted)
+        wrong = asked._replace(server=[{**asked.server[0], number: "denied 38 NoFb 2"}])
+        result = compare("6.1", "6.1", wrong, models, printed([script], models))
+        expect("another answer of the server", (len(result.explained), len(result.unexplained)), (0, 1))
         result = compare("6.1", "6.1", asked, models, [])
         expect("a script that a kernel did not run", len(result.unexplained), len(asked.server[0]))
 

@@ -12,6 +12,8 @@ import kernels
 from kernel_device import LEFT_OUT, KernelDevice
 from kernel_scripts import REPOSITORY, Device, Modelled, Script, compared, is_event, modelled
 
+from plain_device import Plain
+
 SERVERS = 2
 
 
@@ -85,7 +87,10 @@ def ask_server(device: Device, scripts: List[Script]) -> Asked:
 def model_scripts(asked: Asked, series: str) -> List[Dict[int, Modelled]]:
     """What a kernel of this series is expected to answer to the scripts."""
     device = asked.device
-    return [modelled(script, KernelDevice(series, device.topology, device.cursors)) for script in asked.scripts]
+    return [
+        modelled(script, Plain(topology=device.topology), KernelDevice(series, device.topology, device.cursors))
+        for script in asked.scripts
+    ]
 
 
 def kernel_answers(lines: List[str]) -> Dict[str, Dict[int, str]]:
@@ -101,8 +106,10 @@ def kernel_answers(lines: List[str]) -> Dict[str, Dict[int, str]]:
     return found
 
 
-def explanation(line: Modelled, answer: str) -> Tuple[str, ...]:
-    """The files that explain an answer of a kernel, or none."""
+def explanation(line: Modelled, server: str, answer: str) -> Tuple[str, ...]:
+    """The files that explain an answer of a kernel, or none: if it is another one, or if the server's is not that of the rules."""
+    if server != line.rules:
+        return ()
     known = {compared(one) for one in line.answer.split(" or ")}
     return tuple(f"examples/linux/{file}.script" for file in line.files) if answer in known else ()
 
@@ -121,8 +128,8 @@ class Comparing:
             result.left_out[came.partition(": ")[2]] += 1
             return
         self.result = result._replace(lines=result.lines + 1)
-        if came != wanted:
-            files = explanation(model, came)
+        if came != wanted or asked != model.rules:
+            files = explanation(model, asked, came)
             found = Difference(result.kernel, script.name, number, script.lines[number - 1], asked, came, files)
             (result.explained if files else result.unexplained).append(found)
         if script.is_page:

@@ -305,19 +305,20 @@ def random_script(seed: int, device: Device = MODULE) -> Script:
 
 
 class Modelled(NamedTuple):
-    """What a kernel's device in Python answers to a line, and the files that explain where that departs from the rules."""
+    """What the rules and a kernel's device in Python answer to a line, and the files that explain where these differ."""
 
+    rules: str
     answer: str
     files: List[str]
 
 
-def modelled(script: Script, device: KernelDevice) -> Dict[int, Modelled]:
-    """What this device answers to each line of a script, by the lines' numbers."""
+def modelled(script: Script, plain: Plain, device: KernelDevice) -> Dict[int, Modelled]:
+    """What these devices answer to each line of a script, by the lines' numbers."""
     found = {}
     for number, line in enumerate(script.lines, 1):
-        answer = device.line(line)
+        rules, answer = plain.line(line), device.line(line)
         if answer is not None:
-            found[number] = Modelled(answer, device.files())
+            found[number] = Modelled(str(rules), answer, device.files())
     return found
 
 
