@@ -1,8 +1,7 @@
-/* The answers to requests, one function each. Each has the connection held, and the request's
- * struct, which it fills in.
+/* The answers to requests, one function each. The connection is held. A function fills in the
+ * request's struct.
  *
- * Each gives 0 or a negative errno; what came of the server's refusal is the errno of its rule.
- */
+ * Each returns 0 or a negative errno. If the server refuses, that is the errno of its rule. */
 #ifndef ZIRKOSHE_LIBDRM_ANSWERS_H
 #define ZIRKOSHE_LIBDRM_ANSWERS_H
 
@@ -13,12 +12,12 @@
 #include <drm_fourcc.h>
 #include <drm_mode.h>
 
-/* how wide and how high a cursor may be, which a capability tells */
+/* the largest width and height of a cursor, which a capability reports */
 #define MOST_CURSOR_SIDE 64
 
 typedef int answer(struct connection *connection, void *argument);
 
-/* The same where the connection isn't held yet, but is this descriptor. */
+/* The same, if the connection is not held yet, but is this descriptor. */
 typedef int free_answer(struct connection *connection, int fd, void *argument);
 
 /* core_calls.c: the driver, its capabilities, masters and magics */
@@ -57,27 +56,27 @@ free_answer answer_wait_vblank;
 /* flip_calls.c */
 answer answer_page_flip, answer_cursor;
 
-/* lacking_calls.c: what a driver answers that lacks the call */
+/* lacking_calls.c: the answers of a driver without the call */
 answer lacks_support, lacks_dirty, lacks_gamma_size, lacks_gamma;
 
 /* ioctls.c: that the caller is current, which the server is asked once; 0, or a negative errno */
 int permit_master(struct connection *connection);
 
-/* formats.c: the bits of a pixel in a format, or 0; the format that stands for so many bits, or 0;
- * the format that ADDFB means by bits and depth, or 0; all formats */
+/* formats.c: the bits of a pixel in a format, or 0; the format that represents N bits, or 0; the
+ * format that ADDFB means by bits and depth, or 0; all formats */
 uint32_t bits_of_format(uint32_t format);
 uint32_t depth_of_bits(uint32_t bits);
 uint32_t format_of_bits(uint32_t bits);
 uint32_t format_of_depth(uint32_t bits, uint32_t depth);
 const uint32_t *all_formats(uint32_t *count);
 
-/* modes.c: the modes that stand in for those of a monitor; the first is preferred */
+/* modes.c: the modes of the virtual monitors. The first one is preferred. */
 const struct drm_mode_modeinfo *all_modes(uint32_t *count);
 
 /* Gives a list as the core does: as much of it as there is room for, and how long it is. */
 int give(uint64_t pointer, uint32_t *room, const void *items, uint32_t count, size_t size);
 
-/* Gives a text likewise, where there is a buffer. */
+/* Returns a text likewise, if there is a buffer. */
 int give_text(char *buffer, size_t *room, const char *text);
 
 #endif

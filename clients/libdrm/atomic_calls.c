@@ -65,7 +65,7 @@ static int read_objects(struct commit *commit, const struct drm_mode_atomic *ask
     return failed;
 }
 
-/* Each CRTC of a commit has an event, if one is requested. Without a CRTC none would come. */
+/* Each CRTC of a commit has an event, if one is requested. Without a CRTC there would be none. */
 static int reserve_events(const struct commit *commit)
 {
     unsigned count = (unsigned)__builtin_popcountll(commit->crtcs);

@@ -1,4 +1,4 @@
-/* The memory behind handles, and the descriptors that stand for PRIME tokens. */
+/* The memory of handles, and the descriptors that represent PRIME tokens. */
 #include "connections.h"
 
 #include <limits.h>
@@ -10,7 +10,7 @@
 #define NAME "zirkoshe-buffer"
 /* how long a buffer may be, which is the server's own limit, as a power of two */
 #define LENGTH_BITS 36
-/* the byte that stands for token 0, and how many there are */
+/* the byte that represents token 0, and the number of tokens */
 #define TOKENS ((off_t)1 << 62)
 #define MOST_TOKENS ((off_t)1 << 32)
 
@@ -33,7 +33,7 @@ static void let_go(struct memory memory)
         libc_close(memory.fd);
 }
 
-/* Keeps a descriptor of memory, out of the program's way where that is possible. */
+/* Keeps a descriptor of memory, at a high number if possible. */
 static struct memory keep(int fd)
 {
     struct memory kept = {libc_duplicate(fd), 0};
@@ -224,8 +224,7 @@ static bool has_token(int memory, uint32_t token)
     return fcntl(memory, F_OFD_GETLK, &byte) == 0 && byte.l_type != F_UNLCK;
 }
 
-/* Redeems one of the tokens of this memory, all of which stand for one object: the least that is
- * open. */
+/* Redeems the lowest open token of this memory. All its tokens represent one object. */
 static int redeem(struct zirkoshe_client *client, int memory, struct zirkoshe_buffer *buffer)
 {
     int failed = -EINVAL;
@@ -238,7 +237,7 @@ static int redeem(struct zirkoshe_client *client, int memory, struct zirkoshe_bu
     return failed;
 }
 
-/* Gives a handle the memory that it was imported with, where it has none yet. */
+/* Sets the memory of an imported handle, if it has none yet. */
 static void adopt(struct buffers *buffers, const struct zirkoshe_buffer *imported, int memory)
 {
     struct buffer *buffer = find_or_add(buffers, imported->handle, imported->size);

@@ -1,9 +1,9 @@
-/* The memory behind handles, and the descriptors that stand for PRIME tokens.
+/* The memory of handles, and the descriptors that represent PRIME tokens.
  *
  * The server keeps no pixels. A handle that is mapped or exported gets shared memory of its size (a
  * memfd), which its mappings show. A PRIME descriptor is that memory, opened anew, with a lock on
- * one byte far behind its end: the byte's place is the token. The lock stays as long as the
- * descriptor is open anywhere, in whichever process, and whoever has the descriptor can read it.
+ * one byte far after its end: the position of the byte is the token. The lock stays while the
+ * descriptor is open in any process. Every process that has the descriptor can read it.
  */
 #ifndef ZIRKOSHE_LIBDRM_BUFFERS_H
 #define ZIRKOSHE_LIBDRM_BUFFERS_H
@@ -20,7 +20,7 @@ struct connection;
 /* A descriptor of memory that is this library's own. A program may close what it doesn't know, so
  * that the file is known too. */
 struct memory {
-    int fd; /* -1 where there is none */
+    int fd; /* -1 if there is none */
     ino_t file;
 };
 
@@ -32,7 +32,7 @@ struct buffer {
     struct memory memory;
 };
 
-/* A token that this process exported, and the memory whose descriptors tell of it. */
+/* A token that this process exported, and the memory whose descriptors represent it. */
 struct export
 {
     struct export *next;
@@ -53,14 +53,14 @@ void buffers_note(struct buffers *buffers, uint32_t handle, uint64_t size);
 /* Forgets a handle that was closed. Its mappings and PRIME descriptors stay. */
 void buffers_forget(struct buffers *buffers, uint32_t handle);
 
-/* Forgets what was exported: another process, or nobody, closes the tokens. */
+/* Forgets what was exported: another process, or none, closes the tokens. */
 void buffers_forget_exports(struct buffers *buffers);
 
 /* Forgets all, as the connection is closed. */
 void buffers_clear(struct buffers *buffers);
 
-/* The memory of a handle, and its size; a negative errno, which is EINVAL where this process
- * doesn't know the handle. */
+/* Returns the memory of a handle, and its size, or a negative errno: EINVAL if this process does
+ * not know the handle. */
 int buffers_memory(struct buffers *buffers, uint32_t handle, uint64_t *size);
 
 /* A descriptor for a token that was just exported for this handle, with flags of open; a negative
@@ -71,9 +71,8 @@ int buffers_export(struct buffers *buffers, uint32_t handle, uint32_t token, int
  * another file, the server's. */
 int buffers_import(struct connection *connection, int fd, uint32_t *handle);
 
-/* Closes the tokens whose descriptors are all closed. The connection is held. It looks where it is
- * told to, and where this process has closed a PRIME descriptor since it looked.
- */
+/* Closes the tokens whose descriptors are all closed. The connection is held. It looks if
+ * `is_to_look`, or if this process has closed a PRIME descriptor since the last look. */
 void buffers_close_tokens(struct connection *connection, bool is_to_look);
 
 /* Whether this is a descriptor of a buffer's memory, and whether this process has made any. */

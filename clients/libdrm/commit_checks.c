@@ -5,7 +5,7 @@
 
 #include "framebuffers.h"
 
-/* Whether a length fits behind a position, without going beyond what a signed number has. */
+/* Returns whether a position and a length fit into a signed number. */
 static bool overflows(int32_t position, uint32_t length)
 {
     return length > INT32_MAX || (int64_t)position + (int64_t)length > INT32_MAX;
@@ -45,7 +45,7 @@ static int check_crtc(const struct commit *commit, const struct crtc_state *befo
     return commit->has_event && !before->is_active && !after->is_active ? -EINVAL : 0;
 }
 
-/* Whether connectors came to a CRTC or left it. */
+/* Returns whether the connectors of a CRTC change. */
 static bool connectors_change(const struct commit *commit, uint32_t crtc_id)
 {
     size_t at;

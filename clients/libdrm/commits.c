@@ -67,8 +67,8 @@ static void add_crtc(struct commit *commit, uint32_t crtc_id)
     }
 }
 
-/* What a CRTC_ID may be: none, or a CRTC that the caller sees. A lessee, which a client from
- * another process may be, is not told whether another one exists. */
+/* Checks a CRTC_ID: 0, or a CRTC that the caller sees. A lessee cannot find out whether another
+ * one exists. A client from another process may be a lessee. */
 static int find_crtc(const struct commit *commit, uint64_t value)
 {
     const struct connection *connection = commit->connection;
@@ -160,7 +160,7 @@ static int set_of_connector(struct commit *commit, uint32_t connector_id, enum p
     struct connector_state *connector = state_of_connector(&commit->after, connector_id);
     int failed;
 
-    if (id != CRTC_ID) /* the power has a call of its own */
+    if (id != CRTC_ID) /* MODE_SETPROPERTY sets the power */
         return id == LINK_STATUS ? 0 : -EINVAL;
     failed = find_crtc(commit, value);
     if (failed)

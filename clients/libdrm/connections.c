@@ -1,5 +1,5 @@
-/* The program's descriptors that are connections to the server: which they are, who holds them, and
- * how they end. */
+/* The program's descriptors that are connections to the server: which they are, which processes
+ * hold them, and how they end. */
 #include "connections.h"
 
 #include "blobs.h"
@@ -44,7 +44,7 @@ const char *node_path(enum node node)
     return path == NULL || path[0] == '\0' ? NULL : path;
 }
 
-/* The socket's own number, or 0 where the descriptor is no socket. */
+/* Returns the socket's cookie, or 0 if the descriptor is not a socket. */
 static uint64_t cookie_of(int fd)
 {
     uint64_t cookie = 0;
@@ -53,10 +53,9 @@ static uint64_t cookie_of(int fd)
     return getsockopt(fd, SOL_SOCKET, SO_COOKIE, &cookie, &size) == 0 ? cookie : 0;
 }
 
-/* A mark on the socket, which all who have it see: that this library made it and, meanwhile, that
- * an answer is to come. A socket to the server that a program made itself has none. (Unix sockets
- * have no other use for a priority.)
- */
+/* A mark on the socket, which all its holders see: that this library created it and, during a
+ * call, that an answer is due. A socket to the server that a program created itself has none.
+ * (Unix sockets have no other use for a priority.) */
 enum mark { MARK_NONE, MARK_OURS, MARK_ASKING };
 
 static void set_mark(int fd, enum mark mark)
@@ -120,15 +119,15 @@ static void enlist(struct connection *connection)
     atomic_store(&any_connection, true);
 }
 
-/* Between vfork and exec a child has this memory, and descriptors of its own, whose closing is none
- * of this. */
+/* Between vfork and exec, a child has this memory and other descriptors. What it closes does not
+ * matter here. */
 bool connections_exist(void)
 {
     return atomic_load(&any_connection) && getpid() == own_process;
 }
 
-/* What an opening is refused by: a rule's errno, what the socket's file says, or ENODEV where no
- * server answers. */
+/* Returns the errno of an opening that failed: that of a rule or of the socket file, or ENODEV
+ * if no server answers. */
 static int opening_error(const struct zirkoshe_client *client, int failed)
 {
     switch (failed) {
@@ -176,8 +175,8 @@ int connection_open(enum node node, bool is_lease, uint32_t token, int flags)
     return fd;
 }
 
-/* A connection that came from another process, or from before an exec, is known by the socket that
- * it leads to. */
+/* Recognizes a connection from another process, or from before an exec, by the address of its
+ * socket. */
 static struct connection *recognise(int fd, uint64_t cookie)
 {
     struct connection *connection;
@@ -266,9 +265,9 @@ static bool is_shared(const struct connection *connection)
     return connection->is_forked || connection->is_received || connection->is_sent;
 }
 
-/* No handler of signals runs in a thread that has the turn: it might wait for the list, and who
- * forks has that and waits for the turn. Signals of faults stay, which come at once or never.
- */
+/* No handler of signals runs in a thread that has the turn. It could wait for the list, which a
+ * thread that forks has while it waits for the turn. Signals of faults are not blocked: they
+ * arrive at once or never. */
 void connection_lock(struct connection *connection, sigset_t *before)
 {
     sigset_t all;
@@ -288,9 +287,8 @@ void connection_unlock(struct connection *connection, const sigset_t *before)
     pthread_sigmask(SIG_SETMASK, before, NULL);
 }
 
-/* Takes the turn, and keeps handlers of signals and cancellation away while an answer is to come:
- * in a kernel they don't come in between either.
- */
+/* Takes the turn, and blocks signals and cancellation until the answer has arrived. In a kernel
+ * they do not interrupt a call either. */
 static void take_turn(struct connection *connection)
 {
     sigset_t signals;
@@ -310,8 +308,7 @@ static void end_turn(struct connection *connection)
     pthread_sigmask(SIG_SETMASK, &signals, NULL);
 }
 
-/* Keeps other processes from asking, or lets them. The lock is the process's own, and goes with it.
- */
+/* Locks other processes out, or lets them in. The lock belongs to the process, and ends with it. */
 static void lock_out_processes(int fd, short kind)
 {
     struct flock whole;
@@ -324,8 +321,8 @@ static void lock_out_processes(int fd, short kind)
         poll(NULL, 0, 1);
 }
 
-/* Holds it also against other processes. A mark that is there is of one that was killed: whose
- * answer comes next can't be known. */
+/* Locks other processes out. If the mark is set already, a process was killed within a call, and
+ * whose answer arrives next cannot be known. */
 static int hold_against_processes(int fd)
 {
     lock_out_processes(fd, F_WRLCK);
@@ -359,7 +356,7 @@ int connection_hold(struct connection *connection, int fd)
     return failed;
 }
 
-/* How often a call of this process can have changed who is current, from 1. */
+/* The number of calls of this process that can have changed which caller is current, from 1. */
 static atomic_uint standings_age = 1;
 
 bool connection_is_current(const struct connection *connection)
@@ -395,7 +392,7 @@ uint32_t connection_refused_by(void)
     return refused_by;
 }
 
-/* The rule of the last refusal, where it is what failed. */
+/* Returns the rule of the last refusal, if that is what failed. */
 static uint32_t rule_of(const struct zirkoshe_client *client, int failed)
 {
     const struct zirkoshe_rule *rule = failed ? zirkoshe_find_rule(client->rule) : NULL;
@@ -413,7 +410,7 @@ int connection_let_go(struct connection *connection, int fd, int failed)
     if (failed && connection->client.rule != 0)
         connection->topology_at = 0;
     if (duplicate < 0) {
-        /* the client gave it up: what comes late could be taken for the answer to another call */
+        /* the client has lost it: a late answer could be taken for that of another call */
         if (cookie_of(fd) == connection->cookie)
             shutdown(fd, SHUT_RDWR);
         failed = -ENODEV;
@@ -532,8 +529,8 @@ __attribute__((constructor)) static void begin(void)
     pthread_atfork(before_fork, after_fork_in_parent, after_fork_in_child);
 }
 
-/* At a process's end its connections are closed as by close, so that who waits for it finds them
- * closed. */
+/* At its end, a process closes its connections as by close. A process that waits for it finds
+ * them closed. */
 __attribute__((destructor)) static void end(void)
 {
     DIR *listed = connections_exist() ? opendir("/proc/self/fd") : NULL;

@@ -1,10 +1,9 @@
 /* The program's descriptors that are connections to the server.
  *
- * What the program gets for a node is the socket itself. So dup, fork, exec, passing it to another
- * process and its closing are what they are for every descriptor, and the server's client goes with
- * the last of them. A descriptor is told by the socket's cookie, a number that the kernel gives no
- * other socket; so no table of descriptors is kept, and none can be wrong.
- */
+ * The program's descriptor of a node is the socket itself. So dup, fork, exec, passing it to
+ * another process and closing it work as for every descriptor, and the server's client ends with
+ * the last one. A descriptor is recognized by the socket's cookie, which is unique. So there is
+ * no table of descriptors that could be wrong. */
 #ifndef ZIRKOSHE_LIBDRM_CONNECTIONS_H
 #define ZIRKOSHE_LIBDRM_CONNECTIONS_H
 
@@ -35,7 +34,7 @@ struct connection {
     unsigned users;      /* the list, and each thread that found it */
     bool is_forked;      /* this process has forked since, or was forked with it: its parent and its
                             children may have it */
-    bool is_received;    /* this process has it from somewhere else: anybody may have it */
+    bool is_received;    /* this process received it: any process can have it */
     bool is_sent;        /* this process has sent it away, and it may still be under way */
     unsigned known_at;   /* the age of the standings at which the caller was current, or 0 */
     uint32_t known_crtc; /* a CRTC that the caller saw then, or 0 */
@@ -52,17 +51,17 @@ struct connection {
     int cancel_state; /* and whether it could be cancelled */
 };
 
-/* The path of the server's socket for this node, or NULL where there is none. */
+/* Returns the path of the server's socket for this node, or NULL. */
 const char *node_path(enum node node);
 
-/* Opens a node, or by a lease token, and gives a descriptor with these flags of open, or a negative
- * errno. */
+/* Opens a node, or by a lease token. Returns a descriptor with these flags of open, or a
+ * negative errno. */
 int connection_open(enum node node, bool is_lease, uint32_t token, int flags);
 
 /* Whether this process has a connection that it knows of, and isn't a child of vfork. */
 bool connections_exist(void);
 
-/* The connection that this descriptor is, until connection_release; NULL where it is none. */
+/* Returns the connection of a descriptor, until connection_release, or NULL. */
 struct connection *connection_find(int fd);
 void connection_release(struct connection *connection);
 
@@ -71,15 +70,15 @@ void connection_release(struct connection *connection);
 void connection_lock(struct connection *connection, sigset_t *before);
 void connection_unlock(struct connection *connection, const sigset_t *before);
 
-/* Holds the connection, so that nobody else asks, in whichever thread or process; 0, or a negative
- * errno. Calls may follow. */
+/* Holds the connection: no other thread or process makes calls. Returns 0 or a negative errno.
+ * Calls may follow. */
 int connection_hold(struct connection *connection, int fd);
 
-/* Lets it go, and gives what the calls gave, or -ENODEV where the server is lost. */
+/* Lets it go, and returns what the calls returned, or -ENODEV if the server is lost. */
 int connection_let_go(struct connection *connection, int fd, int failed);
 
-/* The rule by which the server refused what this thread asked last, or 0 where the errno is another
- * one than that rule's. */
+/* Returns the rule by which the server refused the last request of this thread, or 0 if the
+ * errno is not that of the rule. */
 uint32_t connection_refused_by(void);
 
 /* Whether the server has said that the caller is current, and nothing since says otherwise: no call
@@ -94,7 +93,8 @@ void connection_is_found_current(struct connection *connection);
 bool connection_knows_topology(const struct connection *connection);
 void connection_has_topology(struct connection *connection);
 
-/* Notes that a call of this process can have changed who is current, or what a caller sees. */
+/* Records that a call of this process can have changed which caller is current, or what a caller
+ * sees. */
 void standings_changed(void);
 
 /* Closes this descriptor of the connection. Where it is the last one anywhere, the server has

@@ -21,7 +21,7 @@ int give_text(char *buffer, size_t *room, const char *text)
     return buffer == NULL ? 0 : copy_to_caller((uintptr_t)buffer, text, given);
 }
 
-/* Programs that look for a driver by its name are told the one that they look for. */
+/* A program that looks for a driver by its name finds it. */
 static const char *driver_name(void)
 {
     const char *name = getenv("DRM_SERVER_DRIVER");
@@ -48,7 +48,7 @@ int answer_version(struct connection *connection, void *argument)
     return failed;
 }
 
-/* A master's device has no name before SET_VERSION gives it one, which it doesn't here. */
+/* A master's device has no name before SET_VERSION sets it, which this library does not do. */
 int answer_get_unique(struct connection *connection, void *argument)
 {
     struct drm_unique *unique = argument;
@@ -58,8 +58,8 @@ int answer_get_unique(struct connection *connection, void *argument)
     return 0;
 }
 
-/* The caller itself is client 0, and there is no other. Whether it is authenticated shows in a call
- * that wants it, of no handle. */
+/* The caller itself is client 0, and there is no other. A call that requires authentication,
+ * with handle 0, reports whether the caller is authenticated. */
 int answer_get_client(struct connection *connection, void *argument)
 {
     struct drm_client *client = argument;
@@ -109,8 +109,8 @@ int answer_set_version(struct connection *connection, void *argument)
     return is_known ? 0 : -EINVAL;
 }
 
-/* What the core answers of capabilities that have nothing to do with the driver, or that the driver
- * lacks. */
+/* Answers as the core does for capabilities that are not the driver's, or that the driver does
+ * not have. */
 static int find_core_cap(uint64_t capability, uint64_t *value)
 {
     static const struct {
@@ -159,9 +159,8 @@ int answer_get_cap(struct connection *connection, void *argument)
     return failed;
 }
 
-/* What the core does with a capability of a client that the server doesn't know. Layouts of stereo
- * and aspect ratios are told in modes alone, and those here have none.
- */
+/* Does what the core does with a client capability that the server does not know. Stereo layouts
+ * and aspect ratios are in modes only, and these modes have none. */
 static int set_core_cap(const struct drm_set_client_cap *cap, bool is_atomic)
 {
     switch (cap->capability) {

@@ -5,11 +5,11 @@
 
 /* masks of CRTCs have 32 bits, so that a device has no more */
 #define MOST_CRTCS 32
-/* how far behind a number may be to be one that has passed, as in the core */
+/* a number at most this much smaller has passed, as in the core */
 #define PASSED ((uint64_t)1 << 23)
 
 struct crtc {
-    uint32_t id; /* 0 where the place is free */
+    uint32_t id; /* 0 if the place is free */
     uint32_t connector_id;
     bool is_lit;
     bool is_sure;   /* no call of this process since can have darkened it */
@@ -19,8 +19,7 @@ struct crtc {
     struct view view;
 };
 
-/* Taken while a connection is held alone, so that no handler of signals comes in between, and no
- * fork. */
+/* Taken only while a connection is held, so that no handler of signals and no fork interrupts. */
 static pthread_mutex_t turn = PTHREAD_MUTEX_INITIALIZER;
 static struct crtc crtcs[MOST_CRTCS];
 
@@ -47,8 +46,7 @@ bool has_passed(uint64_t sequence, uint64_t wanted)
     return sequence - wanted <= PASSED;
 }
 
-/* What is known of a CRTC. Where a device had more than it can have, the last place is anybody's.
- */
+/* Finds a CRTC. If a device had more than it can have, they would share the last place. */
 static struct crtc *find(uint32_t id)
 {
     size_t at = 0;
@@ -75,7 +73,7 @@ static int64_t period_of(const struct drm_mode_modeinfo *mode)
     return period > 0 ? period : 1;
 }
 
-/* Begins to blank now. The number goes on where it was. */
+/* Begins to blank now. The number continues. */
 static void begin(struct crtc *crtc, const struct drm_mode_modeinfo *mode)
 {
     int64_t now = time_now();

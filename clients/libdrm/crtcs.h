@@ -40,8 +40,8 @@ struct vblank vblank_of(const struct blanking *blanking, uint64_t sequence);
 /* Whether one has passed at another, as the core sees it: numbers go round. */
 bool has_passed(uint64_t sequence, uint64_t wanted);
 
-/* Notes what the server told of a CRTC: whether it shows something. What waits for the blanking of
- * a dark one comes at once. */
+/* Records what the server reported of a CRTC: whether it shows something. If it is dark, its
+ * waiting events are due at once. */
 void crtc_is_seen(uint32_t crtc_id, bool is_lit);
 
 /* Notes that this process lit it in this way, with this connector. */

@@ -1,4 +1,4 @@
-/* The events of connections, and what wakes those who wait for them. */
+/* The events of connections, and the timer that wakes the threads that wait for them. */
 #include "events.h"
 
 #include <errno.h>
@@ -137,7 +137,7 @@ static void stamp(struct event *event, uint64_t sequence, int64_t time, int64_t 
     }
 }
 
-/* Puts an event behind those that aren't due later. */
+/* Inserts an event after those that are not due later. */
 static void insert(struct events *events, const struct event *event)
 {
     unsigned at = events->count;
@@ -165,7 +165,7 @@ void events_add(struct events *events, const struct event *event, uint64_t seque
     let_go(&before);
 }
 
-/* Those of one connection: they come behind what is due already, in their order. */
+/* Hastens those of one connection: they follow the events that are due already, in their order. */
 static void hasten(struct events *events, uint32_t crtc_id, uint64_t sequence, int64_t time,
                    int64_t now)
 {
@@ -193,7 +193,7 @@ void events_hasten(uint32_t crtc_id, uint64_t sequence, int64_t time)
     let_go(&before);
 }
 
-/* As the core's drm_read: a buffer that is too short for the first event gives 0. */
+/* Does as drm_read of the core: if the buffer is too short for the first event, it returns 0. */
 static int take(struct events *events, unsigned char *bytes, size_t size, int64_t now)
 {
     size_t length = 0;
@@ -239,7 +239,7 @@ int events_timer(struct events *events)
     return timer;
 }
 
-/* Signals are blocked already by who forks. */
+/* The thread that forks has blocked signals. */
 void events_before_fork(void)
 {
     pthread_mutex_lock(&turn);

@@ -1,9 +1,9 @@
-/* The events of a connection, which this library makes, and what wakes those who wait for them.
+/* The events of a connection, which this library makes.
  *
- * Each event has a time at which it is due. A timerfd, which is this library's own, is readable
- * from the first one's time on, until that is read; it stands for the connection wherever a program
- * waits. Events are those of the process that asked for them.
- */
+ * Each event has a time at which it is due. A timerfd of this library is readable from the time
+ * of the first one on, until that is read. It represents the connection wherever a program
+ * waits. The supervisor writes the events to a pipe instead. Events belong to the process that
+ * requested them. */
 #ifndef ZIRKOSHE_LIBDRM_EVENTS_H
 #define ZIRKOSHE_LIBDRM_EVENTS_H
 
@@ -38,14 +38,14 @@ struct event {
 
 struct events {
     struct events *next; /* the next one that has a timer */
-    int timer;           /* -1 where none was wanted yet */
+    int timer;           /* -1 if none was needed yet */
     unsigned count;
     struct event queue[MOST_EVENTS]; /* by their times */
 };
 
 void events_begin(struct events *events);
 
-/* Forgets all events, and who waits for them. */
+/* Drops all events and closes the timer. */
 void events_end(struct events *events);
 
 bool events_have_room(struct events *events);
@@ -58,11 +58,11 @@ void events_add(struct events *events, const struct event *event, uint64_t seque
 /* Makes all events of a CRTC that aren't due yet due now, with this vertical blanking as theirs. */
 void events_hasten(uint32_t crtc_id, uint64_t sequence, int64_t time);
 
-/* Gives whole events that are due, as many as there is room for, and how long they are; -EAGAIN
- * where none is due. */
+/* Copies the events that are due whole, as many as fit. Returns their length, or -EAGAIN if none
+ * is due. */
 int events_take(struct events *events, void *bytes, size_t size);
 
-/* What is readable while an event is due; -1 where no descriptor is left. */
+/* Returns a descriptor that is readable while an event is due, or -1 if no descriptor is left. */
 int events_timer(struct events *events);
 
 /* A fork happens while nothing changes here. In the child, each connection's events are then to be

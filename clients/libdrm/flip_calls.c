@@ -32,8 +32,8 @@ static int refuse_shown(struct connection *connection,
     return refuse_framebuffer(&view, &framebuffer);
 }
 
-/* What the core and the driver refuse. The caller is the current master where it refuses nothing,
- * or else the server says so. */
+/* Refuses as the core and the driver do. If this refuses nothing, the server refuses a caller
+ * that is not current. */
 static int refuse_flip(struct connection *connection,
                        const struct drm_mode_crtc_page_flip_target *flip)
 {
@@ -62,8 +62,8 @@ static int refuse_flip(struct connection *connection,
     return crtc_flips(flip->crtc_id) ? -EBUSY : 0;
 }
 
-/* That the caller isn't current comes before all that is wrong with its request; what the server
- * said of that is told else. */
+/* The core tests whether the caller is current before anything else. The rule of the earlier
+ * refusal is kept. */
 static int refuse_others(struct zirkoshe_client *client, int failed)
 {
     uint32_t rule = client->rule;
@@ -89,8 +89,8 @@ static int can_drive(struct zirkoshe_client *client, uint32_t connector_id, uint
     return failed;
 }
 
-/* The connector that last lit the CRTC, as far as this process knows, or else the first one that it
- * can drive; 0 where none is. */
+/* Finds the connector that last lit the CRTC, as far as this process knows, or else the first
+ * one that it can drive, or 0. */
 static int find_connector(struct zirkoshe_client *client, uint32_t crtc_id, uint32_t *connector_id)
 {
     struct zirkoshe_resources resources;

@@ -46,7 +46,7 @@ uint32_t bits_of_format(uint32_t format)
     return 0;
 }
 
-/* The first format of so many bits stands for them: XRGB8888, RGB888, RGB565, C8. */
+/* The first format of N bits represents them: XRGB8888, RGB888, RGB565, C8. */
 static size_t place_of_bits(uint32_t bits)
 {
     size_t at = 0;

@@ -49,8 +49,8 @@ int answer_add_fb2(struct connection *connection, void *argument)
     return failed;
 }
 
-/* Asks for a framebuffer. A handle that comes with it is a new one, whose memory is as long as the
- * framebuffer needs. */
+/* Asks for a framebuffer. The handle that the server returns is new. Its memory is as long as
+ * the framebuffer needs. */
 static int get_fb(struct connection *connection, uint32_t fb_id, struct zirkoshe_fb *fb)
 {
     int failed = zirkoshe_drmModeGetFB(&connection->client, fb_id, fb);

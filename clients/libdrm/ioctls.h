@@ -8,8 +8,8 @@
 bool is_for_nodes(unsigned long request);
 bool is_for_memory(unsigned long request);
 
-/* What ioctl gives for a request to a connection, or to a PRIME descriptor; a negative errno where
- * it fails. */
+/* Returns what ioctl returns for a request to a connection, or to a PRIME descriptor, or a
+ * negative errno. */
 int carry_out(struct connection *connection, int fd, uint32_t request, void *argument);
 int carry_out_on_memory(uint32_t request, const void *argument);
 

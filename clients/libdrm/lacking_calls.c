@@ -1,4 +1,4 @@
-/* Answers of a driver that lacks the call. The core finds that out last. */
+/* Answers of a driver without the call. The core finds that out last. */
 #include "answers.h"
 
 #include "framebuffers.h"

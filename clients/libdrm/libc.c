@@ -1,4 +1,4 @@
-/* The C library's own functions, where more than one file wants them. */
+/* The C library's own functions that more than one file calls. */
 #include "libc.h"
 
 #include <fcntl.h>

@@ -6,7 +6,7 @@
 #ifndef _GNU_SOURCE
 #define _GNU_SOURCE
 #endif
-/* Sizes have 64 bits in any case, and this would give the functions other names. */
+/* Sizes have 64 bits in any case. This definition would rename functions. */
 #undef _FILE_OFFSET_BITS
 
 #include <dlfcn.h>
@@ -22,7 +22,7 @@
 #define SHOWN __attribute__((visibility("default")))
 #define ALSO(other, name) __typeof__(name) other __attribute__((alias(#name)))
 
-/* The next function of this name behind this library, which is looked up once at each place. */
+/* The next function of this name after this library, looked up once at each place. */
 #define REAL(name)                                                                                 \
     __extension__({                                                                                \
         static _Atomic(void *) known_function;                                                     \
@@ -43,8 +43,7 @@ ssize_t libc_readlink(const char *path, char *target, size_t size);
 /* Waits for descriptors as they are. */
 int libc_poll(struct pollfd *waited, nfds_t count, int timeout);
 
-/* A duplicate that is this library's own, out of the program's way where that is possible; -1 with
- * errno. */
+/* Returns a duplicate for this library, at a high number if possible, or -1 with errno. */
 int libc_duplicate(int fd);
 
 #endif

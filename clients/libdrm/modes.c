@@ -1,8 +1,6 @@
-/* The modes that each connector is told to have. The server has none, so that these stand in for a
- * monitor's.
+/* The modes of each connector. The server has none, so these represent a monitor.
  *
- * The timings are public: CTA-861 for 1920 by 1080 and 1280 by 720, VESA's DMT for the others.
- */
+ * The timings are public: CTA-861 for 1920 by 1080 and 1280 by 720, VESA's DMT for the others. */
 #include "answers.h"
 
 #define BOTH_UP (DRM_MODE_FLAG_PHSYNC | DRM_MODE_FLAG_PVSYNC)

@@ -1,4 +1,4 @@
-/* Who else has the file of a descriptor, as /proc tells. */
+/* Which other processes have the file of a descriptor, by /proc. */
 #include "libc.h"
 
 #include "others.h"
@@ -25,8 +25,8 @@ static bool name_of(int fd, char *name, size_t size)
     return true;
 }
 
-/* How many descriptors in a folder of /proc are the file of this name; -1 where that can't be read.
- */
+/* Counts the descriptors in a folder of /proc that are the file of this name. Returns -1 if the
+ * folder cannot be read. */
 static int count_in(const char *folder, const char *name)
 {
     DIR *listed = opendir(folder);

@@ -1,4 +1,4 @@
-/* Who else has the file of a descriptor, as /proc tells. */
+/* Which other processes have the file of a descriptor, by /proc. */
 #ifndef ZIRKOSHE_LIBDRM_OTHERS_H
 #define ZIRKOSHE_LIBDRM_OTHERS_H
 
@@ -7,8 +7,8 @@
 /* Whether this is the only descriptor of its file in this process. */
 bool is_only_one_here(int fd);
 
-/* Whether another process has the file. Of processes that can't be looked at it is taken to be so
- * where anybody may have it. */
+/* Returns whether another process has the file. If a process cannot be looked at, the result is
+ * whether any process may have it. */
 bool is_elsewhere(int fd, bool anybody_may);
 
 #endif

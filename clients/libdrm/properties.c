@@ -56,7 +56,7 @@ static const struct property properties[] = {
     RANGE(CRTC_H, DRM_MODE_PROP_ATOMIC, "CRTC_H", INT32_MAX),
 };
 
-/* Those that every client sees come first. */
+/* The properties that every client sees are first. */
 static const enum property_id of_planes[] = {TYPE,  IN_FORMATS, FB_ID,  CRTC_ID, SRC_X,  SRC_Y,
                                              SRC_W, SRC_H,      CRTC_X, CRTC_Y,  CRTC_W, CRTC_H};
 static const enum property_id of_crtcs[] = {ACTIVE, MODE_ID, OUT_FENCE_PTR};

@@ -1,6 +1,5 @@
-/* The properties of planes, CRTCs and connectors: those that the kernel's core gives each driver
- * with atomic commits.
- */
+/* The properties of planes, CRTCs and connectors: those that the kernel's core has for each
+ * driver with atomic commits. */
 #ifndef ZIRKOSHE_LIBDRM_PROPERTIES_H
 #define ZIRKOSHE_LIBDRM_PROPERTIES_H
 

@@ -13,7 +13,7 @@
 
 struct seen_plane {
     uint32_t id, possible_crtcs;
-    uint32_t primary_of; /* the CRTC whose primary plane it stands in for, or 0 */
+    uint32_t primary_of; /* the CRTC whose primary plane it represents, or 0 */
 };
 
 struct seen_connector {

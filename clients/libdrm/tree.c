@@ -229,7 +229,7 @@ void widen_status(const struct stat *status, struct statx *wide)
     wide->stx_rdev_minor = minor(status->st_rdev);
 }
 
-/* The name of an entry that stands right below a folder, or NULL. */
+/* Returns the name of an entry directly in a folder, or NULL. */
 static const char *name_below(const struct entry *folder, const struct entry *entry)
 {
     size_t length = strlen(folder->path);

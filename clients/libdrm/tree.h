@@ -1,5 +1,5 @@
-/* The paths that programs look at to find a device: the nodes in /dev/dri, and the folders of /sys
- * that tell of them. */
+/* The paths that programs look at to find a device: the nodes in /dev/dri, and their folders of
+ * /sys. */
 #ifndef ZIRKOSHE_LIBDRM_TREE_H
 #define ZIRKOSHE_LIBDRM_TREE_H
 
@@ -13,16 +13,16 @@ enum kind { KIND_NODE, KIND_FOLDER, KIND_LINK, KIND_TEXT };
 struct entry {
     const char *path;
     enum kind kind;
-    enum node node;   /* the entry is there where this node is */
-    const char *text; /* what a text holds, and where a link leads */
+    enum node node;   /* the entry exists if this node does */
+    const char *text; /* the contents of a text, and the target of a link */
 };
 
 /* Whether there are nodes. */
 bool is_served(void);
 
-/* Whether a path is the device's, from this folder or AT_FDCWD on. Its entry is NULL if another
- * device's node, or nothing, is hidden there. `..` is the folder that the path names before it, not
- * where a link leads. */
+/* Returns whether a path is the device's, from this folder or AT_FDCWD on. Its entry is NULL if
+ * the path hides another device's node, or nothing. `..` is the folder that the path names
+ * before it, not the one that a symbolic link leads to. */
 bool find_place(int folder, const char *path, const struct entry **entry);
 
 /* Opens a descriptor that represents a folder of the device, with O_CLOEXEC or not; -1 with errno.
@@ -32,10 +32,10 @@ int open_folder(const struct entry *folder, int flags);
 /* The folder that a descriptor represents, or NULL. */
 const struct entry *folder_of(int fd);
 
-/* What stat tells of an entry; of a link, what is behind it where links are followed. */
+/* Writes what stat reports of an entry, and of the target of a link if links are followed. */
 void entry_status(const struct entry *entry, bool follows, struct stat *status);
 
-/* What fstat tells of a connection: the node's own. */
+/* Writes what fstat reports of a connection. */
 void node_status(enum node node, struct stat *status);
 
 /* Writes what statx reports, by what stat does. */

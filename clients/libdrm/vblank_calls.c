@@ -10,7 +10,7 @@
 #define HIGH_CRTC ((unsigned)_DRM_VBLANK_HIGH_CRTC_MASK)
 #define KNOWN_TYPES ((unsigned)(_DRM_VBLANK_TYPES_MASK | _DRM_VBLANK_FLAGS_MASK) | HIGH_CRTC)
 
-/* What is waited for: a vertical blanking, and where the caller is told of. */
+/* What a request waits for: a vertical blanking of a CRTC */
 struct goal {
     uint32_t crtc_id;
     struct blanking blanking;
@@ -57,8 +57,8 @@ static uint64_t widen(uint32_t narrow, uint64_t near)
     return near + (uint64_t)(int64_t)(int32_t)(narrow - (uint32_t)near);
 }
 
-/* Which vertical blanking is wanted. A request that is made again, as after a signal, wants the
- * same one. */
+/* Finds the vertical blanking of a request. If the request is repeated, as after a signal, that
+ * is the same one. */
 static void find_wanted(struct drm_wait_vblank_request *request, struct goal *goal)
 {
     uint64_t last = goal->last.sequence, wanted = widen(request->sequence, last);

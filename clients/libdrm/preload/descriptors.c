@@ -1,5 +1,5 @@
-/* The functions of the C library on descriptors: connections and PRIME descriptors want other
- * answers than sockets and files. */
+/* The functions of the C library on descriptors. For connections and PRIME descriptors, the
+ * answers differ from those for sockets and files. */
 #include "connections.h"
 
 #include "ioctls.h"
@@ -9,7 +9,7 @@
 #include <sys/syscall.h>
 #include <sys/uio.h>
 
-/* What a function gives, where the answer may be a negative errno. */
+/* Returns as the C library does, for an answer that may be a negative errno. */
 static int result_of(int answer)
 {
     if (answer >= 0)
@@ -38,7 +38,7 @@ SHOWN int ioctl(int fd, unsigned long request, ...)
     return REAL(ioctl)(fd, request, argument);
 }
 
-/* Whether it is a connection; then it is closed, and what close gives is in `result`. */
+/* Returns whether it is a connection. Then it is closed, and the result of close is in `result`. */
 static bool closes(int fd, int *result)
 {
     struct connection *connection = connections_exist() ? connection_find(fd) : NULL;
@@ -85,7 +85,7 @@ SHOWN int dup3(int from, int to, int flags)
     return REAL(dup3)(from, to, flags);
 }
 
-/* Reading a node gives events. Who may wait does so until one is due or a signal comes. */
+/* Reading a node returns events. A blocking read waits until one is due or a signal arrives. */
 SHOWN ssize_t read(int fd, void *bytes, size_t size)
 {
     for (;;) {
@@ -107,7 +107,7 @@ SHOWN ssize_t read(int fd, void *bytes, size_t size)
 
 ssize_t __read_chk(int, void *, size_t, size_t);
 
-/* What a call of it becomes where a program was compiled with checks. */
+/* A program that was compiled with checks calls this instead. */
 SHOWN ssize_t __read_chk(int fd, void *bytes, size_t size, size_t room)
 {
     return size > room ? REAL(__read_chk)(fd, bytes, size, room) : read(fd, bytes, size);

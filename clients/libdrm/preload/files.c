@@ -49,7 +49,7 @@ static int open_entry(const struct entry *entry, int flags)
     return opened < 0 ? fail(-opened) : opened;
 }
 
-/* Whether the path is the device's; then what open gives is in `fd`. */
+/* Returns whether the path is the device's. Then the result of open is in `fd`. */
 static bool opens(int folder, const char *path, int flags, int *fd)
 {
     const struct entry *entry;
@@ -94,7 +94,7 @@ SHOWN int openat(int folder, const char *path, int flags, ...)
 SHOWN ALSO(open64, open);
 SHOWN ALSO(openat64, openat);
 
-/* What calls of open become where a program was compiled with checks. */
+/* Programs that were compiled with checks call these instead. */
 SHOWN int __open_2(const char *path, int flags)
 {
     return open(path, flags);
@@ -133,7 +133,7 @@ SHOWN FILE *fopen(const char *path, const char *mode)
 
 SHOWN ALSO(fopen64, fopen);
 
-/* Whether the path is the device's; then what stat gives is in `result`. */
+/* Returns whether the path is the device's. Then the result of stat is in `result`. */
 static bool tells(int folder, const char *path, bool follows, struct stat *status, int *result)
 {
     const struct entry *entry;
@@ -170,7 +170,7 @@ __attribute__((noinline)) static bool is_no_path(const char *path)
     return path == NULL || path[0] == '\0';
 }
 
-/* Each function of stat, of whichever width, which are the same where a file's size has 64 bits. */
+/* Each function of stat, of either width. They are the same if the size of a file has 64 bits. */
 #define STAT_FUNCTIONS(suffix)                                                                     \
     SHOWN int stat##suffix(const char *path, struct stat##suffix *status)                          \
     {                                                                                              \
@@ -254,7 +254,7 @@ SHOWN int statx(int folder, const char *path, int flags, unsigned mask, struct s
     return result;
 }
 
-/* Everybody may read and write what is here, and nobody may run it. */
+/* Every user may read and write the tree, and execute nothing of it. */
 static bool allows(int folder, const char *path, int mode, int *result)
 {
     const struct entry *entry;

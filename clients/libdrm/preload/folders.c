@@ -155,8 +155,7 @@ SHOWN int closedir(DIR *stream)
     return 0;
 }
 
-/* glob looks at files by the functions that it is given, and else by none that can be overridden.
- */
+/* glob calls the functions that it receives, and otherwise none that can be overridden. */
 static void *open_for_glob(const char *path)
 {
     return opendir(path);
@@ -189,7 +188,7 @@ static void close_for_glob(void *stream)
 GLOB_FUNCTION()
 GLOB_FUNCTION(64)
 
-/* A thread that isn't there in a child may have held the list. */
+/* A thread that the child does not have may have held the list. */
 static void begin_anew(void)
 {
     pthread_mutex_init(&listings_turn, NULL);

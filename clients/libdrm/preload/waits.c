@@ -76,7 +76,7 @@ SHOWN int ppoll(struct pollfd *waited, nfds_t count, const struct timespec *time
                                    : wait_for(waited, count, time, mask);
 }
 
-/* What calls of them become where a program was compiled with checks. */
+/* Programs that were compiled with checks call these instead. */
 int __poll_chk(struct pollfd *, nfds_t, int, size_t);
 int __ppoll_chk(struct pollfd *, nfds_t, const struct timespec *, const sigset_t *, size_t);
 
@@ -94,7 +94,7 @@ SHOWN int __ppoll_chk(struct pollfd *waited, nfds_t count, const struct timespec
     return ppoll(waited, count, time, mask);
 }
 
-/* The sets of select, and what poll asks and tells in their place. */
+/* The sets of select, and what poll asks and reports for each. */
 enum { SETS = 3 };
 
 #define READS (POLLIN | POLLRDNORM | POLLRDBAND)
@@ -162,7 +162,7 @@ static int scatter(const struct pollfd *waited, nfds_t found, fd_set *const *set
     return count;
 }
 
-/* Whether a connection is in the sets; then what pselect gives is in `result`. */
+/* Returns whether a connection is in the sets. Then the result of pselect is in `result`. */
 static bool selects(int count, fd_set *const *sets, const struct timespec *time,
                     const sigset_t *mask, int *result)
 {
