@@ -132,6 +132,16 @@ class LibdrmLogindTests(FolderCase):
         expect_end(ran, NOT_STARTED, ran.stderr, "")
         expect("that it says so", "logind: the command can't be run: " in ran.stderr, True)
 
+    def test_system_without_namespaces(self):
+        """As if the system did not allow them."""
+        want_logind()
+        (self.folder / "unshare").write_text("#!/bin/sh\necho unshare: no >&2\nexit 1\n")
+        (self.folder / "unshare").chmod(0o755)
+        given = {**os.environ, "PATH": f"{self.folder}:{os.environ['PATH']}"}
+        expect_end(
+            run(LOGIND, "true", env=given), NOT_STARTED, "logind: there can be no mount namespace: unshare: no\n", ""
+        )
+
     def test_usage(self):
         want_logind()
         ran = run(LOGIND)
