@@ -21,6 +21,7 @@
 
 #include <drm.h>
 #include <drm_mode.h>
+#include <linux/dma-buf.h>
 
 #define CARD "/dev/dri/card0"
 #define SIDE 64
@@ -260,6 +261,7 @@ static void shares(void)
     int card = open_card(), other = open_card();
     struct drm_mode_create_dumb dumb = {0};
     struct drm_prime_handle exported = {0}, imported = {0};
+    struct dma_buf_sync sync = {DMA_BUF_SYNC_START | DMA_BUF_SYNC_WRITE};
 
     dumb.width = dumb.height = SIDE;
     dumb.bpp = 32;
@@ -271,6 +273,11 @@ static void shares(void)
     strcpy(map_handle(card, dumb.handle, dumb.size), "pixels");
     print_mapping("the descriptor has", map(exported.fd, 0, dumb.size));
     imported.fd = exported.fd;
+    say("begins to write", ask(exported.fd, DMA_BUF_IOCTL_SYNC, &sync));
+    sync.flags = 64;
+    say("with an unknown flag", ask(exported.fd, DMA_BUF_IOCTL_SYNC, &sync));
+    say("with a bad address", ask(exported.fd, DMA_BUF_IOCTL_SYNC, (void *)8));
+    say("asks what isn't known of it", ask(exported.fd, _IO(DMA_BUF_BASE, 99), NULL));
     say("another client imports it", ask(other, DRM_IOCTL_PRIME_FD_TO_HANDLE, &imported));
     printf("the descriptor is the same: %s\n", imported.fd == exported.fd ? "yes" : "no");
     print_mapping("the importer has", map_handle(other, imported.handle, dumb.size));

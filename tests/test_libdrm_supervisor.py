@@ -80,6 +80,10 @@ exports it: done
 16384 bytes
 maps a handle: done
 the descriptor has: pixels
+begins to write: done
+with an unknown flag: EINVAL
+with a bad address: EFAULT
+asks what isn't known of it: ENOTTY
 another client imports it: done
 the descriptor is the same: yes
 maps a handle: done

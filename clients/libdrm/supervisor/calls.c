@@ -7,6 +7,7 @@
 #include <drm.h>
 #include <drm_mode.h>
 #include <limits.h>
+#include <linux/dma-buf.h>
 #include <stdio.h>
 #include <stdlib.h>
 #include <sys/ioctl.h>
@@ -279,6 +280,38 @@ static void answer_opening(struct call *call)
     }
 }
 
+/* Returns whether a descriptor of the caller is a PRIME descriptor. */
+static bool is_prime(int fd)
+{
+    char path[48];
+    bool is_one;
+    int opened;
+
+    name_caller_descriptor(path, sizeof path, fd);
+    opened = open(path, O_PATH | O_CLOEXEC);
+    is_one = opened >= 0 && is_memory(opened);
+    if (opened >= 0)
+        close(opened);
+    return is_one;
+}
+
+/* Answers an ioctl of PRIME descriptors. */
+static void answer_request_on_memory(const struct call *call)
+{
+    uint32_t request = (uint32_t)call->notice.data.args[1];
+    uint64_t address = call->notice.data.args[2];
+    struct dma_buf_sync sync = {0};
+    int failed = 0;
+
+    if (!is_prime((int)call->notice.data.args[0]) || !is_waiting(call)) {
+        let_kernel_answer(call);
+        return;
+    }
+    if (request == DMA_BUF_IOCTL_SYNC)
+        failed = copy_from_caller(&sync, address, sizeof sync);
+    respond(call, failed ? failed : carry_out_on_memory(request, &sync), 0);
+}
+
 /* Answers a call that looks at a file. */
 static void answer_look_at_file(const struct call *call)
 {
@@ -305,6 +338,10 @@ void answer_call(int listener, const struct seccomp_notif *notice)
     }
     if (notice->data.nr != SYS_ioctl && !is_mapping) {
         answer_opening(&call);
+        return;
+    }
+    if (!is_mapping && is_for_memory(notice->data.args[1])) {
+        answer_request_on_memory(&call);
         return;
     }
     call.connection = node_find((int)notice->data.args[is_mapping ? 4 : 0], &call.socket);
