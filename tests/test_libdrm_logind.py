@@ -51,6 +51,56 @@ for line in sys.argv[1:]:
         print(Gio.DBusError.get_remote_error(error))
 """
 
+# Takes the card, has the session switched twice, and prints each signal, and by which errno a request fails that only a master may make.
+SWITCHER = """
+import fcntl, os, signal
+from gi.repository import Gio, GLib
+
+SESSION = ("org.freedesktop.login1", "/org/freedesktop/login1/session/c1", "org.freedesktop.login1.Session")
+DIRTYFB = 0xC01864B1
+bus = Gio.bus_get_sync(Gio.BusType.SYSTEM)
+loop = GLib.MainLoop()
+
+def call(method, types, *words):
+    given = GLib.Variant(types, words)
+    return bus.call_with_unix_fd_list_sync(*SESSION, method, given, None, Gio.DBusCallFlags.NONE, 5000, None, None)
+
+def report(message):
+    if message.get_interface() in (SESSION[2], "org.freedesktop.DBus.Properties"):
+        print(message.get_member(), message.get_body().print_(False), flush=True)
+        if message.get_member() == "PropertiesChanged":
+            GLib.idle_add(loop.quit)
+    return message
+
+def listen(_bus, message, is_incoming):
+    return report(message) if is_incoming and message.get_message_type() == Gio.DBusMessageType.SIGNAL else message
+
+def ask(fd):
+    try:
+        fcntl.ioctl(fd, DIRTYFB, bytes(24))
+    except OSError as error:
+        print(error.strerror, flush=True)
+
+bus.add_filter(listen)
+bus.signal_subscribe(SESSION[0], "org.freedesktop.DBus.Properties", None, SESSION[1], None, 0, lambda *_: None)
+call("TakeControl", "(b)", False)
+fd = call("TakeDevice", "(uu)", 226, 0)[1].get(0)
+ask(fd)
+for number in (signal.SIGUSR1, signal.SIGUSR2):
+    os.kill(os.getppid(), number)
+    loop.run()
+    ask(fd)
+"""
+SWITCHED = """\
+No such file or directory
+PauseDevice (226, 0, 'force')
+PropertiesChanged ('org.freedesktop.login1.Session', {'Active': <false>, 'State': <'online'>}, [])
+Permission denied
+ResumeDevice (226, 0, 0)
+PropertiesChanged ('org.freedesktop.login1.Session', {'Active': <true>, 'State': <'active'>}, [])
+No such file or directory
+"""
+
 NO_CONTROL = "org.freedesktop.login1.NotInControl"
 USER = f"_{os.getuid()}"
 PATH = "/org/freedesktop/login1"
@@ -112,6 +162,13 @@ class LibdrmLogindTests(FolderCase):
 
     def test_devices_are_those_of_one_program(self):
         self.expect_answers(DEVICES)
+
+    def test_session_is_switched(self):
+        """The program loses and regains master, and is told so."""
+        want_libdrm()
+        want_logind()
+        ran = run(WITH_SERVER, "--libdrm", LOGIND, "/usr/bin/python3", "-c", SWITCHER)
+        expect_end(ran, 0, "", SWITCHED)
 
     def test_states_for_libsystemd(self):
         want_logind()
