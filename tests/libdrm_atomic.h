@@ -53,14 +53,18 @@ static inline uint32_t make_fb(int fd, uint32_t side)
     return id;
 }
 
-/* A frame takes so many milliseconds in this mode. */
+/* Returns a mode in which a frame takes this time, of at least 1. */
 static inline drmModeModeInfo mode_of(int milliseconds)
 {
-    return (drmModeModeInfo){.clock = 1000,
+    return (drmModeModeInfo){.clock = 60000000 / (uint32_t)milliseconds,
                              .hdisplay = 64,
-                             .htotal = 1000,
+                             .hsync_start = 64,
+                             .hsync_end = 64,
+                             .htotal = 60000,
                              .vdisplay = 64,
-                             .vtotal = (uint16_t)milliseconds};
+                             .vsync_start = 64,
+                             .vsync_end = 64,
+                             .vtotal = 1000};
 }
 
 static inline uint32_t mode_blob(int fd, int milliseconds)

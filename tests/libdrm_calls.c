@@ -180,10 +180,18 @@ static void getcrtc(int fd, const uint64_t *words)
     drmModeFreeCrtc(found);
 }
 
-/* A mode is given where a framebuffer is. One pixel is in each. */
+/* With a framebuffer there is a mode. One pixel is in each. */
 static void setcrtc(int fd, const uint64_t *words)
 {
-    drmModeModeInfo mode = {.hdisplay = 1, .vdisplay = 1, .htotal = 64, .vtotal = 64, .clock = 1};
+    drmModeModeInfo mode = {.clock = 1,
+                            .hdisplay = 1,
+                            .hsync_start = 1,
+                            .hsync_end = 1,
+                            .htotal = 64,
+                            .vdisplay = 1,
+                            .vsync_start = 1,
+                            .vsync_end = 1,
+                            .vtotal = 64};
     uint32_t connector = (uint32_t)words[2];
 
     done(drmModeSetCrtc(fd, (uint32_t)words[0], (uint32_t)words[1], 0, 0, &connector,

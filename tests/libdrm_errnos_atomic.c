@@ -73,12 +73,18 @@ int commit_of(struct context *context, int file, uint32_t flags, const struct se
         plane, "CRTC_H", SIDE                                                                      \
     }
 
+static uint64_t blob_of(struct context *context, const struct drm_mode_modeinfo *mode)
+{
+    struct drm_mode_create_blob blob = {.data = (uintptr_t)mode, .length = sizeof(*mode)};
+
+    return ioctl(context->card, DRM_IOCTL_MODE_CREATEPROPBLOB, &blob) == 0 ? blob.blob_id : 0;
+}
+
 static uint64_t mode_blob(struct context *context)
 {
     struct drm_mode_modeinfo mode = mode_of(SIDE, SIDE);
-    struct drm_mode_create_blob blob = {.data = (uintptr_t)&mode, .length = sizeof(mode)};
 
-    return ioctl(context->card, DRM_IOCTL_MODE_CREATEPROPBLOB, &blob) == 0 ? blob.blob_id : 0;
+    return blob_of(context, &mode);
 }
 
 static int without_the_capability(struct context *context)
@@ -164,6 +170,37 @@ static int active_of_2(struct context *context)
 static int no_such_mode(struct context *context)
 {
     return COMMIT(MODESET, {CRTC, "MODE_ID", NO_ID});
+}
+
+/* Lights the CRTC with a mode, as a test. */
+static int test_of_a_mode(struct context *context, const struct drm_mode_modeinfo *mode)
+{
+    return COMMIT(MODESET | TEST, {CRTC, "ACTIVE", 1}, {CRTC, "MODE_ID", blob_of(context, mode)},
+                  {CONNECTOR, "CRTC_ID", CRTC}, SHOWS(PRIMARY, CRTC, context->fb, SIDE));
+}
+
+static int mode_below_the_sync(struct context *context)
+{
+    struct drm_mode_modeinfo mode = mode_of(SIDE, SIDE);
+
+    mode.vtotal = 1;
+    return test_of_a_mode(context, &mode);
+}
+
+static int mode_with_a_high_clock(struct context *context)
+{
+    struct drm_mode_modeinfo mode = mode_of(SIDE, SIDE);
+
+    mode.clock = 0x80000000U;
+    return test_of_a_mode(context, &mode);
+}
+
+static int mode_with_an_aspect_ratio(struct context *context)
+{
+    struct drm_mode_modeinfo mode = mode_of(SIDE, SIDE);
+
+    mode.flags = DRM_MODE_FLAG_PIC_AR_4_3;
+    return test_of_a_mode(context, &mode);
 }
 
 static int no_such_framebuffer(struct context *context)
@@ -299,6 +336,9 @@ const struct trial atomic_trials[] = {
     {"MODE_ATOMIC, immutable property", immutable_property},
     {"MODE_ATOMIC, ACTIVE of 2", active_of_2},
     {"MODE_ATOMIC, no such mode", no_such_mode},
+    {"MODE_ATOMIC, total below the sync", mode_below_the_sync},
+    {"MODE_ATOMIC, clock above 31 bits", mode_with_a_high_clock},
+    {"MODE_ATOMIC, aspect ratio", mode_with_an_aspect_ratio},
     {"MODE_ATOMIC, no such framebuffer", no_such_framebuffer},
     {"MODE_ATOMIC, no such CRTC", no_such_crtc},
     {"MODE_ATOMIC, OUT_FENCE_PTR of 0", out_fence},

@@ -81,12 +81,69 @@ static int mode_with_a_high_clock(struct context *context)
     return set(context, &crtc);
 }
 
-static int mode_with_an_aspect_ratio(struct context *context)
+static int mode_with_a_high_rate(struct context *context)
 {
     struct drm_mode_crtc crtc = set_of(context);
 
-    crtc.mode.flags = DRM_MODE_FLAG_PIC_AR_16_9;
+    crtc.mode.vrefresh = 0x80000000U;
     return set(context, &crtc);
+}
+
+static int mode_without_a_clock(struct context *context)
+{
+    struct drm_mode_crtc crtc = set_of(context);
+
+    crtc.mode.clock = 0;
+    return set(context, &crtc);
+}
+
+static int mode_of_flags(struct context *context, uint32_t flags)
+{
+    struct drm_mode_crtc crtc = set_of(context);
+
+    crtc.mode.flags = flags;
+    return set(context, &crtc);
+}
+
+static int mode_with_other_flags(struct context *context)
+{
+    return mode_of_flags(context, DRM_MODE_FLAG_BCAST);
+}
+
+static int mode_with_another_layout(struct context *context)
+{
+    return mode_of_flags(context, 9 << 14);
+}
+
+static int mode_with_an_aspect_ratio(struct context *context)
+{
+    return mode_of_flags(context, DRM_MODE_FLAG_PIC_AR_16_9);
+}
+
+/* Sets a mode with an aspect ratio while the capability is on. */
+static int mode_of_a_capable_client(struct context *context, uint32_t aspect_ratio)
+{
+    struct drm_set_client_cap on = {DRM_CLIENT_CAP_ASPECT_RATIO, 1};
+    struct drm_set_client_cap off = {DRM_CLIENT_CAP_ASPECT_RATIO, 0};
+    int result, error;
+
+    if (ioctl(context->card, DRM_IOCTL_SET_CLIENT_CAP, &on) != 0)
+        return -1;
+    result = mode_of_flags(context, aspect_ratio);
+    error = errno;
+    ioctl(context->card, DRM_IOCTL_SET_CLIENT_CAP, &off);
+    errno = error;
+    return result;
+}
+
+static int aspect_ratio_with_the_capability(struct context *context)
+{
+    return mode_of_a_capable_client(context, DRM_MODE_FLAG_PIC_AR_16_9);
+}
+
+static int another_aspect_ratio(struct context *context)
+{
+    return mode_of_a_capable_client(context, DRM_MODE_FLAG_PIC_AR_MASK);
 }
 
 static int unknown_connector(struct context *context)
@@ -280,6 +337,23 @@ static int handle_of_an_unused_plane(struct context *context)
     return add(context, fb);
 }
 
+static int handle_of_an_unused_plane_with_modifiers(struct context *context)
+{
+    struct drm_mode_fb_cmd2 fb = framebuffer_of(context, DRM_FORMAT_XRGB8888);
+
+    fb.flags = DRM_MODE_FB_MODIFIERS;
+    fb.handles[1] = context->handle;
+    return add(context, fb);
+}
+
+static int modifier_of_an_unused_plane(struct context *context)
+{
+    struct drm_mode_fb_cmd2 fb = framebuffer_of(context, DRM_FORMAT_XRGB8888);
+
+    fb.modifier[1] = 1;
+    return add(context, fb);
+}
+
 static int framebuffer_of_no_handle(struct context *context)
 {
     struct drm_mode_fb_cmd2 fb = framebuffer_of(context, DRM_FORMAT_XRGB8888);
@@ -333,28 +407,81 @@ static int attach_a_mode(struct context *context)
     return ioctl(context->card, DRM_IOCTL_MODE_ATTACHMODE, &attach);
 }
 
-static int set_plane(struct context *context, uint32_t x, uint32_t width)
+/* MODE_SETPLANE of the overlay plane on the first CRTC, with these changes */
+static struct drm_mode_set_plane plane_of(struct context *context)
 {
-    struct drm_mode_set_plane plane = {.plane_id = context->planes[2],
+    return (struct drm_mode_set_plane){.plane_id = context->planes[2],
                                        .crtc_id = context->crtcs[0],
                                        .fb_id = context->fb,
-                                       .crtc_x = (int32_t)x,
                                        .crtc_w = SIDE,
                                        .crtc_h = SIDE,
-                                       .src_w = width << 16,
+                                       .src_w = SIDE << 16,
                                        .src_h = SIDE << 16};
+}
 
-    return ioctl(context->card, DRM_IOCTL_MODE_SETPLANE, &plane);
+static int set_plane(struct context *context, struct drm_mode_set_plane *plane)
+{
+    return ioctl(context->card, DRM_IOCTL_MODE_SETPLANE, plane);
 }
 
 static int source_outside_the_framebuffer(struct context *context)
 {
-    return set_plane(context, 0, SIDE + 1);
+    struct drm_mode_set_plane plane = plane_of(context);
+
+    plane.src_w += 1 << 16;
+    return set_plane(context, &plane);
 }
 
 static int position_that_overflows(struct context *context)
 {
-    return set_plane(context, INT32_MAX - 1, SIDE);
+    struct drm_mode_set_plane plane = plane_of(context);
+
+    plane.crtc_x = INT32_MAX - 1;
+    return set_plane(context, &plane);
+}
+
+static int last_position(struct context *context)
+{
+    struct drm_mode_set_plane plane = plane_of(context);
+
+    plane.crtc_y = INT32_MAX - SIDE;
+    return set_plane(context, &plane);
+}
+
+static int height_above_31_bits(struct context *context)
+{
+    struct drm_mode_set_plane plane = plane_of(context);
+
+    plane.crtc_h = 0x80000000U;
+    plane.crtc_y = INT32_MIN;
+    return set_plane(context, &plane);
+}
+
+static int source_and_position(struct context *context)
+{
+    struct drm_mode_set_plane plane = plane_of(context);
+
+    plane.crtc_x = INT32_MAX;
+    plane.src_w += 1 << 16;
+    return set_plane(context, &plane);
+}
+
+static int position_of_no_framebuffer(struct context *context)
+{
+    struct drm_mode_set_plane plane = plane_of(context);
+
+    plane.crtc_x = INT32_MAX;
+    plane.fb_id = NO_ID;
+    return set_plane(context, &plane);
+}
+
+static int hidden_position_that_overflows(struct context *context)
+{
+    struct drm_mode_set_plane plane = plane_of(context);
+
+    plane.crtc_x = INT32_MAX;
+    plane.fb_id = 0;
+    return set_plane(context, &plane);
 }
 
 const struct trial mode_trials[] = {
@@ -365,7 +492,13 @@ const struct trial mode_trials[] = {
     {"MODE_SETCRTC, what a dark CRTC shows", mode_of_what_is_shown},
     {"MODE_SETCRTC, total below the sync", mode_that_is_none},
     {"MODE_SETCRTC, clock above 31 bits", mode_with_a_high_clock},
+    {"MODE_SETCRTC, refresh rate above 31 bits", mode_with_a_high_rate},
+    {"MODE_SETCRTC, clock of 0", mode_without_a_clock},
+    {"MODE_SETCRTC, other flags of the mode", mode_with_other_flags},
+    {"MODE_SETCRTC, another stereo layout", mode_with_another_layout},
     {"MODE_SETCRTC, aspect ratio without the capability", mode_with_an_aspect_ratio},
+    {"MODE_SETCRTC, aspect ratio with the capability", aspect_ratio_with_the_capability},
+    {"MODE_SETCRTC, another aspect ratio", another_aspect_ratio},
     {"MODE_SETCRTC, no such connector", unknown_connector},
     {"MODE_SETCRTC, three connectors of two", three_connectors},
     {"MODE_SETCRTC, no such CRTC", unknown_crtc},
@@ -389,6 +522,9 @@ const struct trial mode_trials[] = {
     {"MODE_ADDFB2, other flags", unknown_flags},
     {"MODE_ADDFB2, modifier without its flag", modifier_without_the_flag},
     {"MODE_ADDFB2, handle of an unused plane", handle_of_an_unused_plane},
+    {"MODE_ADDFB2, handle of an unused plane, with modifiers",
+     handle_of_an_unused_plane_with_modifiers},
+    {"MODE_ADDFB2, modifier of an unused plane", modifier_of_an_unused_plane},
     {"MODE_ADDFB2, no such handle", framebuffer_of_no_handle},
     {"MODE_ADDFB2, offset beyond the object", framebuffer_at_an_offset},
     {"MODE_GETFB2, no such framebuffer", get_fb2_of_nothing},
@@ -398,5 +534,10 @@ const struct trial mode_trials[] = {
     {"MODE_ATTACHMODE", attach_a_mode},
     {"MODE_SETPLANE, source outside the framebuffer", source_outside_the_framebuffer},
     {"MODE_SETPLANE, position that overflows", position_that_overflows},
+    {"MODE_SETPLANE, last position", last_position},
+    {"MODE_SETPLANE, height above 31 bits", height_above_31_bits},
+    {"MODE_SETPLANE, position and source", source_and_position},
+    {"MODE_SETPLANE, position of no framebuffer", position_of_no_framebuffer},
+    {"MODE_SETPLANE, position without a framebuffer", hidden_position_that_overflows},
     {NULL, NULL},
 };

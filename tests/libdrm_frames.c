@@ -31,14 +31,18 @@
 /* Mode objects of the server's topology */
 enum { CRTC = 1, OTHER_CRTC = 2, OTHER_PLANE = 4, CONNECTOR = 7, OTHER_CONNECTOR = 8 };
 
-/* A frame takes so many milliseconds in this mode. */
+/* Returns a mode in which a frame takes this time, of at least 1. */
 static drmModeModeInfo mode_of(int milliseconds)
 {
-    drmModeModeInfo mode = {.clock = 1000,
+    drmModeModeInfo mode = {.clock = 60000000 / (uint32_t)milliseconds,
                             .hdisplay = 64,
-                            .htotal = 1000,
+                            .hsync_start = 64,
+                            .hsync_end = 64,
+                            .htotal = 60000,
                             .vdisplay = 64,
-                            .vtotal = (uint16_t)milliseconds};
+                            .vsync_start = 64,
+                            .vsync_end = 64,
+                            .vtotal = 1000};
 
     snprintf(mode.name, sizeof mode.name, "%d ms", milliseconds);
     return mode;

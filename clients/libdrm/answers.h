@@ -73,6 +73,9 @@ const uint32_t *all_formats(uint32_t *count);
 /* modes.c: the modes of the virtual monitors. The first one is preferred. */
 const struct drm_mode_modeinfo *all_modes(uint32_t *count);
 
+/* Checks a mode of the caller's, as drm_mode_convert_umode does; 0, or a negative errno. */
+int check_mode(const struct drm_mode_modeinfo *mode);
+
 /* Gives a list as the core does: as much of it as there is room for, and how long it is. */
 int give(uint64_t pointer, uint32_t *room, const void *items, uint32_t count, size_t size);
 

@@ -5,12 +5,6 @@
 
 #include "framebuffers.h"
 
-/* Returns whether a position and a length fit into a signed number. */
-static bool overflows(int32_t position, uint32_t length)
-{
-    return length > INT32_MAX || (int64_t)position + (int64_t)length > INT32_MAX;
-}
-
 /* drm_atomic_plane_check. A primary plane is shown on its own CRTC. */
 static int check_plane(const struct commit *commit, const struct seen_plane *seen,
                        const struct plane_state *before, const struct plane_state *after)
@@ -25,7 +19,7 @@ static int check_plane(const struct commit *commit, const struct seen_plane *see
     if (!topology_may_drive(commit->topology, seen->possible_crtcs, after->crtc_id)
         || (seen->primary_of != 0 && seen->primary_of != after->crtc_id))
         return -EINVAL;
-    if (overflows(after->crtc_x, after->crtc_w) || overflows(after->crtc_y, after->crtc_h))
+    if (plane_overflows(after))
         return -ERANGE;
     failed = framebuffer_find(commit->connection, after->fb_id, &framebuffer);
     if (failed)

@@ -1,6 +1,7 @@
 /* Building an atomic commit: objects and their properties. */
 #include "commits.h"
 
+#include "answers.h"
 #include "blobs.h"
 #include "crtcs.h"
 #include "framebuffers.h"
@@ -123,7 +124,7 @@ static int set_of_plane(struct commit *commit, const struct seen_plane *seen, en
     }
 }
 
-/* A mode is a blob of its size. */
+/* A mode is a blob of its size. The core has one errno for all that can be wrong with it. */
 static int set_mode(struct crtc_state *crtc, uint32_t blob_id)
 {
     struct drm_mode_modeinfo mode;
@@ -131,7 +132,7 @@ static int set_mode(struct crtc_state *crtc, uint32_t blob_id)
     memset(&mode, 0, sizeof mode);
     if (blob_id != 0 && blob_read(blob_id, &mode, sizeof mode) != sizeof mode)
         return -EINVAL;
-    if (blob_id != 0 && (mode.hdisplay == 0 || mode.vdisplay == 0))
+    if (blob_id != 0 && check_mode(&mode) != 0)
         return -EINVAL;
     crtc->mode_id = blob_id;
     crtc->mode = mode;

@@ -41,6 +41,7 @@ struct connection {
     uint32_t leases_of_nothing; /* how many the caller made */
     bool is_lessee;             /* it was opened by a lease */
     bool is_atomic;             /* the program has the capability */
+    bool has_aspect_ratios;     /* it may set and see those of modes */
     unsigned topology_at; /* the age of the standings at which the topology was asked for, or 0 */
     struct topology topology;
     struct buffers buffers;

@@ -159,22 +159,27 @@ int answer_get_cap(struct connection *connection, void *argument)
     return failed;
 }
 
-/* Does what the core does with a client capability that the server does not know. Stereo layouts
- * and aspect ratios are in modes only, and these modes have none. */
-static int set_core_cap(const struct drm_set_client_cap *cap, bool is_atomic)
+/* Does what the core does with a client capability that the server does not know. No connector has
+ * a mode with a stereo layout. */
+static int set_core_cap(struct connection *connection, const struct drm_set_client_cap *cap)
 {
+    if (cap->value > 1)
+        return -EINVAL;
     switch (cap->capability) {
     case DRM_CLIENT_CAP_STEREO_3D:
+        return 0;
     case DRM_CLIENT_CAP_ASPECT_RATIO:
-        return cap->value <= 1 ? 0 : -EINVAL;
+        connection->has_aspect_ratios = cap->value == 1;
+        return 0;
     case DRM_CLIENT_CAP_WRITEBACK_CONNECTORS:
-        return is_atomic && cap->value <= 1 ? 0 : -EINVAL;
+        return connection->is_atomic ? 0 : -EINVAL;
     default:
         return -EINVAL;
     }
 }
 
-/* Atomic clients see all planes. The core refuses the X server, whose commits are broken. */
+/* Atomic clients see all planes, and aspect ratios. The core refuses the X server, whose commits
+ * are broken. */
 static int set_atomic(struct connection *connection, uint64_t value)
 {
     int failed;
@@ -186,7 +191,7 @@ static int set_atomic(struct connection *connection, uint64_t value)
     failed =
         zirkoshe_drmSetClientCap(&connection->client, DRM_CLIENT_CAP_UNIVERSAL_PLANES, value != 0);
     if (!failed)
-        connection->is_atomic = value != 0;
+        connection->is_atomic = connection->has_aspect_ratios = value != 0;
     return failed;
 }
 
@@ -200,7 +205,7 @@ int answer_set_client_cap(struct connection *connection, void *argument)
     if (cap->capability == DRM_CLIENT_CAP_ATOMIC)
         return set_atomic(connection, cap->value);
     failed = zirkoshe_drmSetClientCap(&connection->client, cap->capability, cap->value);
-    return failed && is_unknown_cap(connection) ? set_core_cap(cap, connection->is_atomic) : failed;
+    return failed && is_unknown_cap(connection) ? set_core_cap(connection, cap) : failed;
 }
 
 int answer_get_magic(struct connection *connection, void *argument)

@@ -17,19 +17,29 @@ int answer_add_fb(struct connection *connection, void *argument)
     return failed;
 }
 
-/* Whether the server can say what is asked for: one plane from the object's front, and the linear
- * modifier, which is 0. */
-static bool is_plain(const struct drm_mode_fb_cmd2 *fb)
+/* Returns whether the three planes that no format here has are unused, as framebuffer_check
+ * requires. Without DRM_MODE_FB_MODIFIERS, the core ignores all but the modifiers. */
+static bool has_unused_planes(const struct drm_mode_fb_cmd2 *fb)
 {
-    const uint32_t known = DRM_MODE_FB_INTERLACED | DRM_MODE_FB_MODIFIERS;
+    bool may_be_set = !(fb->flags & DRM_MODE_FB_MODIFIERS);
     size_t at;
 
     for (at = 1; at < 4; at++) {
-        if (fb->handles[at] != 0 || fb->pitches[at] != 0 || fb->offsets[at] != 0
-            || fb->modifier[at] != 0)
+        if (fb->modifier[at] != 0)
+            return false;
+        if (!may_be_set && (fb->handles[at] != 0 || fb->pitches[at] != 0 || fb->offsets[at] != 0))
             return false;
     }
-    return fb->offsets[0] == 0 && (fb->flags & ~known) == 0
+    return true;
+}
+
+/* Returns whether the server can add the framebuffer: one plane from the object's front, and the
+ * linear modifier, which is 0. */
+static bool is_plain(const struct drm_mode_fb_cmd2 *fb)
+{
+    const uint32_t known = DRM_MODE_FB_INTERLACED | DRM_MODE_FB_MODIFIERS;
+
+    return has_unused_planes(fb) && fb->offsets[0] == 0 && (fb->flags & ~known) == 0
            && fb->modifier[0] == DRM_FORMAT_MOD_LINEAR;
 }
 

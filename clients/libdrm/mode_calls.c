@@ -60,6 +60,8 @@ int answer_get_crtc(struct connection *connection, void *argument)
     memset(&crtc->mode, 0, sizeof crtc->mode);
     if (crtc->mode_valid)
         crtc->mode = crtc_mode(crtc->crtc_id);
+    if (!connection->has_aspect_ratios)
+        crtc->mode.flags &= ~(uint32_t)DRM_MODE_FLAG_PIC_AR_MASK;
     return 0;
 }
 
@@ -101,19 +103,26 @@ static int find_fb(struct zirkoshe_client *client, const struct drm_mode_crtc *c
     return failed;
 }
 
-/* Does the checks of drm_crtc_check_viewport. If the framebuffer does not exist, the server refuses
- * the request. */
-static bool is_outside(struct connection *connection, const struct drm_mode_crtc *crtc,
-                       uint32_t fb_id, struct view *view)
+/* Checks the mode, and its position in the framebuffer, as the core does. If the framebuffer does
+ * not exist, the server refuses the request. */
+static int check_view(struct connection *connection, const struct drm_mode_crtc *crtc,
+                      uint32_t fb_id, struct view *view)
 {
     struct framebuffer shown;
+    int failed;
 
     *view = (struct view){crtc->mode, crtc->x, crtc->y, 0};
     if (fb_id == 0 || framebuffer_find(connection, fb_id, &shown) != 0)
-        return false;
+        return 0;
     view->format = shown.format;
-    return !framebuffer_contains(&shown, crtc->x, crtc->y, crtc->mode.hdisplay,
-                                 crtc->mode.vdisplay);
+    if (!connection->has_aspect_ratios && (crtc->mode.flags & DRM_MODE_FLAG_PIC_AR_MASK))
+        return -EINVAL;
+    failed = check_mode(&crtc->mode);
+    if (failed)
+        return failed;
+    return framebuffer_contains(&shown, crtc->x, crtc->y, crtc->mode.hdisplay, crtc->mode.vdisplay)
+               ? 0
+               : -ENOSPC;
 }
 
 /* Records what a CRTC shows. Its primary plane covers it. */
@@ -154,8 +163,9 @@ int answer_set_crtc(struct connection *connection, void *argument)
     failed = find_fb(client, crtc, &fb_id);
     if (failed)
         return failed;
-    if (is_outside(connection, crtc, fb_id, &view))
-        return refuse(client, crtc->crtc_id, -ENOSPC);
+    failed = check_view(connection, crtc, fb_id, &view);
+    if (failed)
+        return refuse(client, crtc->crtc_id, failed);
     if (crtc->count_connectors > 1)
         return refuse(client, crtc->crtc_id, -EINVAL);
     if (crtc->count_connectors == 1)
@@ -257,8 +267,9 @@ int answer_get_plane(struct connection *connection, void *argument)
                 sizeof *formats);
 }
 
-/* Returns the errno for a source outside its framebuffer. The core checks that last. */
-static int refuse_source(struct connection *connection, const struct drm_mode_set_plane *plane)
+/* Refuses as the core does by the position or the source of a plane, which it checks last. */
+static int refuse_plane(struct connection *connection, const struct drm_mode_set_plane *plane,
+                        int error)
 {
     const struct topology *topology;
     const struct seen_plane *seen;
@@ -271,19 +282,23 @@ static int refuse_source(struct connection *connection, const struct drm_mode_se
     seen = topology_plane(topology, plane->plane_id);
     if (seen == NULL || !topology_has_crtc(topology, plane->crtc_id))
         return -ENOENT;
-    return topology_may_drive(topology, seen->possible_crtcs, plane->crtc_id) ? -ENOSPC : -EINVAL;
+    return topology_may_drive(topology, seen->possible_crtcs, plane->crtc_id) ? error : -EINVAL;
 }
 
-/* Returns whether the source is outside the framebuffer. If the framebuffer does not exist, the
- * server refuses the request. */
-static bool has_source_outside(struct connection *connection,
-                               const struct drm_mode_set_plane *plane)
+/* Checks the position and the source of a plane, as __setplane_check does. If the framebuffer does
+ * not exist, the server refuses the request. */
+static int check_place(struct connection *connection, const struct plane_state *plane)
 {
     struct framebuffer framebuffer;
 
-    return plane->fb_id != 0 && framebuffer_find(connection, plane->fb_id, &framebuffer) == 0
-           && !framebuffer_contains_source(&framebuffer, plane->src_x, plane->src_y, plane->src_w,
-                                           plane->src_h);
+    if (plane->fb_id == 0 || framebuffer_find(connection, plane->fb_id, &framebuffer) != 0)
+        return 0;
+    if (plane_overflows(plane))
+        return -ERANGE;
+    return framebuffer_contains_source(&framebuffer, plane->src_x, plane->src_y, plane->src_w,
+                                       plane->src_h)
+               ? 0
+               : -ENOSPC;
 }
 
 /* The server does not store the position on the CRTC. */
@@ -303,10 +318,10 @@ int answer_set_plane(struct connection *connection, void *argument)
         .src_w = plane->src_w,
         .src_h = plane->src_h,
     };
-    int failed;
+    int failed = check_place(connection, &state);
 
-    if (has_source_outside(connection, plane))
-        return refuse_source(connection, plane);
+    if (failed)
+        return refuse_plane(connection, plane, failed);
     failed = zirkoshe_drmModeSetPlane(&connection->client, plane->plane_id, plane->crtc_id,
                                       plane->fb_id);
     if (!failed)

@@ -79,3 +79,40 @@ const struct drm_mode_modeinfo *all_modes(uint32_t *count)
     *count = sizeof modes / sizeof modes[0];
     return modes;
 }
+
+/* Returns whether the aspect ratio is one that the core knows. */
+static bool has_known_aspect_ratio(uint32_t flags)
+{
+    switch (flags & DRM_MODE_FLAG_PIC_AR_MASK) {
+    case DRM_MODE_FLAG_PIC_AR_NONE:
+    case DRM_MODE_FLAG_PIC_AR_4_3:
+    case DRM_MODE_FLAG_PIC_AR_16_9:
+    case DRM_MODE_FLAG_PIC_AR_64_27:
+    case DRM_MODE_FLAG_PIC_AR_256_135:
+        return true;
+    default:
+        return false;
+    }
+}
+
+/* Returns whether the numbers of a line or a frame rise. */
+static bool rises(uint32_t display, uint32_t sync_start, uint32_t sync_end, uint32_t total)
+{
+    return display != 0 && display <= sync_start && sync_start <= sync_end && sync_end <= total;
+}
+
+/* A driver can refuse more modes than drm_mode_validate_basic does. This one accepts the others. */
+int check_mode(const struct drm_mode_modeinfo *mode)
+{
+    const uint32_t known = DRM_MODE_FLAG_ALL | DRM_MODE_FLAG_PIC_AR_MASK;
+
+    if (mode->clock > INT32_MAX || mode->vrefresh > INT32_MAX)
+        return -ERANGE;
+    if (mode->clock == 0 || (mode->flags & ~known) || !has_known_aspect_ratio(mode->flags)
+        || (mode->flags & DRM_MODE_FLAG_3D_MASK) > DRM_MODE_FLAG_3D_SIDE_BY_SIDE_HALF)
+        return -EINVAL;
+    return rises(mode->hdisplay, mode->hsync_start, mode->hsync_end, mode->htotal)
+                   && rises(mode->vdisplay, mode->vsync_start, mode->vsync_end, mode->vtotal)
+               ? 0
+               : -EINVAL;
+}

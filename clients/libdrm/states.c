@@ -58,6 +58,16 @@ struct connector_state *state_of_connector(struct state *state, uint32_t connect
     return &state->connectors[at];
 }
 
+static bool overflows(int32_t position, uint32_t length)
+{
+    return length > INT32_MAX || (int64_t)position + (int64_t)length > INT32_MAX;
+}
+
+bool plane_overflows(const struct plane_state *plane)
+{
+    return overflows(plane->crtc_x, plane->crtc_w) || overflows(plane->crtc_y, plane->crtc_h);
+}
+
 uint32_t state_connector(const struct state *state, uint32_t crtc_id, unsigned *count)
 {
     uint32_t found = 0;

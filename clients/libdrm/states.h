@@ -44,6 +44,9 @@ struct plane_state *state_of_primary(struct state *state, uint32_t crtc_id);
 struct crtc_state *state_of_crtc(struct state *state, uint32_t crtc_id);
 struct connector_state *state_of_connector(struct state *state, uint32_t connector_id);
 
+/* Returns whether the end of a plane on its CRTC is above what a signed number has. */
+bool plane_overflows(const struct plane_state *plane);
+
 /* Returns the connector of a CRTC, or 0, and how many it has in `count`. */
 uint32_t state_connector(const struct state *state, uint32_t crtc_id, unsigned *count);
 
