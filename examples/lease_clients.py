@@ -31,7 +31,7 @@ def show(path):
     print(f"owner -> {words(owner.opened)}")
     kind, *numbers = ask("owner", owner, f"create_lease {OUTPUT}")
     if kind != "lease":
-        sys.exit("lease_clients.py: the output wasn't leased")
+        sys.exit("lease_clients.py: the server leased no output")
     lessee_id, token = numbers
     lessee = Client(path, int(token))
     print(f"lessee by token {token} -> {words(lessee.opened)}")

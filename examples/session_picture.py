@@ -37,7 +37,7 @@ def main() -> int:
     try:
         print(show(os.environ["DRM_SERVER_CARD"], os.environ["DRM_SERVER_ROOT"]))
     except KeyError as error:
-        print(f"session_picture.py: {error} is not set: run it under tools/with-server", file=sys.stderr)
+        print(f"session_picture.py: the variable {error} is not set: run this under tools/with-server", file=sys.stderr)
         return 1
     except (ClientError, OSError) as error:
         print(f"session_picture.py: {error}", file=sys.stderr)

@@ -311,7 +311,7 @@ class AuditsTests(FolderCase):
             ran = run(AUDIT, folder / "card")
             expect_end(ran, 1, "drm-audit: denied 11 RootOnly 13 (EACCES): use the root socket\n", "")
         ran = run(AUDIT, folder / "absent")
-        expect_end(ran, 1, f"drm-audit: [Errno 2] No such file or directory: '{folder / 'absent'}'\n", "")
+        expect_end(ran, 1, f"drm-audit: can't open {folder / 'absent'}: No such file or directory\n", "")
         with answering(folder / "silent", drips=b""):
             ran = run(AUDIT, folder / "silent", "--timeout", "0.5")
         expect_end(ran, 1, "drm-audit: the server didn't answer within 0.5 seconds\n", "")
@@ -359,7 +359,7 @@ class AuditsTests(FolderCase):
                 run(WATCH, folder / "card"), 1, "watch: denied 11 RootOnly 13 (EACCES): use the root socket\n", ""
             )
         expect_end(
-            run(WATCH, folder / "absent"), 1, f"watch: [Errno 2] No such file or directory: '{folder / 'absent'}'\n", ""
+            run(WATCH, folder / "absent"), 1, f"watch: can't open {folder / 'absent'}: No such file or directory\n", ""
         )
 
     def test_watch_shows_a_page(self):

@@ -162,7 +162,7 @@ class BesideKernelTests(FolderCase):
         ran = run("gcc", "-std=gnu11", *words, "-o", program, *sorted((REPOSITORY / "clients/kernel").glob("*.c")))
         expect("what gcc says", (ran.returncode, ran.stderr), (0, ""))
         ran = run(program, "--card", self.folder / "card0")
-        told = f"drm_script: there is no such device: {self.folder}/card0\n"
+        told = f"drm_script: no such device: {self.folder}/card0\n"
         expect("without a device", (ran.returncode, ran.stdout, ran.stderr), (1, "", told))
         ran = run(program, "--driver", "no such driver")
         expect("without a driver", (ran.returncode, ran.stdout), (1, ""))
@@ -202,7 +202,7 @@ class BesideKernelTests(FolderCase):
         counts = "1 scripts, 25 lines compared: 0 differences as expected, 0 not explained, 0 expected ones missing"
         expect("the counts", counts in ran.stdout, True)
         ran = run("tools/beside-kernel", "--here", self.folder / "card0", cwd=REPOSITORY)
-        expect("a device that does not exist", (ran.returncode, "there is no such device" in ran.stderr), (2, True))
+        expect("a device that does not exist", (ran.returncode, "no such device" in ran.stderr), (2, True))
 
     def test_command_line(self):
         command = REPOSITORY / "tools/beside-kernel"

@@ -404,7 +404,7 @@ class ClientsTests(FolderCase):
                 expect(
                     "another version",
                     raised(lambda: Client(folder / "card", version=7)),
-                    ("ValueError", "the version of a hello is 1 or 2, and not 7"),
+                    ("ValueError", "the version of a hello must be 1 or 2, not 7"),
                 )
                 expect("a number", (client.getencoder(6), repr(client.getencoder(6))), (2, "2"))
                 expect("a list", (client.list_lessees(), repr(client.list_lessees())), ((1,), "(1,)"))
@@ -561,11 +561,11 @@ class ClientsTests(FolderCase):
             "the connection ended inside an answer",
             "the answer has the number 0x4242, which is not the call's",
             "the answer has the number 0x1000, which is not the call's",
-            "an answer lacks fields",
+            "an answer is missing fields",
             "an answer has 1 bytes too many",
-            *(f"an answer has the length {length}" for length in (0, 1, 1025, 4294967295)),
+            *(f"an answer has the invalid length {length}" for length in (0, 1, 1025, 4294967295)),
             *(
-                f"there is no refusal {number} with the errno {errno}"
+                f"the answer has the unknown refusal {number} with errno {errno}"
                 for number, errno in ((99, 22), (42, 22), (50, 28), (42, 2))
             ),
         }
@@ -634,7 +634,7 @@ class ClientsTests(FolderCase):
         with server(folder, 1, 1, 0) as started:
             retry((folder / "root").stat)
             ran = run(TOOL, folder / "card", "--lease", "7", "version")
-            expect_end(ran, 1, "drm-client: the opening was refused: denied 42 NoLeaseToken 2 (ENOENT)\n", "")
+            expect_end(ran, 1, "drm-client: the server refused the opening: denied 42 NoLeaseToken 2 (ENOENT)\n", "")
             ran = run(TOOL, folder / "render", "--lease", "7", "version")
             expect_end(ran, 1, "drm-client: the server closed the connection\n", "")
             notes = [
@@ -646,21 +646,21 @@ class ClientsTests(FolderCase):
     def test_tool_fails_clearly(self):
         folder = self.folder
         ran = run(TOOL, folder / "absent", "version")
-        expect_end(ran, 1, f"drm-client: [Errno 2] No such file or directory: '{folder / 'absent'}'\n", "")
+        expect_end(ran, 1, f"drm-client: can't open {folder / 'absent'}: No such file or directory\n", "")
         with answering(folder / "silent", drips=b""):
             ran = run(TOOL, folder / "silent", "--timeout", "0.5")
         expect_end(ran, 1, "drm-client: the server didn't answer within 0.5 seconds\n", "")
         with server(folder, 4, 0, 0):
             retry((folder / "root").stat)
             wrong = {
-                "fly": "'fly' is not the word of a call",
-                "create_dumb": "the call takes 3 numbers, and not 0",
-                "gem_close -1": "'-1' is no number",
-                "raw x": "'x' is no number",
+                "fly": "'fly' is not a call",
+                "create_dumb": "the call takes 3 numbers, not 0",
+                "gem_close -1": "'-1' is not a number",
+                "raw x": "'x' is not a number",
             }
             for call, reason in wrong.items():
                 ran = run(TOOL, folder / "card", call)
-                expect("error output", ran.stderr, f"drm-client: not a call: {call} ({reason})\n")
+                expect("error output", ran.stderr, f"drm-client: can't encode the call {call}: {reason}\n")
                 expect("status", ran.returncode, 1)
 
     def test_python_client_waits_for_the_end_of_another(self):

@@ -187,7 +187,7 @@ class LibdrmLogindTests(FolderCase):
         want_logind()
         ran = run(LOGIND, "no-such-command")
         expect_end(ran, NOT_STARTED, ran.stderr, "")
-        expect("that it says so", "logind: the command can't be run: " in ran.stderr, True)
+        expect("that it says so", "logind: can't run the command: " in ran.stderr, True)
 
     def test_system_without_namespaces(self):
         """As if the system did not allow them."""

@@ -275,8 +275,8 @@ class LibdrmSupervisorTests(FolderCase):
         for words, status, error in (
             (["sh", "-c", "exit 7"], 7, ""),
             (["sh", "-c", "kill -9 $$"], 128 + signal.SIGKILL, ""),
-            (["no-such-command"], 127, "supervisor: there is no command no-such-command\n"),
-            (["/dev/null"], 126, "supervisor: the command can't be run: Permission denied\n"),
+            (["no-such-command"], 127, "supervisor: command not found: no-such-command\n"),
+            (["/dev/null"], 126, "supervisor: can't run /dev/null: Permission denied\n"),
         ):
             ran = run(WITH_SERVER, "--seccomp", *words)
             expect(f"status of {words}", (ran.stderr, ran.returncode, ran.stdout), (error, status, ""))
@@ -330,7 +330,7 @@ class LibdrmSupervisorTests(FolderCase):
 
     def test_supervisor_takes_the_place_of_the_library(self):
         ran = run(WITH_SERVER, "--seccomp", "--libdrm", "true")
-        reason = "with-server: error: --seccomp takes the place of --libdrm\n"
+        reason = "with-server: error: --seccomp and --libdrm exclude each other: use one of them\n"
         expect("status and reason", (ran.returncode, ran.stderr.endswith(reason)), (2, True))
 
 

@@ -47,14 +47,14 @@ class ManualTests(FolderCase):
 
     def test_pages_have_the_statuses_of_the_commands(self):
         make(self.folder)
-        for name in ("run", "check", "explain", "serve"):
+        for name in COMMANDS:
             _, _, listed = run(REPOSITORY / "zirkoshe", name, "--help").stdout.partition("\nExit status:\n")
-            wanted = [line.split(None, 1) for line in listed.splitlines()]
+            wanted = [line.split(None, 1) for line in listed.partition("\n\n")[0].splitlines()]
             text = (self.folder / f"man/man1/zirkoshe-{name}.1").read_text().replace("\\-", "-")
             section = text.partition(".SH EXIT STATUS\n")[2].partition(".SH ")[0]
-            found = re.findall(r"\.TP\n\\fB(\d)\\fR\n(.*)\.\n", section)
+            found = re.findall(r"\.TP\n\\fB([N\d+]+)\\fR\n(.*)\.\n", section)
             expect(f"the statuses of {name}", [list(status) for status in found], wanted)
-            expect("how many there are", len(wanted) >= 4, True)
+            expect("how many there are", len(wanted) >= 3, True)
 
     def test_pages_are_set_without_a_warning(self):
         want_program("man")

@@ -244,9 +244,9 @@ def test_buffer(drm_server):
                     raise AssertionError("a second client was opened")
         expect("the journal's first line", journal.read_text().splitlines()[0], "limits 1 1 1 1 1 1 1 10")
         for options, wanted in (
-            ({"program": folder / "none"}, "the server can't be run: "),
-            ({"limits": "0"}, "the server ended before it listened, with status 3"),
-            ({"topology": folder / "none"}, "the server ended before it listened, with status "),
+            ({"program": folder / "none"}, f"can't run {folder / 'none'}: No such file or directory"),
+            ({"limits": "0"}, "the server exited with status 3 before it listened"),
+            ({"topology": folder / "none"}, "the server exited with status "),
         ):
             try:
                 Server(**options)

@@ -292,7 +292,7 @@ class ServingTests(FolderCase):
         expect("answers", ran.stdout.count("version 1 0 0"), 100)
         limits = ["--limits", "8 8 8 8 8 8 8 4"]
         ran = run(REPOSITORY / "tools/with-server", *limits, "sh", "-c", asked + "; true")
-        told = "with-server: the journal was full: set the last number of --limits, at most 100000"
+        told = "with-server: the journal was full, so the server denied requests: set the last number of --limits higher, at most 100000"
         expect("the status", ran.returncode, 125)
         expect("what is said of it", ran.stderr.splitlines().count(told), 1)
 

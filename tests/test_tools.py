@@ -144,7 +144,7 @@ class ToolsTests(FolderCase):
         before = (folder / "clients/rust/src/constants.rs").read_text()
         rules.write_text(rules.read_text().replace('row(34, EBUSY, "LeasedOut")', 'row(44, EACCES, "LeasedOut")'))
         told = "".join(
-            f"clients/{name} isn't what tools/constants makes\n"
+            f"clients/{name} is out of date: run tools/constants\n"
             for name in ("c/drm_server.h", "python/zirkoshe/constants.py", "rust/src/constants.rs")
         )
         expect_end(run(tool, "--check"), 1, told, "")
@@ -266,7 +266,7 @@ class ToolsTests(FolderCase):
         folder = self.folder
         tool = with_lemmas(folder)
         expect_end(run(tool), 1, "", "crates/low/proofs/Ones.antt:5: unused\n1 names, 3 lines of them\n")
-        expect_end(run(tool, "high"), 2, "no crate is named high\n", "")
+        expect_end(run(tool, "high"), 2, "dead-lemmas: unknown crates: high\n", "")
         answers = folder / "crates/low/proofs/one/Answers.antt"
         answers.write_text(answers.read_text() + "\nmore = unused\n")
         expect_end(run(tool, "low"), 0, "", "0 names, 0 lines of them\n")
@@ -286,7 +286,7 @@ class ToolsTests(FolderCase):
         expect_end(
             run(REPOSITORY / "tools/trusted", name),
             2,
-            f"there is no public function with such a contract: {name}\n",
+            f"trusted: {name} is not a public function with a contract, nor a clause of one\n",
             "",
         )
 

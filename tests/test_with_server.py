@@ -148,7 +148,7 @@ class WithServerTests(FolderCase):
         expect_status(folder, ["--cards", "2", "--renders=0", "sh", "-c", "echo $1", "sh", "--roots"], 0, "--roots\n")
         expect_status(folder, ["sh", "-c", "kill -9 $$"], 137)
         expect_status(folder, ["sh", "-c", "kill $$"], 143)
-        expect_status(folder, ["no-such-command"], 127, error="with-server: there is no command no-such-command\n")
+        expect_status(folder, ["no-such-command"], 127, error="with-server: command not found: no-such-command\n")
 
     def test_with_server_refuses_a_command_that_cannot_be_run(self):
         folder = self.folder
@@ -238,10 +238,10 @@ class WithServerTests(FolderCase):
     def test_with_server_whose_server_cannot_start(self):
         folder = self.folder
         server_path = folder / "drm_server"
-        expect_no_start(folder, None, f"the server can't be run: [Errno 2] No such file or directory: '{server_path}'")
-        expect_no_start(folder, "exit 3\n", f"there is no program of the server: {server_path} --program gave status 3")
+        expect_no_start(folder, None, f"can't run {server_path}: No such file or directory")
+        expect_no_start(folder, "exit 3\n", f"can't get the program of the server: {server_path} --program exited with status 3")
         expect_no_start(
-            folder, '[ "$1" = serve ] && exit 5\necho "$0"\n', "the server ended before it listened, with status 5"
+            folder, '[ "$1" = serve ] && exit 5\necho "$0"\n', "the server exited with status 5 before it listened"
         )
 
     def test_with_server_whose_library_cannot_be_loaded(self):
@@ -250,7 +250,7 @@ class WithServerTests(FolderCase):
         builder = folder / "clients/libdrm/build"
         builder.parent.mkdir(parents=True)
         for script, error in (
-            ("exit 3\n", f"there is no library for libdrm programs: {builder} gave status 3"),
+            ("exit 3\n", f"can't get the library for libdrm programs: {builder} exited with status 3"),
             ("echo '/a b.so'\n", "LD_PRELOAD takes no path with a space or a colon: /a b.so"),
         ):
             builder.write_text("#!/bin/sh\n" + script)
@@ -266,14 +266,14 @@ class WithServerTests(FolderCase):
         builder.chmod(0o755)
         given = within(self.folder, PATH=str(self.folder))
         ran = run(sys.executable, program, "--libdrm", "--udev", "echo", "run", env=given)
-        reason = "there is no umockdev-run, which --udev needs (Debian package umockdev)"
+        reason = "--udev requires umockdev-run: install the Debian package umockdev"
         expect_end(ran, 125, f"with-server: {reason}\n", "")
         expect_nothing_left(self.folder)
 
     def test_with_server_refuses_words_of_udev(self):
         for words, reason in (
-            (["--udev", "true"], "--udev needs --libdrm"),
-            (["--libdrm", "--udev", "--seat", "a/b", "true"], "'a/b' is no name of a seat"),
+            (["--udev", "true"], "--udev requires --libdrm"),
+            (["--libdrm", "--udev", "--seat", "a/b", "true"], "'a/b' is not the name of a seat: use letters and digits, such as seat9"),
         ):
             ran = run(WITH_SERVER, *words, env=within(self.folder))
             expect(f"{words}", (ran.returncode, ran.stdout), (2, ""))
@@ -285,7 +285,7 @@ class WithServerTests(FolderCase):
         long.mkdir()
         ran = run(WITH_SERVER, "true", env={**os.environ, "TMPDIR": str(long)})
         expect("status", ran.returncode, 125)
-        expect("the reason", ran.stderr.endswith("is too long a path for sockets: set TMPDIR to a shorter one\n"), True)
+        expect("the reason", ran.stderr.endswith("is too long for sockets: set TMPDIR to a shorter path\n"), True)
         expect("files", list(long.iterdir()), [])
 
     def test_with_server_builds_first(self):

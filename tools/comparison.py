@@ -60,7 +60,7 @@ def find_program() -> str:
         [str(REPOSITORY / "drm_server"), "--program"], stdout=subprocess.PIPE, text=True, check=False
     )
     if found.returncode != 0:
-        raise kernels.Lacking("there is no program of the server")
+        raise kernels.Lacking("can't find the program of the server: ./drm_server --program printed no path")
     return found.stdout.strip()
 
 

@@ -172,7 +172,7 @@ def require_programs(names: Iterable[str] = tuple(PROGRAMS)) -> None:
     if not HEADERS.exists():
         packages.add("libdrm-dev")
     if packages:
-        raise Missing(f"Debian packages that are missing: {' '.join(sorted(packages))}")
+        raise Missing(f"programs are missing: install the Debian packages {' '.join(sorted(packages))}")
 
 
 def find_program(name: str) -> Optional[str]:
@@ -216,7 +216,7 @@ def latest_image(series: str, options: List[str]) -> Tuple[str, str]:
         rf"^Depends: linux-image-({re.escape(series)}\.\S+) \(= (\S+)\)", shown, re.M
     )
     if not found:
-        raise Lacking(f"apt has no kernel of the series {series}")
+        raise Lacking(f"apt-cache lists no kernel of the series {series}: run apt-get update")
     return max(found, key=lambda row: [int(part) for part in re.findall(r"\d+", row[1])])
 
 
@@ -262,7 +262,7 @@ def kernel_of(series: str, fetches: bool = True) -> Kernel:
         if kept is not None:
             return kept
         if not fetches:
-            raise Missing(f"there is no Debian package linux-image-amd64 in {cache()}: tools/beside-kernel fetches it")
+            raise Missing(f"the cache {cache()} has no kernel: run tools/beside-kernel, which fetches one")
         return fetch(series)
 
 

@@ -184,7 +184,7 @@ int main(int count, char **words)
         return 2;
     }
     if (!choose_device(&device, &options)) {
-        fprintf(stderr, "drm_script: there is no such device: %s\n",
+        fprintf(stderr, "drm_script: no such device: %s\n",
                 options.driver ? options.driver : options.card);
         return 1;
     }

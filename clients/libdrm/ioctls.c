@@ -191,7 +191,7 @@ int carry_out(struct connection *connection, int fd, uint32_t request, void *arg
     int failed;
 
     if (row == NULL) {
-        trace("a request that isn't known", 0, EINVAL);
+        trace("unknown request", 0, EINVAL);
         return -EINVAL;
     }
     size = least(least(_IOC_SIZE(request), _IOC_SIZE(row->request)), sizeof held);

@@ -97,9 +97,9 @@ __attribute__((noreturn)) static void run(char **words, int channel, const sigse
     sigprocmask(SIG_SETMASK, before, NULL);
     execvp(words[0], words);
     if (errno == ENOENT)
-        fprintf(stderr, PROGRAM ": there is no command %s\n", words[0]);
+        fprintf(stderr, PROGRAM ": command not found: %s\n", words[0]);
     else
-        say("the command can't be run", errno);
+        fprintf(stderr, PROGRAM ": can't run %s: %s\n", words[0], strerror(errno));
     _exit(errno == ENOENT ? STATUS_NOT_FOUND : STATUS_NOT_RUN);
 }
 

@@ -12,6 +12,7 @@ import os
 import sys
 from typing import Optional, Sequence
 
+from .audit import seconds_of
 from .client import DEFAULT_TIMEOUT, Client
 from .protocol import (
     DEFAULT_VERSION,
@@ -19,9 +20,30 @@ from .protocol import (
     ClientError,
     Refusal,
     calls_of,
+    message_of,
     number_of,
     words,
 )
+
+
+EPILOG = """\
+Exit status:
+  0  the server answered all calls, denied ones too
+  1  the server refused the opening or did not answer, or a call is malformed
+  2  a refused command line
+
+Examples:
+  drm-client "$DRM_SERVER_CARD" "create_dumb 64 64 32" "gem_close 1"
+  drm-client "$DRM_SERVER_CARD" --lease 1 getresources
+  drm-client "$DRM_SERVER_CARD" < calls.txt"""
+
+
+def token_of(word: str) -> int:
+    """Reads a lease token."""
+    try:
+        return number_of(word)
+    except ValueError as error:
+        raise argparse.ArgumentTypeError(str(error)) from error
 
 
 def parse(arguments: Optional[Sequence[str]]) -> argparse.Namespace:
@@ -30,10 +52,12 @@ def parse(arguments: Optional[Sequence[str]]) -> argparse.Namespace:
         prog="drm-client",
         description="Makes calls of the server, and prints its answers in a script's "
         "words.",
-        epilog="Exit status: 0; 1 if the opening was refused, a call could not be "
-        "encoded or the server did not answer; 2 for a wrong command line.",
+        epilog=EPILOG,
+        formatter_class=argparse.RawDescriptionHelpFormatter,
     )
-    parser.add_argument("path", help="the server's card, render or root socket")
+    parser.add_argument(
+        "path", metavar="SOCKET", help="the server's card, render or root socket"
+    )
     parser.add_argument(
         "calls",
         nargs="*",
@@ -42,7 +66,7 @@ def parse(arguments: Optional[Sequence[str]]) -> argparse.Namespace:
         "calls are read from standard input",
     )
     parser.add_argument(
-        "--lease", type=number_of, metavar="TOKEN", help="redeem this lease token"
+        "--lease", type=token_of, metavar="TOKEN", help="redeem this lease token"
     )
     parser.add_argument(
         "--hello",
@@ -50,15 +74,15 @@ def parse(arguments: Optional[Sequence[str]]) -> argparse.Namespace:
         choices=VERSIONS,
         default=DEFAULT_VERSION,
         metavar="VERSION",
-        help="the version of the hello: 2, which opens with universal planes off, or "
-        "1, which opens with them on (%(default)s)",
+        help="open with universal planes off (2) or on (1) (default %(default)s)",
     )
     parser.add_argument(
         "--timeout",
-        type=float,
+        type=seconds_of,
         default=DEFAULT_TIMEOUT,
         metavar="SECONDS",
-        help="the time limit of an opening, a call and the closing (%(default)g)",
+        help="limit the time of the opening, each call and the closing (default "
+        "%(default)g)",
     )
     return parser.parse_intermixed_args(arguments)
 
@@ -70,7 +94,7 @@ def talk(arguments: argparse.Namespace) -> None:
             arguments.path, arguments.lease, arguments.timeout, arguments.hello
         )
     except Refusal as refusal:
-        raise ClientError(f"the opening was refused: {refusal}") from refusal
+        raise ClientError(f"the server refused the opening: {refusal}") from refusal
     with client:
         print(words(client.opened), flush=True)
         for line in calls_of(arguments.calls) or sys.stdin:
@@ -85,7 +109,7 @@ def command(arguments: Optional[Sequence[str]]) -> int:
     except KeyboardInterrupt:
         return 130
     except (ClientError, ValueError, OSError) as error:
-        print(f"drm-client: {error}", file=sys.stderr)
+        print(f"drm-client: {message_of(error)}", file=sys.stderr)
         return 1
     return 0
 

@@ -268,7 +268,7 @@ class AsyncClient:
         loop = asyncio.get_running_loop()
         held.shutdown(socket.SHUT_WR)
         if await within(Deadline(self.timeout), loop.sock_recv(held, 1)):
-            raise ProtocolError("an answer came that nothing asked for")
+            raise ProtocolError("the server sent an answer without a request")
 
     async def is_open(self, client: int) -> bool:
         """Returns whether the client with this number is open.

@@ -21,7 +21,7 @@ from typing import Any, Dict, List, Optional, Sequence, Tuple, Type
 from .client import DEFAULT_TIMEOUT, Client, PathLike
 from .constants import MOST_ROWS, ClientCap, ClientFlag, Rule
 from .graph import dot, graph_of, svg
-from .protocol import ClientError, ProtocolError, Refusal
+from .protocol import ClientError, ProtocolError, Refusal, message_of
 from .rows import (
     KINDS,
     Audit,
@@ -205,14 +205,36 @@ def tables(audit: Audit) -> str:
     return "\n\n".join(parts)
 
 
+EPILOG = """
+Exit status:
+  0  the audit was printed
+  1  the server is not reachable, refused the audit or did not answer
+  2  a refused command line
+
+Examples:
+  drm-audit "$DRM_SERVER_ROOT"
+  drm-audit "$DRM_SERVER_ROOT" --svg > session.svg"""
+
+
+def seconds_of(word: str) -> float:
+    """Reads a time limit of a command line."""
+    try:
+        seconds = float(word)
+    except ValueError:
+        seconds = 0
+    if not 0 < seconds < float("inf"):
+        raise argparse.ArgumentTypeError(f"{word!r} is not a time limit above 0")
+    return seconds
+
+
 def parse(arguments: Optional[Sequence[str]]) -> argparse.Namespace:
     """Reads the command line."""
     first, _, rest = (__doc__ or "").partition("\n\n")
     parser = argparse.ArgumentParser(
         prog="drm-audit",
         description=first,
-        epilog=rest.partition("\n\n")[2]
-        + "\nExit status: 0; 1 if there is no audit; 2 for a wrong command line.",
+        epilog=rest.partition("\n\n")[2] + EPILOG,
+        formatter_class=argparse.RawDescriptionHelpFormatter,
     )
     parser.add_argument("path", metavar="SOCKET", help="the server's root socket")
     forms = parser.add_mutually_exclusive_group()
@@ -231,14 +253,14 @@ def parse(arguments: Optional[Sequence[str]]) -> argparse.Namespace:
     parser.add_argument(
         "--auditor",
         action="store_true",
-        help="show the client of the audit in a picture, too",
+        help="show the client that reads the audit in pictures, too",
     )
     parser.add_argument(
         "--timeout",
-        type=float,
+        type=seconds_of,
         default=DEFAULT_TIMEOUT,
         metavar="SECONDS",
-        help="the time limit of the opening and of each call (%(default)g)",
+        help="limit the time of the opening and of each call (default %(default)g)",
     )
     return parser.parse_args(arguments)
 
@@ -268,7 +290,7 @@ def main(arguments: Optional[Sequence[str]] = None) -> int:
         print(f"drm-audit: {refusal}{reason_of(refusal)}", file=sys.stderr)
         return 1
     except (ClientError, ValueError, OSError) as error:
-        print(f"drm-audit: {error}", file=sys.stderr)
+        print(f"drm-audit: {message_of(error)}", file=sys.stderr)
         return 1
     return 0
 

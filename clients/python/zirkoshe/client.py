@@ -279,7 +279,7 @@ class Client:
             try:
                 held.shutdown(socket.SHUT_WR)
                 if self._receive(held, 1, Deadline(self.timeout)):
-                    raise ProtocolError("an answer came that nothing asked for")
+                    raise ProtocolError("the server sent an answer without a request")
             except TimeoutError:
                 raise
             except OSError:  # the server had exited before

@@ -315,14 +315,14 @@ def frame(number: int, fields: bytes = b"") -> bytes:
     """
     length = LEAST_LENGTH + len(fields)
     if length > MOST_LENGTH:
-        raise ValueError(f"no frame takes {len(fields)} bytes of fields")
+        raise ValueError(f"a frame has no room for {len(fields)} bytes of fields")
     return pack("IH", length, number) + fields
 
 
 def hello(lease: Optional[int], version: int = DEFAULT_VERSION) -> bytes:
     """Returns the first frame: an opening of the node, or one by this lease token."""
     if version not in VERSIONS:
-        raise ValueError(f"the version of a hello is 1 or 2, and not {version}")
+        raise ValueError(f"the version of a hello must be 1 or 2, not {version}")
     return frame(HELLO, pack("III", version, 0 if lease is None else 1, lease or 0))
 
 
@@ -332,15 +332,22 @@ def request(call: Call, values: Sequence[int]) -> bytes:
         return frame(call.number, pack(f"I{len(values)}I", len(values), *values))
     if len(values) != len(call.layout):
         raise ValueError(
-            f"the call takes {len(call.layout)} numbers, and not {len(values)}"
+            f"the call takes {len(call.layout)} numbers, not {len(values)}"
         )
     return frame(call.number, pack(call.layout, *values))
+
+
+def message_of(error: Exception) -> str:
+    """Returns what a command prints of an error."""
+    if isinstance(error, OSError) and error.filename is not None:
+        return f"can't open {error.filename}: {error.strerror}"
+    return str(error)
 
 
 def number_of(word: str) -> int:
     """Reads a number as scripts write it: decimal digits alone."""
     if not (word.isascii() and word.isdigit()):
-        raise ValueError(f"{word!r} is no number")
+        raise ValueError(f"{word!r} is not a number")
     return int(word)
 
 
@@ -356,10 +363,10 @@ def request_of(line: str) -> Tuple[bytes, Optional[Type[Any]]]:
             fields = pack(f"{len(values) - 1}I", *values[1:])
             return frame(values[0], fields), kind_of(values[0])
         if word not in CALLS:
-            raise ValueError(f"{word!r} is not the word of a call")
+            raise ValueError(f"{word!r} is not a call")
         return request(CALLS[word], values), CALLS[word].answer
     except ValueError as error:
-        raise ValueError(f"not a call: {line.strip()} ({error})") from error
+        raise ValueError(f"can't encode the call {line.strip()}: {error}") from error
 
 
 def calls_of(words_: Sequence[str]) -> List[str]:
@@ -389,7 +396,7 @@ class Fields:
         """Takes numbers of this layout."""
         size = struct.calcsize("<" + layout)
         if len(self.rest) < size:
-            raise ProtocolError("an answer lacks fields")
+            raise ProtocolError("an answer is missing fields")
         taken, self.rest = self.rest[:size], self.rest[size:]
         return struct.unpack("<" + layout, taken)
 
@@ -423,7 +430,7 @@ def refuse(number: int, fields: Fields) -> NoReturn:
     fields.end()
     known = RULES if number == DENIED else APARTS
     if which not in known or known[which][1] != error:
-        raise ProtocolError(f"there is no refusal {which} with the errno {error}")
+        raise ProtocolError(f"the answer has the unknown refusal {which} with errno {error}")
     raise Denied(which) if number == DENIED else Apart(which)
 
 
@@ -436,7 +443,7 @@ def answer_of(number: int, text: bytes) -> Answer:
     if number in (DENIED, APART):
         refuse(number, fields)
     if number not in ANSWERS:
-        raise ProtocolError(f"no answer has the number {number:#x}")
+        raise ProtocolError(f"the answer has the unknown number {number:#x}")
     kind, _, layout = ANSWERS[number]
     # the lists of resources are bounded by their frame alone
     most_ids = MOST_IDS if kind is IdList else MOST_LENGTH
@@ -458,7 +465,7 @@ def length_of(head: bytes) -> int:
     """Returns the length of an answer's body, from the four bytes before it."""
     length = int.from_bytes(head, "little")
     if not LEAST_LENGTH <= length <= MOST_LENGTH:
-        raise ProtocolError(f"an answer has the length {length}")
+        raise ProtocolError(f"an answer has the invalid length {length}")
     return length
 
 

@@ -59,8 +59,8 @@ def find_program() -> str:
     script = str(own) if own.is_file() else shutil.which("drm_server")
     if script is None:
         raise ServerError(
-            "there is no server: set DRM_SERVER_PROGRAM to bin/drm_server_main of an "
-            "archive, or have drm_server on the path"
+            "can't find the server: set DRM_SERVER_PROGRAM to bin/drm_server_main of an "
+            "archive, or put drm_server on the path"
         )
     asked = subprocess.run(
         [script, "--program"],
@@ -69,7 +69,9 @@ def find_program() -> str:
         check=False,
     )
     if asked.returncode != 0:
-        raise ServerError(f"{script} --program gave status {asked.returncode}")
+        raise ServerError(
+            f"{script} --program exited with status {asked.returncode}"
+        )
     return os.fsdecode(asked.stdout.rstrip(b"\n"))
 
 
@@ -84,7 +86,10 @@ def find_library() -> str:
         return str(packed)
     build = PACKAGE.parents[1] / "libdrm" / "build"
     if not build.is_file():
-        raise ServerError("there is no library for libdrm programs")
+        raise ServerError(
+            "can't find the library for libdrm programs: install a wheel of "
+            "tools/wheel, or use the package of an archive"
+        )
     asked = subprocess.run(
         [str(build)],
         stdin=subprocess.DEVNULL,
@@ -92,7 +97,7 @@ def find_library() -> str:
         check=False,
     )
     if asked.returncode != 0:
-        raise ServerError(f"{build} gave status {asked.returncode}")
+        raise ServerError(f"{build} exited with status {asked.returncode}")
     return os.fsdecode(asked.stdout.rstrip(b"\n"))
 
 
@@ -229,8 +234,8 @@ class Server:
     ) -> None:
         if len(os.fsencode(self.render)) > MOST_PATH:
             raise ServerError(
-                f"{self.folder} is too long a path for sockets: set TMPDIR to a "
-                "shorter one"
+                f"the path {self.folder} is too long for sockets: set TMPDIR to a "
+                "shorter path"
             )
         command = [os.fspath(program) if program is not None else find_program()]
         command += ["serve", "--until-input-ends" if counts else "--until-ended"]
@@ -251,7 +256,7 @@ class Server:
                 start_new_session=True,
             )
         except OSError as error:
-            raise ServerError(f"the server can't be run: {error}") from error
+            raise ServerError(f"can't run {command[0]}: {error.strerror}") from error
 
     def _wait_until_it_listens(self, paths: Iterable[str]) -> None:
         """Waits for the server, and uses up none of its connections."""
@@ -261,8 +266,8 @@ class Server:
         while not expected.issubset(listening()):
             if self._process.poll() is not None:
                 raise ServerError(
-                    "the server ended before it listened, with status "
-                    f"{self._process.returncode}{self._logged()}"
+                    f"the server exited with status {self._process.returncode} before "
+                    f"it listened{self._logged()}"
                 )
             if time.monotonic() > until:
                 raise ServerError(

@@ -221,7 +221,7 @@ impl Client {
         }
         match receive(&mut stream, &mut [0], &deadline) {
             Ok(0) => Ok(()),
-            Ok(_) => protocol("an answer came that nothing asked for"),
+            Ok(_) => protocol("the server sent an answer without a request"),
             Err(error) if error.kind() == ErrorKind::TimedOut => Err(error.into()),
             Err(_) => Ok(()),
         }

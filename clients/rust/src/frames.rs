@@ -56,7 +56,7 @@ impl Fields<'_> {
                 self.left = left;
                 Ok(*taken)
             }
-            None => protocol("an answer lacks fields"),
+            None => protocol("an answer is missing fields"),
         }
     }
 
@@ -120,7 +120,7 @@ pub(super) fn refusal(is_fault: bool, fields: &mut Fields<'_>) -> Result<Error, 
     match refusal.filter(|refusal| refusal.errno().map(i64::from) == Some(i64::from(errno))) {
         Some(refusal) => Ok(refusal),
         None => protocol(format!(
-            "there is no refusal {number} with the errno {errno}"
+            "the answer has the unknown refusal {number} with errno {errno}"
         )),
     }
 }
@@ -241,7 +241,7 @@ pub(super) fn exchange(
     };
     let length = u32::from_le_bytes(length) as usize;
     if !(LEAST_LENGTH..=MOST_LENGTH).contains(&length) {
-        return protocol(format!("an answer has the length {length}"));
+        return protocol(format!("an answer has the invalid length {length}"));
     }
     let body = receive_all(stream, length, deadline)?;
     if body.len() < length {

@@ -107,7 +107,10 @@ impl ServerBuilder {
         let program = self.program.clone().map_or_else(find_program, Ok)?;
         let mut server = Server::new(make_folder()?);
         if server.render().as_os_str().len() > MOST_PATH {
-            let text = format!("{} is too long a path for sockets", server.folder.display());
+            let text = format!(
+                "the path {} is too long for sockets: set TMPDIR to a shorter path",
+                server.folder.display()
+            );
             return Err(io::Error::new(ErrorKind::InvalidInput, text));
         }
         let mut command = Command::new(program);
@@ -311,11 +314,14 @@ fn find_program() -> io::Result<PathBuf> {
     let mut command = Command::new(&script);
     command.arg("--program").stdin(Stdio::null());
     let asked = command.stderr(Stdio::inherit()).output().map_err(|error| {
-        let text = format!("there is no server, set DRM_SERVER_PROGRAM: {error}");
+        let text = format!(
+            "can't run {}: {error}; set DRM_SERVER_PROGRAM to the server's program",
+            script.display()
+        );
         io::Error::new(error.kind(), text)
     })?;
     if !asked.status.success() {
-        let text = format!("{} --program gave {}", script.display(), asked.status);
+        let text = format!("{} --program ended with {}", script.display(), asked.status);
         return Err(io::Error::new(ErrorKind::NotFound, text));
     }
     let line = asked.stdout.strip_suffix(b"\n").unwrap_or(&asked.stdout);
