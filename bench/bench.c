@@ -281,7 +281,7 @@ static double ask(int server, const uint8_t *request, size_t size, size_t *answe
     size_t length = read_frame(server, frame);
     double micros = now() - start;
     if (length < 6 || frame[5] == 0x20) {
-        fprintf(stderr, "bench: a request was denied\n");
+        fprintf(stderr, "bench: the server denied a request\n");
         exit(1);
     }
     if (answered)
@@ -492,7 +492,8 @@ static void load_of_round_trips(struct place *place, long requests, int count) {
 }
 
 static int usage(void) {
-    fprintf(stderr, "usage: bench SERVER [trips | handles] [REQUESTS [ROUNDS]]\n");
+    fprintf(stderr, "usage: bench SERVER [trips | handles] [REQUESTS [ROUNDS]], with at least %d REQUESTS and 1 to %d ROUNDS\n", MOST_CONNECTIONS,
+            MOST_TRIP_ROUNDS);
     return 2;
 }
 

@@ -3,8 +3,9 @@
 
     tools/with-server examples/session_picture.py > docs/session.svg
 
-It wants a server of its own, whose sockets are named by DRM_SERVER_CARD and DRM_SERVER_ROOT. Standard library only.
+It requires its own server. DRM_SERVER_CARD and DRM_SERVER_ROOT name the sockets. Standard library only.
 """
+import argparse
 import os
 import pathlib
 import sys
@@ -34,6 +35,8 @@ def show(card: str, root: str) -> str:
 
 
 def main() -> int:
+    parser = argparse.ArgumentParser(description=__doc__, formatter_class=argparse.RawDescriptionHelpFormatter)
+    parser.parse_args()
     try:
         print(show(os.environ["DRM_SERVER_CARD"], os.environ["DRM_SERVER_ROOT"]))
     except KeyError as error:

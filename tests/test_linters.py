@@ -37,6 +37,7 @@ BESIDE = tuple(
         "linux_page",
         "libdrm_errnos",
         "kernel_standings",
+        "command_line",
     )
 )
 TOOLS = (

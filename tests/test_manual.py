@@ -96,7 +96,7 @@ class ManualTests(FolderCase):
 
     def test_command_line(self):
         ran = run(REPOSITORY / "tools/manual")
-        expect("status and whether it explains itself", (ran.returncode, "manual FOLDER" in ran.stderr), (2, True))
+        expect("status and whether it explains itself", (ran.returncode, "required: FOLDER" in ran.stderr), (2, True))
 
 
 if __name__ == "__main__":

@@ -40,7 +40,8 @@ def copied(folder):
         shutil.copytree(REPOSITORY / f"crates/{crate}/src", folder / f"crates/{crate}/src")
     shutil.copytree(CLIENTS, folder / "clients")
     (folder / "tools").mkdir()
-    shutil.copy(CONSTANTS, folder / "tools")
+    for name in ("constants", "command_line.py"):
+        shutil.copy(REPOSITORY / "tools" / name, folder / "tools")
     return folder / "tools/constants", folder / "crates/drm_table/src/rules.rt"
 
 
@@ -78,7 +79,8 @@ def with_lemmas(folder):
         file.parent.mkdir(parents=True, exist_ok=True)
         file.write_text(text)
     (folder / "tools").mkdir()
-    shutil.copy(REPOSITORY / "tools/dead-lemmas", folder / "tools")
+    for name in ("dead-lemmas", "command_line.py"):
+        shutil.copy(REPOSITORY / "tools" / name, folder / "tools")
     return folder / "tools/dead-lemmas"
 
 

@@ -239,7 +239,9 @@ class WithServerTests(FolderCase):
         folder = self.folder
         server_path = folder / "drm_server"
         expect_no_start(folder, None, f"can't run {server_path}: No such file or directory")
-        expect_no_start(folder, "exit 3\n", f"can't get the program of the server: {server_path} --program exited with status 3")
+        expect_no_start(
+            folder, "exit 3\n", f"can't get the program of the server: {server_path} --program exited with status 3"
+        )
         expect_no_start(
             folder, '[ "$1" = serve ] && exit 5\necho "$0"\n', "the server exited with status 5 before it listened"
         )
@@ -251,7 +253,10 @@ class WithServerTests(FolderCase):
         builder.parent.mkdir(parents=True)
         for script, error in (
             ("exit 3\n", f"can't get the library for libdrm programs: {builder} exited with status 3"),
-            ("echo '/a b.so'\n", "LD_PRELOAD takes no path with a space or a colon: /a b.so"),
+            (
+                "echo '/a b.so'\n",
+                "LD_PRELOAD can't name /a b.so: move the repository to a path without spaces and colons",
+            ),
         ):
             builder.write_text("#!/bin/sh\n" + script)
             builder.chmod(0o755)
@@ -273,7 +278,10 @@ class WithServerTests(FolderCase):
     def test_with_server_refuses_words_of_udev(self):
         for words, reason in (
             (["--udev", "true"], "--udev requires --libdrm"),
-            (["--libdrm", "--udev", "--seat", "a/b", "true"], "'a/b' is not the name of a seat: use letters and digits, such as seat9"),
+            (
+                ["--libdrm", "--udev", "--seat", "a/b", "true"],
+                "'a/b' is not the name of a seat: use letters and digits, such as seat9",
+            ),
         ):
             ran = run(WITH_SERVER, *words, env=within(self.folder))
             expect(f"{words}", (ran.returncode, ran.stdout), (2, ""))

@@ -1,18 +1,25 @@
 #!/usr/bin/env python3
-"""The crates of crates.txt as a picture: each stands on those that arrows lead to, and on what these stand on.
+"""Prints a picture of the crates of crates.txt: each depends on those that its arrows lead to.
 
-    tools/crates_picture.py > docs/crates.svg
-    tools/crates_picture.py --layers
+A comment line of crates.txt begins a layer (`# parts: what they are`). Layers are bands of the picture, the first at the
+bottom. The picture leaves out arrows that follow from others, and libraries of the toolchain. Crates of a layer with the
+same arrows share a box.
 
-The layers, which a comment line of crates.txt begins (`# parts: what they are`), are bands of the picture, the first at the bottom;
---layers prints them as rows of a table, which docs/ARCHITECTURE.md opens with. An arrow that follows from others is left out, crates
-of a layer with the same arrows share a box, and so do arrows to a row further down a way through the rows between. Libraries of the
-toolchain aren't shown. Standard library only.
+Exit status:
+  0  the picture was printed
+  2  a refused command line
+
+Examples:
+  tools/crates_picture.py > docs/crates.svg
+  tools/crates_picture.py --layers
 """
 import pathlib
 import re
 import sys
 from typing import Dict, List, NamedTuple, Set, Tuple
+
+sys.dont_write_bytecode = True
+from command_line import parser_of  # noqa: E402  (it is in this folder)
 
 CRATES = pathlib.Path(__file__).resolve().parent.parent / "crates.txt"
 
@@ -243,5 +250,7 @@ def table(text: str) -> str:
 
 
 if __name__ == "__main__":
-    print((table if sys.argv[1:] == ["--layers"] else picture)(CRATES.read_text()))
+    parser = parser_of("crates_picture.py", __doc__)
+    parser.add_argument("--layers", action="store_true", help="print the layers as rows of a table of docs/ARCHITECTURE.md")
+    print((table if parser.parse_args().layers else picture)(CRATES.read_text()))
     sys.exit(0)

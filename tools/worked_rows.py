@@ -1,18 +1,25 @@
 #!/usr/bin/env python3
-"""Writes what is made of the worked rows: lemmas of drm_model, files of examples/rows, and tables of drm_tests.
+"""Writes what is made from the worked rows: lemmas of drm_model, files of examples/rows, and tables of drm_tests.
 
-    tools/worked_rows.py [--check]
+tools/worked_rows.txt has the rows, and describes their form. From each row the tool makes a lemma, which the check of
+drm_model refuses if the definitions give other answers; a file for `drm_server check`; and a row of a table that
+drm_tests runs, with the names and the errnos of denials.
 
-tools/worked_rows.txt has the rows, and tells how they are written. Of each row this makes a lemma that the definitions give its
-answers, which the check of drm_model refuses where they give others; a file for `drm_server check`; and a row of a table that
-drm_tests runs, with the names and the error numbers of what is denied. With --check nothing is written: each file is told that
-isn't what the rows give, or that none gives, and the status is 1 where there is one. Standard library only.
+Exit status:
+  0  the files were written, or are up to date
+  1  with --check: a file is stale or superfluous
+  2  a refused command line
+
+Examples:
+  tools/worked_rows.py --check
 """
-import argparse
 import pathlib
 import re
 import sys
 from typing import Dict, Iterable, List, NamedTuple, Tuple
+
+sys.dont_write_bytecode = True
+from command_line import parser_of  # noqa: E402  (it is in this folder)
 
 REPOSITORY = pathlib.Path(__file__).resolve().parent.parent
 SOURCE = REPOSITORY / "tools/worked_rows.txt"
@@ -383,8 +390,8 @@ def stale_files(files: Dict[pathlib.Path, str]) -> List[pathlib.Path]:
 
 
 def main() -> int:
-    parser = argparse.ArgumentParser(description="Writes what is made of the worked rows in tools/worked_rows.txt.")
-    parser.add_argument("--check", action="store_true", help="write nothing, and tell each file that isn't what the rows give")
+    parser = parser_of("worked_rows.py", __doc__)
+    parser.add_argument("--check", action="store_true", help="write nothing, and list the stale and superfluous files")
     is_check = parser.parse_args().check
     files = made_files(read_groups(SOURCE.read_text()))
     stale, superfluous = stale_files(files), superfluous_files(files)

@@ -25,7 +25,6 @@ from .protocol import (
     words,
 )
 
-
 EPILOG = """\
 Exit status:
   0  the server answered all calls, denied ones too

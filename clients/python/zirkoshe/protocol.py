@@ -430,7 +430,9 @@ def refuse(number: int, fields: Fields) -> NoReturn:
     fields.end()
     known = RULES if number == DENIED else APARTS
     if which not in known or known[which][1] != error:
-        raise ProtocolError(f"the answer has the unknown refusal {which} with errno {error}")
+        raise ProtocolError(
+            f"the answer has the unknown refusal {which} with errno {error}"
+        )
     raise Denied(which) if number == DENIED else Apart(which)
 
 

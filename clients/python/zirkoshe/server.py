@@ -59,8 +59,8 @@ def find_program() -> str:
     script = str(own) if own.is_file() else shutil.which("drm_server")
     if script is None:
         raise ServerError(
-            "can't find the server: set DRM_SERVER_PROGRAM to bin/drm_server_main of an "
-            "archive, or put drm_server on the path"
+            "can't find the server: set DRM_SERVER_PROGRAM to bin/drm_server_main of "
+            "an archive, or put drm_server on the path"
         )
     asked = subprocess.run(
         [script, "--program"],
@@ -69,9 +69,7 @@ def find_program() -> str:
         check=False,
     )
     if asked.returncode != 0:
-        raise ServerError(
-            f"{script} --program exited with status {asked.returncode}"
-        )
+        raise ServerError(f"{script} --program exited with status {asked.returncode}")
     return os.fsdecode(asked.stdout.rstrip(b"\n"))
 
 
