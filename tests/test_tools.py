@@ -130,6 +130,22 @@ page.md:19: a paragraph of 9 lines
 """
 
 
+# sources with comments, and what the tool lists of them
+COMMENTED = {
+    "low/src/lib.rt": "//! LONG\n\n// nobody reads a plain comment\nfn one() {} // nobody\n",
+    "lower/src/lib.rt": "/// Returns\n/// what nobody asked for.\n///\n/// ```rust\n/// nobody()\n/// ```\nfn one() {}\n",
+    "lower/specs/Lib.antt": "-- ---- one\n\none : Nat   -- nobody\n-- What comes first.\n",
+}
+COMMENTS_LISTED = """crates/low/src/lib.rt:1: a sentence of 31 words: "word word word word word word .."
+crates/lower/src/lib.rt:2: "nobody": write the client, the caller, no client
+crates/lower/specs/Lib.antt:4: "comes": write is created, arrives, follows
+   long   words crate
+      1       0 low
+      0       2 lower
+      1       2 in all
+"""
+
+
 def prose(folder, *words):
     return run(PROSE, "--repository", folder, *words)
 
@@ -319,6 +335,17 @@ class ToolsTests(FolderCase):
         expect_end(prose(folder, "page.md"), 1, "", LISTED)
         (folder / "page.md").write_text("# A title\n\nOne sentence.\n")
         expect_end(prose(folder), 0, "", "")
+
+    def test_prose_of_comments_is_counted(self):
+        folder = self.folder
+        for name, text in COMMENTED.items():
+            path = folder / "crates" / name
+            path.parent.mkdir(parents=True)
+            path.write_text(text.replace("LONG", " ".join(["word"] * 31) + "."))
+        expect_end(prose(folder, "--comments"), 0, "", COMMENTS_LISTED)
+        counted = "   long   words crate\n      1       0 low\n      1       0 in all\n"
+        expect("one crate", prose(folder, "--comments", "low").stdout.endswith(counted), True)
+        expect_end(prose(folder, "--comments", "high"), 2, "prose: high is not the name of a crate\n", "")
 
     def test_prose_has_exceptions_with_reasons(self):
         folder = self.folder
