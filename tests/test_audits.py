@@ -361,6 +361,14 @@ class AuditsTests(FolderCase):
         expect_end(
             run(WATCH, folder / "absent"), 1, f"watch: can't open {folder / 'absent'}: No such file or directory\n", ""
         )
+        for words, reason in (
+            (["--interval", "x"], "argument --interval: 'x' is not a number of seconds from 0.01 to 3600"),
+            (["--interval", "0"], "argument --interval: '0' is not a number of seconds from 0.01 to 3600"),
+            (["--page", "--port", "65536"], "argument --port: '65536' is not a port from 0 to 65535"),
+            (["--port", "80"], "--port requires --page"),
+        ):
+            ran = run(WATCH, folder / "absent", *words)
+            expect("status and reason", (ran.returncode, ran.stderr.splitlines()[-1]), (2, f"watch: error: {reason}"))
 
     def test_watch_shows_a_page(self):
         folder = self.folder

@@ -647,6 +647,20 @@ class ClientsTests(FolderCase):
         folder = self.folder
         ran = run(TOOL, folder / "absent", "version")
         expect_end(ran, 1, f"drm-client: can't open {folder / 'absent'}: No such file or directory\n", "")
+        with socket.socket(socket.AF_UNIX) as unheard:
+            unheard.bind(str(folder / "unheard"))
+            ran = run(TOOL, folder / "unheard", "version")
+        told = f"drm-client: can't open {folder / 'unheard'}: Connection refused; no server listens there\n"
+        expect_end(ran, 1, told, "")
+        for options, reason in (
+            (["--lease", "x"], "argument --lease: 'x' is not a number"),
+            (["--timeout", "0"], "argument --timeout: '0' is not a time limit above 0"),
+            (["--timeout", "soon"], "argument --timeout: 'soon' is not a time limit above 0"),
+        ):
+            ran = run(TOOL, folder / "absent", *options)
+            expect(
+                "status and reason", (ran.returncode, ran.stderr.splitlines()[-1]), (2, f"drm-client: error: {reason}")
+            )
         with answering(folder / "silent", drips=b""):
             ran = run(TOOL, folder / "silent", "--timeout", "0.5")
         expect_end(ran, 1, "drm-client: the server didn't answer within 0.5 seconds\n", "")

@@ -8,6 +8,7 @@ import collections
 import errno
 import inspect
 import json
+import os
 import re
 import shutil
 import sys
@@ -307,6 +308,18 @@ class ToolsTests(FolderCase):
             f"trusted: {name} is not a public function with a contract, nor a clause of one\n",
             "",
         )
+
+    def test_help_of_each_tool(self):
+        """It has the usage, the exit statuses and examples, in this order. Files without a suffix, and those that run, are tools."""
+        parts = ("usage:", "Exit status:", "Examples:")
+        for tool in sorted([*(REPOSITORY / "tools").iterdir(), REPOSITORY / "clients/libdrm/build"]):
+            if not os.access(tool, os.X_OK) or not tool.is_file():
+                continue
+            ran = run(tool, "--help")
+            found = sorted((ran.stdout.lower().find(part.lower()), part) for part in parts)
+            wanted = (0, "", list(parts), True)
+            had = (ran.returncode, ran.stderr, [part for _, part in found], found[0][0] >= 0)
+            expect(f"status, errors and parts of {tool.name}", had, wanted)
 
     def test_unittest_has_the_tests_of_each_file(self):
         """And importing them looks for no program, and builds none."""

@@ -275,8 +275,9 @@ class WithServerTests(FolderCase):
         expect_end(ran, 125, f"with-server: {reason}\n", "")
         expect_nothing_left(self.folder)
 
-    def test_with_server_refuses_words_of_udev(self):
+    def test_with_server_refuses_words(self):
         for words, reason in (
+            (["--cards", "65", "true"], "argument --cards: '65' is not a number from 0 to 64"),
             (["--udev", "true"], "--udev requires --libdrm"),
             (
                 ["--libdrm", "--udev", "--seat", "a/b", "true"],

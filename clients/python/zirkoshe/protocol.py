@@ -339,9 +339,10 @@ def request(call: Call, values: Sequence[int]) -> bytes:
 
 def message_of(error: Exception) -> str:
     """Returns what a command prints of an error."""
-    if isinstance(error, OSError) and error.filename is not None:
-        return f"can't open {error.filename}: {error.strerror}"
-    return str(error)
+    if not isinstance(error, OSError) or error.filename is None:
+        return str(error)
+    hint = "; no server listens there" if error.errno == errno.ECONNREFUSED else ""
+    return f"can't open {error.filename}: {error.strerror}{hint}"
 
 
 def number_of(word: str) -> int:
