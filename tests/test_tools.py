@@ -312,7 +312,11 @@ class ToolsTests(FolderCase):
     def test_help_of_each_tool(self):
         """It has the usage, the exit statuses and examples, in this order. Files without a suffix, and those that run, are tools."""
         parts = ("usage:", "Exit status:", "Examples:")
-        for tool in sorted([*(REPOSITORY / "tools").iterdir(), REPOSITORY / "clients/libdrm/build"]):
+        others = [
+            REPOSITORY / name
+            for name in ("clients/libdrm/build", "bench/run", "bench/among", "bench/instructions", "zirkoshe")
+        ]
+        for tool in sorted([*(REPOSITORY / "tools").iterdir(), *others]):
             if not os.access(tool, os.X_OK) or not tool.is_file():
                 continue
             ran = run(tool, "--help")
