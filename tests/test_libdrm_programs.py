@@ -115,7 +115,10 @@ TIMED_OUT = 124
 
 
 class Program(NamedTuple):
-    """A program with its package, the command that runs it, how far it gets, and what else the command needs."""
+    """A program with its package, the command that runs it, how far it gets, and what else the command needs.
+
+    `stops` is what ends it that is no request.
+    """
 
     name: str
     package: str
@@ -124,6 +127,7 @@ class Program(NamedTuple):
     options: Tuple[str, ...] = ()
     needs: Tuple[str, ...] = ()
     status: int = 0
+    stops: str = ""
 
 
 PROGRAMS = (
@@ -136,8 +140,24 @@ PROGRAMS = (
         SETS,
     ),
     Program("kmscube", "kmscube", KMSCUBE, SHOWS),
+    Program(
+        "kmscube -A",
+        "kmscube",
+        f"{KMSCUBE} -A",
+        LISTS,
+        status=255,
+        stops="eglDupNativeFenceFDANDROID: a software renderer has no fences",
+    ),
     Program("glmark2-es2-drm", "glmark2-es2-drm", f"glmark2-es2-drm -b build:duration={SHOWING}", SHOWS, ("--udev",)),
     Program("mpv --vo=drm", "mpv", MPV, SHOWS),
+    Program(
+        "mpv --vo=gpu",
+        "mpv",
+        f"{MPV} --vo=gpu --gpu-context=drm",
+        LISTS,
+        status=2,
+        stops="gbm_surface_create: Mesa has no driver for the card",
+    ),
     Program("weston", "weston", WESTON, SHOWS, SEAT + LAPTOP, ("weston-presentation-shm",)),
     Program("sway", "sway", SWAY, SHOWS, (), WLROOTS + ("swaymsg",)),
     Program("sway --seccomp", "sway", SUPERVISED_SWAY, SHOWS, ("--seccomp",), WLROOTS + ("swaymsg",)),
@@ -179,7 +199,7 @@ def row_of(program, journal, trace):
     failing = [f"{name}: {result}" for name, result in requests if result != "done"]
     mode = "atomic" if "MODE_ATOMIC" in done else "legacy" if done & {"MODE_SETCRTC", "MODE_PAGE_FLIP"} else "-"
     far = SHOWS if most > SHOWING else SETS if mode != "-" else LISTS if done else "finds no card"
-    return Row(version_of(program.package), mode, far, most, failing[-1] if failing else "-")
+    return Row(version_of(program.package), mode, far, most, program.stops or (failing[-1] if failing else "-"))
 
 
 def run_program_of_table(folder, program):
