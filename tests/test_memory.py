@@ -340,12 +340,6 @@ class Clients:
             client = self.reach(name, lambda path: Client(path, lease, MOST_SECONDS))
         except Refusal as refusal:
             return refusal.words
-        except TimeoutError:
-            # it came before the listener was shut for want of a thread: the server ends with the clients of the others
-            for client in self.opened.values():
-                client.close()
-            self.opened.clear()
-            return GONE
         if client is None:
             return GONE
         self.opened[who] = client

@@ -1,28 +1,28 @@
-//! Accepting connections, also where the system can't for a while.
+//! Accepting connections, also if the system can't for a while.
 
 use crate::notes::Note;
 use crate::open_connections::OpenConnections;
 use drm_sessions::Class;
-use libc::net::{POLLIN, poll};
+use libc::net::{POLLHUP, POLLIN, poll};
 use libc::types::pollfd;
-use libc::{ECONNABORTED, EMFILE, ENOMEM};
+use libc::{ECONNABORTED, EINVAL, EMFILE, ENOMEM};
 use std::io;
 use std::os::fd::AsRawFd;
 use std::os::unix::net::{UnixListener, UnixStream};
 use std::sync::Wait;
 
-/// Linux's numbers of two errors: no process may open a file more, and there is no memory for the socket.
+/// Linux's numbers of two errors: the system has no free descriptor, and there is no memory for the socket.
 const ENFILE: i32 = 23;
 
 const ENOBUFS: i32 = 105;
 
-/// How long a listener waits where the system can't accept, in milliseconds.
+/// How long a listener waits if the system can't accept, in milliseconds.
 const PAUSE: i32 = 100;
 
 /// How many pauses a listener makes in a row while no connection is open, before it gives up: five seconds in all.
 const MOST_PAUSES: u32 = 50;
 
-// What may be otherwise after a while: the system lacks descriptors or memory, or the client went before.
+// The errors that may pass: the system has no descriptor or memory left, or the client left before it was accepted.
 const PASSING: [i32; 5] = [EMFILE, ENFILE, ENOBUFS, ENOMEM, ECONNABORTED];
 
 fn may_pass(reason: &io::Error) -> bool {
@@ -40,20 +40,26 @@ fn asking(socket: &UnixListener) -> pollfd {
     }
 }
 
-// Waits until a client connects, or all were told to end: a listener needs no descriptor before.
-fn wait_for_client(socket: &UnixListener) {
-    poll(&mut [asking(socket)], -1);
+// Waits until a client connects or the listener is shut: until then it needs no descriptor. Accepts the connection. A listener that is
+// shut accepts none of the connections that wait, which are closed with it.
+fn accept_waiting(socket: &UnixListener) -> io::Result<UnixStream> {
+    let mut asked = [asking(socket)];
+    poll(&mut asked, -1);
+    if asked[0].revents & POLLHUP != 0 {
+        return Err(io::Error::from_raw_os_error(EINVAL));
+    }
+    let (stream, _) = socket.accept()?;
+    Ok(stream)
 }
 
-// Accepts a connection. Where all were told to end nobody comes any more: it is one whose client has ended.
+// Accepts a connection. During shutdown it returns a connection that is already closed.
 fn accept_or_end<R: Wait>(
     rt: &R,
     open: &OpenConnections,
     socket: &UnixListener,
 ) -> io::Result<UnixStream> {
-    wait_for_client(socket);
-    match socket.accept() {
-        Ok((stream, _)) => Ok(stream),
+    match accept_waiting(socket) {
+        Ok(stream) => Ok(stream),
         Err(reason) => match open.ended(rt) {
             Some(ended) => ended.try_clone(),
             None => Err(reason),
@@ -61,9 +67,10 @@ fn accept_or_end<R: Wait>(
     }
 }
 
-/// Accepts the next connection. If the system lacks descriptors or memory for it, this logs the reason and retries ten times a second,
-/// while a connection is open, and then for five seconds; who connects meanwhile waits. Where all were told to end it is one whose
-/// client has ended.
+/// Accepts the next connection.
+///
+/// If the system is out of descriptors or memory, this logs the reason and retries ten times a second: while a connection is open, and
+/// then for five seconds. Clients that connect meanwhile wait. During shutdown it returns a connection that is already closed.
 pub fn accept_next<R: Wait>(
     rt: &R,
     open: &OpenConnections,
@@ -96,9 +103,9 @@ pub fn accept_next<R: Wait>(
     accept_or_end(rt, open, socket)
 }
 
-/// Accepts the next connection of a listener that goes on. Returns `None` once all were told to end.
+/// Accepts the next connection of a listener that serves until shutdown. Returns `None` during shutdown.
 ///
-/// If the system is out of descriptors or memory, this logs the reason and retries ten times a second; clients that connect meanwhile wait.
+/// If the system is out of descriptors or memory, this logs the reason and retries ten times a second. Clients that connect meanwhile wait.
 pub fn accept_unless_ended<R: Wait>(
     rt: &R,
     open: &OpenConnections,
@@ -107,12 +114,12 @@ pub fn accept_unless_ended<R: Wait>(
 ) -> io::Result<Option<UnixStream>> {
     let mut is_logged = false;
     for _ in rt.forever() {
-        wait_for_client(socket);
+        let accepted = accept_waiting(socket);
         if open.has_ended(rt) {
             return Ok(None);
         }
-        match socket.accept() {
-            Ok((stream, _)) => return Ok(Some(stream)),
+        match accepted {
+            Ok(stream) => return Ok(Some(stream)),
             Err(reason) if may_pass(&reason) => {
                 if !is_logged {
                     open.notes()
@@ -121,18 +128,17 @@ pub fn accept_unless_ended<R: Wait>(
                 }
                 poll(&mut [], PAUSE);
             }
-            Err(_) if open.has_ended(rt) => return Ok(None),
             Err(reason) => return Err(reason),
         }
     }
     Ok(None)
 }
 
-/// Logs where a connection waits behind the last one that a listener accepts, which is refused as the listener is closed. Whoever
-/// connects later isn't seen: the system refuses it.
+/// Logs that a connection waits after the last one that a listener accepts: it is refused when the listener is closed. The system itself
+/// refuses later ones, which are not logged.
 pub fn note_beyond<R: Wait>(rt: &R, open: &OpenConnections, socket: &UnixListener, class: Class) {
     let mut asked = [asking(socket)];
-    // a listener that was told to end has more to tell
+    // a listener that is shut has further events
     if poll(&mut asked, 0) == 1 && asked[0].revents == POLLIN {
         open.notes().add(rt, Note::Refused(class));
     }
