@@ -1,6 +1,6 @@
-//! Why nothing was added.
+//! The reasons nothing was added.
 
-/// Why a client wasn't opened or a handle wasn't given. Everything is then as it was.
+/// The reason a client was not opened or a handle was not assigned. The state is unchanged.
 ///
 /// ```rust
 /// let mut files = Files::new(alloc, 0, 100);
@@ -8,8 +8,8 @@
 /// ```
 #[derive(Clone, Copy, PartialEq, Eq, Debug)]
 pub enum FileFault {
-    /// As many clients are open as may be, or the client has every handle.
+    /// The limit of clients is reached, or the client has every handle.
     Full,
-    /// There is no memory for one more.
+    /// Memory was refused.
     NoMemory,
 }

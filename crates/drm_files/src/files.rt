@@ -18,7 +18,7 @@ use drm_index_array::IndexArray;
 use std::alloc::Global;
 use std::marker::Model;
 
-// What stands behind a handle.
+// The object of a handle, and its export order.
 #[derive(Clone, Copy)]
 pub(crate) struct Held {
     pub(crate) object: ObjectKey,
@@ -34,7 +34,7 @@ pub(crate) struct FileRecord {
 }
 
 impl FileRecord {
-    // Gives a handle that has no export order one. It takes no memory.
+    // Sets the export order of a handle that has none. Does not allocate.
     pub(crate) fn give_order(&mut self, handle: u32, object: ObjectKey, export_order: u32)
         requires in_order { AreInOrder self.old.handles.slots self.old.orders }
         requires unplaced { get self.old.handles.slots handle ≡ Some (record { object = object; export_order = None }) }
@@ -57,8 +57,8 @@ impl FileRecord {
     }
 }
 
-/// The open clients with their flags, and the handles of each. Contracts see flat lists: the
-/// clients, rising by their numbers, and the handles, in the order of clients and then handles.
+/// The open clients with their flags, and the handles of each. Contracts see flat lists: the clients in the order of
+/// their numbers, and the handles in the order of clients and then of handles.
 ///
 /// ```rust
 /// let mut files = Files::new(alloc, 4, 100);
@@ -71,7 +71,7 @@ pub struct Files {
     last_handle: u32,
 }
 
-// Written out, so that it is proved once: a derived one is proved again in each crate that lets such a value go.
+// Written out, so that it is proved once: a derived one is proved again in each crate that drops such a value.
 impl Drop for Files {
     fn drop(self) {
         let Files {
@@ -96,8 +96,8 @@ impl Model for Files {
 }
 
 impl Files {
-    /// No open client. At most `clients` may be open at once, and each may hold the handles from 1
-    /// to `handles`. It takes no memory.
+    /// Creates a table without clients. At most `clients` may be open at once, and each may have the handles from 1 to
+    /// `handles`. Does not allocate.
     ///
     /// ```rust
     /// assert!(Files::new(alloc, 4, 100).len() == 0);
@@ -114,9 +114,12 @@ impl Files {
         }
     }
 
-    /// Opens a client that isn't open, without handles, with universal planes on or off. It is
-    /// authenticated exactly where it is root. It is refused as full where as many clients are open
-    /// as may be, and then, as without memory, nothing changes.
+    /// Opens a client that is not open, without handles, with universal planes on or off (drm-uapi). A root client is
+    /// authenticated from the start.
+    ///
+    /// # Errors
+    ///
+    /// `Full` if the limit of clients is reached (own), `NoMemory` if memory is refused. The state is then unchanged.
     ///
     /// ```rust
     /// assert!(files.flags_of(1).is_some() && files.flags_of(2).is_none());
@@ -153,8 +156,8 @@ impl Files {
         Ok(())
     }
 
-    /// Closes an open client, and gives its handles with their objects, to be released. It takes
-    /// no memory.
+    /// Closes an open client, and returns its handles with their objects, which the caller must release. Does not
+    /// allocate.
     ///
     /// ```rust
     /// let Ok(()) = files.open(2, true, false, false) else { return };
@@ -173,7 +176,7 @@ impl Files {
         FileRest::new(handles)
     }
 
-    /// How many clients are open.
+    /// Returns the number of open clients.
     ///
     /// ```rust
     /// assert!(files.len() == 1);
@@ -184,7 +187,7 @@ impl Files {
         self.clients.len()
     }
 
-    /// Whether as many clients are open as may be.
+    /// Returns whether the limit of clients is reached.
     ///
     /// ```rust
     /// assert!(!files.is_full());
@@ -196,7 +199,7 @@ impl Files {
         self.clients.len() >= self.open_limit as usize
     }
 
-    /// Whether an open client has a free handle.
+    /// Returns whether an open client has a free handle.
     ///
     /// ```rust
     /// assert!(files.has_room(1));
@@ -211,9 +214,11 @@ impl Files {
         !record.handles.is_full()
     }
 
-    /// Gives an open client its least free handle for an object (drm-gem(7): handles). It is
-    /// refused as full where the client has every handle, and then, as without memory, nothing
-    /// changes.
+    /// Assigns the lowest free handle of an open client to an object (drm-gem(7)), and returns it.
+    ///
+    /// # Errors
+    ///
+    /// `Full` if the client has every handle (own), `NoMemory` if memory is refused. The state is then unchanged.
     ///
     /// ```rust
     /// let object = ObjectKey::from_number(7);
@@ -254,7 +259,7 @@ impl Files {
         Ok(handle)
     }
 
-    /// The object behind a handle of an open client, if the client has that handle.
+    /// Returns the object of a handle of an open client, if the client has that handle. Does not allocate.
     ///
     /// ```rust
     /// assert!(files.object_of(1, handle) == Some(object));
@@ -269,8 +274,7 @@ impl Files {
         Some(held.object)
     }
 
-    /// Takes a handle from an open client, if the client has it, and gives the object behind it.
-    /// It takes no memory.
+    /// Removes a handle of an open client, if the client has it, and returns its object. Does not allocate.
     ///
     /// ```rust
     /// assert!(files.drop_handle(1, handle) == Some(object));
@@ -293,7 +297,7 @@ impl Files {
         Some(object)
     }
 
-    /// What a client may do, if it is open.
+    /// Returns the flags of a client, if it is open.
     ///
     /// ```rust
     /// assert!(matches!(files.flags_of(1), Some(flags) if flags.universal && !flags.render));
@@ -306,7 +310,7 @@ impl Files {
         Some(record.flags)
     }
 
-    /// Notes that an open client is authenticated (drm-uapi). It takes no memory.
+    /// Sets an open client as authenticated (drm-uapi). Does not allocate.
     ///
     /// ```rust
     /// files.set_authenticated(1);
@@ -322,8 +326,7 @@ impl Files {
         record.flags.authenticated = true;
     }
 
-    /// Turns universal planes of an open client on or off (drm-uapi, client capabilities). It takes
-    /// no memory.
+    /// Turns universal planes of an open client on or off (drm-uapi, client capabilities). Does not allocate.
     ///
     /// ```rust
     /// files.set_universal(1, false);

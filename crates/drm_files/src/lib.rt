@@ -1,4 +1,6 @@
-//! The open clients of a device with their flags, and the GEM handles of each.
+//! The open clients of a device with their flags, and the GEM handles of each (drm-uapi, drm-gem(7)).
+//!
+//! An example is the body of a function that has the runtime `rt`. If memory is refused, it returns.
 #![tactic(auto)]
 
 mod faults;

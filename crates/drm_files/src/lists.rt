@@ -18,7 +18,7 @@ const CLIENT_KIND: u32 = 1;
 const HOLD_KIND: u32 = 6;
 
 impl Files {
-    /// The handles of an open client from a number on, rising, 64 at most. It takes no memory.
+    /// Returns the handles of an open client from a number on, in rising order, 64 at most (own). Does not allocate.
     ///
     /// ```rust
     /// let object = ObjectKey::from_number(7);
@@ -35,7 +35,7 @@ impl Files {
         shown_handles(&record.handles, from)
     }
 
-    /// The client at a place of the list of clients, where 0 is the first. It takes no memory.
+    /// Returns the client at a position of the list of clients, from 0. Does not allocate.
     ///
     /// ```rust
     /// assert!(matches!(files.nth_client(0), Some(row) if row.client == 1));
@@ -51,8 +51,10 @@ impl Files {
         })
     }
 
-    /// Returns the row at a position, from 0, of the rows of an audit's kind (own): clients are kind 1, rising by client, handles
-    /// are kind 6, rising by client and then by handle, and no other kind is kept. Does not allocate.
+    /// Returns the row at a position, from 0, of the rows of an audit's kind (own). Does not allocate.
+    ///
+    /// Clients are kind 1, in the order of their numbers. Handles are kind 6, in the order of clients and then of
+    /// handles. No other kind has rows here.
     ///
     /// ```rust
     /// assert!(files.nth(6, 0).is_some() && files.nth(2, 0).is_none());
@@ -67,7 +69,7 @@ impl Files {
         }
     }
 
-    /// The hold at a place of the list of holds, where 0 is the first. It passes over whole clients, and takes no memory.
+    /// Returns the handle at a position of the list of handles, from 0. It skips whole clients. Does not allocate.
     ///
     /// ```rust
     /// assert!(matches!(files.nth_handle(0), Some(row) if row.handle == handle));
@@ -111,7 +113,7 @@ fn shown_handles(table: &IdTable<Held>, from: u32) -> ShownList
     list
 }
 
-// The hold at a place of one client's, or how far behind the last of them the place is.
+// The handle at a position among those of one client, or how far after the last of them the position is.
 fn nth_held(client: u32, table: &IdTable<Held>, position: usize) -> Result<FileHandle, usize>
     ensures ok { IfOk result (λ hold. (rest : List FileHandle) → slice_get (rows_in client (map.entries table.now.slots) ++ rest) position ≡ Some hold) }
     ensures err { IfErr result (λ behind. (rest : List FileHandle) → slice_get (rows_in client (map.entries table.now.slots) ++ rest) position ≡ slice_get rest behind) }

@@ -1,4 +1,4 @@
-//! PRIME handles: those that an export or an import gave an export order (drm-mm, PRIME; the order is this crate's own).
+//! PRIME handles: those that received an export order by an export or an import (drm-mm, PRIME; the order is own).
 
 ghost use Rattle.std.specs.Prelude.{◌≡◌, true, is_some, find};
 ghost use Rattle.drm_files.specs.Files.{AreFiles, is_open_client, is_handle, prime_handle, with_export_order};
@@ -16,9 +16,11 @@ pub(crate) struct Prime {
 }
 
 impl Files {
-    /// Returns the handle of an open client for an object that has the lowest export order, at a tie the lowest handle (drm-mm,
-    /// PRIME). A further import of the object returns this handle. Returns `None` if no handle of the client for the object has
-    /// an export order. Looks at no other handle. Does not allocate.
+    /// Returns the handle of an open client for an object that has the lowest export order, at a tie the lowest handle
+    /// (drm-mm, PRIME). Does not allocate.
+    ///
+    /// A further import of the object returns this handle. Returns `None` if no handle of the client for the object has
+    /// an export order. Looks at no other handle.
     ///
     /// ```rust
     /// let object = ObjectKey::from_number(7);
@@ -35,8 +37,10 @@ impl Files {
         record.orders.first(object)
     }
 
-    /// Gives a handle of an open client an export order (drm-mm, PRIME). If the handle has one already, nothing changes. Looks at
-    /// the client's handles for the object whose export order is greater, and at no other. Does not allocate.
+    /// Sets the export order of a handle of an open client (drm-mm, PRIME). Does not allocate.
+    ///
+    /// If the handle has one already, nothing changes. Looks at the client's handles for the object whose export order
+    /// is greater, and at no other.
     ///
     /// ```rust
     /// let Ok(handle) = files.add_handle(1, object, None) else { return };
@@ -84,7 +88,7 @@ fn prime_of(handle: u32, held: Held, object: ObjectKey) -> Option<Prime>
     })
 }
 
-// Whether a handle was given its export order first, or is the lesser of two that have one.
+// Returns whether a handle received its export order first, or is the lower of two that have the same one.
 pub(crate) fn is_before(other: Prime, one: Prime) -> bool
     ensures { result ≡ is_before other one }
 {

@@ -1,4 +1,4 @@
-//! What a closed client leaves to be released.
+//! The handles of a closed client, to be released.
 
 ghost use Rattle.std.specs.Prelude.{◌≡◌, slice_get, drop, IfNone};
 ghost use Rattle.drm_files.specs.Records.{pairs_of};
@@ -8,8 +8,8 @@ use drm_gem::ObjectKey;
 use drm_id_alloc::IdTable;
 use std::marker::Model;
 
-/// The handles that a closed client had, each with its object, to be taken one after another.
-/// Contracts see the list of these pairs, in the order of the handles.
+/// The handles that a closed client had, each with its object. Contracts see the list of these pairs, in the order of
+/// the handles.
 ///
 /// ```rust
 /// let mut files = Files::new(alloc, 4, 100);
@@ -22,7 +22,7 @@ pub struct FileRest {
     handles: IdTable<Held>,
 }
 
-// Written out, so that it is proved once: a derived one is proved again in each crate that lets such a value go.
+// Written out, so that it is proved once: a derived one is proved again in each crate that drops such a value.
 impl Drop for FileRest {
     fn drop(self) {
         let FileRest { handles } = self;
@@ -40,14 +40,14 @@ impl Model for FileRest {
 }
 
 impl FileRest {
-    /// What is left of a client with these handles.
+    /// Creates the rest of a client with these handles.
     pub(crate) fn new(handles: IdTable<Held>) -> FileRest
         ensures { result ≡ pairs_of handles }
     {
         FileRest { handles }
     }
 
-    /// Takes the next handle with its object. There is none exactly where the list is empty, and then it stays so.
+    /// Removes the first handle and returns it with its object, or returns `None` if none is left. Does not allocate.
     ///
     /// ```rust
     /// assert!(rest.take_next() == Some((handle, object)));

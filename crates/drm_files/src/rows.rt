@@ -1,8 +1,8 @@
-//! What callers are shown of the open clients and their handles.
+//! The rows of open clients and their handles.
 
 use drm_gem::ObjectKey;
 
-/// What a client may do (drm-uapi: primary and render nodes, authentication).
+/// The flags of a client (drm-uapi: primary and render nodes, authentication).
 ///
 /// ```rust
 /// let mut files = Files::new(alloc, 4, 100);
@@ -12,14 +12,14 @@ use drm_gem::ObjectKey;
 /// ```
 #[derive(Clone, Copy, PartialEq, Eq, Debug)]
 pub struct FileFlags {
-    /// It opened the render node.
+    /// Whether it opened the render node.
     pub render: bool,
-    /// It may do what is kept for root.
+    /// Whether it may do what requires root.
     pub root: bool,
-    /// It is authenticated. A root client is from the start.
+    /// Whether it is authenticated. A root client is from the start.
     pub authenticated: bool,
-    /// It has universal planes on: it sees primary and cursor planes, and not overlay planes alone (drm-uapi, client
-    /// capabilities).
+    /// Whether it has universal planes on, and so sees primary and cursor planes as well as overlay planes (drm-uapi,
+    /// client capabilities).
     pub universal: bool,
 }
 
@@ -32,11 +32,11 @@ pub struct FileFlags {
 pub struct FileClient {
     /// Its number.
     pub client: u32,
-    /// What it may do.
+    /// Its flags.
     pub flags: FileFlags,
 }
 
-/// A row of an audit that [`Files`](crate::Files) keeps (own).
+/// A row of an audit from [`Files`](crate::Files) (own).
 ///
 /// ```rust
 /// assert!(files.nth(1, 0) == Some(FileRow::Client(FileClient { client: 1, flags })));
@@ -59,12 +59,12 @@ pub enum FileRow {
 /// ```
 #[derive(Clone, Copy, PartialEq, Eq, Debug)]
 pub struct FileHandle {
-    /// The client that holds it.
+    /// The client that has it.
     pub client: u32,
-    /// The handle, a number of the client's own.
+    /// The handle, one of the client's own numbers.
     pub handle: u32,
-    /// The object behind it.
+    /// The object of the handle.
     pub object: ObjectKey,
-    /// The export order: which export or import the handle is known by, if it is by one (drm-mm, PRIME).
+    /// The export order of the export or import that returns this handle, if there is one (drm-mm, PRIME).
     pub export_order: Option<u32>,
 }

@@ -48,7 +48,7 @@ by-fields f kind (Some fs) outcome b number t e =
     let were = numbers-were (answer_widths kind) f.fields fs b t in
     made f kind fs (answer_with kind fs) outcome (told-by kind fs) e were.fits (frame_value-is f (answer_number kind) _ number (were.text ∙ append-nil (flat_map field_text fs)))
 
--- a chain that gives something, and what its first step gave
+-- a chain with a result, and the result of its first step
 chained : {A B : Type 0} (next : A → Option B) (o : Option A) (b : B) → option_and_then next o ≡ Some b → (a : A) × (o ≡ Some a) × (next a ≡ Some b)
 chained next None b e = absurd (none-some b e)
 chained next (Some a) b e = (a, refl, e)

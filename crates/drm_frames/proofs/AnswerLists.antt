@@ -1,4 +1,4 @@
--- The four lists of resources that are told are few.
+-- The four lists of resources in an answer are few.
 use Rattle.std.proofs.Common.{◌≡◌, ◌+◌, ◌≤◌, List, ℕ, length, Ok, sym, subst}
 use Rattle.drm_table.specs.declared.answers.Answer.{Answer}
 use Rattle.drm_table.specs.Answers.{told, TellsBack}

@@ -1,4 +1,4 @@
--- What stands at the front of bytes is one thing, and a frame's text is found there.
+-- At the front of bytes is one thing, and a frame's text is found there.
 use Rattle.std.proofs.Common.{◌≡◌, ℕ, ◌+◌, ◌≤◌, List, ◌++◌, length, drop, refl, sym, ap, ◌∙◌, arith, inl, inr}
 use Rattle.std.proofs.lemmas.List.{length-append, length-take-le, take-append-drop, take_at}
 use Rattle.drm_frames.specs.declared.decoding.Decoded.{Decoded}

@@ -56,7 +56,7 @@ pub u64_in-below : (bytes : List ℕ) → AreBytes bytes → u64_in bytes < 2 ^ 
 unfolding u64_in
 u64_in-below bytes h = let e = little_from-lt 0 8 bytes h in omega (arith, e)
 
--- ---- two numbers, and what stands behind them
+-- ---- two numbers, and the bytes after them
 
 pub length-two : (a b : ℕ) → length (u32 a ++ u32 b) ≡ 8
 length-two a b = omega (arith, length-append (u32 a) (u32 b), length-u32 a, length-u32 b)

@@ -110,7 +110,7 @@ pub record WereRead (ws : List Width) (bytes : List ℕ) (fs : List Field) (rest
   pub widths : map width_of fs ≡ ws
   pub fits : All FitsField fs
 
--- what is told of bytes that are bytes
+-- what holds for bytes that are bytes
 abbrev TheyWere : List Width → List ℕ → List Field → List ℕ → Type 0
 TheyWere ws bytes fs rest = AreBytes bytes → WereRead ws bytes fs rest
 

@@ -75,7 +75,7 @@ ids-front (suc count) bytes len h =
     ∙ sym (append_assoc (u32 (u32_in bytes)) shown (drop (4 * count) rest))
     ∙ ap (λ (x : List ℕ). u32 (u32_in bytes) ++ shown ++ x) end
 
--- a list is at the front, and behind it is this
+-- a list is at the front, and this follows it
 pub record IsInFront (bytes rest : List ℕ) : Type 0 where
   pub text : bytes ≡ list_text (front_list bytes) ++ rest
   pub fits : FitsList (front_list bytes)
@@ -138,7 +138,7 @@ front-found ids rest fits =
       ap (λ (n : ℕ). ids_in n (drop 4 text)) says ∙ ap (ids_in (length ids)) behind ∙ ids_in-front ids rest fits.each,
     )
 
--- four lists, and nothing behind them
+-- four lists, without a rest
 pub four-apart : (w x y z : List ℕ) → w ++ x ++ y ++ z ≡ w ++ (x ++ (y ++ (z ++ [])))
 four-apart w x y z = append_assoc (w ++ x) y z ∙ append_assoc w x (y ++ z) ∙ ap (λ (t : List ℕ). w ++ (x ++ (y ++ t))) (sym (append-nil z))
 

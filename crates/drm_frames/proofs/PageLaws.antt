@@ -24,7 +24,7 @@ one-longer page page' row done pushed len = ap length pushed ∙ omega (arith, l
 
 -- ---- a row that is written is read
 
--- the row, and what stands behind it
+-- the row, and the bytes after it
 row-apart : (row : AuditRow) (rest : List ℕ) → row_text row ++ rest ≡ u64 row.a ++ (u64 row.b ++ (u64 row.c ++ (u64 row.d ++ rest)))
 row-apart row rest = simp append_assoc
 

@@ -17,13 +17,13 @@ use Rattle.drm_frames.specs.Fields.{field_text, numbers_in}
 use Rattle.drm_frames.specs.Lists.{list_text, FitsList, FitsResources, front_list, behind_list}
 use Rattle.drm_frames.specs.Pages.{page_text, FitsPage, rows_in}
 
--- what the device gives back: an answer, or what stands apart
+-- the result of a step: an answer, or a fault
 abbrev pub CallResult : Type 0
 CallResult = Result Answer Apart
 
 -- ---- the grammar
 
--- the fields of an answer one behind the other, four lists, a list, a page, or the rule's number and errno
+-- the fields of an answer one after the other, four lists, a list, a page, or the rule's number and errno
 abbrev pub told_frame : Told → FrameValue
 told_frame (row kind fs) = frame_value (answer_number kind) (flat_map field_text fs)
 told_frame (resources crtcs connectors encoders framebuffers) = frame_value 0x1006 (list_text crtcs ++ list_text connectors ++ list_text encoders ++ list_text framebuffers)
@@ -36,7 +36,7 @@ abbrev pub answer_frame : CallResult → FrameValue
 answer_frame (Ok answer) = told_frame (told answer)
 answer_frame (Err apart) = frame_value 0x2001 (u32 (apart_number apart) ++ u32 (apart_errno apart))
 
--- The numbers that are told fit their fields.
+-- The numbers in the content fit their fields.
 abbrev pub FitsTold : Told → Type 0
 FitsTold (row kind fs) = All FitsField fs
 FitsTold (resources crtcs connectors encoders framebuffers) = FitsResources crtcs connectors encoders framebuffers
@@ -68,7 +68,7 @@ answer_text outcome = frame_text (answer_frame outcome)
 abbrev pub list_from : List ℕ → List ℕ → Option CallResult
 list_from fields behind = if nat_eq (length behind) 0 then Some (Ok (Listed (front_list fields))) else None
 
--- what a list says, and nothing behind it
+-- the list that the bytes are, without a rest
 abbrev pub list_in : List ℕ → Option CallResult
 list_in fields = option_and_then (list_from fields) (behind_list fields)
 
@@ -77,11 +77,11 @@ abbrev pub resources_from : List ℕ → List ℕ → List ℕ → List ℕ → 
 resources_from crtcs connectors encoders framebuffers behind =
     if nat_eq (length behind) 0 then Some (Ok (Resources (front_list crtcs) (front_list connectors) (front_list encoders) (front_list framebuffers))) else None
 
--- what four lists say, and nothing behind them
+-- the four lists that the bytes are, without a rest
 abbrev pub resources_in : List ℕ → Option CallResult
 resources_in fields = option_and_then (λ second. option_and_then (λ third. option_and_then (λ fourth. option_and_then (resources_from fields second third fourth) (behind_list fourth)) (behind_list third)) (behind_list second)) (behind_list fields)
 
--- what a count of at most 16 and so many rows say, and nothing behind them
+-- the page that the bytes are: a count n of at most 16 and n rows, without a rest
 abbrev pub audit_in : List ℕ → Option CallResult
 audit_in fields =
     if nat_le 4 (length fields) && nat_le (u32_in fields) 16 && nat_eq (length fields) (4 + 32 * u32_in fields) then Some (Ok (Audit (rows_in (u32_in fields) (drop 4 fields)))) else None
@@ -94,7 +94,7 @@ if_errno errno_of errno one = if nat_eq (errno_of one) errno then Some one else 
 unfoldable pub rule_of : ℕ → ℕ → Option Rule
 rule_of number errno = option_and_then (if_errno rule_errno errno) (rule_of_number number)
 
--- what stands apart by a number and its own errno
+-- the fault with a number and its own errno
 unfoldable pub apart_of : ℕ → ℕ → Option Apart
 apart_of number errno = option_and_then (if_errno apart_errno errno) (apart_of_number number)
 
@@ -103,12 +103,12 @@ abbrev pub denied : Option Rule → Option CallResult
 denied None = None
 denied (Some rule) = Some (Ok (Denied rule))
 
--- the refusal by what stands apart, or by nothing
+-- the refusal by a fault, if there is one
 abbrev pub refused : Option Apart → Option CallResult
 refused None = None
 refused (Some apart) = Some (Err apart)
 
--- what a number and an errno say, and nothing behind them
+-- the denial that the bytes are: a number and an errno, without a rest
 abbrev pub denied_in : List ℕ → Option CallResult
 denied_in fields = if nat_eq (length fields) 8 then denied (rule_of (u32_in fields) (u32_in (drop 4 fields))) else None
 

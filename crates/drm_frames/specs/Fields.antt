@@ -18,14 +18,14 @@ abbrev pub field_text : Field → List ℕ
 field_text (fields.U32 n) = u32 n
 field_text (fields.U64 n) = u64 n
 
--- the fields one behind the other; of ids how many there are, and each of them
+-- the fields one after the other; for ids their count, and each of them
 unfoldable pub fields_text : Layout → List Field → List ℕ
 fields_text (numbers ws) fs = flat_map field_text fs
 fields_text ids fs = u32 (length fs) ++ flat_map field_text fs
 
 -- ---- the same as a function
 
--- the field in the first bytes, and the bytes behind it
+-- the field in the first bytes, and the bytes after it
 unfoldable pub field_in : Width → List ℕ → Option (Field × List ℕ)
 field_in widths.U32 bytes = if nat_le 4 (length bytes) then Some (fields.U32 (u32_in bytes), drop 4 bytes) else None
 field_in widths.U64 bytes = if nat_le 8 (length bytes) then Some (fields.U64 (u64_in bytes), drop 8 bytes) else None
@@ -35,7 +35,7 @@ abbrev pub if_read : Bool → List Field → Option (List Field)
 if_read true fields = Some fields
 if_read false fields = None
 
--- the fields of these widths that the bytes are, and nothing behind them
+-- the fields of these widths that the bytes are, without a rest
 unfoldable pub numbers_in : List Width → List ℕ → Option (List Field)
 numbers_in ws bytes = option_and_then (λ read. if_size 0 read.1 read.0) (read_each field_in ws bytes)
 

@@ -14,7 +14,7 @@ frame_value number fields = record { number = number; fields = fields }
 abbrev pub frame_text : FrameValue → List ℕ
 frame_text f = u32 (2 + length f.fields) ++ u16 f.number ++ f.fields
 
--- what can stand in a frame
+-- what a frame can have
 pub record IsFrame (f : FrameValue) : Type 0 where
   pub number : f.number < 2 ^ 16
   pub short : length f.fields ≤ 1022
@@ -33,6 +33,6 @@ pub record IsTooLong (bytes : List ℕ) : Type 0 where
 abbrev pub IsPart : List ℕ → Type 0
 IsPart bytes = (length bytes < 4) ⊎ ((2 ≤ u32_in bytes) × (u32_in bytes ≤ 1024) × (length bytes < 4 + u32_in bytes))
 
--- what fields of just so many bytes say; others say nothing
+-- a value if there are exactly n bytes
 abbrev pub if_size : {A : Type 0} → ℕ → List ℕ → A → Option A
 if_size n fields said = if nat_eq (length fields) n then Some said else None

@@ -26,7 +26,7 @@ pub record FitsResources (crtcs connectors encoders framebuffers : List ℕ) : T
 
 -- ---- the same as a function
 
--- so many ids, one behind the other
+-- n ids, one after the other
 abbrev pub ids_in : ℕ → List ℕ → List ℕ
 ids_in zero bytes = []
 ids_in (suc count) bytes = u32_in bytes ∷ ids_in count (drop 4 bytes)
@@ -35,7 +35,7 @@ ids_in (suc count) bytes = u32_in bytes ∷ ids_in count (drop 4 bytes)
 abbrev pub front_list : List ℕ → List ℕ
 front_list bytes = ids_in (u32_in bytes) (drop 4 bytes)
 
--- what stands behind the list at the front, if there is one of at most 64 ids
+-- the bytes after the list at the front, if there is one of at most 64 ids
 unfoldable pub behind_list : List ℕ → Option (List ℕ)
 behind_list bytes =
     if nat_le 4 (length bytes) && nat_le (u32_in bytes) 64 && nat_le (4 + 4 * u32_in bytes) (length bytes) then Some (drop (4 + 4 * u32_in bytes) bytes) else None

@@ -27,7 +27,7 @@ pub record FitsPage (rows : List AuditRow) : Type 0 where
 abbrev pub row_in : List ℕ → AuditRow
 row_in bytes = record { a = u64_in bytes; b = u64_in (drop 8 bytes); c = u64_in (drop 16 bytes); d = u64_in (drop 24 bytes) }
 
--- so many rows, one behind the other
+-- n rows, one after the other
 abbrev pub rows_in : ℕ → List ℕ → List AuditRow
 rows_in zero bytes = []
 rows_in (suc count) bytes = row_in bytes ∷ rows_in count (drop 32 bytes)

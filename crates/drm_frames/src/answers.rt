@@ -1,4 +1,4 @@
-//! What a result is as a frame.
+//! The frame of a result.
 ghost use Rattle.std.specs.Prelude.{◌≡◌, ◌<◌, ◌≤◌, [], ◌++◌, length, Ok};
 ghost use Rattle.drm_frames.specs.Answers.{FitsFields, FitsTold, answer_frame, answer_text, told_frame};
 ghost use Rattle.drm_frames.specs.Grammar.{frame_value};
@@ -13,7 +13,7 @@ use crate::text::{FrameBytes, framed, push_frame};
 use drm_table::{Answer, Apart, Told};
 use std::marker::Model;
 
-// Writes the number and the errno of what refuses.
+// Writes the number and the errno of a refusal.
 fn push_refusal(text: &mut FrameBytes, number: u32, errno: u32)
     requires { text.old ≡ [] }
     ensures text { text.new ≡ u32 number ++ u32 errno }
@@ -23,7 +23,7 @@ fn push_refusal(text: &mut FrameBytes, number: u32, errno: u32)
     text.push_u32(errno);
 }
 
-// Writes the fields of an answer, and gives the number of its frame.
+// Writes the fields of an answer, and returns the number of its frame.
 fn push_answer(text: &mut FrameBytes, answer: &Answer) -> u16
     requires empty { text.old ≡ [] }
     requires few { FitsOneFrame (Ok answer.now) }
@@ -60,7 +60,7 @@ fn push_answer(text: &mut FrameBytes, answer: &Answer) -> u16
     }
 }
 
-// Writes the fields of a result, and gives the number of its frame.
+// Writes the fields of a result, and returns the number of its frame.
 fn push_outcome(text: &mut FrameBytes, outcome: &Result<Answer, Apart>) -> u16
     requires empty { text.old ≡ [] }
     requires few { FitsOneFrame outcome.now }
@@ -77,8 +77,19 @@ fn push_outcome(text: &mut FrameBytes, outcome: &Result<Answer, Apart>) -> u16
     }
 }
 
-/// The bytes of a result's frame (own). The four lists of resources hold 251 ids at most together: more wouldn't stand in
-/// one frame.
+/// Returns the bytes of a result's frame (own). Does not allocate.
+///
+/// The four lists of resources must have at most 251 ids together, as many as a frame has room for.
+///
+/// # Examples
+///
+/// ```rust
+/// use drm_frames::encode_answer;
+/// use drm_table::Answer;
+///
+/// let frame = encode_answer(&Ok(Answer::Done));
+/// assert!(rt; frame.as_slice() == [2, 0, 0, 0, 0x00, 0x10].as_slice());
+/// ```
 #[tactic(auto, unfolding(crate::specs::Answers::answer_text))]
 pub fn encode_answer(outcome: &Result<Answer, Apart>) -> FrameBytes
     requires { FitsOneFrame outcome.now }
@@ -92,7 +103,18 @@ pub fn encode_answer(outcome: &Result<Answer, Apart>) -> FrameBytes
     framed(number, fields.as_slice())
 }
 
-/// A place for the frames of results, one after the other (own). Contracts see the bytes of the last one.
+/// A buffer for the frames of results, which holds one at a time (own). Contracts see the bytes of the last one.
+///
+/// # Examples
+///
+/// ```rust
+/// use drm_frames::AnswerText;
+/// use drm_table::Answer;
+///
+/// let mut text = AnswerText::new();
+/// text.write(&Ok(Answer::Done));
+/// assert!(rt; text.as_slice().len() == 6);
+/// ```
 #[derive(Drop)]
 pub struct AnswerText {
     fields: FrameBytes,
@@ -108,7 +130,15 @@ impl Model for AnswerText {
 }
 
 impl AnswerText {
-    /// A place without a frame.
+    /// Creates an empty buffer. Does not allocate.
+    ///
+    /// # Examples
+    ///
+    /// ```rust
+    /// use drm_frames::AnswerText;
+    ///
+    /// assert!(rt; AnswerText::new().as_slice().is_empty());
+    /// ```
     pub fn new() -> AnswerText
         ensures { result ≡ [] }
     {
@@ -118,7 +148,20 @@ impl AnswerText {
         }
     }
 
-    /// Writes a result's frame in place of the last one, of as many ids as `encode_answer` does.
+    /// Writes a result's frame over the last one. Does not allocate.
+    ///
+    /// The four lists of resources must have at most 251 ids together.
+    ///
+    /// # Examples
+    ///
+    /// ```rust
+    /// use drm_frames::AnswerText;
+    /// use drm_table::Answer;
+    ///
+    /// let mut text = AnswerText::new();
+    /// text.write(&Ok(Answer::Number { value: 7 }));
+    /// assert!(rt; text.as_slice().len() == 14);
+    /// ```
     #[tactic(auto, unfolding(crate::specs::Answers::answer_text))]
     pub fn write(&mut self, outcome: &Result<Answer, Apart>)
         requires { FitsOneFrame outcome.now }
@@ -132,7 +175,18 @@ impl AnswerText {
         push_frame(&mut self.frame, number, self.fields.as_slice());
     }
 
-    /// The bytes as a slice.
+    /// Returns the bytes of the last frame.
+    ///
+    /// # Examples
+    ///
+    /// ```rust
+    /// use drm_frames::AnswerText;
+    /// use drm_table::Answer;
+    ///
+    /// let mut text = AnswerText::new();
+    /// text.write(&Ok(Answer::Done));
+    /// assert!(rt; text.as_slice() == [2, 0, 0, 0, 0x00, 0x10].as_slice());
+    /// ```
     pub fn as_slice(&self) -> &[u8]
         ensures bytes { result.now ≡ self.now }
         ensures short { length result.now ≤ 1028 }

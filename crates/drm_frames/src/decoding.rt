@@ -4,20 +4,38 @@ ghost use Rattle.drm_frames.specs.Decoding.{Decodes};
 use crate::frame::Frame;
 use crate::number::{u16_in, u32_in};
 
-/// What stands at the front of bytes.
+/// The frame at the front of bytes, if it is complete.
+///
+/// # Examples
+///
+/// ```rust
+/// use drm_frames::{Decoded, decode};
+///
+/// assert!(rt; matches!(decode(&[2, 0]), Decoded::NeedMore));
+/// ```
 #[derive(Debug, Drop)]
 pub enum Decoded<'a> {
-    /// A frame, and how many bytes it took.
+    /// A frame, and the number of its bytes.
     Whole(Frame<'a>, usize),
-    /// Less than a frame: more bytes are wanted.
+    /// Less than a frame. More bytes are needed.
     NeedMore,
     /// A length that no frame has: below 2, or above 1,024.
     TooLong,
 }
 
-/// The frame at the front of the bytes. More bytes may follow it (own).
+/// Returns the frame at the front of the bytes (own). More bytes may follow it. Does not allocate.
 ///
-/// `TooLong` comes as soon as the four bytes of the length are there.
+/// It returns `TooLong` as soon as the four bytes of the length are available.
+///
+/// # Examples
+///
+/// ```rust
+/// use drm_frames::{Decoded, decode};
+///
+/// let Decoded::Whole(frame, used) = decode(&[2, 0, 0, 0, 0x02, 0x00]) else { return };
+/// assert!(rt; used == 6 && frame.number() == 0x02 && frame.fields().is_empty());
+/// assert!(rt; matches!(decode(&[1, 0, 0, 0]), Decoded::TooLong));
+/// ```
 pub fn decode(bytes: &[u8]) -> Decoded<'_>
     ensures { Decodes bytes.now result }
 {

@@ -10,7 +10,7 @@ use crate::number::{u32_in, u64_in};
 use crate::text::FrameBytes;
 use drm_table::{Field, Fields, Layout, Width};
 
-/// The field in the first bytes, and the bytes behind it.
+/// The field in the first bytes, and the bytes after it.
 #[tactic(auto, unfolding(crate::specs::Fields::field_in))]
 fn field_in(width: Width, bytes: &[u8]) -> Option<(Field, &[u8])>
     ensures { option_map (λ read. (read.0, read.1.now)) result ≡ field_in width bytes.now }
@@ -33,7 +33,7 @@ fn field_in(width: Width, bytes: &[u8]) -> Option<(Field, &[u8])>
     }
 }
 
-/// Reads the fields of these widths, where the bytes are these and nothing behind them.
+/// Reads the fields of these widths, if the bytes are exactly these fields.
 #[tactic(auto, unfolding(crate::specs::Fields::numbers_in))]
 pub(crate) fn read_numbers(fields: &mut Fields, widths: &[Width], bytes: &[u8]) -> bool
     requires empty { fields.old ≡ [] }
@@ -51,7 +51,7 @@ pub(crate) fn read_numbers(fields: &mut Fields, widths: &[Width], bytes: &[u8]) 
     rest.is_empty()
 }
 
-/// Reads ids, where the bytes are how many there are, and each of them.
+/// Reads ids, if the bytes are a count and as many ids.
 #[tactic(auto, unfolding(crate::specs::Fields::fields_in))]
 fn read_ids(fields: &mut Fields, bytes: &[u8]) -> bool
     requires { fields.old ≡ [] }
@@ -68,7 +68,7 @@ fn read_ids(fields: &mut Fields, bytes: &[u8]) -> bool
     read_numbers(fields, Width::of_ids(count), behind)
 }
 
-/// Reads the fields of a layout, where the bytes are these.
+/// Reads the fields of a layout, if the bytes are exactly these fields.
 #[tactic(auto, unfolding(crate::specs::Fields::fields_in))]
 pub(crate) fn read_fields(fields: &mut Fields, layout: Layout, bytes: &[u8]) -> bool
     requires empty { fields.old ≡ [] }
@@ -93,7 +93,7 @@ fn push_field(text: &mut FrameBytes, field: Field)
     }
 }
 
-/// Writes fields one behind the other.
+/// Writes fields one after the other.
 pub(crate) fn push_numbers(text: &mut FrameBytes, fields: &[Field])
     requires { length text.old + 8 * length fields.now ≤ 1028 }
     ensures text { text.new ≡ text.old ++ flat_map field_text fields.now }

@@ -4,7 +4,16 @@ ghost use Rattle.drm_frames.specs.Grammar.{FrameValue, frame_value};
 
 use std::marker::Model;
 
-/// A frame: a number and up to 1,022 bytes of fields, which stay where they stand (own).
+/// A frame: a number and up to 1,022 bytes of fields, which it borrows (own).
+///
+/// # Examples
+///
+/// ```rust
+/// use drm_frames::Frame;
+///
+/// let frame = Frame::new(0x02, &[]);
+/// assert!(rt; frame.number() == 0x02);
+/// ```
 #[derive(Debug, Drop)]
 pub struct Frame<'a> {
     number: u16,
@@ -18,7 +27,17 @@ impl<'a> Model for Frame<'a> {
 }
 
 impl<'a> Frame<'a> {
-    /// The frame of a number and its fields.
+    /// Creates a frame with this number and these fields, 1,022 bytes at most.
+    ///
+    /// # Examples
+    ///
+    /// ```rust
+    /// use drm_frames::{Frame, call_of};
+    /// use drm_table::Call;
+    ///
+    /// let frame = Frame::new(0x09, &[1, 0, 0, 0]);
+    /// assert!(rt; call_of(&frame) == Call::GemClose { handle: 1 });
+    /// ```
     pub fn new(number: u16, fields: &'a [u8]) -> Frame<'a>
         requires { length fields.now ≤ 1022 }
         ensures { result ≡ frame_value number fields.now }
@@ -26,14 +45,30 @@ impl<'a> Frame<'a> {
         Frame { number, fields }
     }
 
-    /// What the frame is: a call's number, or that of a hello or of a result.
+    /// Returns the number of a call, of a hello or of a result.
+    ///
+    /// # Examples
+    ///
+    /// ```rust
+    /// use drm_frames::Frame;
+    ///
+    /// assert!(rt; Frame::new(0x09, &[1, 0, 0, 0]).number() == 0x09);
+    /// ```
     pub fn number(&self) -> u16
         ensures { result ≡ self.now.number }
     {
         self.number
     }
 
-    /// The bytes behind the number.
+    /// Returns the bytes after the number.
+    ///
+    /// # Examples
+    ///
+    /// ```rust
+    /// use drm_frames::Frame;
+    ///
+    /// assert!(rt; Frame::new(0x09, &[1, 0, 0, 0]).fields().len() == 4);
+    /// ```
     pub fn fields(&self) -> &'a [u8]
         ensures { result.now ≡ self.now.fields }
     {

@@ -6,17 +6,36 @@ use crate::frame::Frame;
 use crate::number::u32_in;
 use crate::text::{FrameBytes, framed};
 
-/// What a client is that connects (own).
+/// The first frame of a client (own).
+///
+/// # Examples
+///
+/// ```rust
+/// use drm_frames::{Hello, encode_hello};
+///
+/// let hello = Hello { version: 1, lease: None };
+/// assert!(rt; encode_hello(hello).as_slice().len() == 18);
+/// ```
 #[derive(Clone, Copy, Debug, PartialEq, Eq)]
 pub struct Hello {
-    /// The version that the client speaks: 1, or 2, which opens with universal planes off.
+    /// The version of the protocol: 1, or 2, which opens the client with universal planes off.
     pub version: u32,
-    /// The lease token that it shows; none for the node itself.
+    /// The lease token that opens the client, or `None` to open the node itself.
     pub lease: Option<u32>,
 }
 
-/// The hello that the frame is. `None` where its number, its version or its fields are those of no
-/// hello, as those of a node with a token other than 0 (own).
+/// Returns the hello in a frame (own). Does not allocate.
+///
+/// Returns `None` if the number, the version or the fields are not those of a hello. A token other than 0 without a
+/// lease is such a case.
+///
+/// # Examples
+///
+/// ```rust
+/// use drm_frames::{Frame, hello_of};
+///
+/// assert!(rt; hello_of(&Frame::new(0x02, &[])).is_none());
+/// ```
 #[tactic(auto, unfolding(crate::specs::Hellos::hello_in))]
 pub fn hello_of(frame: &Frame<'_>) -> Option<Hello>
     ensures { result ≡ hello_in frame.now }
@@ -45,7 +64,18 @@ pub fn hello_of(frame: &Frame<'_>) -> Option<Hello>
     }
 }
 
-/// The bytes of a hello's frame, of version 1 or 2 (own).
+/// Returns the bytes of a hello's frame, of version 1 or 2 (own). Does not allocate.
+///
+/// # Examples
+///
+/// ```rust
+/// use drm_frames::{Decoded, Hello, decode, encode_hello, hello_of};
+///
+/// let hello = Hello { version: 2, lease: Some(1) };
+/// let bytes = encode_hello(hello);
+/// let Decoded::Whole(frame, _) = decode(bytes.as_slice()) else { return };
+/// assert!(rt; hello_of(&frame) == Some(hello));
+/// ```
 #[tactic(auto, unfolding(crate::specs::Hellos::hello_text))]
 pub fn encode_hello(hello: Hello) -> FrameBytes
     requires { is_version hello.version ≡ true }

@@ -1,4 +1,4 @@
-//! Laws of the grammar. Each function is its contract: there is nothing to call it for.
+//! Laws of the grammar. Each function is its contract; calling it does nothing.
 ghost use Rattle.std.specs.Prelude.{◌≡◌, ◌^◌, ◌<◌, ◌++◌, List, None, Some, is_some, length, true, ℕ};
 ghost use Rattle.std.specs.List.{flat_map, AllByRecursion};
 ghost use Rattle.drm_frames.specs.Answers.{FitsFields, IsAnswer, CallResult, Tells, answer_in, answer_frame, answer_text};
@@ -29,7 +29,7 @@ pub fn numbers_written_back()
         → u64 (u64_in bytes) ≡ bytes }
 {}
 
-/// No text of a frame begins another, so what stands at the front of bytes is one frame at most.
+/// No text of a frame begins another, so bytes have at most one frame at their front.
 pub fn no_text_begins_another()
     ensures { (f g : FrameValue) (x y : List ℕ) → IsFrame f → IsFrame g
         → frame_text f ++ x ≡ frame_text g ++ y → (f ≡ g) × (x ≡ y) }
@@ -42,23 +42,22 @@ pub fn one_reading()
         → flat_map frame_text fs ++ x ≡ flat_map frame_text gs ++ y → (fs ≡ gs) × (x ≡ y) }
 {}
 
-/// At the front of bytes stands one thing only: a frame, less than a frame, or a length that no
-/// frame has.
+/// At the front of bytes is one thing only: a frame, less than a frame, or a length that no frame has.
 pub fn one_decoding()
     ensures { (bytes : List ℕ) (d e : ADecoded) → Decodes bytes d → Decodes bytes e → d ≡ e }
 {}
 
-/// The text of a frame is found where it stands.
+/// The text of a frame is found at its place.
 pub fn texts_are_found()
     ensures { (f : FrameValue) → IsFrame f → ReadsAs (frame_text f) f }
 {}
 
-/// What a frame is found to ask, it asks.
+/// A frame asks the call that is found in it.
 pub fn each_frame_asks()
     ensures { (f : FrameValue) → IsFrame f → Asks f (request_of f) }
 {}
 
-/// What a frame asks is found, and so it asks nothing else.
+/// The call of a frame is found, so the frame asks no other.
 pub fn one_call()
     ensures { (f : FrameValue) (call : ACall) → IsFrame f → Asks f call → request_of f ≡ call }
 {}
@@ -71,28 +70,28 @@ pub fn rows_of_the_table()
         → f.number ≡ call_number call }
 {}
 
-/// A row's call is asked by one frame.
+/// A row's call has one frame.
 pub fn one_frame()
     ensures fits { (f : FrameValue) (call : ACall) → IsRowCall call f → IsFrame f }
     ensures one { (f g : FrameValue) (call : ACall) → IsRowCall call f → IsRowCall call g → f ≡ g }
 {}
 
-/// The hello that is found in a frame is the frame's, and where none is found it has none.
+/// The hello that is found in a frame is the frame's. If none is found, the frame has none.
 pub fn each_frame_greets()
     ensures { (f : FrameValue) → IsFrame f → Greets f (hello_in f) }
 {}
 
-/// A frame's hello is found, and so it has no other.
+/// A frame's hello is found, so it has no other.
 pub fn one_hello()
     ensures { (f : FrameValue) (hello : AHello) → IsHello f hello → hello_in f ≡ Some hello }
 {}
 
-/// The result that is found in a frame is the frame's, and where none is found it has none.
+/// The result that is found in a frame is the frame's. If none is found, the frame has none.
 pub fn each_frame_tells()
     ensures { (f : FrameValue) → IsFrame f → Tells f (answer_in f) }
 {}
 
-/// A frame's result is found, and so it has no other.
+/// A frame's result is found, so it has no other.
 pub fn one_result()
     ensures { (f : FrameValue) (outcome : CallResult) → IsAnswer f outcome
         → answer_in f ≡ Some outcome }

@@ -1,4 +1,6 @@
 //! Frames: requests, hellos and answers as bytes, and the sources and sinks that carry them.
+//!
+//! No function of this crate allocates. An example is the body of a function that has the runtime `rt`.
 #![tactic(auto)]
 
 mod answers;

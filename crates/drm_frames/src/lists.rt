@@ -9,7 +9,7 @@ use crate::number::u32_in;
 use crate::text::FrameBytes;
 use drm_table::ShownList;
 
-/// How many ids a list has at most (own).
+/// The most ids of a list (own).
 const MOST_IDS: usize = 64;
 
 fn push_ids(fields: &mut FrameBytes, ids: &[u32])
@@ -23,7 +23,7 @@ fn push_ids(fields: &mut FrameBytes, ids: &[u32])
     }
 }
 
-/// Writes how many ids there are, and each of them.
+/// Writes the number of ids, and each of them.
 #[tactic(auto, using(std::proofs::lemmas::List::append_assoc))]
 fn push_counted(fields: &mut FrameBytes, ids: &[u32])
     requires few { length ids.now ≤ 64 }
@@ -67,7 +67,7 @@ pub(crate) fn push_resources(
     push_counted(fields, framebuffers.ids());
 }
 
-/// The list of as many ids, which the bytes begin with.
+/// The list of `count` ids at the front of the bytes.
 fn list_of(count: usize, bytes: &[u8]) -> ShownList
     requires few { count ≤ 64 }
     requires length { 4 * count ≤ length bytes.now }
@@ -82,7 +82,7 @@ fn list_of(count: usize, bytes: &[u8]) -> ShownList
     list
 }
 
-/// What stands behind the list at the front, if there is one.
+/// The bytes after the list at the front, if there is one.
 #[tactic(auto, unfolding(crate::specs::Lists::behind_list))]
 pub(crate) fn behind_list(bytes: &[u8]) -> Option<&[u8]>
     ensures { option_map (λ rest. rest.now) result ≡ behind_list bytes.now }

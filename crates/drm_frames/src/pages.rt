@@ -30,7 +30,7 @@ fn push_rows(fields: &mut FrameBytes, rows: &[AuditRow])
     }
 }
 
-/// Writes how many rows a page has, and each of them.
+/// Writes the number of rows of a page, and each of them.
 pub(crate) fn push_page(fields: &mut FrameBytes, page: &AuditPage)
     requires { fields.old ≡ [] }
     ensures text { fields.new ≡ page_text page.now }
@@ -57,7 +57,7 @@ fn row_at(bytes: &[u8]) -> AuditRow
     }
 }
 
-/// The page of as many rows, which the bytes are.
+/// The page of `count` rows in the bytes.
 pub(crate) fn page_of(count: usize, bytes: &[u8]) -> AuditPage
     requires few { count ≤ 16 }
     requires length { length bytes.now ≡ 32 * count }

@@ -1,4 +1,4 @@
-//! What a frame asks.
+//! The call of a frame.
 ghost use Rattle.std.specs.Prelude.{◌≡◌, ◌<◌, ◌≤◌, length};
 ghost use Rattle.drm_frames.specs.Requests.{IsOfRow, WritesCall, request_of};
 
@@ -7,9 +7,21 @@ use crate::frame::Frame;
 use crate::text::{FrameBytes, framed};
 use drm_table::{Call, CallKind, Fields};
 
-/// What a frame asks: a row's call, `Unknown` where no row has the number, or `BadLayout` where the
-/// fields are not exactly those of the row, or name a kind that no audit has (drm-uapi for the rows;
-/// the layout is own).
+/// Returns the call of a frame (drm-uapi for the rows; the layout is own). Does not allocate.
+///
+/// If no row has the number, the call is `Unknown`. If the fields are not exactly those of the row, or name a kind that
+/// no audit has, it is `BadLayout`.
+///
+/// # Examples
+///
+/// ```rust
+/// use drm_frames::{Frame, call_of};
+/// use drm_table::Call;
+///
+/// assert!(rt; call_of(&Frame::new(0x09, &[1, 0, 0, 0])) == Call::GemClose { handle: 1 });
+/// assert!(rt; call_of(&Frame::new(0x09, &[])) == Call::BadLayout(0x09));
+/// assert!(rt; call_of(&Frame::new(0x7F, &[])) == Call::Unknown(0x7F));
+/// ```
 #[tactic(auto, unfolding(crate::specs::Requests::request_of))]
 pub fn call_of(frame: &Frame<'_>) -> Call
     ensures { result ≡ request_of frame.now }
@@ -28,8 +40,19 @@ pub fn call_of(frame: &Frame<'_>) -> Call
     }
 }
 
-/// The bytes of the frame that asks a call of a row: neither `Unknown` nor `BadLayout` (drm-uapi for
-/// the rows; the layout is own).
+/// Returns the bytes of the frame of a call (drm-uapi for the rows; the layout is own). Does not allocate.
+///
+/// The call must have a row: neither `Unknown` nor `BadLayout`.
+///
+/// # Examples
+///
+/// ```rust
+/// use drm_frames::encode_call;
+/// use drm_table::Call;
+///
+/// let frame = encode_call(&Call::GemClose { handle: 1 });
+/// assert!(rt; frame.as_slice() == [6, 0, 0, 0, 0x09, 0x00, 1, 0, 0, 0].as_slice());
+/// ```
 #[tactic(auto, using(crate::proofs::CallTexts::has_row))]
 pub fn encode_call(call: &Call) -> FrameBytes
     requires { IsOfRow call.now }

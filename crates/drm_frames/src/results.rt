@@ -1,4 +1,4 @@
-//! Which result a frame is.
+//! The result of a frame.
 ghost use Rattle.std.specs.Prelude.{◌≡◌};
 ghost use Rattle.drm_frames.specs.Answers.{answer_in, audit_in, denied_in, list_in, refused_in, resources_in, row_in};
 
@@ -10,10 +10,10 @@ use crate::pages::page_of;
 use crate::refusals::{apart_of, rule_of};
 use drm_table::{Answer, AnswerKind, Apart, Fields};
 
-/// How many rows of an audit a page has at most (own).
+/// The most rows of an audit's page (own).
 const MOST_ROWS: usize = 16;
 
-/// The answer of a kind, if the fields are one's.
+/// The answer of a kind, if the bytes are its fields.
 fn row(kind: AnswerKind, bytes: &[u8]) -> Option<Result<Answer, Apart>>
     ensures { result ≡ row_in kind bytes.now }
 {
@@ -96,9 +96,23 @@ fn refused(fields: &[u8]) -> Option<Result<Answer, Apart>>
     }
 }
 
-/// The result that the frame is. `None` where it is none: another number, other fields, a list of
-/// more than 64 ids, a page of more than 16 rows, the number of no rule, or an errno that is not the
-/// rule's own (own).
+/// Returns the result in a frame (own), or `None` if there is none. Does not allocate.
+///
+/// There is none in these cases:
+///
+/// - Number or fields are not those of a result.
+/// - A list has more than 64 ids, or a page more than 16 rows.
+/// - No rule has the number, or the errno is not the rule's own.
+///
+/// # Examples
+///
+/// ```rust
+/// use drm_frames::{Frame, answer_of};
+/// use drm_table::Answer;
+///
+/// assert!(rt; answer_of(&Frame::new(0x1000, &[])) == Some(Ok(Answer::Done)));
+/// assert!(rt; answer_of(&Frame::new(0x02, &[])).is_none());
+/// ```
 #[tactic(auto, unfolding(crate::specs::Answers::answer_in))]
 pub fn answer_of(frame: &Frame<'_>) -> Option<Result<Answer, Apart>>
     ensures { result ≡ answer_in frame.now }

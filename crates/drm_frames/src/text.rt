@@ -1,4 +1,4 @@
-//! Bytes as they are built up.
+//! The bytes of a frame as they are built up.
 ghost use Rattle.std.specs.Prelude.{◌≡◌, ◌+◌, ◌≤◌, List, [], ◌++◌, length, ℕ};
 ghost use Rattle.drm_frames.specs.Grammar.{frame_text, frame_value};
 ghost use Rattle.drm_frames.specs.Number.{u16, u32, u64};
@@ -8,6 +8,16 @@ use byteorder::{ByteOrder, LittleEndian};
 use std::marker::Model;
 
 /// The bytes of one frame, 1,028 at most.
+///
+/// # Examples
+///
+/// ```rust
+/// use drm_frames::encode_call;
+/// use drm_table::Call;
+///
+/// let frame = encode_call(&Call::GetMagic);
+/// assert!(rt; frame.as_slice().len() == 6);
+/// ```
 #[derive(Drop)]
 pub struct FrameBytes {
     bytes: ArrayVec<u8, 1028>,
@@ -28,7 +38,17 @@ impl FrameBytes {
         }
     }
 
-    /// The bytes as a slice.
+    /// Returns the bytes.
+    ///
+    /// # Examples
+    ///
+    /// ```rust
+    /// use drm_frames::encode_call;
+    /// use drm_table::Call;
+    ///
+    /// let frame = encode_call(&Call::GetMagic);
+    /// assert!(rt; frame.as_slice() == [2, 0, 0, 0, 0x02, 0x00].as_slice());
+    /// ```
     pub fn as_slice(&self) -> &[u8]
         ensures bytes { result.now ≡ self.now }
         ensures short { length result.now ≤ 1028 }
@@ -84,7 +104,7 @@ impl FrameBytes {
     }
 }
 
-/// The bytes of the frame of a number and its fields.
+/// Returns the bytes of the frame with a number and fields.
 pub(crate) fn framed(number: u16, fields: &[u8]) -> FrameBytes
     requires { length fields.now ≤ 1022 }
     ensures text { result ≡ frame_text (frame_value number fields.now) }
@@ -95,7 +115,7 @@ pub(crate) fn framed(number: u16, fields: &[u8]) -> FrameBytes
     text
 }
 
-/// Writes the frame of a number and its fields.
+/// Writes the frame with a number and fields.
 pub(crate) fn push_frame(text: &mut FrameBytes, number: u16, fields: &[u8])
     requires empty { text.old ≡ [] }
     requires short { length fields.now ≤ 1022 }

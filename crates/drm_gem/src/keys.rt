@@ -1,10 +1,10 @@
-//! What names an object.
+//! The keys of objects.
 
 ghost use Rattle.std.specs.Prelude.{◌≡◌};
 
 use std::marker::Model;
 
-/// Names an object of its [`Objects`](crate::Objects) for as long as it is there; another may have the key afterwards.
+/// The key of an object of [`Objects`](crate::Objects) while it exists. Another object may have the key afterwards.
 /// Contracts see a number.
 ///
 /// ```rust
@@ -26,7 +26,7 @@ impl Model for ObjectKey {
 }
 
 impl ObjectKey {
-    /// The key of a number, of which it says nothing whether an object has it.
+    /// Returns the key with this number. It may be that of no object. Does not allocate.
     ///
     /// ```rust
     /// assert!(key == ObjectKey::from_number(7));
@@ -37,7 +37,7 @@ impl ObjectKey {
         ObjectKey { number }
     }
 
-    /// The key's number.
+    /// Returns the key's number.
     ///
     /// ```rust
     /// assert!(key.number() == 7);

@@ -1,8 +1,8 @@
-//! What is known of an object.
+//! The fields of an object.
 
 use crate::keys::ObjectKey;
 
-/// An object, and how much refers to it.
+/// An object, with the number of its references.
 ///
 /// ```rust
 /// let mut objects = Objects::new(alloc, 1);
@@ -12,22 +12,22 @@ use crate::keys::ObjectKey;
 /// ```
 #[derive(Clone, Copy, PartialEq, Eq, Debug)]
 pub struct Object {
-    /// What names it while it is there.
+    /// The object's key while it exists.
     pub key: ObjectKey,
-    /// The number of the step that created it (own). No other object that exists has it.
+    /// The number of the step that created it (own). No other existing object has the same number.
     pub step_number: u32,
     /// Its size in bytes.
     pub size: u64,
-    /// It stands for the contents (own).
+    /// Its stamp, which represents the contents (own).
     pub stamp: u64,
-    /// How many handles name it.
+    /// The number of handles that name it.
     pub holds: u32,
-    /// How many tokens and framebuffers refer to it.
+    /// The number of tokens and framebuffers that refer to it.
     pub refs: u32,
 }
 
-/// An object that is gone, since nothing refers to it any more: what an owner of its memory would free. A device's
-/// buffers have no memory, so its calls drop this.
+/// An object that was freed because nothing refers to it. The owner of its memory would free that now. A device's
+/// buffers have no memory, so its calls ignore this value.
 ///
 /// ```rust
 /// let mut objects = Objects::new(alloc, 1);
@@ -37,7 +37,7 @@ pub struct Object {
 /// ```
 #[derive(Clone, Copy, PartialEq, Eq, Debug)]
 pub struct Dead {
-    /// The number of the step that made it.
+    /// The number of the step that created it.
     pub birth: u32,
     /// Its size in bytes.
     pub size: u64,

@@ -1,4 +1,4 @@
-//! The objects that are there.
+//! The objects that exist.
 
 ghost use Rattle.std.specs.Prelude.{◌≡◌, ◌<◌, ◌≤◌, ◌↔◌, ◌==◌, true, false, None, Some, [], length, slice_get, nat_le, nat_lt, OnOk, OnErr, IfOk, IfErr, OnSome, IfNone};
 ghost use Rattle.std.specs.Option.{option_map};
@@ -17,7 +17,7 @@ use std::marker::Model;
 /// The number of an audit's rows of objects (own).
 const OBJECT_KIND: u32 = 3;
 
-/// Why no object was made.
+/// The reason an object was not created. The objects are unchanged.
 ///
 /// ```rust
 /// let mut full = Objects::new(alloc, 0);
@@ -25,13 +25,13 @@ const OBJECT_KIND: u32 = 3;
 /// ```
 #[derive(Clone, Copy, PartialEq, Eq, Debug)]
 pub enum CreateFault {
-    /// As many objects are there as may be.
+    /// The limit of objects is reached.
     Full,
     /// Memory was refused.
     NoMemory,
 }
 
-/// The objects that exist, in the order of their births. Contracts see a flat list.
+/// The objects that exist, in the order in which they were created. Contracts see a flat list.
 ///
 /// ```rust
 /// let mut objects = Objects::new(alloc, 2);
@@ -44,7 +44,7 @@ pub struct Objects {
     limit: u32,
 }
 
-// Written out, so that it is proved once: a derived one is proved again in each crate that lets such a value go.
+// Written out, so that it is proved once: a derived one is proved again in each crate that drops such a value.
 impl Drop for Objects {
     fn drop(self) {
         let Objects {
@@ -70,7 +70,7 @@ impl Model for Objects {
 }
 
 impl Objects {
-    /// No objects, of which so many may be there at once. It takes no memory.
+    /// Creates a table without objects. At most `limit` may exist at once. Does not allocate.
     ///
     /// ```rust
     /// assert!(Objects::new(alloc, 2).nth_object(0).is_none());
@@ -85,11 +85,12 @@ impl Objects {
         }
     }
 
-    /// Creates an object of `size` bytes with stamp 0 and one handle. No object that exists has this birth.
+    /// Creates an object of `size` bytes with stamp 0 and one handle (drm-mm). `birth` is the number of the step, which
+    /// no existing object may have.
     ///
     /// # Errors
     ///
-    /// `Full` exactly if the limit is reached (own), `NoMemory` if memory is refused. The objects are then unchanged.
+    /// `Full` if the limit is reached (own), `NoMemory` if memory is refused. The objects are then unchanged.
     ///
     /// ```rust
     /// let Ok(other) = objects.create(2, 8192) else { return };
@@ -106,7 +107,8 @@ impl Objects {
         if self.keys.len() >= self.limit as usize {
             return Err(CreateFault::Full);
         }
-        // a slab gives low keys, of which its contract says nothing: those of 32 bits end long after the memory
+        // A slab returns low keys, but its contract does not say so. Keys of 32 bits are exhausted long after the
+        // memory.
         let number = self.kept.vacant_key();
         if number > u32::MAX as usize {
             return Err(CreateFault::NoMemory);
@@ -131,7 +133,7 @@ impl Objects {
         Ok(key)
     }
 
-    /// The object of a key, if it is there.
+    /// Returns the object with this key, if it exists.
     ///
     /// ```rust
     /// assert!(objects.get(key).is_some());
@@ -142,7 +144,7 @@ impl Objects {
         self.find(key)
     }
 
-    /// One handle more names the object.
+    /// Adds a handle to the object's count. The object must exist.
     ///
     /// ```rust
     /// objects.hold(key);
@@ -160,8 +162,8 @@ impl Objects {
         self.set(key, object, more);
     }
 
-    /// One handle fewer names the object. Where nothing refers to it any more it goes, and what it was is answered
-    /// (drm-gem(7): an object goes with its last reference).
+    /// Removes a handle from the object's count. If nothing refers to the object then, it is freed and returned
+    /// (drm-gem(7)).
     ///
     /// ```rust
     /// assert!(objects.unhold(key).is_none());
@@ -180,7 +182,7 @@ impl Objects {
         self.settle(key, object, fewer)
     }
 
-    /// One token or framebuffer more refers to the object.
+    /// Adds a token or framebuffer to the object's count. The object must exist.
     ///
     /// ```rust
     /// objects.refer(key);
@@ -198,8 +200,8 @@ impl Objects {
         self.set(key, object, more);
     }
 
-    /// One token or framebuffer fewer refers to the object. Where nothing refers to it any more it goes, and what it
-    /// was is answered.
+    /// Removes a token or framebuffer from the object's count. If nothing refers to the object then, it is freed and
+    /// returned.
     ///
     /// ```rust
     /// assert!(objects.unrefer(key).is_none());
@@ -218,7 +220,7 @@ impl Objects {
         self.settle(key, object, fewer)
     }
 
-    /// How many handles name the object.
+    /// Returns the number of handles that name the object.
     ///
     /// ```rust
     /// assert!(objects.holds(key) == 1);
@@ -230,7 +232,7 @@ impl Objects {
         self.there(key).holds
     }
 
-    /// How many tokens and framebuffers refer to the object.
+    /// Returns the number of tokens and framebuffers that refer to the object.
     ///
     /// ```rust
     /// assert!(objects.refs(key) == 0);
@@ -242,7 +244,7 @@ impl Objects {
         self.there(key).refs
     }
 
-    /// The number of the step that made the object.
+    /// Returns the number of the step that created the object.
     ///
     /// ```rust
     /// assert!(objects.birth(key) == 1);
@@ -254,7 +256,7 @@ impl Objects {
         self.there(key).step_number
     }
 
-    /// The object's size in bytes.
+    /// Returns the object's size in bytes.
     ///
     /// ```rust
     /// assert!(objects.size(key) == 4096);
@@ -266,7 +268,7 @@ impl Objects {
         self.there(key).size
     }
 
-    /// The object's stamp, which stands for its contents (own).
+    /// Returns the object's stamp, which represents its contents (own).
     ///
     /// ```rust
     /// assert!(objects.stamp(key) == 0);
@@ -278,7 +280,7 @@ impl Objects {
         self.there(key).stamp
     }
 
-    /// Gives the object another stamp.
+    /// Sets the object's stamp (own).
     ///
     /// ```rust
     /// objects.set_stamp(key, 77);
@@ -292,8 +294,8 @@ impl Objects {
         self.set(key, object, Object { stamp, ..object });
     }
 
-    /// Returns the row at a position, from 0, of the rows of an audit's kind (own): objects are kind 3, rising by birth, and
-    /// no other kind is kept. Does not allocate.
+    /// Returns the row at a position, from 0, of the rows of an audit's kind (own). Objects are kind 3, in the order in
+    /// which they were created. No other kind has rows here. Does not allocate.
     ///
     /// ```rust
     /// assert!(objects.nth(3, 0) == objects.get(key) && objects.nth(4, 0).is_none());
@@ -307,7 +309,7 @@ impl Objects {
         self.nth_object(i)
     }
 
-    /// Returns the object at a position, from 0, in the order of births. Does not allocate.
+    /// Returns the object at a position, from 0, in the order in which they were created. Does not allocate.
     ///
     /// ```rust
     /// assert!(objects.nth_object(0) == objects.get(key));
@@ -328,7 +330,7 @@ impl Objects {
         self.kept.get(key.number() as usize).copied()
     }
 
-    // the object of a key that is there
+    // the object of a key that exists
     fn there(&self, key: ObjectKey) -> Object
         requires { is_there self.now key ≡ true }
         ensures value { object_at self.now key ≡ Some result }
@@ -340,7 +342,7 @@ impl Objects {
         }
     }
 
-    // puts another object in place of that of a key, as each change that makes it of that one does
+    // replaces the object of a key by the changed one
     fn set(&mut self, key: ObjectKey, old: Object, new: Object)
         requires there { object_at self.old key ≡ Some old }
         requires same_key { new.key ≡ old.key }
@@ -353,7 +355,7 @@ impl Objects {
         *kept = new;
     }
 
-    // the same, or takes the object away where nothing refers to it any more
+    // the same, or removes the object if nothing refers to it
     fn settle(&mut self, key: ObjectKey, old: Object, new: Object) -> Option<Dead>
         requires there { object_at self.old key ≡ Some old }
         requires differ { InOrder (λ x y. (x.key == y.key) ≡ false) self.old.objects }
@@ -375,7 +377,7 @@ impl Objects {
         Some(dead)
     }
 
-    // takes the object of a key away
+    // removes the object of a key
     fn remove(&mut self, key: ObjectKey, old: Object)
         requires { object_at self.old key ≡ Some old }
         ensures { self.new ≡ without_key key self.old }

@@ -14,7 +14,7 @@ use Rattle.drm_script.proofs.NumberLemmas.{own, IsNumber, number_some, number_is
 pub some_same : {A : Type 0} (x y : A) → Some x ≡ Some y → x ≡ y
 some_same x y e = cc
 
--- a step was made, and what goes on behind it
+-- a step was made, and the next one follows
 pub record Steps {A B : Type 0} (o : Option A) (f : A → Option B) (y : B) : Type 0 where
   pub step : A
   pub made : o ≡ Some step
@@ -35,7 +35,7 @@ pub word_bind : {B : Type 0} (ws : Words) (f : List ℕ × Words → Option B) (
 word_bind [] f y e = absurd (cc)
 word_bind (w ∷ ws) f y e = record { w = w; rest = ws; words = refl; goes_on = e }
 
--- the words that were read, with those behind them
+-- the words that were read, with those after them
 pub words_behind : {w : List ℕ} {ws rest vs : Words} → ws ≡ w ∷ rest → rest ≡ vs → ws ≡ w ∷ vs
 words_behind {w} e f = e ∙ ap (λ v. w ∷ v) f
 

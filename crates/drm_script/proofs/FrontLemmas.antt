@@ -1,4 +1,4 @@
--- What stands in a text before the first byte that passes a test.
+-- The text before the first byte that passes a test.
 use Rattle.std.proofs.Common.{◌≡◌, ℕ, ◌+◌, List, [], ◌∷◌, take, refl, ap, arith, Bool, true, false, not, cond, suc}
 use Rattle.std.specs.List.{position_or_len}
 

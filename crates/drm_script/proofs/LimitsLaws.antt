@@ -25,7 +25,7 @@ fits_case : {B : Type 0} (b : Bool) (limit : Limit) (w : List ℕ) (ws rest : Wo
 fits_case true limit w ws rest n f y t words spells e = record { w = w; rest = rest; n = n; words = words; spells = spells; fits = t; goes_on = e }
 fits_case false limit w ws rest n f y t words spells e = absurd (cc)
 
--- what is read behind a limit
+-- the words after a limit, as they are read
 behind_limit : {B : Type 0} (limit : Limit) (f : ℕ × Words → Option B) (number : ℕ × Words) → Option B
 behind_limit limit f number = (in_range limit number.0 >>= (λ fitting. Some (fitting, number.1))) >>= f
 

@@ -1,4 +1,4 @@
--- No line end stands within the words of an answer.
+-- No line end is within the words of an answer.
 use Rattle.std.proofs.Common.{refl, ◌≡◌, ◌≢◌, ℕ, ◌/◌, ◌%◌, List, [], ◌∷◌, arith, Bool, true, false, cond, zero, suc, not, eqb, ◌∙◌, Result, Ok, Err, decimal, All}
 use Rattle.std.specs.Cmp.Derive.{both_true}
 use Rattle.std.specs.Fmt.{digits, digits_onto, digit_glyph}

@@ -1,10 +1,10 @@
--- The words of a line are what stands between its spaces.
+-- The words of a line are what is between its spaces.
 use Rattle.std.proofs.Common.{◌≡◌, ◌≢◌, ℕ, List, [], ◌∷◌, ◌++◌, refl, sym, ap, subst, ◌∙◌, arith, Bool, true, false, cond, lit<}
 use Rattle.std.proofs.lemmas.Bool.Decides.{nat_tests}
 use Rattle.drm_script.specs.Words.{is_space, with_byte, begins_word, words_of, IsWord, IsAtBreak, AreWords}
 use Rattle.drm_script.specs.Words.AreWords.{none, space, word}
 
--- ---- the words of a text stand in it
+-- ---- the words of a text are in it
 
 -- a byte that is no space, before a text that begins with a word
 longer : {bs : List ℕ} {words : List (List ℕ)} (b : ℕ) → b ≢ 32 → begins_word bs ≡ true → AreWords bs words → AreWords (b ∷ bs) (with_byte b true words)
@@ -35,7 +35,7 @@ pub words_of-stand : (text : List ℕ) → AreWords text (words_of text)
 words_of-stand [] = none
 words_of-stand (b ∷ bs) = with_first b bs (is_space b) refl (words_of-stand bs)
 
--- ---- what stands so are the words of the text
+-- ---- what is between its spaces are the words of the text
 
 no_space : (b : ℕ) → b ≢ 32 → is_space b ≡ false
 no_space b n = grind (arith, nat_tests)

@@ -1,4 +1,4 @@
--- The first line of a text, and the lines behind it.
+-- The first line of a text, and the lines after it.
 use Rattle.std.proofs.Common.{◌≡◌, ◌≢◌, ℕ, ◌+◌, ◌≤◌, List, [], ◌∷◌, length, take, drop, position, refl, sym, ap, ◌∙◌, arith, Bool, true, false, not, cond, nat_lt, suc, Some, None}
 use Rattle.std.specs.List.{position_or_len}
 use Rattle.std.proofs.lemmas.Option.{cond_some, none-some}
@@ -11,7 +11,7 @@ use Rattle.drm_script.proofs.FrontLemmas.{front, front-take}
 abbrev pub end_of : List ℕ → ℕ
 end_of text = position_or_len is_line_end text
 
--- what stands behind the end of the first line
+-- the text after the end of the first line
 abbrev pub behind : List ℕ → List ℕ
 behind [] = []
 behind (b ∷ bs) = cond (is_line_end b) bs (behind bs)
@@ -36,7 +36,7 @@ behind-drop : (text : List ℕ) → behind text ≡ drop (end_of text + 1) text
 behind-drop [] = refl
 behind-drop (b ∷ bs) = behind_at b bs (is_line_end b) (behind-drop bs)
 
--- ---- what `first_line` gives
+-- ---- the result of `first_line`
 
 pub ended_line : (text : List ℕ) (at : ℕ) → position is_line_end text ≡ Some at → text ≢ [] → lines_of text ≡ take at text ∷ lines_of (drop (at + 1) text)
 ended_line [] at p some = absurd (some refl)

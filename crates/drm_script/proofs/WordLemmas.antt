@@ -7,7 +7,7 @@ use Rattle.std.proofs.lemmas.Bool.Decides.{nat_tests}
 use Rattle.drm_script.specs.Words.{words_of, with_byte, begins_word, is_space, trimmed}
 use Rattle.drm_script.proofs.FrontLemmas.{front, front-take}
 
--- what stands from the first space on
+-- the text from the first space on
 abbrev pub behind : List ℕ → List ℕ
 behind [] = []
 behind (b ∷ bs) = cond (is_space b) (b ∷ bs) (behind bs)

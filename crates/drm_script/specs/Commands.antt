@@ -6,7 +6,7 @@ use Rattle.drm_script.specs.Fields.{Words, ◌>>=◌, word_at, end_at, label_of}
 use Rattle.drm_script.specs.Openings.{opening_at}
 use Rattle.drm_script.specs.Calls.{call_at}
 
--- a label and an opening, behind the word, with universal planes on or off
+-- a label and an opening, after the word, with universal planes on or off
 unfoldable pub open_at : Bool → Words → Option Command
 open_at universal ws = do
   first ← word_at ws
@@ -14,7 +14,7 @@ open_at universal ws = do
   opening ← opening_at universal first.1
   Some (commands.Open label opening)
 
--- a label, behind the word
+-- a label, after the word
 unfoldable pub close_at : Words → Option Command
 close_at ws = do
   first ← word_at ws
@@ -22,7 +22,7 @@ close_at ws = do
   end ← end_at first.1
   Some (commands.Close label)
 
--- a label, apart from the words behind it, and a call
+-- a label, separately from the words after it, and a call
 unfoldable pub ask_at : List ℕ → Words → Option Command
 ask_at w ws = do
   label ← label_of w

@@ -28,7 +28,7 @@ use Rattle.drm_script.specs.Openings.{opening_word_of}
 use Rattle.drm_script.specs.Reading.{line_word_of}
 use Rattle.drm_script.specs.Words.{words_of}
 
--- What a line has in the place of a word. A number has at most so many bits.
+-- What a line has in the place of a word. A number has at most a number of bits.
 pub data Place : Type 0 where
   first_word : Place
   label : Place
@@ -52,7 +52,7 @@ wanted_at (Place.limit which) = wanted.Number (2 ^ 32 - 1)
 abbrev pub unless : Bool → Malformation → Option Malformation
 unless fits cause = if fits then None else Some cause
 
--- the number of at most so many bits that a word spells
+-- the number of at most n bits that a word spells
 abbrev pub number_in_bits : ℕ → List ℕ → Option ℕ
 number_in_bits bits w = option_and_then (of_bits bits) (number_of w)
 
@@ -71,7 +71,7 @@ fault_at (Place.number bits) w = unless (is_some (number_in_bits bits w)) (cause
 fault_at Place.audit_kind w = number_fault (λ n. is_some (audits.kind_of n)) (causes.Unfit wanted.AuditKind) (number_in_bits 32 w)
 fault_at (Place.limit which) w = number_fault (λ n. are_in_range (with_limit which n)) causes.LimitRange (number_in_bits 32 w)
 
--- a word is a fault, or the first one behind it is
+-- a word is a fault, or the first one after it is
 abbrev pub fault_or : Option Malformation → Words → Option (Malformation × Words) → Option (Malformation × Words)
 fault_or (Some cause) ws behind = Some (cause, ws)
 fault_or None ws behind = behind
@@ -125,7 +125,7 @@ limit_places =
     ∷ Place.limit limits.Journal
     ∷ []
 
--- the places behind the word of an opening
+-- the places after the word of an opening
 abbrev pub opening_fields : Option OpeningWord → List Place
 opening_fields (Some openings.Lease) = Place.number 32 ∷ []
 opening_fields (Some openings.RootLease) = Place.number 32 ∷ []
@@ -150,12 +150,12 @@ abbrev pub with_kind : CallKind → List Place → List Place
 with_kind kinds.Audit (p ∷ ps) = Place.audit_kind ∷ ps
 with_kind _ ps = ps
 
--- the places behind the word of a call
+-- the places after the word of a call
 abbrev pub call_fields : Option CallKind → Words → List Place
 call_fields None ws = []
 call_fields (Some kind) ws = with_kind kind (layout_places (kind_layout kind) ws)
 
--- the places behind a call's word
+-- the places after a call's word
 abbrev pub fields_behind : List ℕ → Words → List Place
 fields_behind w ws = if bytes_eq w (codes "raw") then Place.number 16 ∷ [] else call_fields (call_kind_of_word w) ws
 
@@ -164,7 +164,7 @@ abbrev pub call_places : Words → List Place
 call_places [] = Place.call ∷ []
 call_places (w ∷ ws) = Place.call ∷ fields_behind w ws
 
--- the places behind the first word of a line
+-- the places after the first word of a line
 abbrev pub places_behind : Option LineWord → Words → List Place
 places_behind (Some lines.Limits) ws = limit_places
 places_behind (Some lines.Open) ws = Place.label ∷ opening_places (drop 1 ws)
@@ -195,13 +195,14 @@ abbrev pub by_byte : Malformation → Option ℕ → Malformed → Type 0 → Ty
 by_byte cause (Some place) m Else = IsByteFault cause place m
 by_byte cause None m Else = Else
 
--- The cause is that of the first word of the line that does not fit. That word begins at the column, and is told.
+-- The cause is that of the first word of the line that does not fit. That word begins at the column, and is the
+-- reported one.
 pub record IsWordFault (line : List ℕ) (m : Malformed) : Type 0 where
   pub first : IsFirstMisfit (line_places (words_of line)) (words_of line) m.cause (words_of (drop (m.column - 1) line))
   pub word : m.word.bytes ≡ first_told (words_of (drop (m.column - 1) line))
 
--- What is reported of a malformed line: that it is too long, else its first byte above 127, its first carriage return, its first tab, or
--- its first word that does not fit.
+-- The report for a malformed line. The line is too long, or the report is of its first byte above 127, its first
+-- carriage return, its first tab, or its first word that does not fit.
 abbrev pub IsFaultOf : List ℕ → Malformed → Type 0
 IsFaultOf line m =
     by_length (nat_lt 255 (length line)) m

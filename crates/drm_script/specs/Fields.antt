@@ -9,7 +9,7 @@ use Rattle.drm_table.specs.Fields.Layout.{numbers, ids}
 use Rattle.std.specs.Str.{all_ascii_digits}
 use Rattle.std.specs.Str.Parse.{digits_value}
 
--- a step, and what goes on with what it read, where it read something
+-- a step, and the next step with what it read, if it read something
 infixl 10 ◌>>=◌
 abbrev pub ◌>>=◌ : {A B : Type 0} → Option A → (A → Option B) → Option B
 o >>= f = option_and_then f o
@@ -31,11 +31,11 @@ end_at (w ∷ ws) = None
 unfoldable pub number_of : List ℕ → Option ℕ
 number_of w = if nat_lt 0 (length w) && all_ascii_digits w && nat_lt (digits_value 10 w) (2 ^ 64) then Some (digits_value 10 w) else None
 
--- the same number, if it has at most so many bits
+-- the same number, if it has at most n bits
 abbrev pub of_bits : ℕ → ℕ → Option ℕ
 of_bits bits n = if nat_lt n (2 ^ bits) then Some n else None
 
--- a number of at most so many bits
+-- a number of at most n bits
 unfoldable pub number_at : ℕ → Words → Option (ℕ × Words)
 number_at bits ws = do
   first ← word_at ws
@@ -52,7 +52,7 @@ field_at widths.U64 ws = do
   n ← number_at 64 ws
   Some (fields.U64 n.0, n.1)
 
--- fields of these widths, and no word behind them
+-- fields of these widths, and no word after them
 unfoldable pub numbers_at : List Width → Words → Option (List Field)
 numbers_at vs ws = do
   read ← read_each field_at vs ws
@@ -63,7 +63,7 @@ numbers_at vs ws = do
 abbrev pub id_count : Words → ℕ
 id_count ws = min (length ws) 32
 
--- the fields of a layout, and no word behind them: ids stand without a count, and each word is one
+-- the fields of a layout, and no word after them: ids have no count, and each word is one
 unfoldable pub fields_at : Layout → Words → Option (List Field)
 fields_at (numbers ws) words = numbers_at ws words
 fields_at ids words = numbers_at (replicate (id_count words) widths.U32) words

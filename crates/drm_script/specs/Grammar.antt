@@ -17,8 +17,8 @@ use Rattle.drm_script.specs.declared.commands.Command.{Command}
 use Rattle.drm_script.specs.declared.commands.Command.TheVariants as commands
 use Rattle.drm_script.specs.Words.{words_of}
 
--- What a word of a line stands for: a word of the script, a label by its place, a number of at most so many bits, the
--- number of a row in the table of calls, and a number of 16 bits that no row has.
+-- The meaning of a word of a line: a word of the script, a label by its place, or a number of at most n bits. Or it is
+-- the number of a row in the table of calls, or a number of 16 bits that no row has.
 pub data Part : Type 0 where
   word : List ℕ → Part
   label : ℕ → Part
@@ -26,7 +26,7 @@ pub data Part : Type 0 where
   row_number : ℕ → Part
   rowless_number : ℕ → Part
 
--- Decimal digits and nothing else, with leading zeros or without, and a number of at most so many bits.
+-- Decimal digits and nothing else, with leading zeros or without, and a number of at most n bits.
 abbrev pub SpellsNumber : ℕ → ℕ → List ℕ → Type 0
 SpellsNumber bits n w = IsNumeral 10 w × (digits_value 10 w ≡ n) × (n < 2 ^ bits)
 
@@ -69,7 +69,7 @@ abbrev pub field_part : Field → Part
 field_part (fields.U32 n) = number 32 n
 field_part (fields.U64 n) = number 64 n
 
--- The words are the row's word and these fields in order; ids stand without a count.
+-- The words are the row's word and these fields in order; ids have no count.
 pub record SpellsRow (kind : CallKind) (fs : List Field) (ws : List (List ℕ)) : Type 0 where
   pub fits : FitsLayout (kind_layout kind) fs
   pub words : SpellEach (word (kind_word kind) ∷ map field_part fs) ws
@@ -79,8 +79,8 @@ abbrev pub SpellsBy : Option (CallKind × List Field) → List (List ℕ) → Ty
 SpellsBy None ws = ⊥
 SpellsBy (Some row) ws = SpellsRow row.0 row.1 ws
 
--- The words spell the call: the word of its row and its fields. A bare number stands for a call with the wrong fields where
--- it has a row, and for an unknown one otherwise.
+-- The words spell the call: the word of its row and its fields. A bare number is a call with the wrong fields if it has
+-- a row, and an unknown one otherwise.
 abbrev pub SpellsCall : Call → List (List ℕ) → Type 0
 SpellsCall (calls.Unknown n) ws = SpellEach (word (codes "raw") ∷ rowless_number n ∷ []) ws
 SpellsCall (calls.BadLayout n) ws = SpellEach (word (codes "raw") ∷ row_number n ∷ []) ws

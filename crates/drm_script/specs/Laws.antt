@@ -10,7 +10,7 @@ use Rattle.drm_script.specs.Reading.{reading_of}
 use Rattle.drm_script.specs.Lines.{answer_words}
 use Rattle.drm_script.specs.Words.{words_of, AreWords}
 
--- The words of a line stand between its spaces.
+-- The words of a line are what is between its spaces.
 abbrev pub WordsStandBetweenSpaces : Type 0
 WordsStandBetweenSpaces = (line : List ℕ) (words : List (List ℕ)) → (words_of line ≡ words) ↔ AreWords line words
 
@@ -30,6 +30,6 @@ SkipsCommentsAndBlankLines = (line : List ℕ) → (reading_of line ≡ Some rea
 abbrev pub RefusesAllOtherLines : Type 0
 RefusesAllOtherLines = (line : List ℕ) → (reading_of line ≡ None) ↔ IsOtherLine line
 
--- No line end stands within the words of an answer.
+-- No line end is within the words of an answer.
 abbrev pub AnswersTakeOneLine : Type 0
 AnswersTakeOneLine = (outcome : Result Answer Apart) → All (λ b. b ≢ 10) (answer_words outcome)

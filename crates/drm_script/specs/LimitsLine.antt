@@ -29,7 +29,7 @@ limit_at limit ws = do
   fitting ← in_range limit number.0
   Some (fitting, number.1)
 
--- eight numbers in the order of the limits, behind the word, each in its range
+-- eight numbers in the order of the limits, after the word, each in its range
 unfoldable pub limits_at : Words → Option Limits
 limits_at ws = do
   clients ← limit_at each.Clients ws

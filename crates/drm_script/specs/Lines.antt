@@ -16,7 +16,7 @@ use Rattle.drm_table.specs.Rules.{rule_number, rule_name, rule_errno, apart_numb
 abbrev pub is_line_end : ℕ → Bool
 is_line_end b = b == 10
 
--- what stands before a line end at this place, and behind it; all and nothing where no line ends
+-- the text before a line end at this place; all of it if no line ends
 abbrev pub line_before : Option ℕ → List ℕ → List ℕ
 line_before None text = text
 line_before (Some place) text = take place text
@@ -25,21 +25,22 @@ abbrev pub text_behind : Option ℕ → List ℕ → List ℕ
 text_behind None text = []
 text_behind (Some place) text = drop (place + 1) text
 
--- a byte in front of the first line, and a line of its own where there is none
+-- a byte in front of the first line, or as a line if there is none
 abbrev pub with_line_byte : ℕ → List (List ℕ) → List (List ℕ)
 with_line_byte b [] = (b ∷ []) ∷ []
 with_line_byte b (line ∷ lines) = (b ∷ line) ∷ lines
 
--- The lines of a text without their ends: what stands before each line end, and what is left behind the last one, if anything is.
+-- The lines of a text without their ends: the text before each line end, and the rest after the last one, if there is
+-- any.
 abbrev pub lines_of : List ℕ → List (List ℕ)
 lines_of [] = []
 lines_of (b ∷ bs) = if is_line_end b then [] ∷ lines_of bs else with_line_byte b (lines_of bs)
 
--- a number behind a word, or behind another number
+-- a number after a word, or after another number
 abbrev pub number_behind : Field → List ℕ
 number_behind field = codes " " ++ decimal (number_in field)
 
--- an id behind another
+-- an id after another
 abbrev pub id_behind : ℕ → List ℕ
 id_behind id = codes "," ++ decimal id
 
@@ -61,7 +62,7 @@ resources_words crtcs connectors encoders framebuffers =
 abbrev pub row_numbers : AuditRow → List ℕ
 row_numbers r = decimal r.a ++ codes " " ++ decimal r.b ++ codes " " ++ decimal r.c ++ codes " " ++ decimal r.d
 
--- a row behind the number of rows, or behind another row
+-- a row after the number of rows, or after another row
 abbrev pub row_behind : AuditRow → List ℕ
 row_behind r = codes " | " ++ row_numbers r
 
@@ -73,7 +74,7 @@ page_words rows = codes "rows " ++ decimal (length rows) ++ flat_map row_behind 
 abbrev pub denied_words : Rule → List ℕ
 denied_words rule = codes "denied " ++ decimal (rule_number rule) ++ codes " " ++ rule_name rule ++ codes " " ++ decimal (rule_errno rule)
 
--- the same of what stands apart from the rules
+-- the same of a fault
 abbrev pub apart_words : Apart → List ℕ
 apart_words apart = codes "apart " ++ decimal (apart_number apart) ++ codes " " ++ apart_name apart ++ codes " " ++ decimal (apart_errno apart)
 

@@ -1,14 +1,14 @@
--- What is told of a malformed line (own).
+-- The report of a malformed line (own).
 use Rattle.std.specs.Prelude.{◌≡◌, ℕ, ◌-◌, ◌⊎◌, List, [], ◌∷◌, if◌then◌else◌, drop, map, take}
 use Rattle.std.specs.Char.{is_ascii_graphic}
 use Rattle.drm_script.specs.declared.malformations.Malformed.{Malformed}
 use Rattle.drm_script.specs.Words.{words_of}
 
--- a byte of a word as it is told: what doesn't show is a question mark
+-- a byte of a word as it is reported: a question mark if it is not printable
 abbrev pub shown : ℕ → ℕ
 shown b = if is_ascii_graphic b then b else 63
 
--- a word as it is told, by its first 32 bytes
+-- a word as it is reported, by its first 32 bytes
 abbrev pub told : List ℕ → List ℕ
 told word = map shown (take 32 word)
 
@@ -17,6 +17,6 @@ abbrev pub first_told : List (List ℕ) → List ℕ
 first_told [] = []
 first_told (word ∷ words) = told word
 
--- No word is told, or the one that begins at the column.
+-- No word is reported, or the one that begins at the column.
 abbrev pub TellsTheWordThere : List ℕ → Malformed → Type 0
 TellsTheWordThere line m = (m.word.bytes ≡ []) ⊎ (m.word.bytes ≡ first_told (words_of (drop (m.column - 1) line)))

@@ -5,7 +5,7 @@ use Rattle.std.specs.List.{AllByRecursion}
 abbrev pub is_space : ℕ → Bool
 is_space b = b == 32
 
--- a byte is put on the front of the first word, where that word goes on behind it, or is a word of its own
+-- a byte is put on the front of the first word, if that word follows it without a space, or else is a word
 abbrev pub with_byte : ℕ → Bool → List (List ℕ) → List (List ℕ)
 with_byte b true (word ∷ words) = (b ∷ word) ∷ words
 with_byte b true [] = (b ∷ []) ∷ []
@@ -16,8 +16,8 @@ abbrev pub begins_word : List ℕ → Bool
 begins_word [] = false
 begins_word (b ∷ bs) = if is_space b then false else true
 
--- What stands between the spaces, in order: each word is a longest row of bytes that are no space. So spaces stand
--- in any number before, between and behind the words, and a tab is a letter as any other.
+-- What is between the spaces, in order: each word is a longest row of bytes that are no space. So any number of spaces
+-- may be before, between and after the words, and a tab is a letter like any other.
 abbrev pub words_of : List ℕ → List (List ℕ)
 words_of [] = []
 words_of (b ∷ bs) = if is_space b then words_of bs else with_byte b (begins_word bs) (words_of bs)
@@ -31,12 +31,12 @@ trimmed (b ∷ bs) = if is_space b then trimmed bs else b ∷ bs
 abbrev pub IsWord : List ℕ → Type 0
 IsWord w = (0 < length w) × AllByRecursion (λ b. b ≢ 32) w
 
--- the text is at its end, or goes on with a space
+-- the text is at its end, or a space follows
 abbrev pub IsAtBreak : List ℕ → Type 0
 IsAtBreak [] = Unit {0}
 IsAtBreak (b ∷ bs) = b ≡ 32
 
--- A text and its words: no text has none, a space adds none, and a word goes up to the next space or the end.
+-- A text and its words: no text has none, a space adds none, and a word ends at the next space or at the end.
 pub data AreWords : List ℕ → List (List ℕ) → Type 0 where
   none : AreWords [] []
   space : {text : List ℕ} {words : List (List ℕ)} → AreWords text words → AreWords (32 ∷ text) words

@@ -1,4 +1,4 @@
-//! The rows of an audit, as an answer and as a listing write them.
+//! The rows of an audit as text, in an answer and in a listing.
 
 ghost use Rattle.std.specs.Prelude.{◌≡◌, ◌≤◌, ◌+◌, ◌*◌, ◌<◌, ◌++◌, length};
 ghost use Rattle.std.specs.List.{flat_map};
@@ -10,7 +10,7 @@ use crate::texts::{LINE, LineText, push_number};
 use arrayvec::ArrayString;
 use drm_table::{AuditKind, AuditPage, AuditRow};
 
-/// The four numbers of a row, apart by spaces.
+/// The four numbers of a row, separated by spaces.
 fn push_numbers(text: &mut ArrayString<LINE>, row: &AuditRow)
     requires { array_string_len text.old + 83 ≤ LINE }
     ensures bytes { text.new.bytes ≡ text.old.bytes ++ row_numbers row.now }
@@ -25,7 +25,7 @@ fn push_numbers(text: &mut ArrayString<LINE>, row: &AuditRow)
     push_number(text, row.d);
 }
 
-/// A row behind others, apart from them by a bar.
+/// A row after others, separated from them by a bar.
 fn push_row(text: &mut ArrayString<LINE>, row: &AuditRow)
     requires { array_string_len text.old + 86 ≤ LINE }
     ensures bytes { text.new.bytes ≡ text.old.bytes ++ row_behind row.now }
@@ -35,7 +35,7 @@ fn push_row(text: &mut ArrayString<LINE>, row: &AuditRow)
     push_numbers(text, row);
 }
 
-/// Each row, behind the one before.
+/// Each row after the one before.
 fn push_rows(text: &mut ArrayString<LINE>, rows: &[AuditRow])
     requires { array_string_len text.old + 86 * length rows.now ≤ LINE }
     ensures bytes { text.new.bytes ≡ text.old.bytes ++ flat_map row_behind rows.now }
@@ -46,7 +46,7 @@ fn push_rows(text: &mut ArrayString<LINE>, rows: &[AuditRow])
     }
 }
 
-/// How many rows a page has, and each of them.
+/// The number of rows of a page, and each of them.
 pub(crate) fn push_page(text: &mut ArrayString<LINE>, page: &AuditPage)
     requires { array_string_len text.old ≡ 0 }
     ensures bytes { text.new.bytes ≡ text.old.bytes ++ page_words page.now }
@@ -58,7 +58,7 @@ pub(crate) fn push_page(text: &mut ArrayString<LINE>, page: &AuditPage)
     push_rows(text, rows);
 }
 
-/// The name of a kind, and that it is short.
+/// Returns the name of a kind, which is short.
 #[tactic(auto, unfolding(drm_table::specs::Audits::kind_name))]
 fn name_of(kind: AuditKind) -> &'static str
     ensures name { result.now ≡ kinds.kind_name kind }
@@ -67,7 +67,20 @@ fn name_of(kind: AuditKind) -> &'static str
     kind.name()
 }
 
-/// The line of a row in a listing: the name of its kind and its four numbers, apart by spaces, and the line end (own).
+/// Returns the line of a row in a listing (own). Does not allocate.
+///
+/// The line is the name of the kind and the four numbers, separated by spaces, and the line end.
+///
+/// # Examples
+///
+/// ```rust
+/// use drm_script::audit_line;
+/// use drm_table::{AuditKind, AuditRow};
+///
+/// let row = AuditRow { a: 2, b: 4096, c: 1, d: 0 };
+/// let line = audit_line(AuditKind::Object, &row);
+/// assert!(rt; line.as_bytes() == b"object 2 4096 1 0\n".as_slice());
+/// ```
 pub fn audit_line(kind: AuditKind, row: &AuditRow) -> LineText
     ensures line { result ≡ audit_line kind row.now }
     ensures nonempty { 0 < length result }

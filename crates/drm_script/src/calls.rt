@@ -19,7 +19,7 @@ use drm_table::{AuditKind, Call, CallKind, row};
 /// The word of a call by its bare number.
 const RAW: &[u8] = b"raw";
 
-/// A call by its bare number: with the wrong fields where the number has a row, unknown otherwise.
+/// Returns the call with a bare number: with the wrong fields if the number has a row, else unknown.
 fn raw_of(number: u16) -> Call
     ensures { result ≡ raw_call number }
 {
@@ -29,7 +29,7 @@ fn raw_of(number: u16) -> Call
     }
 }
 
-/// `raw N`, behind its word.
+/// `raw N`, after its word.
 #[tactic(auto, unfolding(crate::specs::Calls::raw_at))]
 fn raw(text: &[u8]) -> Result<Call, Fault<'_>>
     ensures reading { result_ok result ≡ raw_at (words_of text.now) }
@@ -40,7 +40,7 @@ fn raw(text: &[u8]) -> Result<Call, Fault<'_>>
     Ok(raw_of(number))
 }
 
-/// A fault where the first field of an audit is a number, and that of no kind.
+/// A fault if the first field of an audit is a number, but not that of a kind.
 fn known_kind(kind: CallKind, text: &[u8]) -> Result<(), Fault<'_>>
     ensures passed { IfOk result (λ _. KindFits kind (words_of text.now)) }
     ensures reading { IfErr result (λ _. option_and_then (call_with kind) (fields_at (kind_layout kind) (words_of text.now)) ≡ None) }
@@ -59,7 +59,7 @@ fn known_kind(kind: CallKind, text: &[u8]) -> Result<(), Fault<'_>>
     Err(Fault::unfit(text, Wanted::AuditKind))
 }
 
-/// The call of a kind, by its fields.
+/// Returns the call of a kind by its fields.
 fn fields_call(kind: CallKind, text: &[u8]) -> Result<Call, Fault<'_>>
     ensures reading { result_ok result ≡ option_and_then (call_with kind) (fields_at (kind_layout kind) (words_of text.now)) }
     ensures fault { IfErr result (λ fault.
@@ -73,7 +73,7 @@ fn fields_call(kind: CallKind, text: &[u8]) -> Result<Call, Fault<'_>>
     Ok(call)
 }
 
-/// `WORD FIELDS` from the word on, and apart from that the word and the fields.
+/// `WORD FIELDS` from the word on, and the word and the fields separately.
 #[tactic(auto, unfolding(crate::specs::Calls::row_call_at))]
 fn row_call<'a>(whole: &'a [u8], word: &[u8], text: &'a [u8]) -> Result<Call, Fault<'a>>
     requires whole { words_of whole.now ≡ word.now ∷ words_of text.now }
@@ -87,7 +87,7 @@ fn row_call<'a>(whole: &'a [u8], word: &[u8], text: &'a [u8]) -> Result<Call, Fa
     fields_call(kind, text)
 }
 
-/// The call that the words of a text spell.
+/// Returns the call that the words of a text spell.
 #[tactic(auto, unfolding(crate::specs::Calls::call_at))]
 pub(crate) fn call_of(text: &[u8]) -> Result<Call, Fault<'_>>
     ensures reading { result_ok result ≡ call_at (words_of text.now) }

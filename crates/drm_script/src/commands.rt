@@ -1,4 +1,4 @@
-//! What a line asks of the device.
+//! The commands of a script's lines.
 
 ghost use Rattle.std.specs.Prelude.{◌≡◌, [], ◌∷◌, IfErr, None, drop};
 ghost use Rattle.std.specs.Result.{result_ok};
@@ -15,18 +15,29 @@ use crate::openings::opening_of;
 use crate::words::{end_of, word_of};
 use drm_table::{Call, Opening};
 
-/// What a line asks of the device (own).
+/// A command to the device (own).
+///
+/// # Examples
+///
+/// ```rust
+/// use drm_script::{Command, Label, Reading, read_line};
+/// use drm_table::Call;
+///
+/// let Ok(Reading::Says(command)) = read_line(b"a get_magic") else { return };
+/// let Some(label) = Label::from_letter(b'a') else { return };
+/// assert!(rt; command == Command::Ask { label, call: Call::GetMagic });
+/// ```
 #[derive(PartialEq, Eq, Debug, Drop)]
 pub enum Command {
-    /// A client comes, and the label stands for it if the opening is accepted.
+    /// Opens a client. If the device accepts it, the label names the client.
     Open { label: Label, opening: Opening },
-    /// The label's client goes.
+    /// Closes the label's client.
     Close { label: Label },
-    /// The label's client asks.
+    /// The label's client sends a call.
     Ask { label: Label, call: Call },
 }
 
-/// `open L OPENING` or `open2 L OPENING`, behind its first word: with universal planes on or off.
+/// `open L OPENING` or `open2 L OPENING`, after its first word: with universal planes on or off.
 #[tactic(auto, unfolding(crate::specs::Commands::open_at))]
 pub(crate) fn open(universal: bool, text: &[u8]) -> Result<Command, Fault<'_>>
     ensures reading { result_ok result ≡ open_at universal (words_of text.now) }
@@ -40,7 +51,7 @@ pub(crate) fn open(universal: bool, text: &[u8]) -> Result<Command, Fault<'_>>
     Ok(Command::Open { label, opening })
 }
 
-/// `close L`, behind its first word.
+/// `close L`, after its first word.
 #[tactic(auto, unfolding(crate::specs::Commands::close_at))]
 pub(crate) fn close(text: &[u8]) -> Result<Command, Fault<'_>>
     ensures reading { result_ok result ≡ close_at (words_of text.now) }
@@ -54,7 +65,7 @@ pub(crate) fn close(text: &[u8]) -> Result<Command, Fault<'_>>
     Ok(Command::Close { label })
 }
 
-/// `L CALL FIELDS` from its first word on, and apart from that the first word and the others.
+/// `L CALL FIELDS` from its first word on, and the first word and the others separately.
 #[tactic(auto, unfolding(crate::specs::Commands::ask_at))]
 pub(crate) fn ask<'a>(whole: &'a [u8], first: &[u8], text: &'a [u8]) -> Result<Command, Fault<'a>>
     requires whole { words_of whole.now ≡ first.now ∷ words_of text.now }

@@ -1,11 +1,20 @@
-//! The labels of a script, by which its lines name clients.
+//! The labels of a script, which name clients.
 
 ghost use Rattle.std.specs.Prelude.{◌≡◌, ◌<◌, IfSome};
 ghost use Rattle.drm_script.specs.Fields.{place_of, label_of};
 
 use std::marker::Model;
 
-/// A label: one letter from `a` to `z`. Contracts see its place in the alphabet, from 0 (own).
+/// A label: one letter from `a` to `z` (own). Contracts see its place in the alphabet, from 0.
+///
+/// # Examples
+///
+/// ```rust
+/// use drm_script::Label;
+///
+/// let Some(label) = Label::from_letter(b'c') else { return };
+/// assert!(rt; label.place() == 2);
+/// ```
 #[derive(Clone, Copy, PartialEq, Eq, Debug)]
 pub struct Label {
     place: u8,
@@ -24,10 +33,19 @@ impl Model for Label {
 }
 
 impl Label {
-    /// How many labels there are.
+    /// The number of labels.
     pub const COUNT: usize = 26;
 
-    /// The label that a byte is; None where it is no letter from `a` to `z`.
+    /// Returns the label with this letter, or `None` if the byte is no letter from `a` to `z`.
+    ///
+    /// # Examples
+    ///
+    /// ```rust
+    /// use drm_script::Label;
+    ///
+    /// assert!(rt; Label::from_letter(b'z').is_some());
+    /// assert!(rt; Label::from_letter(b'A').is_none());
+    /// ```
     #[tactic(auto, unfolding(crate::specs::Fields::place_of))]
     pub fn from_letter(letter: u8) -> Option<Label>
         ensures place { result ≡ place_of letter }
@@ -41,7 +59,16 @@ impl Label {
         })
     }
 
-    /// The place in the alphabet, from 0.
+    /// Returns the place in the alphabet, 0 to 25.
+    ///
+    /// # Examples
+    ///
+    /// ```rust
+    /// use drm_script::Label;
+    ///
+    /// let Some(label) = Label::from_letter(b'z') else { return };
+    /// assert!(rt; label.place() == 25);
+    /// ```
     pub fn place(self) -> usize
         ensures place { result ≡ self }
         ensures below { result < Label.COUNT }
@@ -50,7 +77,7 @@ impl Label {
     }
 }
 
-/// The label that a word is.
+/// Returns the label that a word is.
 #[tactic(auto, unfolding(crate::specs::Fields::label_of))]
 pub(crate) fn label_of_word(word: &[u8]) -> Option<Label>
     ensures { result ≡ label_of word.now }

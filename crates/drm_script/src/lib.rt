@@ -1,4 +1,6 @@
-//! The lines of a script: what each one says, and the line that each answer writes. No memory is taken.
+//! The lines of a script: the command of each, and the line of each answer.
+//!
+//! No function of this crate allocates. An example is the body of a function that has the runtime `rt`.
 #![tactic(auto)]
 
 mod audits;

@@ -14,10 +14,10 @@ use crate::numbers::u32_word;
 use crate::words::end_of;
 use drm_table::{Limits, are_in_range};
 
-/// The limits among which a limit is tried: each is in its range.
+/// The other limits while one limit is tried: each is in its range.
 const OTHERS: Limits = Limits::PROGRAM;
 
-/// The limits, by their order in a line.
+/// The limits, in the order of a line.
 #[derive(Clone, Copy)]
 enum Limit {
     Clients,
@@ -31,7 +31,7 @@ enum Limit {
 }
 
 impl Limit {
-    /// The program's limits, with a number in place of this one.
+    /// Returns the program's limits with a number in place of this one.
     fn with_limit(self, number: u32) -> Limits
         ensures { result ≡ with_limit self number }
     {
@@ -72,7 +72,7 @@ impl Limit {
     }
 }
 
-/// The number of a limit, in its range, and what follows it.
+/// The number of a limit, in its range, and the rest of the text.
 #[tactic(auto, unfolding(crate::specs::LimitsLine::limit_at))]
 fn limit_of(limit: Limit, text: &[u8]) -> Result<(u32, &[u8]), Fault<'_>>
     ensures reading { option_map (λ found. (found.0, words_of found.1.now)) (result_ok result) ≡ limit_at limit (words_of text.now) }
@@ -90,7 +90,8 @@ fn limit_of(limit: Limit, text: &[u8]) -> Result<(u32, &[u8]), Fault<'_>>
     Ok((number, rest))
 }
 
-/// The limits that the words of a text spell, each in its range. A number is tried against its range before the next word is read.
+/// The limits that the words of a text spell, each in its range. A number is tried against its range before the next
+/// word is read.
 #[tactic(auto, unfolding(crate::specs::LimitsLine::limits_at))]
 pub(crate) fn limits_of(text: &[u8]) -> Result<Limits, Fault<'_>>
     ensures reading { result_ok result ≡ limits_at (words_of text.now) }

@@ -1,4 +1,4 @@
-//! The line that each answer writes.
+//! The lines of answers.
 
 ghost use Rattle.std.specs.Prelude.{◌≡◌, ◌+◌, ◌*◌, ◌≤◌, ◌<◌, ◌++◌, length};
 ghost use Rattle.std.specs.List.{flat_map};
@@ -13,7 +13,7 @@ use crate::texts::{LINE, LineText, push_number};
 use arrayvec::ArrayString;
 use drm_table::{Answer, Apart, Field, Rule, Told};
 
-/// The name of a rule, and that it is short.
+/// Returns the name of a rule, which is short.
 fn name_of(rule: Rule) -> &'static str
     ensures name { result.now ≡ rule_name rule }
     ensures short { length result.now ≤ 16 }
@@ -21,7 +21,7 @@ fn name_of(rule: Rule) -> &'static str
     rule.name()
 }
 
-/// The name of what stands apart, and that it is short.
+/// Returns the name of a fault, which is short.
 fn apart_name_of(apart: Apart) -> &'static str
     ensures name { result.now ≡ apart_name apart }
     ensures short { length result.now ≤ 16 }
@@ -55,7 +55,7 @@ fn push_apart(text: &mut ArrayString<LINE>, apart: Apart)
     push_number(text, u64::from(apart.errno()));
 }
 
-/// A number behind a word, or behind another number.
+/// A number after a word, or after another number.
 fn push_field(text: &mut ArrayString<LINE>, field: Field)
     requires { array_string_len text.old + 21 ≤ LINE }
     ensures bytes { text.new.bytes ≡ text.old.bytes ++ number_behind field }
@@ -65,7 +65,7 @@ fn push_field(text: &mut ArrayString<LINE>, field: Field)
     push_number(text, field.number());
 }
 
-/// Each field, behind the one before.
+/// Each field after the one before.
 fn push_fields(text: &mut ArrayString<LINE>, fields: &[Field])
     requires { array_string_len text.old + 21 * length fields.now ≤ LINE }
     ensures bytes { text.new.bytes ≡ text.old.bytes ++ flat_map number_behind fields.now }
@@ -110,12 +110,19 @@ fn push_outcome(text: &mut ArrayString<LINE>, outcome: &Result<Answer, Apart>)
 }
 
 impl LineText {
-    /// Writes the line of an answer, with its end (own), in place of what stands there. Whoever writes many lines moves them less so
-    /// than with [`line_of`]. Does not allocate.
+    /// Replaces the text by the line of an answer, with its end (own). Does not allocate.
+    ///
+    /// To write many lines, this moves fewer bytes than [`line_of`].
+    ///
+    /// # Examples
     ///
     /// ```rust
+    /// use drm_script::LineText;
+    /// use drm_table::Answer;
+    ///
+    /// let mut text = LineText::new();
     /// text.write(&Ok(Answer::Done));
-    /// assert!(text.as_bytes() == b"done\n");
+    /// assert!(rt; text.as_bytes() == b"done\n".as_slice());
     /// ```
     pub fn write(&mut self, outcome: &Result<Answer, Apart>)
         ensures line { self.new ≡ answer_line outcome.now }
@@ -130,8 +137,13 @@ impl LineText {
 
 /// Returns the line of an answer, with its end (own). Does not allocate.
 ///
+/// # Examples
+///
 /// ```rust
-/// assert!(line_of(&Ok(Answer::Done)).as_bytes() == b"done\n");
+/// use drm_script::line_of;
+/// use drm_table::Answer;
+///
+/// assert!(rt; line_of(&Ok(Answer::Number { value: 7 })).as_bytes() == b"number 7\n".as_slice());
 /// ```
 pub fn line_of(outcome: &Result<Answer, Apart>) -> LineText
     ensures line { result ≡ answer_line outcome.now }

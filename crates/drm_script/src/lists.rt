@@ -1,4 +1,4 @@
-//! Ids and handles, as an answer writes them.
+//! Ids and handles as text, in an answer.
 
 ghost use Rattle.std.specs.Prelude.{◌≡◌, ◌≤◌, ◌+◌, ◌*◌, ◌<◌, ◌++◌, decimal, length};
 ghost use Rattle.std.specs.List.{flat_map};
@@ -19,7 +19,7 @@ fn push_digits(text: &mut ArrayString<LINE>, id: u32)
     text.push_str(buffer.format(id));
 }
 
-/// An id behind another, apart from it by a comma.
+/// An id after another, separated from it by a comma.
 fn push_id(text: &mut ArrayString<LINE>, id: u32)
     requires { array_string_len text.old + 11 ≤ LINE }
     ensures bytes { text.new.bytes ≡ text.old.bytes ++ id_behind id }
@@ -29,7 +29,7 @@ fn push_id(text: &mut ArrayString<LINE>, id: u32)
     push_digits(text, id);
 }
 
-/// Each id, behind the one before.
+/// Each id after the one before.
 fn push_ids(text: &mut ArrayString<LINE>, ids: &[u32])
     requires { array_string_len text.old + 11 * length ids.now ≤ LINE }
     ensures bytes { text.new.bytes ≡ text.old.bytes ++ flat_map id_behind ids.now }
@@ -40,7 +40,7 @@ fn push_ids(text: &mut ArrayString<LINE>, ids: &[u32])
     }
 }
 
-/// The ids joined by commas, or a dash where there are none.
+/// The ids joined by commas, or a dash if there are none.
 fn push_joined(text: &mut ArrayString<LINE>, list: &ShownList)
     requires { array_string_len text.old + 704 ≤ LINE }
     ensures bytes { text.new.bytes ≡ text.old.bytes ++ joined_ids list.now }
@@ -55,7 +55,7 @@ fn push_joined(text: &mut ArrayString<LINE>, list: &ShownList)
     }
 }
 
-/// The ids or handles behind their word.
+/// The ids or handles after their word.
 pub(crate) fn push_list(text: &mut ArrayString<LINE>, list: &ShownList)
     requires { array_string_len text.old ≡ 0 }
     ensures bytes { text.new.bytes ≡ text.old.bytes ++ list_words list.now }
@@ -65,7 +65,7 @@ pub(crate) fn push_list(text: &mut ArrayString<LINE>, list: &ShownList)
     push_joined(text, list);
 }
 
-/// The ids of CRTCs, connectors, encoders and framebuffers, each behind its word.
+/// The ids of CRTCs, connectors, encoders and framebuffers, each list after its word.
 pub(crate) fn push_resources(
     text: &mut ArrayString<LINE>,
     crtcs: &ShownList,

@@ -1,4 +1,4 @@
-//! Why a line can't be used, for who wrote it, and where in the line.
+//! The reason a line cannot be used, and its place in the line.
 
 ghost use Rattle.std.specs.Prelude.{◌≡◌, ◌<◌, ◌≤◌, ◌++◌, [], ◌∷◌, length, map};
 ghost use Rattle.arrayvec.specs.ArrayString.{array_string_len};
@@ -11,18 +11,27 @@ use std::error::Error;
 use std::fmt;
 use thiserror::Error;
 
-/// What would have fitted in the place of a word (own).
+/// What would fit in the place of a word (own).
+///
+/// # Examples
+///
+/// ```rust
+/// use drm_script::{Malformation, Wanted, read_line};
+///
+/// let Err(malformed) = read_line(b"a") else { return };
+/// assert!(rt; malformed.cause == Malformation::Lacks(Wanted::Call));
+/// ```
 #[derive(Clone, Copy, Debug, PartialEq, Eq)]
 pub enum Wanted {
     /// A label, or a word that begins a line.
     FirstWord,
-    /// A label, behind `open`, `open2` or `close`.
+    /// A label, after `open`, `open2` or `close`.
     Label,
     /// A way to open a client.
     Opening,
-    /// The word of a call, behind a label.
+    /// The word of a call, after a label.
     Call,
-    /// A number from 0 to this.
+    /// A number from 0 to this one.
     Number(u64),
     /// The number of a kind of an audit.
     AuditKind,
@@ -44,50 +53,68 @@ impl fmt::Display for Wanted {
     }
 }
 
-/// Why a line of a script can't be used (own).
+/// The reason a line of a script cannot be used (own).
+///
+/// # Examples
+///
+/// ```rust
+/// use drm_script::{Malformation, read_line};
+///
+/// let Err(malformed) = read_line(b"a get_magic 1") else { return };
+/// assert!(rt; malformed.cause == Malformation::TooManyWords);
+/// ```
 #[derive(Clone, Copy, Debug, PartialEq, Eq, Error)]
 pub enum Malformation {
     /// More than 255 bytes, without the line end.
     #[error("it has more than 255 bytes")]
     TooLong,
-    /// A byte above 127, in a comment too.
+    /// A byte above 127, also in a comment.
     #[error("it has a byte above 127")]
     NotAscii,
-    /// A carriage return, as of a file with line ends of two bytes.
+    /// A carriage return, as in a file with line ends of two bytes.
     #[error("it has a carriage return")]
     CarriageReturn,
-    /// A tab, which separates no words.
+    /// A tab, which does not separate words.
     #[error("it has a tab, and spaces alone separate words")]
     Tab,
-    /// The word isn't what would have fitted.
+    /// The word does not fit here.
     #[error("is no {0}")]
     Unfit(Wanted),
-    /// The line ends where this would have fitted.
+    /// The line ends, and this is missing.
     #[error("it lacks a {0}")]
     Lacks(Wanted),
-    /// A word behind all that the line takes.
+    /// A word after all that the line takes.
     #[error("is a word too many")]
     TooManyWords,
-    /// A limit is a number, but out of its range.
+    /// A limit is a number, but not in its range.
     #[error("is a limit out of its range")]
     LimitRange,
-    /// The line is well formed, and sets limits where the device is made already.
+    /// The line is well formed, but sets limits when the device already exists.
     #[error("sets limits behind the first line that isn't skipped")]
     LateLimits,
 }
 
-/// How many bytes of a word are told at most (own).
+/// The most bytes of a word that are reported (own).
 pub const WORD: usize = 32;
 
-/// A line that can't be used: where, the word there, and why (own).
+/// A line that cannot be used: the place, the word there, and the reason (own).
+///
+/// # Examples
+///
+/// ```rust
+/// use drm_script::read_line;
+///
+/// let Err(malformed) = read_line(b"a get_majic") else { return };
+/// assert!(rt; malformed.column == 3 && malformed.word.as_str() == "get_majic");
+/// ```
 #[derive(Clone, Copy, Debug, PartialEq, Eq)]
 pub struct Malformed {
-    /// The place in the line, in bytes from 1, where the word at fault begins, or would have stood; else that of the byte at fault.
+    /// The column, in bytes from 1, where the word at fault begins or is missing, or the column of the byte at fault.
     pub column: usize,
-    /// The word at fault: what has more than 32 bytes is cut, and a byte that doesn't show is `?`. Empty where one lacks, and where a
-    /// byte is at fault.
+    /// The word at fault: its first 32 bytes, with `?` for a byte that is not printable. Empty if a word is missing or
+    /// a byte is at fault.
     pub word: ArrayString<WORD>,
-    /// Why the line can't be used.
+    /// The reason the line cannot be used.
     pub cause: Malformation,
 }
 
@@ -103,7 +130,7 @@ impl fmt::Display for Malformed {
 
 impl Error for Malformed {}
 
-/// What a reader can't go on with: the text from the word at fault on, and why.
+/// The place where a reader stops: the text from the word at fault on, and the reason.
 #[derive(Clone, Copy)]
 pub(crate) struct Fault<'a> {
     pub(crate) at: &'a [u8],
@@ -114,7 +141,7 @@ impl<'a> Fault<'a> {
     ghost use Rattle.std.specs.Prelude.{◌≡◌};
     ghost use Rattle.drm_script.specs.declared.malformations.Malformation.TheVariants as causes;
 
-    /// The first word of this text isn't what would have fitted.
+    /// Returns the fault that the first word of this text does not fit.
     pub(crate) fn unfit(at: &'a [u8], wanted: Wanted) -> Fault<'a>
         ensures cause { result.cause ≡ causes.Unfit wanted }
         ensures at { result.at.now ≡ at.now }
@@ -126,7 +153,7 @@ impl<'a> Fault<'a> {
     }
 }
 
-/// A byte of a word behind the text: what doesn't show is `?`.
+/// Appends a byte of a word, or `?` if it is not printable.
 fn push_shown(text: &mut ArrayString<WORD>, byte: u8)
     requires { array_string_len text.old < WORD }
     ensures { text.new.bytes ≡ text.old.bytes ++ shown byte ∷ [] }
@@ -138,7 +165,7 @@ fn push_shown(text: &mut ArrayString<WORD>, byte: u8)
     }
 }
 
-/// The bytes of a word that has 32 at most, as they are told.
+/// Returns a word of at most 32 bytes as it is reported.
 fn all_shown(word: &[u8]) -> ArrayString<WORD>
     requires { length word.now ≤ WORD }
     ensures { result.bytes ≡ map shown word.now }
@@ -150,7 +177,7 @@ fn all_shown(word: &[u8]) -> ArrayString<WORD>
     text
 }
 
-/// A word as it is told, by its first 32 bytes.
+/// Returns a word as it is reported: its first 32 bytes.
 fn told(word: &[u8]) -> ArrayString<WORD>
     ensures { result.bytes ≡ told word.now }
 {
@@ -160,7 +187,7 @@ fn told(word: &[u8]) -> ArrayString<WORD>
     all_shown(word.split_at(WORD).0)
 }
 
-/// The first word of a text as it is told; nothing where there is none.
+/// Returns the first word of a text as it is reported, or nothing if there is none.
 fn first_told(text: &[u8]) -> ArrayString<WORD>
     ensures { result.bytes ≡ first_told (words_of text.now) }
 {
@@ -177,7 +204,16 @@ impl Malformed {
     ghost use Rattle.drm_script.specs.Malformations.{TellsTheWordThere, first_told};
     ghost use Rattle.drm_script.specs.Words.{words_of};
 
-    /// A line that is too long, by its first byte too many.
+    /// Returns the report for a line that is too long. Its column is that of the first byte too many.
+    ///
+    /// # Examples
+    ///
+    /// ```rust
+    /// use drm_script::{Malformation, Malformed};
+    ///
+    /// let malformed = Malformed::too_long();
+    /// assert!(rt; malformed.column == 256 && malformed.cause == Malformation::TooLong);
+    /// ```
     pub fn too_long() -> Malformed
         ensures column { result.column ≡ 256 }
         ensures word { result.word.bytes ≡ [] }
@@ -190,7 +226,7 @@ impl Malformed {
         }
     }
 
-    /// A line by a byte, which has this place in it, from 0.
+    /// Returns the report for a byte with this place in the line, from 0.
     pub(crate) fn at_byte(place: usize, cause: Malformation) -> Malformed
         requires { place + 1 < 2 ^ 64 }
         ensures column { result.column ≡ place + 1 }
@@ -204,7 +240,8 @@ impl Malformed {
         }
     }
 
-    /// A line by a fault in it: as many of its words are in front of the fault as that has not.
+    /// Returns the report for a fault in a line. As many of its words are before the fault as the fault's text does not
+    /// have.
     pub(crate) fn at_fault(line: &[u8], fault: Fault<'_>) -> Malformed
         ensures first { 1 ≤ result.column }
         ensures last { result.column ≤ length line.now + 1 }
@@ -224,7 +261,17 @@ impl Malformed {
         }
     }
 
-    /// A line that sets limits where the device is made already, by its first word.
+    /// Returns the report for a line that sets limits when the device already exists. Its column is that of the first
+    /// word.
+    ///
+    /// # Examples
+    ///
+    /// ```rust
+    /// use drm_script::{Malformation, Malformed};
+    ///
+    /// let malformed = Malformed::late_limits(b"limits 4 8 8 8 8 4 4 50");
+    /// assert!(rt; malformed.column == 1 && malformed.cause == Malformation::LateLimits);
+    /// ```
     pub fn late_limits(line: &[u8]) -> Malformed
         ensures first { 1 ≤ result.column }
         ensures last { result.column ≤ length line.now + 1 }

@@ -11,10 +11,10 @@ ghost use Rattle.drm_script.specs.Words.{words_of};
 use crate::malformations::{Fault, Wanted};
 use crate::words::word_of;
 
-/// The sign that `parse` takes in front of a number, and a script doesn't.
+/// The sign that `parse` accepts before a number. A script does not.
 const PLUS: u8 = b'+';
 
-/// The number that a word spells; None where it has a sign or another letter, or doesn't fit.
+/// Returns the number that a word spells, or `None` if it has a sign or another letter, or does not fit.
 pub(crate) fn number(word: &[u8]) -> Option<u64>
     ensures { result ≡ number_of word.now }
 {
@@ -30,7 +30,7 @@ pub(crate) fn number(word: &[u8]) -> Option<u64>
     text.parse().ok()
 }
 
-/// The number of 64 bits that the first word spells, and what follows it.
+/// The number of 64 bits that the first word spells, and the rest of the text.
 #[tactic(auto, unfolding(crate::specs::Fields::number_at))]
 pub(crate) fn u64_word(text: &[u8]) -> Result<(u64, &[u8]), Fault<'_>>
     ensures reading { option_map (λ found. (found.0, words_of found.1.now)) (result_ok result) ≡ number_at 64 (words_of text.now) }
@@ -45,14 +45,26 @@ pub(crate) fn u64_word(text: &[u8]) -> Result<(u64, &[u8]), Fault<'_>>
     Ok((value, rest))
 }
 
-/// The number that a word spells in decimal digits; None where it has a sign or another letter, or is none of 32 bits (own).
+/// Returns the number that a word spells in decimal digits (own).
+///
+/// Returns `None` if the word has a sign or another letter, or the number does not fit in 32 bits. Leading zeros are
+/// allowed.
+///
+/// # Examples
+///
+/// ```rust
+/// use drm_script::u32_of;
+///
+/// assert!(rt; u32_of(b"4294967295") == Some(4_294_967_295));
+/// assert!(rt; u32_of(b"+1").is_none() && u32_of(b"4294967296").is_none());
+/// ```
 pub fn u32_of(word: &[u8]) -> Option<u32>
     ensures { result ≡ option_and_then (of_bits 32) (number_of word.now) }
 {
     u32::try_from(number(word)?).ok()
 }
 
-/// The number of 32 bits that the first word spells, and what follows it.
+/// The number of 32 bits that the first word spells, and the rest of the text.
 #[tactic(auto, unfolding(crate::specs::Fields::number_at))]
 pub(crate) fn u32_word(text: &[u8]) -> Result<(u32, &[u8]), Fault<'_>>
     ensures reading { option_map (λ found. (found.0, words_of found.1.now)) (result_ok result) ≡ number_at 32 (words_of text.now) }
@@ -67,14 +79,14 @@ pub(crate) fn u32_word(text: &[u8]) -> Result<(u32, &[u8]), Fault<'_>>
     Ok((value, rest))
 }
 
-/// The number that a word spells; None where it is none of 16 bits.
+/// Returns the number that a word spells, or `None` if it does not fit in 16 bits.
 fn u16_of(word: &[u8]) -> Option<u16>
     ensures { result ≡ option_and_then (of_bits 16) (number_of word.now) }
 {
     u16::try_from(number(word)?).ok()
 }
 
-/// The number of 16 bits that the first word spells, and what follows it.
+/// The number of 16 bits that the first word spells, and the rest of the text.
 #[tactic(auto, unfolding(crate::specs::Fields::number_at))]
 pub(crate) fn u16_word(text: &[u8]) -> Result<(u16, &[u8]), Fault<'_>>
     ensures reading { option_map (λ found. (found.0, words_of found.1.now)) (result_ok result) ≡ number_at 16 (words_of text.now) }

@@ -1,4 +1,4 @@
-//! The words that say how a client is opened.
+//! The words of an opening.
 
 ghost use Rattle.std.specs.Prelude.{◌≡◌, [], ◌∷◌, IfErr, Some};
 ghost use Rattle.std.specs.Result.{result_ok};

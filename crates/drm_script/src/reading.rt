@@ -1,4 +1,4 @@
-//! What a line says.
+//! The reading of a line.
 
 ghost use Rattle.std.specs.Prelude.{◌≡◌, ◌<◌, ◌≤◌, ◌+◌, ◌==◌, nat_lt, length, position, true, false, None, IfOk, IfErr, IfSome};
 ghost use Rattle.std.specs.Result.{result_ok};
@@ -15,10 +15,18 @@ use crate::malformations::{Fault, Malformation, Malformed};
 use crate::words::next_word;
 use drm_table::Limits;
 
-/// How many bytes a line may have, without its end (own).
+/// The most bytes of a line, without its end (own).
 const LONGEST: usize = 255;
 
-/// What a line says (own).
+/// The content of a line (own).
+///
+/// # Examples
+///
+/// ```rust
+/// use drm_script::{Reading, read_line};
+///
+/// assert!(rt; read_line(b"# a comment") == Ok(Reading::Skipped));
+/// ```
 #[derive(PartialEq, Eq, Debug, Drop)]
 pub enum Reading {
     /// Nothing: a comment, or no word.
@@ -29,7 +37,7 @@ pub enum Reading {
     Says(Command),
 }
 
-/// The first words of lines that begin with no label.
+/// The first words of lines that do not begin with a label.
 #[derive(Clone, Copy)]
 enum LineWord {
     Limits,
@@ -58,7 +66,7 @@ impl LineWord {
     }
 }
 
-/// What a first word that is no label begins.
+/// Returns the kind of line that a first word begins, if it is no label.
 #[tactic(auto, unfolding(crate::specs::Reading::line_word_of))]
 fn line_word(word: &[u8]) -> Option<LineWord>
     ensures { result ≡ line_word_of word.now }
@@ -66,7 +74,7 @@ fn line_word(word: &[u8]) -> Option<LineWord>
     LINE_WORDS.iter().copied().find(|name| name.text() == word)
 }
 
-/// What the words of a text say.
+/// Returns the content of the words of a text.
 fn words_reading(text: &[u8]) -> Result<Reading, Fault<'_>>
     ensures reading { result_ok result ≡ words_said (words_of text.now) }
     ensures in_range { IfOk result (λ reading. IfLimits reading (λ limits. ranges.are_in_range limits ≡ true)) }
@@ -85,7 +93,7 @@ fn words_reading(text: &[u8]) -> Result<Reading, Fault<'_>>
     }
 }
 
-/// Where the first byte above 127 is.
+/// Returns the place of the first byte above 127.
 fn first_foreign(line: &[u8]) -> Option<usize>
     ensures place { result ≡ position (nat_lt 127) line.now }
     ensures within { IfSome result (λ at. at < length line.now) }
@@ -93,7 +101,7 @@ fn first_foreign(line: &[u8]) -> Option<usize>
     line.iter().position(|byte| *byte > 127)
 }
 
-/// Where a byte is first.
+/// Returns the first place of a byte.
 fn place_of(line: &[u8], letter: u8) -> Option<usize>
     ensures place { result ≡ position (λ byte. byte == letter) line.now }
     ensures within { IfSome result (λ at. at < length line.now) }
@@ -101,7 +109,7 @@ fn place_of(line: &[u8], letter: u8) -> Option<usize>
     line.iter().position(|byte| *byte == letter)
 }
 
-/// Whether the first byte is `#`.
+/// Returns whether the first byte is `#`.
 fn is_comment(line: &[u8]) -> bool
     ensures { result ≡ is_comment line.now }
 {
@@ -111,8 +119,8 @@ fn is_comment(line: &[u8]) -> bool
     }
 }
 
-/// Why a line is malformed of which the words can't be read. A carriage return and a tab are letters, which no word that fits has: what
-/// is told is that they are there.
+/// Returns the reason a line with unreadable words is malformed. A carriage return and a tab are letters that no
+/// fitting word has. If the line has one, that is reported.
 fn malformed(line: &[u8], fault: Fault<'_>) -> Malformed
     requires short { nat_lt 255 (length line.now) ≡ false }
     requires ascii { position (nat_lt 127) line.now ≡ None }
@@ -131,10 +139,25 @@ fn malformed(line: &[u8], fault: Fault<'_>) -> Malformed
     Malformed::at_fault(line, fault)
 }
 
-/// What a line says, of which the bytes are given without the line end (own).
+/// Returns the content of a line, whose bytes come without the line end (own). Does not allocate.
 ///
-/// A line of more than 255 bytes, or with a byte above 127, is malformed, comments too. Its cause is told with its place in the line:
-/// what is wrong with its bytes, or with its first word that doesn't fit.
+/// # Errors
+///
+/// A [`Malformed`](crate::Malformed) line with its column and one of these causes:
+///
+/// - more than 255 bytes, or a byte above 127, also in a comment
+/// - a carriage return or a tab
+/// - the first word that does not fit, or that is missing
+///
+/// # Examples
+///
+/// ```rust
+/// use drm_script::{Reading, read_line};
+///
+/// let Ok(Reading::Limits(limits)) = read_line(b"limits 4 8 8 8 8 4 4 50") else { return };
+/// assert!(rt; limits.clients == 4 && limits.journal == 50);
+/// assert!(rt; read_line(b"a get_majic").is_err());
+/// ```
 #[tactic(auto, unfolding(crate::specs::Reading::reading_of), using(crate::proofs::ForeignLemmas::all_ascii))]
 pub fn read_line(line: &[u8]) -> Result<Reading, Malformed>
     ensures reading { result_ok result ≡ reading_of line.now }

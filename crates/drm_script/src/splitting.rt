@@ -3,7 +3,7 @@
 ghost use Rattle.std.specs.Prelude.{◌≡◌, ◌≢◌, ◌<◌, [], ◌∷◌, length, position, IfSome};
 ghost use Rattle.drm_script.specs.Lines.{is_line_end, line_before, text_behind, lines_of};
 
-/// Where the first line ends.
+/// Returns the place where the first line ends.
 fn line_end(text: &[u8]) -> Option<usize>
     ensures place { result ≡ position is_line_end text.now }
     ensures within { IfSome result (λ at. at < length text.now) }
@@ -11,7 +11,18 @@ fn line_end(text: &[u8]) -> Option<usize>
     text.iter().position(|byte| *byte == b'\n')
 }
 
-/// The first line of a text without its end, and what stands behind that; the whole text and nothing where no line ends (own).
+/// Returns the first line of a text without its end, and the rest of the text (own). Does not allocate.
+///
+/// If no line ends, the line is the whole text, and the rest is empty.
+///
+/// # Examples
+///
+/// ```rust
+/// use drm_script::first_line;
+///
+/// let (line, rest) = first_line(b"open a root\na get_magic");
+/// assert!(rt; line == b"open a root".as_slice() && rest == b"a get_magic".as_slice());
+/// ```
 pub fn first_line(text: &[u8]) -> (&[u8], &[u8])
     ensures line { result.0.now ≡ line_before (position is_line_end text.now) text.now }
     ensures behind { result.1.now ≡ text_behind (position is_line_end text.now) text.now }

@@ -6,10 +6,20 @@ ghost use Rattle.arrayvec.specs.ArrayString.{array_string_len};
 use arrayvec::ArrayString;
 use std::marker::Model;
 
-/// How many bytes the line of an answer, or of a row of a listing, has at most, with its end (own).
+/// The most bytes of an answer's line, or of a row's line in a listing, with its end (own).
 pub const LINE: usize = 4_096;
 
-/// A line with its end. Contracts see its bytes.
+/// A buffer for one line with its end. Contracts see its bytes.
+///
+/// # Examples
+///
+/// ```rust
+/// use drm_script::line_of;
+/// use drm_table::Answer;
+///
+/// let line = line_of(&Ok(Answer::Done));
+/// assert!(rt; line.as_bytes() == b"done\n".as_slice());
+/// ```
 #[derive(Drop)]
 pub struct LineText {
     pub(crate) text: ArrayString<LINE>,
@@ -24,11 +34,15 @@ impl Model for LineText {
 }
 
 impl LineText {
-    /// Returns a place for lines, with nothing in it yet. Does not allocate.
+    /// Creates an empty buffer for lines. Does not allocate.
+    ///
+    /// # Examples
     ///
     /// ```rust
-    /// let mut text = LineText::new();
-    /// assert!(text.as_bytes().is_empty());
+    /// use drm_script::LineText;
+    ///
+    /// let text = LineText::new();
+    /// assert!(rt; text.as_bytes().is_empty());
     /// ```
     pub fn new() -> LineText
         ensures { result ≡ [] }
@@ -38,14 +52,24 @@ impl LineText {
         }
     }
 
-    /// The line of a text, which has its end.
+    /// Returns the line of a text, which has its end.
     pub(crate) fn of(text: ArrayString<LINE>) -> LineText
         ensures { result ≡ text.bytes }
     {
         LineText { text }
     }
 
-    /// The bytes, of which the last is the line end.
+    /// Returns the bytes. The last one is the line end, unless nothing was written.
+    ///
+    /// # Examples
+    ///
+    /// ```rust
+    /// use drm_script::line_of;
+    /// use drm_table::Apart;
+    ///
+    /// let line = line_of(&Err(Apart::NoMemory));
+    /// assert!(rt; line.as_bytes() == b"apart 51 NoMemory 12\n".as_slice());
+    /// ```
     pub fn as_bytes(&self) -> &[u8]
         ensures bytes { result.now ≡ self.now }
         ensures fits { length result.now ≤ LINE }
@@ -54,7 +78,18 @@ impl LineText {
     }
 }
 
-/// Writes a number in decimal digits behind the text.
+/// Appends a number in decimal digits. The text must have room for 20 bytes.
+///
+/// # Examples
+///
+/// ```rust
+/// use arrayvec::ArrayString;
+/// use drm_script::push_number;
+///
+/// let mut text: ArrayString<32> = ArrayString::new();
+/// push_number(&mut text, 4_096);
+/// assert!(rt; text.as_str() == "4096");
+/// ```
 pub fn push_number<const N: usize>(text: &mut ArrayString<N>, number: u64)
     requires room { array_string_len text.old + 20 ≤ N }
     ensures bytes { text.new.bytes ≡ text.old.bytes ++ decimal number }

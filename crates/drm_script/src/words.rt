@@ -1,4 +1,4 @@
-//! The words of a line, which spaces alone separate.
+//! The words of a line, which only spaces separate.
 
 ghost use Rattle.std.specs.Prelude.{◌≡◌, ◌-◌, ◌≤◌, [], ◌∷◌, MatchOption, IfErr, IfSome, drop, length, position};
 ghost use Rattle.std.specs.Option.{option_map};
@@ -9,7 +9,7 @@ ghost use Rattle.drm_script.specs.Fields.{end_at, word_at};
 
 use crate::malformations::{Fault, Malformation, Wanted};
 
-/// The text from its first byte on that is no space.
+/// Returns the text from its first byte on that is no space.
 pub(crate) fn trim_spaces(mut text: &[u8]) -> &[u8]
     ensures { result.now ≡ trimmed text.entry.now }
 {
@@ -19,14 +19,24 @@ pub(crate) fn trim_spaces(mut text: &[u8]) -> &[u8]
     text
 }
 
-/// Where the first space stands.
+/// Returns the place of the first space.
 fn first_space(text: &[u8]) -> Option<usize>
     ensures { result ≡ position is_space text.now }
 {
     text.iter().position(|byte| *byte == b' ')
 }
 
-/// The first word of a text, and what follows it; None where the text has no word. Spaces alone separate words (own).
+/// Returns the first word of a text and the rest, or `None` if the text has no word (own). Only spaces separate words.
+/// Does not allocate.
+///
+/// # Examples
+///
+/// ```rust
+/// use drm_script::next_word;
+///
+/// let Some((word, rest)) = next_word(b"  open a root") else { return };
+/// assert!(rt; word == b"open".as_slice() && rest == b" a root".as_slice());
+/// ```
 pub fn next_word(text: &[u8]) -> Option<(&[u8], &[u8])>
     ensures words { MatchOption result (words_of text.now ≡ []) (λ found. words_of text.now ≡ found.0.now ∷ words_of found.1.now) }
     ensures behind { IfSome result (λ found. IsEndOf text.now found.1.now) }
@@ -55,7 +65,7 @@ pub(crate) fn word_count(text: &[u8]) -> usize
     text.len()
 }
 
-/// What follows the first words of a text, as many as are skipped.
+/// Returns the rest of a text after its first `skipped` words.
 pub(crate) fn skip_words(text: &[u8], skipped: usize) -> &[u8]
     ensures words { words_of result.now ≡ drop skipped (words_of text.now) }
     ensures behind { IsEndOf text.now result.now }
@@ -70,7 +80,7 @@ pub(crate) fn skip_words(text: &[u8], skipped: usize) -> &[u8]
     rest
 }
 
-/// The first word of a text, and what follows it; a fault where the text has no word, and this is wanted.
+/// Returns the first word of a text and the rest, or a fault if the text has no word.
 pub(crate) fn word_of(wanted: Wanted, text: &[u8]) -> Result<(&[u8], &[u8]), Fault<'_>>
     ensures reading { option_map (λ found. (found.0.now, words_of found.1.now)) (result_ok result) ≡ word_at (words_of text.now) }
     ensures fault { IfErr result (λ fault. LacksWord wanted (words_of text.now) fault.cause (words_of fault.at.now)) }
@@ -84,7 +94,7 @@ pub(crate) fn word_of(wanted: Wanted, text: &[u8]) -> Result<(&[u8], &[u8]), Fau
     }
 }
 
-/// A fault where a word is left.
+/// Returns a fault if a word is left.
 pub(crate) fn end_of(text: &[u8]) -> Result<(), Fault<'_>>
     ensures reading { result_ok result ≡ end_at (words_of text.now) }
     ensures fault { IfErr result (λ fault. IsFirstMisfit [] (words_of text.now) fault.cause (words_of fault.at.now)) }

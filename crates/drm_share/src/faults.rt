@@ -1,6 +1,6 @@
-//! Why nothing was shared.
+//! The reasons nothing was shared.
 
-/// Why no name or token was given. Everything is then as it was.
+/// The reason no name or token was allocated. The state is unchanged.
 ///
 /// ```rust
 /// let mut names = Names::new(alloc, 1);
@@ -13,6 +13,6 @@
 pub enum ShareFault {
     /// No number is free.
     Full,
-    /// There is no memory for one more.
+    /// Memory was refused.
     NoMemory,
 }

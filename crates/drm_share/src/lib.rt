@@ -1,5 +1,7 @@
-//! How the objects of a display device are shared: the global names of flink (drm-gem(7)) and the tokens that stand for
-//! the file descriptors of PRIME (drm-mm; tokens are own).
+//! The sharing of a display device's objects: the global names of flink (drm-gem(7)), and the tokens in place of the
+//! file descriptors of PRIME (drm-mm; tokens are own).
+//!
+//! An example is the body of a function that has the runtime `rt`. If memory is refused, it returns.
 #![tactic(auto)]
 
 mod faults;

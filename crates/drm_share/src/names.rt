@@ -15,8 +15,8 @@ use std::marker::Model;
 /// The number of an audit's rows of names (own).
 const NAME_KIND: u32 = 4;
 
-/// The global names of objects (drm-gem(7): flink), each a number from 1 on. An object has one name at most. Contracts
-/// see a flat list, rising by the names.
+/// The global names of objects (drm-gem(7), flink), each a number from 1 on. An object has one name at most. Contracts
+/// see a flat list, in the order of the names.
 ///
 /// ```rust
 /// let mut names = Names::new(alloc, 100);
@@ -29,7 +29,7 @@ pub struct Names {
     names: IndexArray<u32>,
 }
 
-// Written out, so that it is proved once: a derived one is proved again in each crate that lets such a value go.
+// Written out, so that it is proved once: a derived one is proved again in each crate that drops such a value.
 impl Drop for Names {
     fn drop(self) {
         let Names { objects, names } = self;
@@ -50,7 +50,7 @@ impl Model for Names {
 }
 
 impl Names {
-    /// No name. Those from 1 to `last` may be given. It takes no memory.
+    /// Creates a table without names. It can allocate the names from 1 to `last`. Does not allocate memory.
     ///
     /// ```rust
     /// assert!(Names::new(alloc, 100).nth_name(0).is_none());
@@ -65,7 +65,7 @@ impl Names {
         }
     }
 
-    /// The name of an object, if it has one. It takes no memory.
+    /// Returns the name of an object, if it has one. Does not allocate.
     ///
     /// ```rust
     /// assert!(names.name_of(object) == Some(name));
@@ -77,8 +77,12 @@ impl Names {
         self.names.get(object.number()).copied()
     }
 
-    /// Gives an object that has no name the least free one (drm-gem(7): flink; the kernel's IDR gives the least). It is
-    /// refused as full where no name is free, and then, as without memory, nothing changes.
+    /// Allocates the lowest free name for an object that has none (drm-gem(7), flink; so does the kernel's IDR), and
+    /// returns it.
+    ///
+    /// # Errors
+    ///
+    /// `Full` if no name is free, `NoMemory` if memory is refused. The names are then unchanged.
     ///
     /// ```rust
     /// assert!(name == 1);
@@ -104,7 +108,7 @@ impl Names {
         Ok(name)
     }
 
-    /// Whether no name is free. It takes no memory.
+    /// Returns whether no name is free. Does not allocate.
     ///
     /// ```rust
     /// assert!(!names.is_full());
@@ -115,7 +119,7 @@ impl Names {
         self.objects.is_full()
     }
 
-    /// The object that has a name, if one has it (drm-gem(7): opening by name). It takes no memory.
+    /// Returns the object that has a name, if there is one (drm-gem(7), opening by name). Does not allocate.
     ///
     /// ```rust
     /// assert!(names.lookup(name) == Some(object));
@@ -127,7 +131,7 @@ impl Names {
         self.objects.get(name).copied()
     }
 
-    /// Takes the name of an object, if it has one. It takes no memory.
+    /// Removes the name of an object, if it has one. Does not allocate.
     ///
     /// ```rust
     /// names.forget(object);
@@ -141,8 +145,8 @@ impl Names {
         }
     }
 
-    /// Returns the row at a position, from 0, of the rows of an audit's kind (own): names are kind 4, rising by name, and
-    /// no other kind is kept. Does not allocate.
+    /// Returns the row at a position, from 0, of the rows of an audit's kind (own). Names are kind 4, in rising order.
+    /// No other kind has rows here. Does not allocate.
     ///
     /// ```rust
     /// assert!(names.nth(4, 0) == names.nth_name(0) && names.nth(1, 0).is_none());
@@ -156,7 +160,7 @@ impl Names {
         self.nth_name(i)
     }
 
-    /// The name at a place of the list of names, where 0 is the first, with its object. It takes no memory.
+    /// Returns the name at a position of the list of names, from 0, with its object. Does not allocate.
     ///
     /// ```rust
     /// assert!(names.nth_name(0).is_none());

@@ -1,8 +1,8 @@
-//! What callers are shown of the names and the tokens.
+//! The rows of names and tokens.
 
 use drm_gem::ObjectKey;
 
-/// A global name of an object (drm-gem(7): flink).
+/// A global name of an object (drm-gem(7), flink).
 ///
 /// ```rust
 /// let mut names = Names::new(alloc, 100);
@@ -12,13 +12,13 @@ use drm_gem::ObjectKey;
 /// ```
 #[derive(Clone, Copy, PartialEq, Eq, Debug)]
 pub struct SharedName {
-    /// The name, a number that all clients see.
+    /// The name, which is the same number for all clients.
     pub name: u32,
     /// The object that has it.
     pub object: ObjectKey,
 }
 
-/// An open token, which stands for the file descriptor of an exported object (drm-mm: PRIME; tokens are own).
+/// An open token, used in place of the file descriptor of an exported object (drm-mm, PRIME; tokens are own).
 ///
 /// ```rust
 /// let mut tokens = Tokens::new(alloc, 100);
@@ -28,9 +28,9 @@ pub struct SharedName {
 /// ```
 #[derive(Clone, Copy, PartialEq, Eq, Debug)]
 pub struct SharedToken {
-    /// The token, a number that all clients see.
+    /// The token, which is the same number for all clients.
     pub token: u32,
-    /// The client that exported the object, which alone may close the token.
+    /// The client that exported the object. Only it may close the token.
     pub client: u32,
     /// The exported object.
     pub object: ObjectKey,

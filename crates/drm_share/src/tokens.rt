@@ -14,16 +14,16 @@ use std::marker::Model;
 /// The number of an audit's rows of tokens (own).
 const TOKEN_KIND: u32 = 5;
 
-// What an open token stands for.
+// The client and the object of an open token.
 #[derive(Clone, Copy)]
 pub(crate) struct Export {
     pub(crate) client: u32,
     pub(crate) object: ObjectKey,
 }
 
-/// The open tokens, which stand for the file descriptors of exported objects (drm-mm: PRIME; tokens are own), each a
-/// number from 1 on. An object may have several. Contracts see a flat list, rising by the tokens, and the last token
-/// given.
+/// The open tokens, used in place of the file descriptors of exported objects (drm-mm, PRIME; tokens are own), each a
+/// number from 1 on. An object may have several. Contracts see a flat list, in the order of the tokens, and the token
+/// that was allocated last.
 ///
 /// ```rust
 /// let mut tokens = Tokens::new(alloc, 100);
@@ -36,7 +36,7 @@ pub struct Tokens {
     owned: Groups,
 }
 
-// Written out, so that it is proved once: a derived one is proved again in each crate that lets such a value go.
+// Written out, so that it is proved once: a derived one is proved again in each crate that drops such a value.
 impl Drop for Tokens {
     fn drop(self) {
         let Tokens { exports, owned } = self;
@@ -57,7 +57,7 @@ impl Model for Tokens {
 }
 
 impl Tokens {
-    /// No open token. Those from 1 to `last` may be given. It takes no memory.
+    /// Creates a table without tokens. It can allocate the tokens from 1 to `last`. Does not allocate memory.
     ///
     /// ```rust
     /// assert!(Tokens::new(alloc, 100).last_given().is_none());
@@ -72,8 +72,14 @@ impl Tokens {
         }
     }
 
-    /// Exports an object of a client: opens the least free token above the last one given or, where there is none, the
-    /// least free one (own). It is refused as full where no token is free, and then, as without memory, nothing changes.
+    /// Exports an object of a client: allocates a token and returns it (drm-mm, PRIME).
+    ///
+    /// It is the lowest free token above the one that was allocated last. If there is none, it is the lowest free one
+    /// (own).
+    ///
+    /// # Errors
+    ///
+    /// `Full` if no token is free, `NoMemory` if memory is refused. The tokens are then unchanged.
     ///
     /// ```rust
     /// let Ok(other) = tokens.export(9, object) else { return };
@@ -100,7 +106,7 @@ impl Tokens {
         Ok(token)
     }
 
-    /// Whether no token is free. It takes no memory.
+    /// Returns whether no token is free. Does not allocate.
     ///
     /// ```rust
     /// assert!(!tokens.is_full());
@@ -111,7 +117,7 @@ impl Tokens {
         self.exports.is_full()
     }
 
-    /// The object behind a token, if the token is open. It takes no memory.
+    /// Returns the object of a token, if the token is open. Does not allocate.
     ///
     /// ```rust
     /// assert!(tokens.lookup(token) == Some(object));
@@ -124,8 +130,9 @@ impl Tokens {
         Some(found.object)
     }
 
-    /// Closes an open token of a client, and gives the object behind it. Where the token isn't open, or another client
-    /// exported it, nothing changes (own). It takes no memory.
+    /// Closes an open token of a client, and returns its object (own). Does not allocate.
+    ///
+    /// If the token is not open, or another client exported it, it returns `None`, and nothing changes.
     ///
     /// ```rust
     /// assert!(tokens.close(8, token).is_none());
@@ -146,8 +153,8 @@ impl Tokens {
         Some(export.object)
     }
 
-    /// Closes the least open token of a client, and gives it with the object behind it. There is none exactly where the
-    /// client has no open token. It takes no memory, and passes over no token of another client.
+    /// Closes the lowest open token of a client, and returns it with its object. Returns `None` if the client has no
+    /// open token. Does not allocate, and skips no token of another client.
     ///
     /// ```rust
     /// assert!(tokens.take_first_of(9) == Some((other, object)));
@@ -166,7 +173,7 @@ impl Tokens {
         Some((token, export.object))
     }
 
-    /// The last token given; none before the first. A token that is closed stays the last one given.
+    /// Returns the token that was allocated last, or `None` before the first. Closing it changes nothing here.
     ///
     /// ```rust
     /// assert!(tokens.last_given() == Some(other));
@@ -178,8 +185,8 @@ impl Tokens {
         self.exports.last_given()
     }
 
-    /// Returns the row at a position, from 0, of the rows of an audit's kind (own): tokens are kind 5, rising by token, and
-    /// no other kind is kept. Does not allocate.
+    /// Returns the row at a position, from 0, of the rows of an audit's kind (own). Tokens are kind 5, in rising order.
+    /// No other kind has rows here. Does not allocate.
     ///
     /// ```rust
     /// assert!(tokens.nth(5, 0) == tokens.nth_token(0) && tokens.nth(1, 0).is_none());
@@ -193,7 +200,7 @@ impl Tokens {
         self.nth_token(i)
     }
 
-    /// The token at a place of the list of open tokens, where 0 is the first. It takes no memory.
+    /// Returns the token at a position of the list of open tokens, from 0. Does not allocate.
     ///
     /// ```rust
     /// assert!(tokens.nth_token(0).is_none());

@@ -5,7 +5,8 @@ use Rattle.drm_streams.specs.Turns.{WriteCost, Tries}
 use Rattle.drm_streams.specs.declared.sink.Put.TheVariants as put
 use Rattle.drm_streams.proofs.Traces.{WriteCost-one, WriteCost-then}
 
--- The sink took the front of the text, and the rest is left; so many interruptions came since the last byte.
+-- The sink took the front of the text, and the rest is left. There were `interruptions` interruptions since the last
+-- byte.
 pub record PutSoFar (old new : SinkTrace) (text rest : List ℕ) (had has interruptions : ℕ) : Type 0 where
   pub front : List ℕ
   pub parts : text ≡ front ++ rest

@@ -17,7 +17,7 @@ part-then a b c xs ys more text s t u e h k = record {
   pays = WriteCost-then h k.pays;
 }
 
--- writing stopped in a text behind others
+-- writing stopped in a text after others
 pub stops : (end : Written) → (end ≡ written.Whole → ⊥) → (a b c : SinkTrace) (xs ys more text : List ℕ) (s t u : ℕ) → text ≡ xs ++ (ys ++ more) → WriteCost a b xs s t → WritesOut end b c ys t u → WritesOut end a c text s u
 stops written.Whole partial a b c xs ys more text s t u e h k = absurd (partial refl)
 stops written.Fault partial a b c xs ys more text s t u e h k =
@@ -29,7 +29,7 @@ writes_out written.Whole a b text s t h = h.0
 writes_out written.Fault a b text s t h = h
 writes_out written.TurnsUsed a b text s t h = h
 
--- ---- what stands before, at and behind a place
+-- ---- before, at and after a place
 
 module _ {X : Type 0} (line : X → List ℕ) where
   text-at : (rows : List X) (i : ℕ) (d : X) → i < length rows → flat_map line rows ≡ flat_map line (take i rows) ++ (line (get_or rows i d) ++ flat_map line (drop (suc i) rows))

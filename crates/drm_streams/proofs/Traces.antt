@@ -36,7 +36,7 @@ IsNext-counts_put (put.Took (suc n)) (b ∷ text) c = IsNext-one_call c
 IsNext-counts_put put.Interrupted text c = IsNext-one_interruption c
 IsNext-counts_put put.Fault text c = IsNext-one_failure c
 
--- ---- what a source gave
+-- ---- the bytes that a source returned
 
 pub Gave-none : (a : SourceTrace) → Gave a a []
 Gave-none a = record { given = Consumes-nil a.left; counts = NeverFall-none a.counts }
@@ -72,7 +72,7 @@ Took-one a b r text h e = record {
   counts = subst (NeverFall a.counts) (sym e) (IsNext-counts_put r text a.counts).counts;
 }
 
--- ---- what a source gave, with its turns
+-- ---- the bytes that a source returned, with its turns
 
 pub ReadCost-then : {a b c : SourceTrace} {x y : List ℕ} {s t u : ℕ} → ReadCost a b x s t → ReadCost b c y t u → ReadCost a c (x ++ y) s u
 ReadCost-then p q = record { gave = Gave-then p.gave q.gave; cost = omega arith }

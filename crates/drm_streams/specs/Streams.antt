@@ -1,4 +1,4 @@
--- What a source and a sink tell of their bytes and their calls, and what one call does to it.
+-- The traces of a source and a sink: their bytes and the counts of their calls, and the effect of one call (own).
 use Rattle.std.specs.Prelude.{ℕ, ◌+◌, ◌<◌, ◌≤◌, List, [], ◌∷◌, length, take, Option, zero, suc}
 use Rattle.std.specs.Io.KnownBytes.{Keeps, Appends, Consumes, IsAtEnd}
 use Rattle.drm_streams.specs.declared.source.Taken.{Taken}
@@ -13,15 +13,15 @@ pub record Counts : Type 0 where
   pub faults : ℕ
   pub failures : ℕ
 
--- what a source tells: the bytes still to come, where it knows them (a socket doesn't), its counts, and how many bytes
--- the last call gave that gave some
+-- the trace of a source: the bytes that are left, if it knows them, its counts, and the number of bytes of the last call that
+-- returned some. A socket does not know its bytes.
 pub record SourceTrace : Type 0 where
   pub left : Option (List ℕ)
   pub counts : Counts
   pub gave : ℕ
 
--- what a sink tells: the bytes given to it so far, where it knows them (a socket doesn't), its counts, and how many bytes
--- the last call was handed
+-- the trace of a sink: the bytes that it has taken, if it knows them (a socket doesn't), its counts, and the number of
+-- bytes that the last call received
 pub record SinkTrace : Type 0 where
   pub written : Option (List ℕ)
   pub counts : Counts
@@ -51,7 +51,7 @@ counts_taken taken.End c = one_end c
 counts_taken taken.Interrupted c = one_interruption c
 counts_taken taken.Fault c = one_failure c
 
--- how many bytes the last call gave that gave some
+-- the number of bytes of the last call that returned some
 abbrev pub gave_after : Taken → ℕ → ℕ
 gave_after (taken.Got n) gave = n
 gave_after taken.End gave = gave
@@ -68,7 +68,7 @@ counts_put put.Fault text c = one_failure c
 
 -- ---- the bytes of one call
 
--- What a `take` gave: `old` and `new` are the bytes still to come, and the buffer is as the call left it.
+-- The result of a `take`: `old` and `new` are the bytes that were and are left, and the buffer is as the call left it.
 abbrev pub TakeGives : Taken → Option (List ℕ) → Option (List ℕ) → List ℕ → Type 0
 TakeGives (taken.Got n) old new buffer = (0 < n) × (n ≤ length buffer) × Consumes old new (take n buffer)
 TakeGives taken.End old new buffer = Keeps old new × IsAtEnd new

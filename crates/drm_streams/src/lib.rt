@@ -1,5 +1,6 @@
-//! Sources and sinks: where bytes come from and go to, one call a turn, and the two loops over
-//! interruptions.
+//! Sources and sinks of bytes, one call for each turn, and the loops that retry after interruptions.
+//!
+//! An example is the body of a function that has the runtime `rt`.
 #![tactic(auto)]
 
 mod sink;

@@ -1,36 +1,55 @@
-//! Where bytes go to.
+//! Sinks: the targets of bytes.
 ghost use Rattle.std.specs.Prelude.{◌≡◌, ◌-◌, ◌^◌, ◌<◌, length};
 ghost use Rattle.drm_streams.specs.Streams.{SinkTrace, PutGives, counts_put, no_calls};
 
 use std::io::{ErrorKind, Write};
 use std::marker::Model;
 
-/// What one call of `put` did with its text.
+/// The result of one call of [`Sink::put`].
+///
+/// # Examples
+///
+/// ```rust
+/// use drm_streams::{Put, Sink, ToWrite};
+///
+/// let mut sink = ToWrite::new(Vec::new(rt.alloc()));
+/// assert!(rt; sink.put(b"frame") == Put::Took(5));
+/// ```
 #[derive(Clone, Copy, Debug, PartialEq, Eq)]
 pub enum Put {
-    /// It took so many bytes from the front.
+    /// It took this number of bytes from the front.
     Took(usize),
-    /// It took no byte this time; a later call may take some (`EINTR` of write(2)).
+    /// It took no byte this time. A later call may take some (`EINTR` of write(2)).
     Interrupted,
     /// It took no byte: the sink failed.
     Fault,
 }
 
-/// A sink of bytes that counts what it was asked.
+/// A sink of bytes that counts its calls.
+///
+/// # Examples
+///
+/// ```rust
+/// use drm_streams::{Sink, Source, ToWrite};
+///
+/// let mut sink = ToWrite::new(Vec::new(rt.alloc()));
+/// sink.put(b"fra");
+/// sink.put(b"me");
+/// assert!(rt; sink.calls() == 2);
+/// ```
 pub trait Sink {
-    /// The bytes that it was given so far, where the sink knows them, the counts of its calls, and
-    /// how many bytes it was handed last.
+    /// The bytes that it has taken, if the sink knows them, the counts of its calls, and the number of bytes that the
+    /// last call received.
     ghost trace: { Self → SinkTrace };
 
-    /// How many calls of `put` were made.
+    /// Returns the number of calls of `put`.
     fn calls(&self) -> u64
         ensures { result ≡ (trace self.now).counts.calls };
 
     /// Puts bytes from the front of the text, which may be empty.
     ///
-    /// An interruption counts as a fault, but as no failure; taking no byte of a text that has some
-    /// counts as a failure.
-    /// Only `Took` adds bytes to those given so far.
+    /// An interruption counts as a fault, but not as a failure. To take no byte of a text that has some counts as a
+    /// failure. Only `Took` adds bytes to those taken so far.
     fn put(&mut self, text: &[u8]) -> Put
         requires countable { (trace self.old).counts.calls < 2 ^ 64 - 1 }
         ensures gives { PutGives result (trace self.old).written (trace self.new).written
@@ -41,14 +60,24 @@ pub trait Sink {
 }
 
 /// A sink that writes to a writer.
+///
+/// # Examples
+///
+/// ```rust
+/// use drm_streams::{Sink, ToWrite};
+///
+/// let mut sink = ToWrite::new(Vec::new(rt.alloc()));
+/// sink.put(b"frame");
+/// assert!(rt; sink.into_inner().as_slice() == b"frame".as_slice());
+/// ```
 #[derive(Drop)]
 pub struct ToWrite<W: Write> {
     writer: W,
     calls: u64,
     faults: u64,
-    /// How many of the faults were no interruption.
+    /// The number of faults that were no interruption.
     failures: u64,
-    /// How many bytes the last call was handed.
+    /// The number of bytes that the last call received.
     handed: usize,
 }
 
@@ -68,7 +97,16 @@ impl<W: Write> Model for ToWrite<W> {
 }
 
 impl<W: Write> ToWrite<W> {
-    /// A sink behind what the writer holds, with no call counted.
+    /// Creates a sink that appends to the writer, with no call counted.
+    ///
+    /// # Examples
+    ///
+    /// ```rust
+    /// use drm_streams::{Sink, Source, ToWrite};
+    ///
+    /// let sink = ToWrite::new(Vec::new(rt.alloc()));
+    /// assert!(rt; sink.calls() == 0);
+    /// ```
     pub fn new(writer: W) -> Self
         ensures written { result.written ≡ W.contents writer }
         ensures counts { result.counts ≡ no_calls }
@@ -82,7 +120,18 @@ impl<W: Write> ToWrite<W> {
         }
     }
 
-    /// The writer, with what it holds.
+    /// Returns the writer, with what it holds.
+    ///
+    /// # Examples
+    ///
+    /// ```rust
+    /// use drm_streams::{Sink, ToWrite};
+    ///
+    /// let mut sink = ToWrite::new(Vec::new(rt.alloc()));
+    /// sink.put(b"frame");
+    /// let written = sink.into_inner();
+    /// assert!(rt; written.as_slice() == b"frame".as_slice());
+    /// ```
     pub fn into_inner(self) -> W
         ensures { W.contents result ≡ self.written }
     {

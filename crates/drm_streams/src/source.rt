@@ -1,4 +1,4 @@
-//! Where bytes come from.
+//! Sources of bytes.
 ghost use Rattle.std.specs.Prelude.{◌≡◌, ◌-◌, ◌^◌, ◌<◌, length};
 ghost use Rattle.drm_streams.specs.Streams.{
   SourceTrace,
@@ -11,32 +11,53 @@ ghost use Rattle.drm_streams.specs.Streams.{
 use std::io::{ErrorKind, Read};
 use std::marker::Model;
 
-/// What one call of `take` gave.
+/// The result of one call of [`Source::take`].
+///
+/// # Examples
+///
+/// ```rust
+/// use drm_streams::{FromRead, Source, Taken};
+///
+/// let mut source = FromRead::new(b"frame".as_slice());
+/// let mut buffer = [0; 8];
+/// assert!(rt; source.take(&mut buffer) == Taken::Got(5));
+/// ```
 #[derive(Clone, Copy, Debug, PartialEq, Eq)]
 pub enum Taken {
-    /// So many bytes, at least 1, in the front of the buffer.
+    /// The number of bytes in the front of the buffer, at least 1.
     Got(usize),
     /// No byte is left.
     End,
-    /// No byte this time; a later call may give some (`EINTR` of read(2)).
+    /// No byte this time. A later call may return some (`EINTR` of read(2)).
     Interrupted,
     /// No byte: the source failed.
     Fault,
 }
 
-/// A source of bytes that counts what it was asked.
+/// A source of bytes that counts its calls.
+///
+/// # Examples
+///
+/// ```rust
+/// use drm_streams::{FromRead, Sink, Source};
+///
+/// let mut source = FromRead::new(b"frame".as_slice());
+/// let mut buffer = [0; 8];
+/// source.take(&mut buffer);
+/// assert!(rt; source.calls() == 1);
+/// ```
 pub trait Source {
-    /// The bytes still to come, where the source knows them, the counts of its calls, and how many
-    /// bytes came last.
+    /// The bytes that are left, if the source knows them, the counts of its calls, and the number of bytes that the
+    /// last call returned.
     ghost trace: { Self → SourceTrace };
 
-    /// How many calls of `take` were made.
+    /// Returns the number of calls of `take`.
     fn calls(&self) -> u64
         ensures { result ≡ (trace self.now).counts.calls };
 
-    /// Takes bytes into the front of the buffer. What stands behind them is open.
+    /// Takes bytes into the front of the buffer, which must not be empty. The rest of the buffer is unspecified.
     ///
-    /// An interruption counts as a fault, but as no failure. Only `Got` takes bytes from those still to come.
+    /// An interruption counts as a fault, but not as a failure. Only `Got` takes bytes from those that are left.
     fn take(&mut self, buffer: &mut [u8]) -> Taken
         requires room { 0 < length buffer.old }
         requires countable { (trace self.old).counts.calls < 2 ^ 64 - 1 }
@@ -48,15 +69,24 @@ pub trait Source {
 }
 
 /// A source that reads from a reader.
+///
+/// # Examples
+///
+/// ```rust
+/// use drm_streams::FromRead;
+///
+/// let source = FromRead::new(b"frame".as_slice());
+/// assert!(rt; source.into_inner() == b"frame".as_slice());
+/// ```
 #[derive(Drop)]
 pub struct FromRead<R: Read> {
     reader: R,
     calls: u64,
     ends: u64,
     faults: u64,
-    /// How many of the faults were no interruption.
+    /// The number of faults that were no interruption.
     failures: u64,
-    /// How many bytes the last call gave that gave some.
+    /// The number of bytes of the last call that returned some.
     gave: usize,
 }
 
@@ -76,7 +106,16 @@ impl<R: Read> Model for FromRead<R> {
 }
 
 impl<R: Read> FromRead<R> {
-    /// A source of what the reader has left, with no call counted.
+    /// Creates a source of the bytes that the reader has left, with no call counted.
+    ///
+    /// # Examples
+    ///
+    /// ```rust
+    /// use drm_streams::{FromRead, Sink, Source};
+    ///
+    /// let source = FromRead::new(b"frame".as_slice());
+    /// assert!(rt; source.calls() == 0);
+    /// ```
     pub fn new(reader: R) -> Self
         ensures left { result.left ≡ R.remaining reader }
         ensures counts { result.counts ≡ no_calls }
@@ -91,7 +130,18 @@ impl<R: Read> FromRead<R> {
         }
     }
 
-    /// The reader, with what it has left.
+    /// Returns the reader, with the bytes that it has left.
+    ///
+    /// # Examples
+    ///
+    /// ```rust
+    /// use drm_streams::{FromRead, Source};
+    ///
+    /// let mut source = FromRead::new(b"frame".as_slice());
+    /// let mut buffer = [0; 3];
+    /// source.take(&mut buffer);
+    /// assert!(rt; source.into_inner() == b"me".as_slice());
+    /// ```
     pub fn into_inner(self) -> R
         ensures { R.remaining result ≡ self.left }
     {

@@ -1,4 +1,4 @@
--- The table of answers: a kind is found by its number, and an answer is that of what it tells.
+-- The table of answers: a kind is found by its number, and an answer is the one with its content.
 use Rattle.std.proofs.Common.{◌≡◌, ℕ, ◌^◌, ◌<◌, ◌≤◌, List, [], ◌∷◌, length, Some, refl, lit<, lit≤}
 use Rattle.std.specs.Prelude.{◌==◌}
 use Rattle.std.proofs.lemmas.Bool.{eqb-true}

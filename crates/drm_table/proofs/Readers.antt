@@ -8,11 +8,11 @@ use Rattle.drm_table.specs.Fields.{FitsField, put_before, read_each}
 some-is : {A : Type 0} (x a : A) → Some x ≡ Some a → x ≡ a
 some-is x a e = cc
 
--- fields that were read, in front of those that are read behind them
+-- fields that were read, in front of those that are read after them
 abbrev pub ahead : {S : Type 0} → List Field → Option (List Field × S) → Option (List Field × S)
 ahead fs o = option_map (λ more. (fs ++ more.0, more.1)) o
 
--- ---- what is told of one field after another is told of all that was read
+-- ---- what holds for one field after another holds for all that was read
 
 more-by : {S : Type 0} (P : List Width → S → List Field → S → Type 0) (w : Width) (ws : List Width) (s : S) (f : Field) (o : Option (List Field × S)) (read : List Field × S)
     → ((more : List Field × S) → o ≡ Some more → P (w ∷ ws) s (f ∷ more.0) more.1) → option_map (put_before f) o ≡ Some read → P (w ∷ ws) s read.0 read.1

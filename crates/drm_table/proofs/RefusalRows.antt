@@ -1,4 +1,4 @@
--- Each rule and each thing apart is found by its number, and by no other.
+-- Each rule and each fault is found by its number, and by no other.
 use Rattle.std.proofs.Common.{◌≡◌, ℕ, ◌^◌, ◌<◌, Some, refl, lit<}
 use Rattle.std.specs.Prelude.{◌==◌}
 use Rattle.std.proofs.lemmas.Bool.{eqb-true}

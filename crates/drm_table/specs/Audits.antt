@@ -3,10 +3,11 @@ use Rattle.std.specs.Prelude.{ℕ, ◌==◌, Option, List, [], ◌∷◌, find, 
 use Rattle.drm_table.specs.declared.audits.AuditKind.{AuditKind}
 use Rattle.drm_table.specs.declared.audits.AuditKind.TheVariants.{Client, Master, Object, Name, Token, Hold, Grant, Framebuffer, Shown, Device}
 
--- all kinds, rising by number
+-- all kinds, in rising order of their numbers
 abbrev pub kinds : List AuditKind
 kinds = Client ∷ Master ∷ Object ∷ Name ∷ Token ∷ Hold ∷ Grant ∷ Framebuffer ∷ Shown ∷ Device ∷ []
 
+-- the number of each kind
 unfoldable pub kind_number : AuditKind → ℕ
 kind_number Client = 1
 kind_number Master = 2
@@ -23,6 +24,7 @@ kind_number Device = 10
 unfoldable pub kind_of : ℕ → Option AuditKind
 kind_of number = find (λ kind. kind_number kind == number) kinds
 
+-- the name of each kind
 unfoldable pub kind_name : AuditKind → List ℕ
 kind_name Client = codes "client"
 kind_name Master = codes "master"

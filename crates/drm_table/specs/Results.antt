@@ -1,4 +1,4 @@
--- What a frame can hold of a result.
+-- The results that fit a frame (own).
 use Rattle.std.specs.Prelude.{◌+◌, ◌≤◌, length, Result, Ok}
 use Rattle.drm_table.specs.declared.answers.Answer.{Answer}
 use Rattle.drm_table.specs.declared.answers.Answer.TheVariants as answers

@@ -1,5 +1,5 @@
--- The rules and what stands apart from them: the number, the errno and the name of each (the numbers and names are own; so is
--- the errno where the rule is own, and else it is that of drm-uapi).
+-- The rules and the faults: the number, the errno and the name of each. Numbers and names are own. The errno of an own
+-- rule is own, any other that of drm-uapi.
 use Rattle.std.specs.Prelude.{◌≡◌, ℕ, ◌==◌, Option, Some, ◌↔◌, List, [], ◌∷◌, find, codes}
 use Rattle.drm_table.specs.declared.rules.Rule.{Rule}
 use Rattle.drm_table.specs.declared.rules.Rule.TheVariants.{Unknown, Layout, NoClient, RootOnly, Auth, Master, RenderAllow, NoHandle, NoHandleToClose, NoName, NoToken, NoMagic, MasterPerm, MasterBusy, NotCurrent, IsLessee, NoModeObject, NotLeasable, Repeated, LeaseShape, LeasedOut, SubLease, NoLessee, NotYourLessee, NoFb, BadSize, BadRoute, BadCap, NoLeaseToken, Full}
@@ -8,23 +8,23 @@ use Rattle.drm_table.specs.declared.apart.Apart.TheVariants.{JournalFull, NoMemo
 
 -- ---- the errnos, by Linux's numbers
 
--- there is no such thing
+-- the thing does not exist
 abbrev pub enoent : ℕ
 enoent = 2
 
--- memory is wanted
+-- memory was refused
 abbrev pub enomem : ℕ
 enomem = 12
 
--- the caller may not
+-- the caller may not do this
 abbrev pub eacces : ℕ
 eacces = 13
 
--- it is in use
+-- the thing is in use
 abbrev pub ebusy : ℕ
 ebusy = 16
 
--- what was asked is no such request
+-- the request is invalid
 abbrev pub einval : ℕ
 einval = 22
 
@@ -32,16 +32,19 @@ einval = 22
 abbrev pub enospc : ℕ
 enospc = 28
 
--- ---- the tables: a line for each rule, and for each thing apart
+-- ---- the tables: a line for each rule, and for each fault
 
+-- a row of the tables
 pub record RefusalRow : Type 0 where
   pub number : ℕ
   pub errno : ℕ
   pub name : List ℕ
 
+-- a row with these columns
 abbrev pub refusal_row : ℕ → ℕ → List ℕ → RefusalRow
 refusal_row number errno name = record { number = number; errno = errno; name = name }
 
+-- the row of each rule
 abbrev pub rule_row : Rule → RefusalRow
 rule_row Unknown = refusal_row 1 einval (codes "Unknown")
 rule_row Layout = refusal_row 2 einval (codes "Layout")
@@ -74,12 +77,13 @@ rule_row BadCap = refusal_row 41 einval (codes "BadCap")
 rule_row NoLeaseToken = refusal_row 42 enoent (codes "NoLeaseToken")
 rule_row Full = refusal_row 43 enospc (codes "Full")
 
+-- the row of each fault
 abbrev pub apart_row : Apart → RefusalRow
 apart_row JournalFull = refusal_row 50 enospc (codes "JournalFull")
 apart_row NoMemory = refusal_row 51 enomem (codes "NoMemory")
 apart_row Worn = refusal_row 52 enospc (codes "Worn")
 
--- all rules, rising by number
+-- all rules, in rising order of their numbers
 abbrev pub all_rules : List Rule
 all_rules =
     Unknown
@@ -114,35 +118,41 @@ all_rules =
     ∷ Full
     ∷ []
 
--- all that stands apart, rising by number
+-- all faults, in rising order of their numbers
 abbrev pub all_aparts : List Apart
 all_aparts = JournalFull ∷ NoMemory ∷ Worn ∷ []
 
 -- ---- what follows from them
 
+-- the number of a rule
 abbrev pub rule_number : Rule → ℕ
 rule_number rule = (rule_row rule).number
 
+-- the errno of a rule
 abbrev pub rule_errno : Rule → ℕ
 rule_errno rule = (rule_row rule).errno
 
+-- the name of a rule
 abbrev pub rule_name : Rule → List ℕ
 rule_name rule = (rule_row rule).name
 
+-- the number of a fault
 abbrev pub apart_number : Apart → ℕ
 apart_number apart = (apart_row apart).number
 
+-- the errno of a fault
 abbrev pub apart_errno : Apart → ℕ
 apart_errno apart = (apart_row apart).errno
 
+-- the name of a fault
 abbrev pub apart_name : Apart → List ℕ
 apart_name apart = (apart_row apart).name
 
--- the rule of a number, if it is one's
+-- the rule with a number, if there is one
 unfoldable pub rule_of_number : ℕ → Option Rule
 rule_of_number number = find (λ rule. rule_number rule == number) all_rules
 
--- what stands apart by a number, if it is one's
+-- the fault with a number, if there is one
 unfoldable pub apart_of_number : ℕ → Option Apart
 apart_of_number number = find (λ apart. apart_number apart == number) all_aparts
 

@@ -1,5 +1,5 @@
--- The table of calls: the number of each, its name, its word in a script, who may make it, its fields and its family (drm-uapi;
--- 0x40 to 0x45 are this project's own, as are the words and the families).
+-- The table of calls: the number, name, word, flags, fields and family of each (drm-uapi). The numbers 0x40 to 0x45,
+-- the words and the families are own.
 use Rattle.std.specs.Prelude.{◌≡◌, ℕ, ◌==◌, Option, Some, None, ◌↔◌, List, [], ◌∷◌, find, map, length, codes}
 use Rattle.std.specs.Option.{option_map, option_map_or, option_or}
 use Rattle.std.specs.Str.{bytes_eq}
@@ -19,6 +19,7 @@ use Rattle.drm_table.specs.Permit.{root_only, auth, master, render_allow, no_fla
 use Rattle.drm_table.specs.Fields.{Layout, ids_in, layout_of, width_of, widths_in}
 use Rattle.drm_table.specs.Fields.Layout.{numbers, ids}
 
+-- a row of the table
 pub record TableRow : Type 0 where
   pub number : ℕ
   pub name : List ℕ
@@ -27,6 +28,7 @@ pub record TableRow : Type 0 where
   pub layout : Layout
   pub family : Family
 
+-- a row with these columns
 abbrev pub table_row : ℕ → List ℕ → List ℕ → RowFlags → Layout → Family → TableRow
 table_row number name word flags layout family = record { number = number; name = name; word = word; flags = flags; layout = layout; family = family }
 
@@ -36,6 +38,7 @@ columns row = table_row row.number row.name.now row.word.now row.flags (layout_o
 
 -- ---- the table: a line for each call
 
+-- the row of each kind
 unfoldable pub kind_row : CallKind → TableRow
 kind_row kinds.Version = table_row 0x00 (codes "VERSION") (codes "version") render_allow (numbers []) Device
 kind_row kinds.GetMagic = table_row 0x02 (codes "GET_MAGIC") (codes "get_magic") no_flags (numbers []) Masters
@@ -73,7 +76,7 @@ kind_row kinds.ListLessees = table_row 0xC7 (codes "MODE_LIST_LESSEES") (codes "
 kind_row kinds.GetLease = table_row 0xC8 (codes "MODE_GET_LEASE") (codes "get_lease") master (numbers []) Leases
 kind_row kinds.RevokeLease = table_row 0xC9 (codes "MODE_REVOKE_LEASE") (codes "revoke_lease") master (numbers (U32 ∷ [])) Leases
 
--- all kinds, rising by number
+-- all kinds, in rising order of their numbers
 abbrev pub all_kinds : List CallKind
 all_kinds =
     kinds.Version
@@ -126,6 +129,7 @@ buffer_row (calls.CreateDumb width height bpp) = Some (kinds.CreateDumb, fields.
 buffer_row (calls.DestroyDumb handle) = Some (kinds.DestroyDumb, fields.U32 handle ∷ [])
 buffer_row _ = None
 
+-- the call of buffers with a row and fields
 abbrev pub buffer_call : CallKind → List Field → Option Call
 buffer_call kinds.GemClose (fields.U32 handle ∷ []) = Some (calls.GemClose handle)
 buffer_call kinds.BufCreate (fields.U64 size ∷ []) = Some (calls.BufCreate size)
@@ -145,6 +149,7 @@ share_row (calls.PrimeFdToHandle token) = Some (kinds.PrimeFdToHandle, fields.U3
 share_row (calls.TokenClose token) = Some (kinds.TokenClose, fields.U32 token ∷ [])
 share_row _ = None
 
+-- the call that shares objects with a row and fields
 abbrev pub share_call : CallKind → List Field → Option Call
 share_call kinds.GemFlink (fields.U32 handle ∷ []) = Some (calls.GemFlink handle)
 share_call kinds.GemOpen (fields.U32 name ∷ []) = Some (calls.GemOpen name)
@@ -161,6 +166,7 @@ master_row calls.SetMaster = Some (kinds.SetMaster, [])
 master_row calls.DropMaster = Some (kinds.DropMaster, [])
 master_row _ = None
 
+-- the call of masters and magics with a row and fields
 abbrev pub master_call : CallKind → List Field → Option Call
 master_call kinds.GetMagic [] = Some calls.GetMagic
 master_call kinds.AuthMagic (fields.U32 magic ∷ []) = Some (calls.AuthMagic magic)
@@ -180,6 +186,7 @@ mode_row (calls.GetPlane plane) = Some (kinds.GetPlane, fields.U32 plane ∷ [])
 mode_row (calls.SetPlane plane crtc framebuffer) = Some (kinds.SetPlane, fields.U32 plane ∷ fields.U32 crtc ∷ fields.U32 framebuffer ∷ [])
 mode_row _ = None
 
+-- the call of mode objects with a row and fields
 abbrev pub mode_call : CallKind → List Field → Option Call
 mode_call kinds.GetResources [] = Some calls.GetResources
 mode_call kinds.GetCrtc (fields.U32 crtc ∷ []) = Some (calls.GetCrtc crtc)
@@ -198,6 +205,7 @@ framebuffer_row (calls.AddFb width height pitch bpp handle) = Some (kinds.AddFb,
 framebuffer_row (calls.RmFb framebuffer) = Some (kinds.RmFb, fields.U32 framebuffer ∷ [])
 framebuffer_row _ = None
 
+-- the call of framebuffers with a row and fields
 abbrev pub framebuffer_call : CallKind → List Field → Option Call
 framebuffer_call kinds.GetFb (fields.U32 framebuffer ∷ []) = Some (calls.GetFb framebuffer)
 framebuffer_call kinds.AddFb (fields.U32 width ∷ fields.U32 height ∷ fields.U32 pitch ∷ fields.U32 bpp ∷ fields.U32 handle ∷ []) = Some (calls.AddFb width height pitch bpp handle)
@@ -212,6 +220,7 @@ lease_row calls.GetLease = Some (kinds.GetLease, [])
 lease_row (calls.RevokeLease lessee) = Some (kinds.RevokeLease, fields.U32 lessee ∷ [])
 lease_row _ = None
 
+-- the call of leases with a row and fields
 abbrev pub lease_call : CallKind → List Field → Option Call
 lease_call kinds.CreateLease fs = option_map calls.CreateLease (ids_in fs)
 lease_call kinds.ListLessees [] = Some calls.ListLessees
@@ -227,6 +236,7 @@ device_row (calls.SetClientCap cap value) = Some (kinds.SetClientCap, fields.U64
 device_row (calls.Audit kind from) = Some (kinds.Audit, fields.U32 (audits.kind_number kind) ∷ fields.U32 from ∷ [])
 device_row _ = None
 
+-- the call of the device with a row and fields
 abbrev pub device_call : CallKind → List Field → Option Call
 device_call kinds.Version [] = Some calls.Version
 device_call kinds.GetCap (fields.U64 cap ∷ []) = Some (calls.GetCap cap)
@@ -236,21 +246,25 @@ device_call _ _ = None
 
 -- ---- all families
 
--- the row of each call and its fields in order, on the wire and in a script alike; none of a call without a row
+-- the row of each call and its fields in order, on the wire and in a script alike; none for a call without a row
 unfoldable pub call_row : Call → Option (CallKind × List Field)
 call_row call = option_or (option_or (option_or (option_or (option_or (option_or (buffer_row call) (share_row call)) (master_row call)) (mode_row call)) (framebuffer_row call)) (lease_row call)) (device_row call)
 
 -- ---- what follows from it
 
+-- the number of a kind
 abbrev pub kind_number : CallKind → ℕ
 kind_number kind = (kind_row kind).number
 
+-- the word of a kind
 abbrev pub kind_word : CallKind → List ℕ
 kind_word kind = (kind_row kind).word
 
+-- the layout of a kind's fields
 abbrev pub kind_layout : CallKind → Layout
 kind_layout kind = (kind_row kind).layout
 
+-- the family of a kind
 abbrev pub kind_family : CallKind → Family
 kind_family kind = (kind_row kind).family
 
@@ -264,7 +278,7 @@ family_call Modes kind fs = mode_call kind fs
 family_call Framebuffers kind fs = framebuffer_call kind fs
 family_call Leases kind fs = lease_call kind fs
 
--- the call of a row and these fields, if they are a call's
+-- the call with a row and fields, if there is one
 unfoldable pub call_with : CallKind → List Field → Option Call
 call_with kind fs = family_call (kind_family kind) kind fs
 
@@ -280,32 +294,32 @@ call_kind_of_word word = find (λ kind. bytes_eq (kind_word kind) word) all_kind
 unfoldable pub row_of : ℕ → Option TableRow
 row_of number = option_map kind_row (call_kind_of number)
 
--- the number that a call without a row was asked by
+-- the number that the client sent, for a call without a row
 abbrev pub asked_number : Call → ℕ
 asked_number (calls.Unknown number) = number
 asked_number (calls.BadLayout number) = number
 asked_number _ = 0
 
--- the number of a call's row; a call without a row keeps the number that was asked
+-- the number of a call's row; for a call without a row, the number that the client sent
 unfoldable pub call_number : Call → ℕ
 call_number call = option_map_or (λ (row : CallKind × List Field). kind_number row.0) (call_row call) (asked_number call)
 
--- the flags of a call's row, and none where it has no row
+-- the flags of a call's row; none for a call without a row
 unfoldable pub flags_of : Call → RowFlags
 flags_of call = option_map_or (λ (row : TableRow). row.flags) (row_of (call_number call)) no_flags
 
--- the family of a call; none of a call without a row
+-- the family of a call; none for a call without a row
 unfoldable pub family_of : Call → Option Family
 family_of call = option_map (λ (row : CallKind × List Field). kind_family row.0) (call_row call)
 
 -- ---- laws
 
--- Of a call's row and fields the call is made.
+-- The call is the one with its row and its fields.
 abbrev pub IsReadBack : Call → Option (CallKind × List Field) → Type 0
 IsReadBack call None = Unit {0}
 IsReadBack call (Some row) = call_with row.0 row.1 ≡ Some call
 
--- The call that is made of a row and fields has this row and these fields.
+-- The call with a row and fields has this row and these fields.
 abbrev pub AreFieldsOf : CallKind → List Field → Option Call → Type 0
 AreFieldsOf kind fs None = Unit {0}
 AreFieldsOf kind fs (Some call) = call_row call ≡ Some (kind, fs)

@@ -11,7 +11,15 @@ use crate::fields::{AnswerFields, Width};
 use crate::lists::ShownList;
 use crate::rules::Rule;
 
-/// An answer with fields of fixed number: a row of the table of answers.
+/// A row of the table of answers: an answer whose number of fields is fixed (own).
+///
+/// # Examples
+///
+/// ```rust
+/// use drm_table::AnswerKind;
+///
+/// assert!(rt; AnswerKind::Done.word() == "done");
+/// ```
 #[derive(Clone, Copy, PartialEq, Eq, Debug)]
 pub enum AnswerKind {
     Done,
@@ -26,27 +34,36 @@ pub enum AnswerKind {
     Closed,
 }
 
-/// What an answer tells.
+/// The content of an answer.
+///
+/// # Examples
+///
+/// ```rust
+/// use drm_table::{Answer, AnswerKind, Told};
+///
+/// let answer = Answer::Number { value: 7 };
+/// assert!(rt; matches!(answer.told(), Told::Fields(AnswerKind::Number, _)));
+/// ```
 #[derive(Drop)]
 pub enum Told<'a> {
-    /// Fields of fixed number.
+    /// A fixed number of fields.
     Fields(AnswerKind, AnswerFields),
-    /// The ids of CRTCs, connectors, encoders and framebuffers.
+    /// The ids of CRTCs, connectors, encoders and framebuffers, each list in rising order.
     Resources {
         crtcs: &'a ShownList,
         connectors: &'a ShownList,
         encoders: &'a ShownList,
         framebuffers: &'a ShownList,
     },
-    /// Ids or handles.
+    /// Ids or handles, in rising order.
     List(&'a ShownList),
-    /// Rows of an audit.
+    /// Rows of an audit, 16 at most.
     Page(&'a AuditPage),
-    /// The rule that fails.
+    /// The first rule that fails.
     Denial(Rule),
 }
 
-/// By what number and what word an answer is told, and how wide its fields are.
+/// The number, the word and the field widths of an answer.
 #[derive(Clone, Copy)]
 struct AnswerRow {
     number: u16,
@@ -67,7 +84,7 @@ fn row(number: u16, word: &'static str, widths: &'static [Width]) -> AnswerRow
 }
 
 impl AnswerKind {
-    /// All kinds, rising by number.
+    /// All kinds, in rising order of their numbers.
     pub const ALL: [AnswerKind; 10] = [
         AnswerKind::Done,
         AnswerKind::Opened,
@@ -81,7 +98,7 @@ impl AnswerKind {
         AnswerKind::Closed,
     ];
 
-    // The row: a line for each answer (own).
+    // Returns the row: a line for each answer (own).
     #[tactic(auto, unfolding(crate::specs::Answers::answer_kind_row))]
     fn row(self) -> AnswerRow
         ensures number { result.number ≡ (answer_kind_row self).number }
@@ -108,14 +125,30 @@ impl AnswerKind {
         }
     }
 
-    /// The number of the answer's frame (own).
+    /// Returns the number of the answer's frame, 0x1000 to 0x100C (own).
+    ///
+    /// # Examples
+    ///
+    /// ```rust
+    /// use drm_table::AnswerKind;
+    ///
+    /// assert!(rt; AnswerKind::Dumb.number() == 0x1004);
+    /// ```
     pub fn number(self) -> u16
         ensures { result ≡ answer_number self }
     {
         self.row().number
     }
 
-    /// The first word of the answer's line (own).
+    /// Returns the first word of the answer's line, 16 bytes at most (own).
+    ///
+    /// # Examples
+    ///
+    /// ```rust
+    /// use drm_table::AnswerKind;
+    ///
+    /// assert!(rt; AnswerKind::Opened.word() == "client");
+    /// ```
     pub fn word(self) -> &'static str
         ensures word { result.now ≡ answer_word self }
         ensures short { length result.now ≤ 16 }
@@ -123,7 +156,15 @@ impl AnswerKind {
         self.row().word
     }
 
-    /// How wide the fields are.
+    /// Returns the widths of the fields, 5 at most (own).
+    ///
+    /// # Examples
+    ///
+    /// ```rust
+    /// use drm_table::{AnswerKind, Width};
+    ///
+    /// assert!(rt; AnswerKind::Buffer.widths() == [Width::U32, Width::U64].as_slice());
+    /// ```
     pub fn widths(self) -> &'static [Width]
         ensures widths { result.now ≡ answer_widths self }
         ensures few { length result.now ≤ 5 }
@@ -131,7 +172,16 @@ impl AnswerKind {
         self.row().widths
     }
 
-    /// The kind of a number, if it has a row.
+    /// Returns the kind with this number, or `None` if no row has it.
+    ///
+    /// # Examples
+    ///
+    /// ```rust
+    /// use drm_table::AnswerKind;
+    ///
+    /// assert!(rt; AnswerKind::of_number(0x1003) == Some(AnswerKind::Number));
+    /// assert!(rt; AnswerKind::of_number(3).is_none());
+    /// ```
     #[tactic(auto, unfolding(crate::specs::Answers::answer_kind_of))]
     pub fn of_number(number: u16) -> Option<AnswerKind>
         ensures { result ≡ answer_kind_of number }
@@ -142,7 +192,7 @@ impl AnswerKind {
             .find(|kind| kind.number() == number)
     }
 
-    // An answer of the calls of mode setting and of leases.
+    // Returns the answer of a mode setting or lease call that has these fields.
     fn mode_answer(self, fields: &[Field]) -> Option<Answer>
         ensures { result ≡ mode_answer self fields.now }
     {
@@ -166,7 +216,7 @@ impl AnswerKind {
         })
     }
 
-    // An answer of any other call, of an opening or of a closing.
+    // Returns the answer of any other call, of an opening or of a closing that has these fields.
     fn plain_answer(self, fields: &[Field]) -> Option<Answer>
         ensures { result ≡ plain_answer self fields.now }
     {
@@ -190,7 +240,17 @@ impl AnswerKind {
         })
     }
 
-    /// The answer of the kind and these fields; none where they are not an answer's.
+    /// Returns the answer of this kind with these fields.
+    /// Returns `None` if number or widths of the fields differ from those of the kind.
+    ///
+    /// # Examples
+    ///
+    /// ```rust
+    /// use drm_table::{Answer, AnswerKind, Field};
+    ///
+    /// assert!(rt; AnswerKind::Number.answer(&[Field::U64(7)]) == Some(Answer::Number { value: 7 }));
+    /// assert!(rt; AnswerKind::Number.answer(&[Field::U32(7)]).is_none());
+    /// ```
     #[tactic(auto, unfolding(crate::specs::Answers::answer_with))]
     pub fn answer(self, fields: &[Field]) -> Option<Answer>
         ensures { result ≡ answer_with self fields.now }
@@ -200,7 +260,7 @@ impl AnswerKind {
     }
 }
 
-/// Fields of fixed number are told.
+/// Returns the content of an answer with these fields.
 fn row_told(kind: AnswerKind, fields: &[Field]) -> Told<'static>
     requires { length fields.now ≤ 5 }
     ensures { told_of result ≡ ToldFields kind fields.now }
@@ -209,7 +269,7 @@ fn row_told(kind: AnswerKind, fields: &[Field]) -> Told<'static>
 }
 
 impl Answer {
-    // What an answer of the calls of mode setting and of leases tells.
+    // Returns the content of an answer of a mode setting or lease call.
     #[tactic(auto, unfolding(crate::specs::Answers::told))]
     fn mode_told(&self) -> Told<'_>
         requires { is_mode_answer self.now ≡ true }
@@ -252,7 +312,17 @@ impl Answer {
         }
     }
 
-    /// What the answer tells, its fields in order.
+    /// Returns the content of the answer, with its fields in order.
+    ///
+    /// # Examples
+    ///
+    /// ```rust
+    /// use drm_table::{Answer, AnswerKind, Field, Told};
+    ///
+    /// let answer = Answer::Opened { client: 3 };
+    /// let Told::Fields(kind, fields) = answer.told() else { return };
+    /// assert!(rt; kind == AnswerKind::Opened && fields.as_slice() == [Field::U32(3)].as_slice());
+    /// ```
     #[tactic(auto, unfolding(crate::specs::Answers::told))]
     pub fn told(&self) -> Told<'_>
         ensures { told_of result ≡ told self.now }

@@ -1,15 +1,24 @@
-//! What the device answers.
+//! The answers of a device.
 
 use crate::audits::AuditPage;
 use crate::lists::ShownList;
 use crate::rules::Rule;
 
-/// The answer of a step that is noted in the journal.
+/// The answer of a step that the journal records.
+///
+/// # Examples
+///
+/// ```rust
+/// use drm_table::Answer;
+///
+/// let answer = Answer::Number { value: 7 };
+/// assert!(rt; answer != Answer::Done);
+/// ```
 #[derive(PartialEq, Eq, Debug, Drop)]
 pub enum Answer {
-    /// The call was carried out and has nothing to tell.
+    /// The call was carried out and returns nothing.
     Done,
-    /// The client was opened, and this is its number: that of the step (own).
+    /// The client was opened. Its number is that of the step (own).
     Opened {
         client: u32,
     },
@@ -19,36 +28,36 @@ pub enum Answer {
         minor: u32,
         patch: u32,
     },
-    /// A number that was asked for or given.
+    /// A number that the call returns, such as a name, a token, an id or a stamp.
     Number {
         value: u64,
     },
-    /// A dumb buffer: its handle, the bytes of a row and the bytes of the whole (drm-uapi, `DRM_IOCTL_MODE_CREATE_DUMB`).
+    /// A dumb buffer: its handle, the bytes of a row, and its size in bytes (drm-uapi, `DRM_IOCTL_MODE_CREATE_DUMB`).
     Dumb {
         handle: u32,
         pitch: u32,
         size: u64,
     },
-    /// A handle of a buffer, and the buffer's bytes (drm-gem(7)).
+    /// A handle of a buffer, and the buffer's size in bytes (drm-gem(7)).
     Buffer {
         handle: u32,
         size: u64,
     },
-    /// The CRTCs and connectors that the caller sees, the encoders, and the caller's framebuffers, each rising (drm-uapi,
-    /// `DRM_IOCTL_MODE_GETRESOURCES`).
+    /// The CRTCs and connectors that the caller sees, the encoders, and the caller's framebuffers (drm-uapi,
+    /// `DRM_IOCTL_MODE_GETRESOURCES`). Each list is in rising order.
     Resources {
         crtcs: ShownList,
         connectors: ShownList,
         encoders: ShownList,
         framebuffers: ShownList,
     },
-    /// The framebuffer that a plane shows, or 0, and the CRTCs that the plane can be on, as a mask (drm-uapi,
+    /// The framebuffer that a plane shows, or 0, and a mask of the CRTCs that the plane can be on (drm-uapi,
     /// `DRM_IOCTL_MODE_GETPLANE`).
     Plane {
         framebuffer: u32,
         mask: u32,
     },
-    /// The shape of a framebuffer, and a handle of its object, or 0 (drm-uapi, `DRM_IOCTL_MODE_GETFB`).
+    /// The shape of a framebuffer, and a handle of its object or 0 (drm-uapi, `DRM_IOCTL_MODE_GETFB`).
     Framebuffer {
         width: u32,
         height: u32,
@@ -56,17 +65,17 @@ pub enum Answer {
         bpp: u32,
         handle: u32,
     },
-    /// A lease: the id of its lessee, and a token that opens a client of the lessee (drm-uapi, `DRM_IOCTL_MODE_CREATE_LEASE`;
-    /// tokens for file descriptors are own).
+    /// A lease: the id of its lessee, and a token that opens a client of the lessee (drm-uapi,
+    /// `DRM_IOCTL_MODE_CREATE_LEASE`). A token in place of a file descriptor is own.
     Lease {
         id: u32,
         token: u32,
     },
-    /// Ids or handles, rising.
+    /// Ids or handles, in rising order.
     List {
         list: ShownList,
     },
-    /// Rows of an audit, as they stood before the step (own).
+    /// Rows of an audit, with the values before the step (own).
     Audit {
         page: AuditPage,
     },
@@ -76,18 +85,22 @@ pub enum Answer {
     Denied(Rule),
 }
 
-/// What most calls answer, written to the place of an answer. A caller that can answer in several ways has no place for each of them
-/// then, which it would have to clear.
+/// Functions that write a common answer to its final place. A caller with several possible answers then needs no place
+/// for each of them.
 impl Answer {
     ghost use Rattle.std.specs.Prelude.{◌≡◌};
     ghost use Rattle.drm_table.specs.declared.answers.Answer.TheVariants as answers;
 
-    /// Replaces the answer by [`Answer::Done`].
+    /// Replaces the answer by [`Answer::Done`]. Does not allocate.
+    ///
+    /// # Examples
     ///
     /// ```rust
+    /// use drm_table::Answer;
+    ///
     /// let mut answer = Answer::Closed;
     /// answer.set_done();
-    /// assert!(answer == Answer::Done);
+    /// assert!(rt; answer == Answer::Done);
     /// ```
     pub fn set_done(&mut self)
         ensures done { self.new ≡ answers.Done }
@@ -95,12 +108,16 @@ impl Answer {
         *self = Answer::Done;
     }
 
-    /// Replaces the answer by [`Answer::Number`].
+    /// Replaces the answer by [`Answer::Number`] with this value. Does not allocate.
+    ///
+    /// # Examples
     ///
     /// ```rust
+    /// use drm_table::Answer;
+    ///
     /// let mut answer = Answer::Closed;
     /// answer.set_number(7);
-    /// assert!(answer == Answer::Number { value: 7 });
+    /// assert!(rt; answer == Answer::Number { value: 7 });
     /// ```
     pub fn set_number(&mut self, value: u64)
         ensures number { self.new ≡ answers.Number value }
@@ -108,12 +125,16 @@ impl Answer {
         *self = Answer::Number { value };
     }
 
-    /// Replaces the answer by [`Answer::Denied`].
+    /// Replaces the answer by [`Answer::Denied`] with this rule. Does not allocate.
+    ///
+    /// # Examples
     ///
     /// ```rust
+    /// use drm_table::{Answer, Rule};
+    ///
     /// let mut answer = Answer::Closed;
     /// answer.set_denied(Rule::Full);
-    /// assert!(answer == Answer::Denied(Rule::Full));
+    /// assert!(rt; answer == Answer::Denied(Rule::Full));
     /// ```
     pub fn set_denied(&mut self, rule: Rule)
         ensures denied { self.new ≡ answers.Denied rule }

@@ -1,4 +1,4 @@
-//! What stands apart from the rules.
+//! The faults: the reasons a step is not made.
 
 ghost use Rattle.std.specs.Prelude.{◌≡◌, Err};
 ghost use Rattle.drm_table.specs.Rules.{apart_errno, apart_name, apart_number, apart_of_number, apart_row};
@@ -7,22 +7,31 @@ use crate::answers::Answer;
 use crate::errnos::{ENOMEM, ENOSPC};
 use crate::refusal_rows::{RefusalRow, row};
 
-/// Why a step was not made: it changed nothing and is not noted (own).
+/// A fault: the reason a step was not made (own). The step changed nothing, and the journal does not record it.
+///
+/// # Examples
+///
+/// ```rust
+/// use drm_table::Apart;
+///
+/// let fault = Apart::NoMemory;
+/// assert!(rt; fault.errno() == 12);
+/// ```
 #[derive(Clone, Copy, PartialEq, Eq, Debug)]
 pub enum Apart {
-    /// The journal has no place for the step beside those kept for closings.
+    /// The journal has no room for the step. The rest of its room is reserved for closings.
     JournalFull,
     /// Memory for a new row was refused.
     NoMemory,
-    /// No ticket is left for another turn of threads.
+    /// The ticket counter is exhausted: no ticket is left for another turn of threads.
     Worn,
 }
 
 impl Apart {
-    /// All that stands apart, rising by number.
+    /// All faults, in rising order of their numbers.
     pub const ALL: [Apart; 3] = [Apart::JournalFull, Apart::NoMemory, Apart::Worn];
 
-    // The row: a line for each (own).
+    // Returns the row: a line for each fault (own).
     fn row(self) -> RefusalRow
         ensures number { result.number ≡ (apart_row self).number }
         ensures errno { result.errno ≡ (apart_row self).errno }
@@ -35,33 +44,61 @@ impl Apart {
         }
     }
 
-    /// The number, as answers show it (own).
+    /// Returns the number that answers show, 50 to 52 (own).
+    ///
+    /// # Examples
+    ///
+    /// ```rust
+    /// use drm_table::Apart;
+    ///
+    /// assert!(rt; Apart::NoMemory.number() == 51);
+    /// ```
     pub fn number(self) -> u32
         ensures { result ≡ apart_number self }
     {
         self.row().number
     }
 
-    /// The errno: ENOSPC, ENOMEM, ENOSPC.
+    /// Returns the errno: ENOSPC, ENOMEM or ENOSPC.
+    ///
+    /// # Examples
+    ///
+    /// ```rust
+    /// use drm_table::Apart;
+    ///
+    /// assert!(rt; Apart::JournalFull.errno() == 28);
+    /// ```
     pub fn errno(self) -> u32
         ensures { result ≡ apart_errno self }
     {
         self.row().errno
     }
 
-    /// The name, as scripts show it (own).
+    /// Returns the name that scripts show (own).
+    ///
+    /// # Examples
+    ///
+    /// ```rust
+    /// use drm_table::Apart;
+    ///
+    /// assert!(rt; Apart::JournalFull.name() == "JournalFull");
+    /// ```
     pub fn name(self) -> &'static str
         ensures { result.now ≡ apart_name self }
     {
         self.row().name
     }
 
-    /// Replaces an outcome by this. A caller that seldom does so has no place of its own for it then, which it would have to clear.
+    /// Replaces an outcome by this fault. A caller that seldom does so then needs no place for the new outcome.
+    ///
+    /// # Examples
     ///
     /// ```rust
+    /// use drm_table::{Answer, Apart};
+    ///
     /// let mut outcome = Ok(Answer::Done);
     /// Apart::NoMemory.replace(&mut outcome);
-    /// assert!(outcome == Err(Apart::NoMemory));
+    /// assert!(rt; outcome == Err(Apart::NoMemory));
     /// ```
     pub fn replace(self, outcome: &mut Result<Answer, Apart>)
         ensures replaced { outcome.new ≡ Err self }
@@ -69,7 +106,16 @@ impl Apart {
         *outcome = Err(self);
     }
 
-    /// What stands apart by a number, if it is one's.
+    /// Returns the fault with this number, or `None` if no fault has it.
+    ///
+    /// # Examples
+    ///
+    /// ```rust
+    /// use drm_table::Apart;
+    ///
+    /// assert!(rt; Apart::of_number(52) == Some(Apart::Worn));
+    /// assert!(rt; Apart::of_number(43).is_none());
+    /// ```
     #[tactic(auto, unfolding(crate::specs::Rules::apart_of_number))]
     pub fn of_number(number: u32) -> Option<Apart>
         ensures { result ≡ apart_of_number number }

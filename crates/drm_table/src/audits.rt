@@ -1,11 +1,20 @@
-//! What an audit shows.
+//! The rows of an audit.
 
 ghost use Rattle.std.specs.Prelude.{◌≡◌, ◌≤◌, ◌<◌, [], ◌∷◌, ◌++◌, length};
 
 use arrayvec::ArrayVec;
 use std::marker::Model;
 
-/// Which rows of the device an audit shows (own).
+/// The kind of rows that an audit shows (own).
+///
+/// # Examples
+///
+/// ```rust
+/// use drm_table::AuditKind;
+///
+/// let kind = AuditKind::Object;
+/// assert!(rt; kind.number() == 3);
+/// ```
 #[derive(Clone, Copy, PartialEq, Eq, Debug)]
 pub enum AuditKind {
     /// Open clients: client, flags, master, magic.
@@ -20,7 +29,7 @@ pub enum AuditKind {
     Token,
     /// Handles: client, handle, object, export order.
     Hold,
-    /// What leases hold: master, mode object.
+    /// Leased objects: master, mode object.
     Grant,
     /// Framebuffers: id, client, object.
     Framebuffer,
@@ -33,7 +42,7 @@ pub enum AuditKind {
 impl AuditKind {
     ghost use Rattle.drm_table.specs.Audits.{kind_number, kind_name, kind_of, kinds};
 
-    /// The ten kinds, rising by number.
+    /// The ten kinds, in rising order of their numbers.
     pub const ALL: [AuditKind; 10] = [
         AuditKind::Client,
         AuditKind::Master,
@@ -47,7 +56,15 @@ impl AuditKind {
         AuditKind::Device,
     ];
 
-    /// The number of the kind, 1 to 10 (own).
+    /// Returns the number of the kind, 1 to 10 (own).
+    ///
+    /// # Examples
+    ///
+    /// ```rust
+    /// use drm_table::AuditKind;
+    ///
+    /// assert!(rt; AuditKind::Client.number() == 1);
+    /// ```
     #[tactic(auto, unfolding(crate::specs::Audits::kind_number))]
     pub fn number(self) -> u32
         ensures number { result ≡ kind_number self }
@@ -68,7 +85,16 @@ impl AuditKind {
         }
     }
 
-    /// The kind of a number: none outside 1 to 10.
+    /// Returns the kind with this number, or `None` if the number is not 1 to 10.
+    ///
+    /// # Examples
+    ///
+    /// ```rust
+    /// use drm_table::AuditKind;
+    ///
+    /// assert!(rt; AuditKind::of_number(10) == Some(AuditKind::Device));
+    /// assert!(rt; AuditKind::of_number(0).is_none());
+    /// ```
     #[tactic(auto, unfolding(crate::specs::Audits::kind_of, crate::specs::Audits::kind_number))]
     pub fn of_number(number: u32) -> Option<AuditKind>
         ensures { result ≡ kind_of number }
@@ -88,7 +114,15 @@ impl AuditKind {
         }
     }
 
-    /// The name, as a listing shows it (own).
+    /// Returns the name that a listing shows (own).
+    ///
+    /// # Examples
+    ///
+    /// ```rust
+    /// use drm_table::AuditKind;
+    ///
+    /// assert!(rt; AuditKind::Shown.name() == "shown");
+    /// ```
     #[tactic(auto, unfolding(crate::specs::Audits::kind_name))]
     pub fn name(self) -> &'static str
         ensures { result.now ≡ kind_name self }
@@ -108,16 +142,38 @@ impl AuditKind {
     }
 }
 
-/// A row of an audit: what its numbers are stands with its kind, and 0 stands for none (own).
+/// A row of an audit (own). [`AuditKind`] lists the numbers of each kind in order. 0 means none.
+///
+/// # Examples
+///
+/// ```rust
+/// use drm_table::AuditRow;
+///
+/// let shown = AuditRow { a: 2, b: 4096, c: 1, d: 0 };
+/// assert!(rt; shown.b == 4096);
+/// ```
 #[derive(Clone, Copy, PartialEq, Eq, Debug, Default)]
 pub struct AuditRow {
+    /// The first number.
     pub a: u64,
+    /// The second number, or 0 if the kind has one number.
     pub b: u64,
+    /// The third number, or 0.
     pub c: u64,
+    /// The fourth number, or 0.
     pub d: u64,
 }
 
-/// Rows of an audit, 16 at most. Contracts see the list of them.
+/// A page of at most 16 rows of an audit. Contracts see the list of rows.
+///
+/// # Examples
+///
+/// ```rust
+/// use drm_table::AuditPage;
+///
+/// let page = AuditPage::new();
+/// assert!(rt; page.rows().is_empty());
+/// ```
 #[derive(PartialEq, Eq, Debug, Drop)]
 pub struct AuditPage {
     rows: ArrayVec<AuditRow, 16>,
@@ -135,7 +191,15 @@ impl Model for AuditPage {
 }
 
 impl AuditPage {
-    /// A page without rows.
+    /// Creates a page without rows.
+    ///
+    /// # Examples
+    ///
+    /// ```rust
+    /// use drm_table::AuditPage;
+    ///
+    /// assert!(rt; AuditPage::new().rows().is_empty());
+    /// ```
     pub fn new() -> AuditPage
         ensures { result ≡ [] }
     {
@@ -144,7 +208,17 @@ impl AuditPage {
         }
     }
 
-    /// Adds a row after the others.
+    /// Appends a row. The page must have fewer than 16 rows.
+    ///
+    /// # Examples
+    ///
+    /// ```rust
+    /// use drm_table::{AuditPage, AuditRow};
+    ///
+    /// let mut page = AuditPage::new();
+    /// page.push(AuditRow { a: 1, b: 2, c: 0, d: 0 });
+    /// assert!(rt; page.rows().len() == 1);
+    /// ```
     pub fn push(&mut self, row: AuditRow)
         requires { length self.old < 16 }
         ensures { self.new ≡ self.old ++ row ∷ [] }
@@ -152,7 +226,17 @@ impl AuditPage {
         self.rows.push(row);
     }
 
-    /// The rows in their order.
+    /// Returns the rows in order, 16 at most.
+    ///
+    /// # Examples
+    ///
+    /// ```rust
+    /// use drm_table::{AuditPage, AuditRow};
+    ///
+    /// let mut page = AuditPage::new();
+    /// page.push(AuditRow { a: 1, b: 2, c: 0, d: 0 });
+    /// assert!(rt; page.rows() == [AuditRow { a: 1, b: 2, c: 0, d: 0 }].as_slice());
+    /// ```
     pub fn rows(&self) -> &[AuditRow]
         ensures rows { result.now ≡ self.now }
         ensures within { length self.now ≤ 16 }

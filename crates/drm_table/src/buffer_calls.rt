@@ -8,7 +8,7 @@ use crate::fields::Field::{self, U32, U64};
 use crate::fields::Fields;
 
 impl Call {
-    /// The row of a call of buffers and its fields in order.
+    /// Returns the row of a call of buffers and its fields in order.
     pub(crate) fn buffer_row(&self) -> Option<(CallKind, Fields)>
         ensures { result ≡ buffer_row self.now }
     {
@@ -32,7 +32,7 @@ impl Call {
 }
 
 impl CallKind {
-    /// The call of buffers of the row and these fields.
+    /// Returns the call of buffers with this row and these fields.
     pub(crate) fn buffer_call(self, fields: &[Field]) -> Option<Call>
         ensures { result ≡ buffer_call self fields.now }
     {

@@ -1,5 +1,5 @@
-//! The calls: what a client asks, and the table of them. A new call has its variants and its line here, and its fields beside
-//! those of its family.
+//! The calls of a client, and their table. For a new call, add its variants and its line here, and its fields in the
+//! file of its family.
 
 ghost use Rattle.std.specs.Prelude.{◌≡◌, is_some, length, map, true};
 ghost use Rattle.drm_table.specs.Table.{all_kinds, columns, kind_row};
@@ -15,107 +15,117 @@ use crate::rows::{Family, Row};
 use bitflags::Flags;
 use std::alloc::AllocError;
 
-/// A request, one variant for each row of the table, and two for what has none.
+/// A request. It has one variant for each row of the table, and two for requests without a row.
+///
+/// # Examples
+///
+/// ```rust
+/// use drm_table::Call;
+///
+/// let call = Call::BufCreate { size: 4096 };
+/// assert!(rt; call.number() == 0x40);
+/// ```
 #[derive(PartialEq, Eq, Debug, Drop)]
 pub enum Call {
     /// A number that no row has.
     Unknown(u16),
-    /// A row's number, with fields that are not the row's.
+    /// The number of a row, with fields that do not match the row.
     BadLayout(u16),
-    /// Which version of the interface this is (drm-uapi).
+    /// Returns the version of the interface (drm-uapi, `DRM_IOCTL_VERSION`).
     Version,
-    /// The caller's magic, a number by which a current client of its master can authenticate it (drm(7)).
+    /// Returns the caller's magic. A current client of its master can authenticate it by this number (drm(7)).
     GetMagic,
-    /// Give a handle back (drm-gem(7)).
+    /// Closes a handle (drm-gem(7)).
     GemClose {
         handle: u32,
     },
-    /// Give the object of a handle a global name, or tell the one that it has (drm-gem(7), flink).
+    /// Creates a global name for the object of a handle, or returns the name that it has (drm-gem(7), flink).
     GemFlink {
         handle: u32,
     },
-    /// A fresh handle of the object that has a global name (drm-gem(7), flink).
+    /// Creates a new handle of the object that has a global name (drm-gem(7), flink).
     GemOpen {
         name: u32,
     },
-    /// What a capability of the device is (drm-uapi, `DRM_IOCTL_GET_CAP`).
+    /// Returns the value of a capability of the device (drm-uapi, `DRM_IOCTL_GET_CAP`).
     GetCap {
         cap: u64,
     },
-    /// Set a capability of the caller (drm-uapi, `DRM_IOCTL_SET_CLIENT_CAP`).
+    /// Sets a capability of the caller (drm-uapi, `DRM_IOCTL_SET_CLIENT_CAP`).
     SetClientCap {
         cap: u64,
         value: u64,
     },
-    /// Authenticate the client that has this magic of the caller's master (drm(7)).
+    /// Authenticates the client that has this magic of the caller's master (drm(7)).
     AuthMagic {
         magic: u32,
     },
-    /// Become the device's master (drm(7)).
+    /// Makes the caller's master the device's master (drm(7)).
     SetMaster,
-    /// Leave the device without a master (drm(7)).
+    /// Leaves the device without a master (drm(7)).
     DropMaster,
-    /// Export the object of a handle: a new token for it (drm-mm, PRIME; tokens for file descriptors are own).
+    /// Exports the object of a handle as a new token (drm-mm, PRIME). A token in place of a file descriptor is own.
     PrimeHandleToFd {
         handle: u32,
     },
-    /// Import the object of a token: a handle of it, the same each time (drm-mm, PRIME).
+    /// Imports the object of a token: returns a handle of it, the same one each time (drm-mm, PRIME).
     PrimeFdToHandle {
         token: u32,
     },
-    /// A buffer of so many bytes (own; a driver has such a call of its own, drm-mm).
+    /// Creates a buffer of `size` bytes (own; each driver has its own call for this, drm-mm).
     BufCreate {
         size: u64,
     },
-    /// Set the stamp of an object, which stands for its contents (own).
+    /// Sets the stamp of an object, which represents its contents (own).
     StampWrite {
         handle: u32,
         stamp: u64,
     },
-    /// What the stamp of an object is (own).
+    /// Returns the stamp of an object (own).
     StampRead {
         handle: u32,
     },
-    /// Close a token that the caller exported (own; a file descriptor is closed).
+    /// Closes a token that the caller exported (own; in a kernel, the client closes a file descriptor).
     TokenClose {
         token: u32,
     },
-    /// The caller's handles from a number on, 64 at most (own).
+    /// Lists the caller's handles from a number on, 64 at most (own).
     ListHandles {
         from: u32,
     },
-    /// Up to 16 rows of a kind, after the first `from` (own).
+    /// Lists up to 16 rows of a kind, after the first `from` rows (own).
     Audit {
         kind: AuditKind,
         from: u32,
     },
-    /// The CRTCs, connectors and encoders, and the caller's framebuffers (drm-uapi, `DRM_IOCTL_MODE_GETRESOURCES`).
+    /// Lists the CRTCs, connectors and encoders, and the caller's framebuffers (drm-uapi,
+    /// `DRM_IOCTL_MODE_GETRESOURCES`).
     GetResources,
-    /// The framebuffer that a CRTC shows, or 0 (drm-uapi, `DRM_IOCTL_MODE_GETCRTC`).
+    /// Returns the framebuffer that a CRTC shows, or 0 (drm-uapi, `DRM_IOCTL_MODE_GETCRTC`).
     GetCrtc {
         crtc: u32,
     },
-    /// Show a framebuffer on a CRTC through a connector; with 0 for both the CRTC goes dark (drm-uapi,
-    /// `DRM_IOCTL_MODE_SETCRTC`).
+    /// Shows a framebuffer on a CRTC through a connector (drm-uapi, `DRM_IOCTL_MODE_SETCRTC`). With 0 for both, the
+    /// CRTC is dark afterwards.
     SetCrtc {
         crtc: u32,
         framebuffer: u32,
         connector: u32,
     },
-    /// The CRTCs that an encoder can take its pixels from, as a mask (drm-uapi, `DRM_IOCTL_MODE_GETENCODER`).
+    /// Returns the CRTCs that can drive an encoder, as a mask (drm-uapi, `DRM_IOCTL_MODE_GETENCODER`).
     GetEncoder {
         encoder: u32,
     },
-    /// The encoder of a connector (drm-uapi, `DRM_IOCTL_MODE_GETCONNECTOR`).
+    /// Returns the encoder of a connector (drm-uapi, `DRM_IOCTL_MODE_GETCONNECTOR`).
     GetConnector {
         connector: u32,
     },
-    /// The shape of a framebuffer and a handle of its object (drm-uapi, `DRM_IOCTL_MODE_GETFB`).
+    /// Returns the shape of a framebuffer and a handle of its object (drm-uapi, `DRM_IOCTL_MODE_GETFB`).
     GetFb {
         framebuffer: u32,
     },
-    /// A framebuffer over the object of a handle: its width and height in pixels, the bytes of a row and the bits of a pixel
-    /// (drm-uapi, `DRM_IOCTL_MODE_ADDFB`).
+    /// Creates a framebuffer over the object of a handle (drm-uapi, `DRM_IOCTL_MODE_ADDFB`). Width and height are in
+    /// pixels, the pitch in bytes of a row, `bpp` in bits of a pixel.
     AddFb {
         width: u32,
         height: u32,
@@ -123,48 +133,60 @@ pub enum Call {
         bpp: u32,
         handle: u32,
     },
-    /// Remove a framebuffer of the caller; what shows it goes dark (drm-uapi, `DRM_IOCTL_MODE_RMFB`).
+    /// Removes a framebuffer of the caller (drm-uapi, `DRM_IOCTL_MODE_RMFB`). The CRTCs and planes that show it are
+    /// dark afterwards.
     RmFb {
         framebuffer: u32,
     },
-    /// A buffer for scan-out, of a width and height in pixels and of bits a pixel (drm-uapi, dumb buffers).
+    /// Creates a buffer for scan-out (drm-uapi, dumb buffers). Width and height are in pixels, `bpp` in bits of a
+    /// pixel.
     CreateDumb {
         width: u32,
         height: u32,
         bpp: u32,
     },
-    /// Give the handle of a dumb buffer back, which any handle is (drm-uapi, dumb buffers).
+    /// Closes the handle of a dumb buffer (drm-uapi, dumb buffers). Any handle is allowed.
     DestroyDumb {
         handle: u32,
     },
-    /// The planes (drm-uapi, `DRM_IOCTL_MODE_GETPLANERESOURCES`).
+    /// Lists the planes (drm-uapi, `DRM_IOCTL_MODE_GETPLANERESOURCES`).
     GetPlaneResources,
-    /// The framebuffer that a plane shows, or 0, and the CRTCs that it can be on (drm-uapi, `DRM_IOCTL_MODE_GETPLANE`).
+    /// Returns the framebuffer that a plane shows, or 0, and the CRTCs that it can be on (drm-uapi,
+    /// `DRM_IOCTL_MODE_GETPLANE`).
     GetPlane {
         plane: u32,
     },
-    /// Show a framebuffer on a plane of a CRTC; with 0 for the framebuffer the plane goes dark (drm-uapi,
-    /// `DRM_IOCTL_MODE_SETPLANE`).
+    /// Shows a framebuffer on a plane of a CRTC (drm-uapi, `DRM_IOCTL_MODE_SETPLANE`). With framebuffer 0, the plane is
+    /// dark afterwards.
     SetPlane {
         plane: u32,
         crtc: u32,
         framebuffer: u32,
     },
-    /// Lease the objects of these ids to a new lessee of the caller's master (drm-uapi, `DRM_IOCTL_MODE_CREATE_LEASE`).
+    /// Leases the objects with these ids to a new lessee of the caller's master (drm-uapi,
+    /// `DRM_IOCTL_MODE_CREATE_LEASE`).
     CreateLease {
         ids: IdList,
     },
-    /// The lessees of the caller's master (drm-uapi, `DRM_IOCTL_MODE_LIST_LESSEES`).
+    /// Lists the lessees of the caller's master (drm-uapi, `DRM_IOCTL_MODE_LIST_LESSEES`).
     ListLessees,
-    /// The objects that are leased to the caller's master (drm-uapi, `DRM_IOCTL_MODE_GET_LEASE`).
+    /// Lists the objects that are leased to the caller's master (drm-uapi, `DRM_IOCTL_MODE_GET_LEASE`).
     GetLease,
-    /// Take all objects of a lessee's lease back (drm-uapi, `DRM_IOCTL_MODE_REVOKE_LEASE`).
+    /// Revokes the lease of a lessee (drm-uapi, `DRM_IOCTL_MODE_REVOKE_LEASE`).
     RevokeLease {
         lessee: u32,
     },
 }
 
 /// A row of the table of calls.
+///
+/// # Examples
+///
+/// ```rust
+/// use drm_table::CallKind;
+///
+/// assert!(rt; CallKind::GemClose.number() == 0x09);
+/// ```
 #[derive(Clone, Copy, PartialEq, Eq, Debug)]
 pub enum CallKind {
     Version,
@@ -204,7 +226,7 @@ pub enum CallKind {
     RevokeLease,
 }
 
-// A line of the table: number, name, word, flags, what the fields are, and the family.
+// A line of the table: number, name, word, flags, layout of the fields, and family.
 macro_rules! row {
     ($number:literal => $name:literal, $word:literal, $flags:expr, $layout:expr, $family:ident) => {
         Row {
@@ -228,7 +250,8 @@ const RENDER: RowFlags = RowFlags::RENDER_ALLOW;
 
 const ROOT: RowFlags = RowFlags::ROOT_ONLY;
 
-/// The table: a line for each call, in the order of the kinds (drm-uapi; 0x40 to 0x45 are own, as are the words).
+/// The table: a line for each call, in the order of the kinds (drm-uapi). The numbers 0x40 to 0x45 and the words are
+/// own.
 static ROWS: [Row; 35] = [
     row!(0x00 => "VERSION", b"version", RENDER, Numbers(&[]), Device),
     row!(0x02 => "GET_MAGIC", b"get_magic", NONE, Numbers(&[]), Masters),
@@ -267,7 +290,7 @@ static ROWS: [Row; 35] = [
     row!(0xC9 => "MODE_REVOKE_LEASE", b"revoke_lease", MASTER, Numbers(&[U32]), Leases),
 ];
 
-/// The rows in the order of the kinds.
+/// Returns the rows in the order of the kinds.
 #[tactic(auto, unfolding(crate::specs::Table::kind_row))]
 pub(crate) fn rows() -> &'static [Row]
     ensures rows { map columns result.now ≡ map kind_row all_kinds }
@@ -277,7 +300,7 @@ pub(crate) fn rows() -> &'static [Row]
 }
 
 impl CallKind {
-    /// All rows, rising by number.
+    /// All rows, in rising order of their numbers.
     pub const ALL: [CallKind; 35] = [
         CallKind::Version,
         CallKind::GetMagic,
@@ -317,7 +340,7 @@ impl CallKind {
     ];
 }
 
-/// The same call. It takes no memory and never fails.
+/// Copies the call. Does not allocate and never fails.
 impl Clone for Call {
     ghost use Rattle.std.specs.Prelude.{◌≡◌, ⊤};
 
@@ -338,7 +361,17 @@ impl Call {
     ghost use Rattle.std.specs.Option.{option_map};
     ghost use Rattle.drm_table.specs.Table.{call_number, call_row, family_of, flags_of};
 
-    /// The row of the call and its fields in order; none of a call without a row.
+    /// Returns the row of the call and its fields in order, or `None` for a call without a row.
+    ///
+    /// # Examples
+    ///
+    /// ```rust
+    /// use drm_table::{Call, CallKind, Field};
+    ///
+    /// let call = Call::BufCreate { size: 4096 };
+    /// let Some((kind, fields)) = call.row() else { return };
+    /// assert!(rt; kind == CallKind::BufCreate && fields.as_slice() == [Field::U64(4096)].as_slice());
+    /// ```
     #[tactic(auto, unfolding(crate::specs::Table::call_row))]
     pub fn row(&self) -> Option<(CallKind, Fields)>
         ensures { result ≡ call_row self.now }
@@ -352,7 +385,7 @@ impl Call {
             .or_else(|| self.device_row())
     }
 
-    /// The call of the row and the fields, which is the same call.
+    /// Returns the call with the row and the fields of this call, which is the same call.
     fn read_back(&self) -> Call
         requires { is_some (call_row self.now) ≡ true }
         ensures { result ≡ self.now }
@@ -366,7 +399,7 @@ impl Call {
         call
     }
 
-    /// The kind of the call's row; none of a call without a row.
+    /// Returns the kind of the call's row, or `None` for a call without a row.
     #[tactic(auto, unfolding(crate::specs::Table::call_row))]
     pub(crate) fn kind(&self) -> Option<CallKind>
         ensures { result ≡ option_map (λ row. row.0) (call_row self.now) }
@@ -411,7 +444,15 @@ impl Call {
         })
     }
 
-    /// The number of the call's row; of a call without one, the number that was asked.
+    /// Returns the number of the call's row. A call without a row has the number that the client sent.
+    ///
+    /// # Examples
+    ///
+    /// ```rust
+    /// use drm_table::Call;
+    ///
+    /// assert!(rt; Call::GetMagic.number() == 0x02 && Call::Unknown(0x7F).number() == 0x7F);
+    /// ```
     #[tactic(auto, unfolding(crate::specs::Table::call_number))]
     pub fn number(&self) -> u16
         ensures { result ≡ call_number self.now }
@@ -425,7 +466,17 @@ impl Call {
         }
     }
 
-    /// Who may make the call: the flags of its row, and none where it has no row.
+    /// Returns the flags of the call's row, which say which client may make the call (`drm_ioctl_permit`). A call
+    /// without a row has none.
+    ///
+    /// # Examples
+    ///
+    /// ```rust
+    /// use drm_table::{Call, RowFlags};
+    ///
+    /// assert!(rt; Call::SetMaster.flags() != RowFlags::AUTH);
+    /// assert!(rt; Call::GemFlink { handle: 1 }.flags() == RowFlags::AUTH);
+    /// ```
     #[tactic(auto, unfolding(crate::specs::Table::flags_of))]
     pub fn flags(&self) -> RowFlags
         ensures { result ≡ flags_of self.now }
@@ -439,7 +490,16 @@ impl Call {
         }
     }
 
-    /// The family of the call's row; none of a call without a row.
+    /// Returns the family of the call's row, or `None` for a call without a row.
+    ///
+    /// # Examples
+    ///
+    /// ```rust
+    /// use drm_table::{Call, Family};
+    ///
+    /// assert!(rt; Call::GetMagic.family() == Some(Family::Masters));
+    /// assert!(rt; Call::Unknown(0x7F).family().is_none());
+    /// ```
     #[tactic(auto, unfolding(crate::specs::Table::family_of))]
     pub fn family(&self) -> Option<Family>
         ensures { result ≡ family_of self.now }

@@ -9,7 +9,7 @@ use crate::fields::Field::{self, U32, U64};
 use crate::fields::Fields;
 
 impl Call {
-    /// The row of a call of the device and its fields in order.
+    /// Returns the row of a call of the device and its fields in order.
     pub(crate) fn device_row(&self) -> Option<(CallKind, Fields)>
         ensures { result ≡ device_row self.now }
     {
@@ -30,7 +30,7 @@ impl Call {
 }
 
 impl CallKind {
-    /// The call of the device of the row and these fields.
+    /// Returns the call of the device with this row and these fields.
     pub(crate) fn device_call(self, fields: &[Field]) -> Option<Call>
         ensures { result ≡ device_call self fields.now }
     {

@@ -1,18 +1,18 @@
 //! The errnos that a client sees, by Linux's numbers (drm-uapi).
 
-/// There is no such thing.
+/// The thing does not exist.
 pub(crate) const ENOENT: u32 = 2;
 
-/// Memory is wanted.
+/// Memory was refused.
 pub(crate) const ENOMEM: u32 = 12;
 
-/// The caller may not.
+/// The caller may not do this.
 pub(crate) const EACCES: u32 = 13;
 
-/// It is in use.
+/// The thing is in use.
 pub(crate) const EBUSY: u32 = 16;
 
-/// What was asked is no such request.
+/// The request is invalid.
 pub(crate) const EINVAL: u32 = 22;
 
 /// There is no room.

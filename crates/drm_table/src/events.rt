@@ -1,19 +1,30 @@
-//! What reaches the device.
+//! The events of a device.
 
 use crate::calls::Call;
 use std::alloc::AllocError;
 
-/// How a client is opened.
+/// The way in which a client is opened.
+///
+/// # Examples
+///
+/// ```rust
+/// use drm_table::Opening;
+///
+/// let opening = Opening::Primary { root: true, universal: true };
+/// assert!(rt; opening != Opening::Render);
+/// ```
 #[derive(Clone, Copy, PartialEq, Eq, Debug)]
 pub enum Opening {
-    /// A primary node, by root (CAP_SYS_ADMIN) or not, with universal planes on or off (drm-uapi; both by the opening are own).
+    /// A primary node, by root (CAP_SYS_ADMIN) or not, with universal planes on or off (drm-uapi). Both as parts of an
+    /// opening are own.
     Primary {
         root: bool,
         universal: bool,
     },
     /// A render node (drm-uapi), with universal planes on.
     Render,
-    /// A lease is redeemed by its token (drm-uapi, leases; the token in place of a descriptor is own), as a primary node.
+    /// A client of a lessee, opened by the lease's token, as a primary node (drm-uapi, leases). A token in place of a
+    /// file descriptor is own.
     Lease {
         token: u32,
         root: bool,
@@ -21,18 +32,27 @@ pub enum Opening {
     },
 }
 
-/// What one step is of.
+/// The event of a step.
+///
+/// # Examples
+///
+/// ```rust
+/// use drm_table::{Call, Event};
+///
+/// let event = Event::Ask(1, Call::GetMagic);
+/// assert!(rt; event != Event::Close(1));
+/// ```
 #[derive(PartialEq, Eq, Debug, Drop)]
 pub enum Event {
-    /// A client comes.
+    /// A client is opened.
     Open(Opening),
-    /// A client of this number asks.
+    /// The client with this number sends a call.
     Ask(u32, Call),
-    /// The client of this number goes, or its connection broke.
+    /// The client with this number is closed, or its connection broke.
     Close(u32),
 }
 
-/// The same event. It takes no memory and never fails.
+/// Copies the event. Does not allocate and never fails.
 impl Clone for Event {
     ghost use Rattle.std.specs.Prelude.{◌≡◌, ⊤};
 

@@ -1,4 +1,4 @@
-//! The fields of a request or an answer: numbers, each of a width.
+//! The fields of a request or an answer: numbers, each with a width.
 
 ghost use Rattle.std.specs.Prelude.{◌≡◌, ◌<◌, ◌≤◌, [], ◌∷◌, ◌++◌, length, replicate};
 ghost use Rattle.drm_table.specs.Fields.{number_in};
@@ -7,7 +7,15 @@ ghost use Rattle.drm_table.specs.declared.fields.Width.TheVariants as widths;
 use arrayvec::ArrayVec;
 use std::marker::Model;
 
-/// How wide a field is.
+/// The width of a field.
+///
+/// # Examples
+///
+/// ```rust
+/// use drm_table::Width;
+///
+/// assert!(rt; Width::U32 != Width::U64);
+/// ```
 #[derive(Clone, Copy, PartialEq, Eq, Debug)]
 pub enum Width {
     /// 4 bytes.
@@ -17,6 +25,15 @@ pub enum Width {
 }
 
 /// A number in a field of its width.
+///
+/// # Examples
+///
+/// ```rust
+/// use drm_table::Field;
+///
+/// let field = Field::U32(7);
+/// assert!(rt; field.number() == 7);
+/// ```
 #[derive(Clone, Copy, PartialEq, Eq, Debug)]
 pub enum Field {
     U32(u32),
@@ -30,7 +47,15 @@ impl Default for Field {
 }
 
 impl Field {
-    /// The number, whatever its width.
+    /// Returns the number of the field.
+    ///
+    /// # Examples
+    ///
+    /// ```rust
+    /// use drm_table::Field;
+    ///
+    /// assert!(rt; Field::U64(4096).number() == 4096);
+    /// ```
     pub fn number(self) -> u64
         ensures { result ≡ number_in self }
     {
@@ -41,24 +66,40 @@ impl Field {
     }
 }
 
-/// What the fields of a row are.
+/// The layout of the fields of a row.
+///
+/// # Examples
+///
+/// ```rust
+/// use drm_table::{CallKind, Layout};
+///
+/// assert!(rt; matches!(CallKind::CreateLease.layout(), Layout::Ids));
+/// ```
 #[derive(Clone, Copy)]
 pub enum Layout {
-    /// Numbers of these widths.
+    /// Numbers of these widths, 5 at most.
     Numbers(&'static [Width]),
-    /// Ids of 4 bytes each, as many as a call names, 32 at most.
+    /// Ids of 4 bytes each, 32 at most.
     Ids,
 }
 
 impl Layout {
-    /// How many ids a call names at most.
+    /// The most ids that a call can name.
     pub const MOST_IDS: usize = 32;
 }
 
 const ID_WIDTHS: [Width; Layout::MOST_IDS] = [Width::U32; Layout::MOST_IDS];
 
 impl Width {
-    /// The widths of so many ids.
+    /// Returns the widths of `count` ids. `count` must be at most 32.
+    ///
+    /// # Examples
+    ///
+    /// ```rust
+    /// use drm_table::Width;
+    ///
+    /// assert!(rt; Width::of_ids(2) == [Width::U32, Width::U32].as_slice());
+    /// ```
     pub fn of_ids(count: usize) -> &'static [Width]
         requires { count ≤ 32 }
         ensures { result.now ≡ replicate count widths.U32 }
@@ -67,7 +108,16 @@ impl Width {
     }
 }
 
-/// Fields in their order, 32 at most. Contracts see the list of them.
+/// A list of at most 32 fields. Contracts see the list of fields.
+///
+/// # Examples
+///
+/// ```rust
+/// use drm_table::{Field, Fields};
+///
+/// let fields = Fields::of(&[Field::U32(1), Field::U64(2)]);
+/// assert!(rt; fields.as_slice().len() == 2);
+/// ```
 #[derive(PartialEq, Eq, Debug, Drop)]
 pub struct Fields {
     fields: ArrayVec<Field, 32>,
@@ -85,7 +135,15 @@ impl Model for Fields {
 }
 
 impl Fields {
-    /// No fields.
+    /// Creates an empty list.
+    ///
+    /// # Examples
+    ///
+    /// ```rust
+    /// use drm_table::Fields;
+    ///
+    /// assert!(rt; Fields::new().as_slice().is_empty());
+    /// ```
     pub fn new() -> Fields
         ensures { result ≡ [] }
     {
@@ -94,7 +152,15 @@ impl Fields {
         }
     }
 
-    /// These fields.
+    /// Creates a list of these fields, 32 at most.
+    ///
+    /// # Examples
+    ///
+    /// ```rust
+    /// use drm_table::{Field, Fields};
+    ///
+    /// assert!(rt; Fields::of(&[Field::U32(1)]).as_slice() == [Field::U32(1)].as_slice());
+    /// ```
     pub fn of(fields: &[Field]) -> Fields
         requires { length fields.now ≤ 32 }
         ensures { result ≡ fields.now }
@@ -104,7 +170,17 @@ impl Fields {
         Fields { fields: copy }
     }
 
-    /// Adds a field after the others.
+    /// Appends a field. The list must have fewer than 32 fields.
+    ///
+    /// # Examples
+    ///
+    /// ```rust
+    /// use drm_table::{Field, Fields};
+    ///
+    /// let mut fields = Fields::new();
+    /// fields.push(Field::U64(4096));
+    /// assert!(rt; fields == Fields::of(&[Field::U64(4096)]));
+    /// ```
     pub fn push(&mut self, field: Field)
         requires { length self.old < 32 }
         ensures { self.new ≡ self.old ++ field ∷ [] }
@@ -112,7 +188,16 @@ impl Fields {
         self.fields.push(field);
     }
 
-    /// The fields in their order.
+    /// Returns the fields in order.
+    ///
+    /// # Examples
+    ///
+    /// ```rust
+    /// use drm_table::{Field, Fields};
+    ///
+    /// let fields = Fields::of(&[Field::U32(1)]);
+    /// assert!(rt; fields.as_slice() == [Field::U32(1)].as_slice());
+    /// ```
     pub fn as_slice(&self) -> &[Field]
         ensures fields { result.now ≡ self.now }
         ensures within { length self.now ≤ 32 }
@@ -121,7 +206,17 @@ impl Fields {
     }
 }
 
-/// The fields of an answer in their order, 5 at most. Contracts see the list of them.
+/// A list of at most 5 fields of an answer. Contracts see the list of fields.
+///
+/// # Examples
+///
+/// ```rust
+/// use drm_table::{Answer, Told};
+///
+/// let answer = Answer::Number { value: 7 };
+/// let Told::Fields(_, fields) = answer.told() else { return };
+/// assert!(rt; fields.as_slice().len() == 1);
+/// ```
 #[derive(Drop)]
 pub struct AnswerFields {
     fields: ArrayVec<Field, 5>,
@@ -139,7 +234,7 @@ impl Model for AnswerFields {
 }
 
 impl AnswerFields {
-    /// These fields.
+    /// Creates a list of these fields, 5 at most.
     pub(crate) fn of(fields: &[Field]) -> AnswerFields
         requires { length fields.now ≤ 5 }
         ensures { result ≡ fields.now }
@@ -149,7 +244,17 @@ impl AnswerFields {
         AnswerFields { fields: copy }
     }
 
-    /// The fields in their order.
+    /// Returns the fields in order.
+    ///
+    /// # Examples
+    ///
+    /// ```rust
+    /// use drm_table::{Answer, Field, Told};
+    ///
+    /// let answer = Answer::Number { value: 7 };
+    /// let Told::Fields(_, fields) = answer.told() else { return };
+    /// assert!(rt; fields.as_slice() == [Field::U64(7)].as_slice());
+    /// ```
     pub fn as_slice(&self) -> &[Field]
         ensures fields { result.now ≡ self.now }
         ensures within { length self.now ≤ 5 }

@@ -8,7 +8,7 @@ use crate::fields::Field::{self, U32};
 use crate::fields::Fields;
 
 impl Call {
-    /// The row of a call of framebuffers and its fields in order.
+    /// Returns the row of a call of framebuffers and its fields in order.
     pub(crate) fn framebuffer_row(&self) -> Option<(CallKind, Fields)>
         ensures { result ≡ framebuffer_row self.now }
     {
@@ -37,7 +37,7 @@ impl Call {
 }
 
 impl CallKind {
-    /// The call of framebuffers of the row and these fields.
+    /// Returns the call of framebuffers with this row and these fields.
     pub(crate) fn framebuffer_call(self, fields: &[Field]) -> Option<Call>
         ensures { result ≡ framebuffer_call self fields.now }
     {

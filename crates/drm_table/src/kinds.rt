@@ -1,4 +1,4 @@
-//! What the table tells of a row, and of which row and fields a call is.
+//! The columns of the table's rows, and the call of a row and its fields.
 
 ghost use Rattle.std.specs.Prelude.{◌≡◌, ◌≤◌, length};
 ghost use Rattle.drm_table.specs.Fields.{IsShort, layout_of};
@@ -9,7 +9,15 @@ use crate::fields::{Field, Layout};
 use crate::rows::{Family, Row};
 
 impl CallKind {
-    /// The row.
+    /// Returns the row of the table.
+    ///
+    /// # Examples
+    ///
+    /// ```rust
+    /// use drm_table::CallKind;
+    ///
+    /// assert!(rt; CallKind::GetMagic.row().name == "GET_MAGIC");
+    /// ```
     pub fn row(self) -> Row
         ensures number { result.number ≡ (kind_row self).number }
         ensures name { result.name.now ≡ (kind_row self).name }
@@ -21,21 +29,45 @@ impl CallKind {
         rows()[self as usize]
     }
 
-    /// The number.
+    /// Returns the number of the call (drm-uapi; 0x40 to 0x45 are own).
+    ///
+    /// # Examples
+    ///
+    /// ```rust
+    /// use drm_table::CallKind;
+    ///
+    /// assert!(rt; CallKind::Version.number() == 0x00);
+    /// ```
     pub fn number(self) -> u16
         ensures { result ≡ kind_number self }
     {
         self.row().number
     }
 
-    /// The word in a script (own).
+    /// Returns the word of a script's line (own).
+    ///
+    /// # Examples
+    ///
+    /// ```rust
+    /// use drm_table::CallKind;
+    ///
+    /// assert!(rt; CallKind::BufCreate.word() == b"buf_create".as_slice());
+    /// ```
     pub fn word(self) -> &'static [u8]
         ensures { result.now ≡ kind_word self }
     {
         self.row().word
     }
 
-    /// What the fields are.
+    /// Returns the layout of the fields.
+    ///
+    /// # Examples
+    ///
+    /// ```rust
+    /// use drm_table::{CallKind, Layout};
+    ///
+    /// assert!(rt; matches!(CallKind::GemFlink.layout(), Layout::Numbers(_)));
+    /// ```
     pub fn layout(self) -> Layout
         ensures layout { layout_of result ≡ kind_layout self }
         ensures short { IsShort (layout_of result) }
@@ -43,14 +75,30 @@ impl CallKind {
         self.row().layout
     }
 
-    /// The family, which tells the function that carries such a call out.
+    /// Returns the family. A function of the family carries the call out.
+    ///
+    /// # Examples
+    ///
+    /// ```rust
+    /// use drm_table::{CallKind, Family};
+    ///
+    /// assert!(rt; CallKind::GemOpen.family() == Family::Sharing);
+    /// ```
     pub fn family(self) -> Family
         ensures { result ≡ kind_family self }
     {
         self.row().family
     }
 
-    /// The row of a number, if it has one.
+    /// Returns the kind with this number, or `None` if no row has it.
+    ///
+    /// # Examples
+    ///
+    /// ```rust
+    /// use drm_table::CallKind;
+    ///
+    /// assert!(rt; CallKind::of_number(0x02) == Some(CallKind::GetMagic));
+    /// ```
     #[tactic(auto, unfolding(crate::specs::Table::call_kind_of))]
     pub fn of_number(number: u16) -> Option<CallKind>
         ensures { result ≡ call_kind_of number }
@@ -61,7 +109,15 @@ impl CallKind {
             .find(|kind| kind.number() == number)
     }
 
-    /// The row of a script's word, if it names a call (own).
+    /// Returns the kind with this word of a script, or `None` if no row has it (own).
+    ///
+    /// # Examples
+    ///
+    /// ```rust
+    /// use drm_table::CallKind;
+    ///
+    /// assert!(rt; CallKind::of_word(b"gem_close") == Some(CallKind::GemClose));
+    /// ```
     #[tactic(auto, unfolding(crate::specs::Table::call_kind_of_word))]
     pub fn of_word(word: &[u8]) -> Option<CallKind>
         ensures { result ≡ call_kind_of_word word.now }
@@ -72,7 +128,18 @@ impl CallKind {
             .find(|kind| kind.word() == word)
     }
 
-    /// The call of the row and these fields; none where they are not a call's.
+    /// Returns the call with this row and these fields, 32 at most.
+    /// Returns `None` if number or widths of the fields differ from those of the row.
+    ///
+    /// # Examples
+    ///
+    /// ```rust
+    /// use drm_table::{Call, CallKind, Field};
+    ///
+    /// let call = CallKind::GemClose.call(&[Field::U32(1)]);
+    /// assert!(rt; call == Some(Call::GemClose { handle: 1 }));
+    /// assert!(rt; CallKind::GemClose.call(&[]).is_none());
+    /// ```
     #[tactic(auto, unfolding(crate::specs::Table::call_with))]
     pub fn call(self, fields: &[Field]) -> Option<Call>
         requires { length fields.now ≤ 32 }

@@ -1,4 +1,4 @@
-//! Laws of the table. Each function is its contract: there is nothing to call it for.
+//! Laws of the table. Each function is its contract; calling it does nothing.
 ghost use Rattle.std.specs.Prelude.{◌≡◌, ◌↔◌, ℕ, List, Some};
 ghost use Rattle.drm_table.specs.Answers.{AreToldBy, HasToldWidths, TellsBack, answer_kind_of, answer_number, answer_with, told};
 ghost use Rattle.drm_table.specs.Rules.{IsFoundByNumber, apart_number, apart_of_number, rule_number, rule_of_number};
@@ -9,7 +9,7 @@ ghost use Rattle.drm_table.specs.declared.calls.Call.{Call as ACall};
 ghost use Rattle.drm_table.specs.declared.fields.Field.{Field as AField};
 ghost use Rattle.drm_table.specs.declared.calls.CallKind.{CallKind as AKind};
 
-/// A call is that of its row with its fields, and of no other (own).
+/// A call is the call of its row and its fields, and of no other row and fields (own).
 pub fn calls_by_their_fields()
     ensures read_back { (call : ACall) → IsReadBack call (call_row call) }
     ensures fields { (kind : AKind) (fields : List AField)
@@ -23,7 +23,7 @@ pub fn rows_by_their_numbers_and_words()
     ensures words { IsFoundBy call_kind_of_word kind_word }
 {}
 
-/// An answer is that of what it tells, and of nothing else (own).
+/// An answer is the answer of its content, and of no other content (own).
 pub fn answers_by_their_fields()
     ensures told { (answer : AnAnswer) → TellsBack answer (told answer) }
     ensures row { (kind : AnAnswerKind) (fields : List AField)
@@ -33,7 +33,7 @@ pub fn answers_by_their_fields()
         → (answer_kind_of number ≡ Some kind) ↔ (answer_number kind ≡ number) }
 {}
 
-/// A rule is found by its number, what stands apart by its own, and neither by another (own).
+/// A rule is found by its number, a fault by its own, and neither by another (own).
 pub fn refusals_by_their_numbers()
     ensures rules { IsFoundByNumber rule_of_number rule_number }
     ensures aparts { IsFoundByNumber apart_of_number apart_number }

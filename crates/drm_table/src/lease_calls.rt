@@ -9,7 +9,7 @@ use crate::fields::Fields;
 use crate::lists::IdList;
 
 impl Call {
-    /// The row of a call of leases and its fields in order.
+    /// Returns the row of a call of leases and its fields in order.
     pub(crate) fn lease_row(&self) -> Option<(CallKind, Fields)>
         ensures { result ≡ lease_row self.now }
     {
@@ -24,7 +24,7 @@ impl Call {
 }
 
 impl CallKind {
-    /// The call of leases of the row and these fields.
+    /// Returns the call of leases with this row and these fields.
     pub(crate) fn lease_call(self, fields: &[Field]) -> Option<Call>
         requires { length fields.now ≤ 32 }
         ensures { result ≡ lease_call self fields.now }

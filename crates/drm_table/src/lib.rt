@@ -1,4 +1,6 @@
 //! The calls, answers, rules and row flags of a display device's userspace interface.
+//!
+//! No function of this crate allocates. An example is the body of a function that has the runtime `rt`.
 #![tactic(auto)]
 
 mod answer_kinds;

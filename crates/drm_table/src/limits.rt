@@ -1,31 +1,40 @@
-//! How much a device holds at most.
+//! The limits of a device.
 
 ghost use Rattle.std.specs.Prelude.{◌≡◌};
 ghost use Rattle.drm_table.specs.Limits as ranges;
 
-/// How much a device holds at most. Each limit is at least 1, that of the journal at least 2 (own).
+/// The most that a device can hold. Each limit is at least 1, that of the journal at least 2 (own).
+///
+/// # Examples
+///
+/// ```rust
+/// use drm_table::{Limits, are_in_range};
+///
+/// let limits = Limits { clients: 8, ..Limits::PROGRAM };
+/// assert!(rt; are_in_range(limits));
+/// ```
 #[derive(Clone, Copy, PartialEq, Eq, Debug)]
 pub struct Limits {
-    /// Clients open at once, of all classes: at most 1,024.
+    /// The most clients open at once, of all classes: at most 1,024.
     pub clients: u32,
-    /// Handles of one client: at most 65,535.
+    /// The most handles of one client: at most 65,535.
     pub handles: u32,
-    /// The greatest flink name: at most 65,535.
+    /// The highest flink name: at most 65,535.
     pub names: u32,
-    /// The greatest PRIME token, and the greatest lease token: at most 65,535.
+    /// The highest PRIME token, and the highest lease token: at most 65,535.
     pub tokens: u32,
-    /// Objects: at most 65,535.
+    /// The most objects: at most 65,535.
     pub objects: u32,
-    /// Framebuffers: at most 64.
+    /// The most framebuffers: at most 64.
     pub framebuffers: u32,
-    /// The greatest lessee id of one owner: at most 64.
+    /// The highest lessee id of one owner: at most 64.
     pub lessees: u32,
-    /// Steps that are noted: at most 100,000.
+    /// The most steps that the journal records: at most 100,000.
     pub journal: u32,
 }
 
 impl Limits {
-    /// The limits of the program: the greatest, save 64 clients.
+    /// The limits of the program: 64 clients, and the highest value of every other limit.
     pub const PROGRAM: Limits = Limits {
         clients: 64,
         handles: 65_535,
@@ -38,7 +47,16 @@ impl Limits {
     };
 }
 
-/// Whether each limit is in its range.
+/// Returns whether each limit is in its range.
+///
+/// # Examples
+///
+/// ```rust
+/// use drm_table::{Limits, are_in_range};
+///
+/// assert!(rt; are_in_range(Limits::PROGRAM));
+/// assert!(rt; !are_in_range(Limits { journal: 1, ..Limits::PROGRAM }));
+/// ```
 #[tactic(auto, unfolding(crate::specs::Limits::are_in_range))]
 pub fn are_in_range(limits: Limits) -> bool
     ensures { result ≡ ranges.are_in_range limits }

@@ -8,7 +8,16 @@ use crate::fields::{Field, Fields};
 use arrayvec::ArrayVec;
 use std::marker::Model;
 
-/// The ids or handles that a call shows its caller, 64 at most. Contracts see the list of them.
+/// A list of at most 64 ids or handles that a call returns. Contracts see the list of ids.
+///
+/// # Examples
+///
+/// ```rust
+/// use drm_table::ShownList;
+///
+/// let list = ShownList::new();
+/// assert!(rt; list.ids().is_empty());
+/// ```
 #[derive(PartialEq, Eq, Debug, Drop)]
 pub struct ShownList {
     ids: ArrayVec<u32, 64>,
@@ -25,7 +34,15 @@ impl Model for ShownList {
 }
 
 impl ShownList {
-    /// A list without ids.
+    /// Creates an empty list.
+    ///
+    /// # Examples
+    ///
+    /// ```rust
+    /// use drm_table::ShownList;
+    ///
+    /// assert!(rt; ShownList::new().ids().is_empty());
+    /// ```
     pub fn new() -> ShownList
         ensures { result ≡ [] }
     {
@@ -34,7 +51,17 @@ impl ShownList {
         }
     }
 
-    /// Adds an id after the others.
+    /// Appends an id. The list must have fewer than 64 ids.
+    ///
+    /// # Examples
+    ///
+    /// ```rust
+    /// use drm_table::ShownList;
+    ///
+    /// let mut list = ShownList::new();
+    /// list.push(7);
+    /// assert!(rt; list.ids().len() == 1);
+    /// ```
     pub fn push(&mut self, id: u32)
         requires { length self.old < 64 }
         ensures { self.new ≡ self.old ++ id ∷ [] }
@@ -42,7 +69,17 @@ impl ShownList {
         self.ids.push(id);
     }
 
-    /// The ids in their order.
+    /// Returns the ids in order, 64 at most.
+    ///
+    /// # Examples
+    ///
+    /// ```rust
+    /// use drm_table::ShownList;
+    ///
+    /// let mut list = ShownList::new();
+    /// list.push(7);
+    /// assert!(rt; list.ids() == [7].as_slice());
+    /// ```
     pub fn ids(&self) -> &[u32]
         ensures ids { result.now ≡ self.now }
         ensures within { length self.now ≤ 64 }
@@ -51,7 +88,18 @@ impl ShownList {
     }
 }
 
-/// The ids that a call names, 32 at most. Contracts see the list of them.
+/// A list of at most 32 ids that a call names. Contracts see the list of ids.
+///
+/// # Examples
+///
+/// ```rust
+/// use drm_table::{Call, IdList};
+///
+/// let mut ids = IdList::new();
+/// ids.push(2);
+/// let call = Call::CreateLease { ids };
+/// assert!(rt; call.number() == 0xC6);
+/// ```
 #[derive(PartialEq, Eq, Debug, Drop)]
 pub struct IdList {
     named: ArrayVec<u32, 32>,
@@ -68,7 +116,15 @@ impl Model for IdList {
 }
 
 impl IdList {
-    /// A list without ids.
+    /// Creates an empty list.
+    ///
+    /// # Examples
+    ///
+    /// ```rust
+    /// use drm_table::IdList;
+    ///
+    /// assert!(rt; IdList::new().ids().is_empty());
+    /// ```
     pub fn new() -> IdList
         ensures { result ≡ [] }
     {
@@ -77,7 +133,17 @@ impl IdList {
         }
     }
 
-    /// Adds an id after the others.
+    /// Appends an id. The list must have fewer than 32 ids.
+    ///
+    /// # Examples
+    ///
+    /// ```rust
+    /// use drm_table::IdList;
+    ///
+    /// let mut ids = IdList::new();
+    /// ids.push(2);
+    /// assert!(rt; ids.ids().len() == 1);
+    /// ```
     pub fn push(&mut self, id: u32)
         requires { length self.old < 32 }
         ensures { self.new ≡ self.old ++ id ∷ [] }
@@ -85,7 +151,17 @@ impl IdList {
         self.named.push(id);
     }
 
-    /// The ids in their order.
+    /// Returns the ids in order, 32 at most.
+    ///
+    /// # Examples
+    ///
+    /// ```rust
+    /// use drm_table::IdList;
+    ///
+    /// let mut ids = IdList::new();
+    /// ids.push(2);
+    /// assert!(rt; ids.ids() == [2].as_slice());
+    /// ```
     pub fn ids(&self) -> &[u32]
         ensures ids { result.now ≡ self.now }
         ensures within { length self.now ≤ 32 }
@@ -93,7 +169,7 @@ impl IdList {
         self.named.as_slice()
     }
 
-    /// The ids as fields.
+    /// Returns the ids as fields.
     pub(crate) fn fields(&self) -> Fields
         ensures { result ≡ map fields.U32 self.now }
     {
@@ -104,7 +180,7 @@ impl IdList {
         fields
     }
 
-    /// The ids that fields are; none where one is wider than an id.
+    /// Returns the ids of these fields, or `None` if a field is wider than an id.
     pub(crate) fn of_fields(fields: &[Field]) -> Option<IdList>
         requires { length fields.now ≤ 32 }
         ensures { result ≡ ids_in fields.now }

@@ -8,7 +8,16 @@ ghost use Rattle.drm_table.specs.Table.{row_of};
 use crate::calls::CallKind;
 use crate::rows::Row;
 
-/// The row of a number, if it has one.
+/// Returns the row of the call with this number, or `None` if no row has it.
+///
+/// # Examples
+///
+/// ```rust
+/// use drm_table::row;
+///
+/// let Some(found) = row(0x02) else { return };
+/// assert!(rt; found.name == "GET_MAGIC");
+/// ```
 #[tactic(auto, unfolding(crate::specs::Table::row_of))]
 pub fn row(number: u16) -> Option<Row>
     ensures number { option_map (λ row. row.number) result ≡ option_map (λ row. row.number) (row_of number) }

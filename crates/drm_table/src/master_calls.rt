@@ -8,7 +8,7 @@ use crate::fields::Field::{self, U32};
 use crate::fields::Fields;
 
 impl Call {
-    /// The row of a call of masters and magics and its fields in order.
+    /// Returns the row of a call of masters and magics and its fields in order.
     pub(crate) fn master_row(&self) -> Option<(CallKind, Fields)>
         ensures { result ≡ master_row self.now }
     {
@@ -23,7 +23,7 @@ impl Call {
 }
 
 impl CallKind {
-    /// The call of masters and magics of the row and these fields.
+    /// Returns the call of masters and magics with this row and these fields.
     pub(crate) fn master_call(self, fields: &[Field]) -> Option<Call>
         ensures { result ≡ master_call self fields.now }
     {

@@ -8,7 +8,7 @@ use crate::fields::Field::{self, U32};
 use crate::fields::Fields;
 
 impl Call {
-    /// The row of a call of mode objects and its fields in order.
+    /// Returns the row of a call of mode objects and its fields in order.
     pub(crate) fn mode_row(&self) -> Option<(CallKind, Fields)>
         ensures { result ≡ mode_row self.now }
     {
@@ -44,7 +44,7 @@ impl Call {
 }
 
 impl CallKind {
-    /// The call of mode objects of the row and these fields.
+    /// Returns the call of mode objects with this row and these fields.
     pub(crate) fn mode_call(self, fields: &[Field]) -> Option<Call>
         ensures { result ≡ mode_call self fields.now }
     {

@@ -1,8 +1,8 @@
-//! A row of the tables of rules and of what stands apart.
+//! A row of the tables of rules and faults.
 
 ghost use Rattle.std.specs.Prelude.{◌≡◌};
 
-/// By what number, errno and name a refusal is told.
+/// The number, errno and name of a refusal.
 #[derive(Clone, Copy)]
 pub(crate) struct RefusalRow {
     pub(crate) number: u32,
@@ -10,7 +10,7 @@ pub(crate) struct RefusalRow {
     pub(crate) name: &'static str,
 }
 
-/// The row of these columns.
+/// Returns the row with these columns.
 pub(crate) fn row(number: u32, errno: u32, name: &'static str) -> RefusalRow
     ensures number { result.number ≡ number }
     ensures errno { result.errno ≡ errno }

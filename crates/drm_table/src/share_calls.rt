@@ -8,7 +8,7 @@ use crate::fields::Field::{self, U32};
 use crate::fields::Fields;
 
 impl Call {
-    /// The row of a call that shares objects and its fields in order.
+    /// Returns the row of a call that shares objects and its fields in order.
     pub(crate) fn share_row(&self) -> Option<(CallKind, Fields)>
         ensures { result ≡ share_row self.now }
     {
@@ -28,7 +28,7 @@ impl Call {
 }
 
 impl CallKind {
-    /// The call that shares objects of the row and these fields.
+    /// Returns the call that shares objects with this row and these fields.
     pub(crate) fn share_call(self, fields: &[Field]) -> Option<Call>
         ensures { result ≡ share_call self fields.now }
     {

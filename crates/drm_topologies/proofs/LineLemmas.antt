@@ -1,4 +1,4 @@
--- What one more line tells.
+-- The parts that one more line defines.
 use Rattle.std.proofs.Common.{◌≡◌, ℕ, true, List, [], ◌∷◌, ◌++◌, map, filter, Option, None, Some, refl, sym, ap, subst, ◌∙◌, append-nil}
 use Rattle.std.specs.Prelude.{slice_get}
 use Rattle.std.specs.List.{filter_map, cons_option}
@@ -16,7 +16,7 @@ use Rattle.drm_topologies.specs.declared.words.TheConstants.{LINE_WORDS}
 use Rattle.drm_topologies.specs.Lines.{line_text, line_word_of, begins_with, others, only_number, mask_of, own_crtc, encoder_place}
 use Rattle.drm_topologies.specs.Told.{Told, behind, tells_plane, kind_told, told, nothing_told, joined}
 
--- ---- lines, and those behind them
+-- ---- lines, and those after them
 
 first-append : (xs ys : List ℕ) → slice_get (xs ++ ys) 0 ≡ option_or (slice_get xs 0) (slice_get ys 0)
 first-append [] ys = refl
@@ -50,7 +50,7 @@ or-none : (o : Option ℕ) → option_or o None ≡ o
 or-none None = refl
 or-none (Some n) = refl
 
--- a line that tells nothing
+-- a line that defines nothing
 pub joined-nothing : (t : Told) → joined t nothing_told ≡ t
 joined-nothing t = λ i. record {
   crtcs = or-none t.crtcs i;
@@ -81,11 +81,11 @@ first_told None = refl
 first_told (Some n) = refl
 
 module _ (t : Told) (w : List ℕ) (ws : Words) where
-  -- what is told with this line
+  -- the parts with this line
   abbrev told_with : List ℕ → Told
   told_with w = joined t (told ((w ∷ ws) ∷ []))
 
-  -- none of the lines above tells the CRTCs
+  -- none of the lines above sets the number of CRTCs
   pub crtcs_told : line_word_of w ≡ Some words.Crtcs → t.crtcs ≡ None → record t { crtcs = only_number ws } ≡ told_with w
   unfolding told
   crtcs_told is none =

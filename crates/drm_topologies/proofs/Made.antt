@@ -1,4 +1,4 @@
--- The topology that is made of what is told.
+-- The topology with these parts.
 use Rattle.std.proofs.Common.{◌≡◌, ℕ, ◌+◌, true, List, length, map, None, Some, Option, unwrap_or, sym, ap, ◌∙◌}
 use Rattle.std.specs.Prelude.{◌↔◌, IsSome, IsTrue, IfSome}
 use Rattle.std.proofs.lemmas.Bool.{false≢true}
@@ -11,7 +11,7 @@ pub made : (o : Option Topology) (t : Topology) → (IsSome o ↔ IsTrue (is_top
 made None t some value is = absurd (false≢true (some.1 is))
 made (Some u) t some value is = ap Some value
 
--- its parts are those that are told
+-- its parts are those that the lines define
 pub topology_given : (t : Told) (crtcs before : ℕ) (planes : List ℕ) (kinds : List PlaneKind) (encoders ids : List ℕ)
     → t.crtcs ≡ Some crtcs → planes ≡ t.planes → kinds ≡ t.kinds → encoders ≡ t.encoders → before ≡ crtcs + length t.planes → ids ≡ map (λ place. before + place) t.connectors
     → topology_with crtcs planes kinds encoders ids ≡ topology_told t

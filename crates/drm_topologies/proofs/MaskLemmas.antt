@@ -39,7 +39,7 @@ higher false r = omega arith
 shifted : (i count : ℕ) → nat_lt i count ≡ nat_lt (suc i) (suc count)
 shifted i count = grind (arith, nat_tests)
 
--- a bit tells whether the number at its place passes
+-- a bit says whether the number at its place passes
 bit_at_place : (p : ℕ → Bool) (first count i : ℕ) → (bit_at (bits_of p (numbers_from first count)) i == 1) ≡ (nat_lt i count && p (first + i))
 unfolding numbers_from
 bit_at_place p first zero i = ap (λ n. n == 1) (bit_at-zero i) ∙ sym (ap (λ b. b && p (first + i)) (le-ltb i 0 (omega arith)))
@@ -156,7 +156,7 @@ named_at count (Some n) some =
 named_more : (o : Option ℕ) (rest : List ℕ) (n x : ℕ) → o ≡ Some n → n < x → is_among rest x ≡ false → is_among (cons_option o rest) x ≡ false
 named_more o rest n x is less none = rw is (or_from (n == x) (is_among rest x) (ne_eqb n x (λ same. omega (arith, same, less))) none)
 
--- each word is the number of a CRTC, of so many
+-- each word is the number of a CRTC, out of `count`
 abbrev pub name_crtcs : ℕ → Words → Bool
 name_crtcs count ws = list_all (λ w. is_some (crtc_in count w)) ws
 

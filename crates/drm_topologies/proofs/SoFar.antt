@@ -18,7 +18,7 @@ use Rattle.drm_topologies.specs.Causes.{cause_of, next_cause, cause_below, AllFi
 use Rattle.drm_topologies.proofs.LineLemmas.{told-append, told-nil}
 use Rattle.drm_topologies.proofs.Sound.{IsSound, IsPlace, sound_above, topology_is}
 
--- so many lines were read, they fit, and this is what they tell
+-- `above` lines were read, they fit, and these are their parts
 pub record SoFar (lines rest : List Words) (above : ℕ) (t : Told) : Type 0 where
   pub rest_is : drop above lines ≡ rest
   pub within : above ≤ length lines
@@ -103,7 +103,7 @@ module _ (lines : List Words) (above : ℕ) (t : Told) (so_far : SoFar lines [] 
       ap (λ u. next_cause u (slice_get lines i)) (ap told (take_all i lines past) ∙ sym told_all)
       ∙ ap (next_cause t) (slice_get_past lines i past)
 
-  -- the CRTCs are told
+  -- the number of CRTCs is set
   pub all_fit : is_some t.crtcs ≡ true → AllFit lines
   all_fit some i = fits_at i (cases_lt i above)
     where
@@ -131,12 +131,12 @@ module _ (lines : List Words) (above : ℕ) (t : Told) (so_far : SoFar lines [] 
   pub topology_sound : is_some t.crtcs ≡ true → is_topology (topology_told t) ≡ true
   topology_sound some = topology_is t all_sound some
 
--- ---- what is told of the whole text
+-- ---- the parts of the whole text
 
 pub unfit_is_unfit : (lines : List Words) (unfit : UnfitLine) → IsFirstUnfit lines unfit → AllFit lines → ⊥
 unfit_is_unfit lines unfit first all = none-some unfit.cause (sym (all first.above) ∙ first.cause)
 
--- ---- a text and the text behind its first line
+-- ---- a text and the text after its first line
 
 pub nonempty : (text : List ℕ) (empty : Bool) → empty ≡ (length text == 0) → empty ≡ false → text ≢ []
 nonempty text empty is not_empty none = eqb-false (length text) 0 (sym is ∙ not_empty) (ap length none)

@@ -1,4 +1,4 @@
--- Lines that fit tell a topology.
+-- Lines that fit define a topology.
 use Rattle.std.proofs.Common.{◌≡◌, ℕ, zero, suc, ◌+◌, ◌^◌, ◌==◌, ◌<◌, ◌≤◌, Bool, true, false, not, ◌&&◌, ◌||◌, cond, nat_lt, List, [], ◌∷◌, ◌++◌, length, map, filter, None, Some, Option, refl, sym, ap, subst, ◌∙◌, arith, length-append, take, get_or}
 use Rattle.std.specs.Prelude.{nat_le, is_some, is_none, unwrap_or, Result, Ok, Err, OnOk}
 use Rattle.std.specs.Result.{result_err}
@@ -49,7 +49,7 @@ none_from : (o : Option ℕ) → is_none o ≡ true → o ≡ None
 none_from None e = refl
 none_from (Some n) e = absurd (false≢true e)
 
--- a line of CRTCs that fits stands above all others of its kind
+-- a line of CRTCs that fits is above all others of its kind
 crtcs_pass : (t : Told) (ws : Words) → crtcs_cause t ws ≡ None → (is_some (only_number ws) ≡ true) × (t.crtcs ≡ None) × (is_crtc_count (unwrap_or (only_number ws) 0) ≡ true)
 crtcs_pass t ws none =
     let in_range = is_crtc_count (unwrap_or (only_number ws) 0) in
@@ -64,7 +64,7 @@ pub crtcs_line_told : {X : Type 0} (r : Result X Unfit) (t new : Told) (w : List
 crtcs_line_told (Ok x) t new w ws is cause tells = tells ∙ crtcs_told t w ws is (crtcs_pass t ws (sym cause)).1
 crtcs_line_told (Err e) t new w ws is cause tells = tt
 
--- ---- what is so of what lines tell that fit
+-- ---- what holds for the parts of lines that fit
 
 abbrev pub IsPlace : ℕ → ℕ → Type 0
 IsPlace count place = (1 ≤ place) × (place ≤ count)
@@ -133,7 +133,7 @@ count_pushed x k ks b is = length-filter_append (is_kind x) ks (k ∷ []) ∙ ap
     one true = refl
     one false = refl
 
--- one that stands once still does behind another that is apart from it
+-- one that occurs once still does after another that differs from it
 stands_at : (x k : PlaneKind) (ks : List PlaneKind) (own : Bool) → is_some (crtc_of_kind x) ≡ own → (not own || (length (filter (is_kind x) ks) == 1)) ≡ true
     → (is_some (crtc_of_kind k) && is_kind k x) ≡ false → (not own || (length (filter (is_kind x) (ks ++ k ∷ [])) == 1)) ≡ true
 stands_at x k ks true is stands other =
@@ -323,7 +323,7 @@ module _ (t : Told) (sound : IsSound t) where
 
 -- ---- the lines of a text
 
--- the lines above one that is reached tell what is sound
+-- the parts of the lines above a line that is reached are sound
 pub sound_above : (lines : List Words) (n : ℕ) → n ≤ length lines → ((i : ℕ) → i < n → cause_below lines i ≡ None) → IsSound (told (take n lines))
 sound_above lines zero le fit = subst IsSound (sym told-nil) nothing_sound
 sound_above lines (suc n) le fit =

@@ -36,7 +36,7 @@ has_room t = nat_lt (objects_told t) 64
 abbrev pub has_such_plane : List PlaneKind → PlaneKind → Bool
 has_such_plane planes kind = is_some (crtc_of_kind kind) && list_any (is_kind kind) planes
 
--- the CRTCs are told, and each word is the number of one
+-- the number of CRTCs is set, and each word is the number of one
 unfoldable pub mask_cause : Told → Words → Option Unfit
 mask_cause t ws =
     first_cause (
@@ -61,7 +61,7 @@ own_plane_cause t kind ws =
     ∷ plane_cause t (kind (own_crtc ws))
     ∷ [])
 
--- one number, told for the first time, and in its range
+-- one number, set for the first time, and in its range
 abbrev pub crtcs_cause : Told → Words → Option Unfit
 crtcs_cause t ws =
     first_cause (
@@ -91,21 +91,21 @@ cause_by (Some words.Encoder) t ws = encoder_cause t ws
 cause_by (Some words.Connector) t ws = connector_cause t ws
 cause_by None t ws = Some causes.FirstWord
 
--- why a line can't be used below what is told, if it can't; a line without a word and a comment can
+-- the reason a line cannot be used after these parts, if there is one; a line without a word and a comment have none
 unfoldable pub cause_of : Told → Words → Option Unfit
 cause_of t [] = None
 cause_of t (w ∷ ws) = if is_comment w then None else cause_by (line_word_of w) t ws
 
--- the same of the line that comes next; where none does, the CRTCs have to be told above
+-- the same of the next line; if there is none, the number of CRTCs must be set above
 abbrev pub next_cause : Told → Option Words → Option Unfit
 next_cause t (Some line) = cause_of t line
 next_cause t None = unless causes.NoCrtcs (is_some t.crtcs)
 
--- why what stands below so many lines can't be used, if it can't
+-- the reason the line after the first n lines cannot be used, if there is one
 abbrev pub cause_below : List Words → ℕ → Option Unfit
 cause_below lines above = next_cause (told (take above lines)) (slice_get lines above)
 
--- each line fits below those above it, and one tells the CRTCs
+-- each line fits after those above it, and one sets the number of CRTCs
 abbrev pub AllFit : List Words → Type 0
 AllFit lines = (above : ℕ) → cause_below lines above ≡ None
 

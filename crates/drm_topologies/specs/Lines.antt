@@ -34,7 +34,7 @@ abbrev pub begins_with : LineWord → Words → Bool
 begins_with name [] = false
 begins_with name (w ∷ ws) = bytes_eq (line_text name) w
 
--- the words behind the first
+-- the words after the first
 abbrev pub others : Words → Words
 others [] = []
 others (w ∷ ws) = ws
@@ -49,7 +49,7 @@ only_number [] = None
 only_number (w ∷ []) = number_in w
 only_number (w ∷ v ∷ ws) = None
 
--- the number that stands first
+-- the number in the first word
 abbrev pub first_number : Words → Option ℕ
 first_number [] = None
 first_number (w ∷ ws) = number_in w
@@ -58,7 +58,7 @@ first_number (w ∷ ws) = number_in w
 abbrev pub of_crtcs : ℕ → ℕ → Option ℕ
 of_crtcs count n = if nat_le 1 n && nat_le n count then Some n else None
 
--- the CRTC that a word names, of so many
+-- the CRTC that a word names, out of `count`
 abbrev pub crtc_in : ℕ → List ℕ → Option ℕ
 crtc_in count w = option_and_then (of_crtcs count) (number_in w)
 

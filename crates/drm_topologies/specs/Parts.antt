@@ -1,4 +1,4 @@
--- What the lines so far have told.
+-- The parts that the lines so far define (own).
 use Rattle.drm_topologies.specs.declared.parts.Parts.{Parts}
 use Rattle.drm_topologies.specs.Told.{Told}
 

@@ -1,4 +1,4 @@
--- What the lines of a topology tell, and the topology that this is (own).
+-- The parts of a topology that lines define, and the topology with these parts (own).
 use Rattle.std.specs.Prelude.{ℕ, ◌+◌, Bool, ◌||◌, if◌then◌else◌, List, [], ◌++◌, map, filter, length, Option, None, unwrap_or, slice_get}
 use Rattle.std.specs.List.{filter_map}
 use Rattle.std.specs.Option.{option_or}
@@ -11,8 +11,8 @@ use Rattle.drm_topologies.specs.declared.words.LineWord.{LineWord}
 use Rattle.drm_topologies.specs.declared.words.LineWord.TheVariants as words
 use Rattle.drm_topologies.specs.Lines.{begins_with, others, only_number, mask_of, own_crtc, encoder_place}
 
--- how many CRTCs there are, if that is told; of each plane and each encoder the mask of its CRTCs; of each plane what it is for; of
--- each connector the place of its encoder among the encoders, from 1
+-- The parts: the number of CRTCs, if it is set. For each plane and each encoder, the mask of its CRTCs. For each plane,
+-- its kind. For each connector, the place of its encoder among the encoders, from 1.
 pub record Told : Type 0 where
   pub crtcs : Option ℕ
   pub planes : List ℕ
@@ -20,11 +20,11 @@ pub record Told : Type 0 where
   pub encoders : List ℕ
   pub connectors : List ℕ
 
--- what stands behind the word in each line that begins with it
+-- the words after the first one, of each line that begins with it
 abbrev pub behind : LineWord → List Words → List Words
 behind name lines = map others (filter (begins_with name) lines)
 
--- the line tells of a plane
+-- the line defines a plane
 abbrev pub tells_plane : Words → Bool
 tells_plane line = begins_with words.Plane line || begins_with words.Primary line || begins_with words.Cursor line
 
@@ -35,7 +35,7 @@ kind_told line =
     else if begins_with words.Cursor line then plane_kinds.Cursor (own_crtc (others line))
     else plane_kinds.Overlay
 
--- what lines tell, each list in the order of the lines
+-- the parts that lines define, each list in the order of the lines
 unfoldable pub told : List Words → Told
 told lines = record {
   crtcs = slice_get (filter_map only_number (behind words.Crtcs lines)) 0;
@@ -48,7 +48,7 @@ told lines = record {
 abbrev pub nothing_told : Told
 nothing_told = record { crtcs = None; planes = []; kinds = []; encoders = []; connectors = [] }
 
--- what lines tell together with those behind them; how many CRTCs there are the first tell that tell it
+-- the parts of lines together with those of the lines after them; the first line with a number of CRTCs sets it
 abbrev pub joined : Told → Told → Told
 joined t u = record {
   crtcs = option_or t.crtcs u.crtcs;
@@ -58,7 +58,7 @@ joined t u = record {
   connectors = t.connectors ++ u.connectors;
 }
 
--- how many CRTCs there are; 0 where it isn't told
+-- the number of CRTCs; 0 if it isn't set
 abbrev pub crtc_count : Told → ℕ
 crtc_count t = unwrap_or t.crtcs 0
 
@@ -66,7 +66,7 @@ crtc_count t = unwrap_or t.crtcs 0
 abbrev pub objects_told : Told → ℕ
 objects_told t = crtc_count t + length t.planes + length t.encoders + length t.connectors
 
--- the id of the encoder at a place from 1: encoders stand behind the CRTCs and the planes
+-- the id of the encoder at a place from 1: encoders follow the CRTCs and the planes
 abbrev pub encoder_id : Told → ℕ → ℕ
 encoder_id t place = crtc_count t + length t.planes + place
 

@@ -1,35 +1,44 @@
-//! Why a line of a topology can't be used.
+//! The reasons a line of a topology cannot be used.
 
 use thiserror::Error;
 
-/// Why a line of a topology can't be used (own).
+/// The reason a line of a topology cannot be used (own).
+///
+/// # Examples
+///
+/// ```rust
+/// use drm_topologies::{Unfit, read_topology};
+///
+/// let Err(unfit) = read_topology(b"crtcs 9\n") else { return };
+/// assert!(rt; unfit.cause == Unfit::CrtcCount);
+/// ```
 #[derive(Clone, Copy, Debug, PartialEq, Eq, Error)]
 pub enum Unfit {
-    /// The first word is none of those that begin a line.
+    /// No line begins with the first word.
     #[error("its first word is none of crtcs, plane, primary, cursor, encoder and connector")]
     FirstWord,
-    /// The CRTCs are told already.
+    /// A line above already sets the number of CRTCs.
     #[error("the CRTCs are told above already")]
     SecondCrtcs,
-    /// A line of a plane or an encoder stands above that of the CRTCs.
+    /// A line of a plane or an encoder is above that of the CRTCs.
     #[error("no line above it tells how many crtcs there are")]
     NoCrtcs,
-    /// The number of CRTCs is none of those that there may be.
+    /// The number of CRTCs is not 1 to 8.
     #[error("there are 1 to 8 CRTCs, as one number")]
     CrtcCount,
-    /// A plane or an encoder names a CRTC that there is not.
+    /// A plane or an encoder names a CRTC that does not exist. The value is the number of CRTCs.
     #[error("a word is no number of a CRTC, from 1 to {0}")]
     Crtc(u32),
-    /// A primary or a cursor plane names no CRTC.
+    /// A primary or a cursor plane does not name its CRTC.
     #[error("a primary or a cursor plane names its CRTC first")]
     NoCrtcOfItsOwn,
-    /// A CRTC has such a plane already.
+    /// The CRTC already has a plane of this kind.
     #[error("its CRTC has such a plane above already")]
     SecondPlane,
-    /// A connector names an encoder that no line above it tells of.
+    /// A connector names an encoder that no line above defines. The value is the number of encoders above.
     #[error("a connector names one encoder of those above, from 1 to {0}")]
     Encoder(u32),
-    /// A topology has no more objects.
+    /// The lines above already define 64 objects, the most of a topology.
     #[error("there are 64 objects above it already")]
     TooMany,
 }

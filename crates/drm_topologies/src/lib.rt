@@ -1,4 +1,6 @@
-//! Topologies as texts, for who serves a device of his own.
+//! Topologies as texts, for custom devices.
+//!
+//! No function of this crate allocates. An example is the body of a function that has the runtime `rt`.
 #![tactic(auto)]
 
 mod causes;

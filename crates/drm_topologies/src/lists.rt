@@ -1,4 +1,4 @@
-//! What is asked of the planes above a line, and the encoders of a topology's connectors.
+//! The kinds of the planes above a line, and the encoders of a topology's connectors.
 
 ghost use Rattle.std.specs.Prelude.{◌≡◌, ◌≤◌, ◌+◌, map, length};
 ghost use Rattle.std.specs.List.{AllByRecursion, list_any};
@@ -8,24 +8,24 @@ ghost use Rattle.drm_topologies.specs.Causes.{has_such_plane};
 use arrayvec::ArrayVec;
 use drm_modes::PlaneKind;
 
-/// How many mode objects a topology has at most.
+/// The most mode objects of a topology.
 pub(crate) const MOST_OBJECTS: usize = 64;
 
-/// Whether a CRTC has such a plane; of overlay planes there may be any number.
+/// Returns whether a CRTC has a plane of this kind. Always false for overlay planes, which may be any number.
 pub(crate) fn has_such_plane(planes: &[PlaneKind], kind: PlaneKind) -> bool
     ensures { result ≡ has_such_plane planes.now kind }
 {
     kind.crtc().is_some() && has_kind(planes, kind)
 }
 
-/// Whether a plane is for this.
+/// Returns whether a plane is of this kind.
 fn has_kind(planes: &[PlaneKind], kind: PlaneKind) -> bool
     ensures { result ≡ list_any (is_kind kind) planes.now }
 {
     planes.iter().any(|plane| is_kind(kind, *plane))
 }
 
-/// Whether both are for the same.
+/// Returns whether both are of the same kind.
 fn is_kind(kind: PlaneKind, other: PlaneKind) -> bool
     ensures { result ≡ is_kind kind other }
 {
@@ -36,7 +36,7 @@ fn is_kind(kind: PlaneKind, other: PlaneKind) -> bool
     }
 }
 
-/// The ids of the encoders at these places, from 1, behind so many objects.
+/// Returns the ids of the encoders at these places, from 1, after `before` objects.
 pub(crate) fn encoder_ids(before: u32, places: &[u32]) -> ArrayVec<u32, MOST_OBJECTS>
     requires few { length places.now ≤ MOST_OBJECTS }
     requires few_before { before ≤ 72 }

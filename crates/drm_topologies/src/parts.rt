@@ -1,4 +1,4 @@
-//! What the lines of a topology have told so far.
+//! The parts of a topology that the lines so far define.
 
 ghost use Rattle.std.specs.Prelude.{◌≡◌, ◌≤◌, unwrap_or, length};
 
@@ -8,15 +8,15 @@ use crate::words::{first_number, mask_of, only_number};
 use arrayvec::ArrayVec;
 use drm_modes::{PlaneKind, Topology};
 
-/// How many CRTCs a topology has at most.
+/// The most CRTCs of a topology.
 const MOST_CRTCS: u32 = 8;
 
-/// The objects that the lines so far have told. Each line is given by what stands behind its first word.
+/// The objects that the lines so far define. Each function takes a line without its first word.
 #[derive(Drop)]
 pub(crate) struct Parts {
     crtcs: Option<u32>,
     planes: ArrayVec<u32, MOST_OBJECTS>,
-    /// What each plane is for.
+    /// The kind of each plane.
     kinds: ArrayVec<PlaneKind, MOST_OBJECTS>,
     encoders: ArrayVec<u32, MOST_OBJECTS>,
     /// The encoder of each connector, by its place among the encoders, from 1.
@@ -48,7 +48,7 @@ impl Parts {
         }
     }
 
-    /// Whether there may be one more object.
+    /// Returns whether one more object fits.
     fn has_room(&self) -> bool
         ensures { result ≡ has_room (told_in self.now) }
     {
@@ -56,7 +56,7 @@ impl Parts {
         crtcs + self.planes.len() + self.encoders.len() + self.connectors.len() < MOST_OBJECTS
     }
 
-    /// The mask of the CRTCs that a plane or an encoder names.
+    /// Returns the mask of the CRTCs that a plane or an encoder names.
     #[tactic(auto, unfolding(crate::specs::Causes::mask_cause))]
     fn crtc_mask(&self, text: &[u8]) -> Result<u32, Unfit>
         ensures cause { result_err result ≡ mask_cause (told_in self.now) (words_of text.now) }
@@ -68,7 +68,7 @@ impl Parts {
         mask_of(text, count)
     }
 
-    /// A line `crtcs N`.
+    /// Reads a line `crtcs N`.
     pub(crate) fn set_crtcs(&mut self, text: &[u8]) -> Result<(), Unfit>
         ensures cause { result_err result ≡ crtcs_cause (told_in self.old) (words_of text.now) }
         ensures ok { OnOk result (told_in self.new ≡ record (told_in self.old) { crtcs = only_number (words_of text.now) }) }
@@ -86,7 +86,7 @@ impl Parts {
         Ok(())
     }
 
-    /// A plane of this mask. A CRTC has one primary and one cursor plane at most.
+    /// Adds a plane with this mask. A CRTC has at most one primary and one cursor plane.
     fn add_plane(&mut self, mask: u32, kind: PlaneKind) -> Result<(), Unfit>
         ensures cause { result_err result ≡ plane_cause (told_in self.old) kind }
         ensures ok { OnOk result (told_in self.new ≡ record (told_in self.old) {
@@ -105,7 +105,7 @@ impl Parts {
         Ok(())
     }
 
-    /// A line `plane CRTC..`.
+    /// Reads a line `plane CRTC..`.
     pub(crate) fn add_overlay(&mut self, text: &[u8]) -> Result<(), Unfit>
         ensures cause { result_err result ≡ first_cause (mask_cause (told_in self.old) (words_of text.now) ∷ plane_cause (told_in self.old) PlaneKind.Overlay ∷ []) }
         ensures ok { OnOk result (told_in self.new ≡ record (told_in self.old) {
@@ -117,7 +117,7 @@ impl Parts {
         self.add_plane(mask, PlaneKind::Overlay)
     }
 
-    /// A line `primary CRTC..`.
+    /// Reads a line `primary CRTC..`.
     pub(crate) fn add_primary(&mut self, text: &[u8]) -> Result<(), Unfit>
         ensures cause { result_err result ≡ own_plane_cause (told_in self.old) PlaneKind.Primary (words_of text.now) }
         ensures ok { OnOk result (told_in self.new ≡ record (told_in self.old) {
@@ -132,7 +132,7 @@ impl Parts {
         self.add_plane(mask, PlaneKind::Primary(crtc))
     }
 
-    /// A line `cursor CRTC..`.
+    /// Reads a line `cursor CRTC..`.
     pub(crate) fn add_cursor(&mut self, text: &[u8]) -> Result<(), Unfit>
         ensures cause { result_err result ≡ own_plane_cause (told_in self.old) PlaneKind.Cursor (words_of text.now) }
         ensures ok { OnOk result (told_in self.new ≡ record (told_in self.old) {
@@ -147,7 +147,7 @@ impl Parts {
         self.add_plane(mask, PlaneKind::Cursor(crtc))
     }
 
-    /// A line `encoder CRTC..`.
+    /// Reads a line `encoder CRTC..`.
     pub(crate) fn add_encoder(&mut self, text: &[u8]) -> Result<(), Unfit>
         ensures cause { result_err result ≡ encoder_cause (told_in self.old) (words_of text.now) }
         ensures ok { OnOk result (told_in self.new ≡ record (told_in self.old) { encoders = self.old.encoders.items ++ mask_of (words_of text.now) ∷ [] }) }
@@ -160,7 +160,7 @@ impl Parts {
         Ok(())
     }
 
-    /// A line `connector ENCODER`.
+    /// Reads a line `connector ENCODER`.
     pub(crate) fn add_connector(&mut self, text: &[u8]) -> Result<(), Unfit>
         ensures cause { result_err result ≡ connector_cause (told_in self.old) (words_of text.now) }
         ensures ok { OnOk result (told_in self.new ≡ record (told_in self.old) { connectors = self.old.connectors.items ++ encoder_place (words_of text.now) ∷ [] }) }
@@ -177,7 +177,7 @@ impl Parts {
         Ok(())
     }
 
-    /// The topology, where the CRTCs are told.
+    /// Returns the topology, if a line sets the number of CRTCs.
     pub(crate) fn topology(&self) -> Option<Topology>
         requires places { AllByRecursion (λ place. place ≤ 64) self.now.connectors.items }
         requires is { is_some self.now.crtcs ≡ true → is_topology (topology_told (told_in self.now)) ≡ true }

@@ -1,4 +1,4 @@
-//! Reading a topology.
+//! The reading of a topology.
 
 ghost use Rattle.std.specs.Prelude.{◌≡◌, ◌↔◌, [], ◌∷◌, IsOk, IfOk, IfErr, OnOk};
 ghost use Rattle.std.specs.Result.{result_err};
@@ -14,14 +14,25 @@ use crate::words::{LineWord, is_comment, line_word};
 use drm_modes::Topology;
 use drm_script::{first_line, next_word};
 
-/// The line of a topology that can't be used, counted from 1, and why.
+/// The line of a topology that cannot be used, and the reason.
+///
+/// # Examples
+///
+/// ```rust
+/// use drm_topologies::{Unfit, UnfitLine, read_topology};
+///
+/// let Err(unfit) = read_topology(b"crtcs 1\nplane 2\n") else { return };
+/// assert!(rt; unfit == UnfitLine { number: 2, cause: Unfit::Crtc(1) });
+/// ```
 #[derive(Clone, Copy, Debug, PartialEq, Eq)]
 pub struct UnfitLine {
+    /// The number of the line, from 1.
     pub number: u64,
+    /// The reason.
     pub cause: Unfit,
 }
 
-/// Reads a line below those that told these parts.
+/// Reads a line after those that define these parts.
 #[tactic(auto, unfolding(crate::specs::Causes::cause_of))]
 fn read_line(parts: &mut Parts, line: &[u8]) -> Result<(), Unfit>
     ensures cause { result_err result ≡ cause_of (told_in parts.old) (words_of line.now) }
@@ -44,13 +55,32 @@ fn read_line(parts: &mut Parts, line: &[u8]) -> Result<(), Unfit>
     }
 }
 
-/// The topology that a text tells of, or the first line that can't be used below those above it (own).
+/// Returns the topology that a text defines (own). Does not allocate.
 ///
-/// A line is `crtcs N`, `plane CRTC..`, `primary CRTC..`, `cursor CRTC..`, `encoder CRTC..` or `connector ENCODER`: N CRTCs, 1 to 8;
-/// a plane or an encoder with the CRTCs that it may be used with, by their numbers from 1, of which the first has the primary or the
-/// cursor plane; a connector of an encoder, which a line above tells of, by its place among the encoders from 1. Ids are given from 1 to
-/// the CRTCs, the planes, the encoders and the connectors in turn. Words are separated by spaces, numbers are decimal digits without a
-/// sign, and lines without a word and those whose first word begins with `#` are skipped. A text without CRTCs fails behind its last line.
+/// Words are separated by spaces. Numbers are decimal digits without a sign. Lines without a word and comments (`#`)
+/// are skipped. A line is one of these:
+///
+/// - `crtcs N`: the number of CRTCs, 1 to 8
+/// - `plane CRTC..`, `primary CRTC..`, `cursor CRTC..`: a plane with the CRTCs that it can be on, by their numbers from
+///   1. The first one has the primary or the cursor plane.
+/// - `encoder CRTC..`: an encoder with the CRTCs that can drive it
+/// - `connector ENCODER`: a connector with an encoder of a line above, by its place among the encoders from 1
+///
+/// Ids from 1 on are assigned to the CRTCs first, then to the planes, the encoders and the connectors.
+///
+/// # Errors
+///
+/// The first line that cannot be used after those above it. In a text without CRTCs, this is the line after the last
+/// one.
+///
+/// # Examples
+///
+/// ```rust
+/// use drm_topologies::read_topology;
+///
+/// let Ok(topology) = read_topology(b"crtcs 1\nprimary 1\nencoder 1\nconnector 1\n") else { return };
+/// assert!(rt; topology.object_count() == 4 && topology.encoder_of(4) == Some(3));
+/// ```
 pub fn read_topology(text: &[u8]) -> Result<Topology, UnfitLine>
     ensures fits { IsOk result ↔ AllFit (lines_in text.now) }
     ensures topology { IfOk result (λ topology. topology ≡ topology_told (told (lines_in text.now))) }

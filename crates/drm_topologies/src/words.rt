@@ -11,7 +11,7 @@ ghost use Rattle.drm_topologies.specs.Lines.{line_text, line_word_of, only_numbe
 use crate::causes::Unfit;
 use drm_script::{next_word, u32_of};
 
-/// The words that a line may begin with.
+/// The first words of lines.
 #[derive(Clone, Copy)]
 pub(crate) enum LineWord {
     Crtcs,
@@ -46,7 +46,7 @@ impl LineWord {
     }
 }
 
-/// What a line begins with, by its first word.
+/// Returns the kind of line that a first word begins.
 #[tactic(auto, unfolding(crate::specs::Lines::line_word_of))]
 pub(crate) fn line_word(word: &[u8]) -> Option<LineWord>
     ensures { result ≡ line_word_of word.now }
@@ -54,7 +54,7 @@ pub(crate) fn line_word(word: &[u8]) -> Option<LineWord>
     LINE_WORDS.iter().copied().find(|name| name.text() == word)
 }
 
-/// Whether a first word begins a comment.
+/// Returns whether a first word begins a comment.
 pub(crate) fn is_comment(word: &[u8]) -> bool
     ensures { result ≡ is_comment word.now }
 {
@@ -64,7 +64,7 @@ pub(crate) fn is_comment(word: &[u8]) -> bool
     }
 }
 
-/// The one number that a text is.
+/// Returns the number in a text of one word.
 pub(crate) fn only_number(text: &[u8]) -> Option<u32>
     ensures { result ≡ only_number (words_of text.now) }
 {
@@ -75,7 +75,7 @@ pub(crate) fn only_number(text: &[u8]) -> Option<u32>
     }
 }
 
-/// The number that a text names first.
+/// Returns the number in the first word of a text.
 pub(crate) fn first_number(text: &[u8]) -> Option<u32>
     ensures { result ≡ first_number (words_of text.now) }
 {
@@ -83,7 +83,7 @@ pub(crate) fn first_number(text: &[u8]) -> Option<u32>
     u32_of(word)
 }
 
-/// The CRTC that a word names, of so many.
+/// Returns the number of the CRTC that a word names, out of `count`.
 fn crtc_of(word: &[u8], count: u32) -> Option<u32>
     ensures crtc { result ≡ crtc_in count word.now }
     ensures within { IfSome result (λ crtc. (1 ≤ crtc) × (crtc ≤ count)) }
@@ -95,7 +95,7 @@ fn crtc_of(word: &[u8], count: u32) -> Option<u32>
     Some(crtc)
 }
 
-/// The bit of a CRTC in a mask.
+/// Returns the bit of a CRTC in a mask.
 #[tactic(auto, using(std::proofs::lemmas::Nat::one_shl))]
 fn bit_of(crtc: u32) -> u32
     requires low { 1 ≤ crtc }
@@ -105,7 +105,7 @@ fn bit_of(crtc: u32) -> u32
     1 << (crtc - 1)
 }
 
-/// The mask of the CRTCs that a text names, of so many.
+/// Returns the mask of the CRTCs that a text names, out of `count`.
 pub(crate) fn mask_of(text: &[u8], count: u32) -> Result<u32, Unfit>
     requires { count ≤ 8 }
     ensures cause { result_err result ≡ unless (Unfit.Crtc count) (list_all (λ w. is_some (crtc_in count w)) (words_of text.now)) }

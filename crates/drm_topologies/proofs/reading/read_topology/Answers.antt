@@ -56,7 +56,7 @@ topology-requires c =
     let so_far = at_end lines c.lines.rest.now c.lines.above t c.is_empty.result c.lines.invariant.so_far c.is_empty.ensures c.lines-test.false in
     record { places = few_places lines c.lines.above t so_far; is = topology_sound lines c.lines.above t so_far }
 
--- all lines fit, and the CRTCs are told
+-- all lines fit, and the number of CRTCs is set
 pub returns-in-Some : goal.returns-in-Some
 returns-in-Some c =
     let lines = lines_in c.args.text.now in

@@ -11,7 +11,7 @@ at_column {line} {at} end =
     let place : length line - length at + 1 - 1 ≡ length line - length at = omega arith in
     rw place (dropped end)
 
--- the end of a line behind its first words, without the spaces in front
+-- the end of a line after its first words, without the spaces in front
 trimmed_at : {line skipped at : List ℕ} → IsEndOf line skipped → at ≡ trimmed skipped → IsEndOf line at
 trimmed_at {line} {skipped} {at} end e = rw e (end_of-end end (trimmed_end skipped))
 

@@ -13,7 +13,7 @@ map-at f [] i default = refl
 map-at f (x ∷ xs) zero default = refl
 map-at f (x ∷ xs) (suc i) default = map-at f xs i default
 
--- each kind stands at its place
+-- each kind is at its place
 placed : (kind : CallKind) (default : TableRow) → slice_index_or (map kind_row all_kinds) (tag_of the_type kind) default ≡ kind_row kind
 placed kinds.Version default = refl
 placed _ default = refl

@@ -1,0 +1,7 @@
+//! The examples of doc comments, made by `tools/doc_examples`.
+
+mod frames;
+mod script;
+mod streams;
+mod table;
+mod topologies;
