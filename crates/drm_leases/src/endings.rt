@@ -1,4 +1,4 @@
-//! Leases that end with what is above them.
+//! The end of leases together with what is above them.
 
 ghost use Rattle.std.specs.Prelude.{◌≡◌, ℕ, true, false, not, filter, IfSome, IfNone};
 ghost use Rattle.std.specs.Option.{is_some};
@@ -13,7 +13,7 @@ use crate::granted::Granted;
 use crate::tokens::LeaseTokens;
 use drm_masters::Masters;
 
-/// Takes the leases of a master and of all below it away. Looks at no other.
+/// Removes the leases of a master and of all below it. Looks at no other.
 pub fn end_leases(granted: &mut Granted, masters: &Masters, top: u32)
     ensures { granted.new.rows ≡ filter (λ x. not (is_under (masters_sets.lessor_of masters.now.masters) top x.lessee)) granted.old.rows }
 {
@@ -21,7 +21,7 @@ pub fn end_leases(granted: &mut Granted, masters: &Masters, top: u32)
     end_leases_below(granted, masters, top);
 }
 
-/// Takes the leases of all below a master away, those of each direct lessee with all below it. Looks at no other.
+/// Removes the leases of all below a master: those of each direct lessee with all below it. Looks at no other.
 pub fn end_leases_below(granted: &mut Granted, masters: &Masters, top: u32)
     ensures { granted.new.rows ≡ filter (λ x. not (masters_sets.is_below masters.now.masters top x.lessee)) granted.old.rows }
 {
@@ -34,7 +34,7 @@ pub fn end_leases_below(granted: &mut Granted, masters: &Masters, top: u32)
     }
 }
 
-/// Takes the open tokens of a master and of all below it away, and releases each lessee that had one. Looks at no other.
+/// Removes the open tokens of a master and of all below it, and releases each lessee that had one. Looks at no other.
 pub fn release_open(tokens: &mut LeaseTokens, masters: &mut Masters, top: u32)
     requires held { AreHeld masters.old tokens.old.rows }
     ensures tokens { tokens.new ≡ record tokens.old { rows = filter (λ x. not (is_under (masters_sets.lessor_of masters.old.masters) top x.master)) tokens.old.rows } }
@@ -47,7 +47,7 @@ pub fn release_open(tokens: &mut LeaseTokens, masters: &mut Masters, top: u32)
     }
 }
 
-/// Takes the open tokens of all below a master away, and releases each lessee that had one. Looks at no other.
+/// Removes the open tokens of all below a master, and releases each lessee that had one. Looks at no other.
 pub fn release_open_below(tokens: &mut LeaseTokens, masters: &mut Masters, top: u32)
     requires held { AreHeld masters.old tokens.old.rows }
     ensures tokens { tokens.new ≡ record tokens.old { rows = filter (λ x. not (masters_sets.is_below masters.old.masters top x.master)) tokens.old.rows } }
@@ -59,7 +59,7 @@ pub fn release_open_below(tokens: &mut LeaseTokens, masters: &mut Masters, top: 
     }
 }
 
-/// Takes the open token of a lessee away, and releases it.
+/// Removes the open token of a lessee, and releases the lessee.
 fn release_one(tokens: &mut LeaseTokens, masters: &mut Masters, lessee: u32)
     requires there { is_some (masters_sets.master_at masters.old.masters lessee) ≡ true }
     ensures tokens { tokens.new ≡ record tokens.old { rows = filter (λ row. not (sets.is_token_of lessee row)) tokens.old.rows } }
@@ -72,7 +72,7 @@ fn release_one(tokens: &mut LeaseTokens, masters: &mut Masters, lessee: u32)
     masters.release(master.key);
 }
 
-/// One below a master that has an open token, if there is one. Looks at no other.
+/// Returns a master below this one that has an open token, if there is one. Looks at no other.
 fn open_below(tokens: &LeaseTokens, masters: &Masters, top: u32) -> Option<u32>
     ensures some { IfSome result (λ n. is_opened_below tokens.now.rows masters.now.masters top n ≡ true) }
     ensures none { IfNone result ((n : ℕ) → masters_sets.is_below masters.now.masters top n ≡ true → sets.has_token tokens.now.rows n ≡ false) }

@@ -1,8 +1,8 @@
-//! Why nothing was leased.
+//! The reasons a lease was not created.
 
 use drm_table::Rule;
 
-/// Why no lease was made. All is as it was.
+/// The reason a lease was not created. The state is unchanged.
 ///
 /// ```rust
 /// let Some(topology) = Topology::new(2, &[1, 2], &[3, 2], &[5, 6]) else { return };

@@ -1,4 +1,4 @@
-//! What lessees control and what lessors have lent, a mask for each.
+//! The mode objects that lessees control and lessors have lent, a mask for each.
 
 ghost use Rattle.std.specs.Prelude.{◌≡◌, ℕ, ◌<◌, ◌==◌, [], not, length, filter, slice_get, OnOk, OnErr, true, false};
 ghost use Rattle.std.specs.List.{AllByRecursion};
@@ -16,8 +16,9 @@ use drm_table::ShownList;
 use std::alloc::Global;
 use std::marker::Model;
 
-/// The leases, found by the step numbers and by the keys of their lessees, and what each lessor has lent by them; a lease without a
-/// mode object is none, and no lessor lends a mode object twice. Contracts see a flat list, in the order of the lessees.
+/// The leases, by the step numbers and by the keys of their lessees, and what each lessor has lent by them. A lease has
+/// a mode object at least, and no lessor lends a mode object twice. Contracts see a flat list, in the order of the
+/// lessees.
 #[derive(Drop)]
 pub struct Granted {
     leases: IndexArray<LeaseRecord>,
@@ -39,7 +40,7 @@ impl Model for Granted {
 }
 
 impl Granted {
-    /// No lease. It takes no memory.
+    /// Creates a table without leases. Does not allocate.
     pub fn new(alloc: Global) -> Granted
         ensures { result ≡ record { rows = [] } }
     {
@@ -50,7 +51,7 @@ impl Granted {
         }
     }
 
-    /// What is so of leases at all times. It does nothing.
+    /// States the facts that always hold for leases. Calling it does nothing.
     pub fn laws(&self)
         ensures rise { InOrder (λ x y. x.lessee < y.lessee) self.now.rows }
         ensures full { AllByRecursion IsFull self.now.rows }
@@ -58,14 +59,14 @@ impl Granted {
         let _ = &self.leases;
     }
 
-    /// How many leases there are.
+    /// Returns the number of leases.
     pub fn len(&self) -> usize
         ensures { result ≡ length self.now.rows }
     {
         self.leases.len()
     }
 
-    /// The lease at a place, from 0, in the order of the lessees' step numbers; none past the last.
+    /// Returns the lease at a position, from 0, in the order of the lessees' step numbers.
     pub fn nth(&self, position: usize) -> Option<Lease>
         ensures { result ≡ slice_get self.now.rows position }
     {
@@ -98,7 +99,7 @@ impl Granted {
         }
     }
 
-    /// The mode objects in the lease of a lessee, rising.
+    /// Returns the mode objects in the lease of a lessee, in rising order.
     pub fn objects_of(&self, lessee: u32) -> ShownList
         ensures { result ≡ sets.granted_objects (grants_in self.now.rows) lessee }
     {
@@ -108,7 +109,7 @@ impl Granted {
         }
     }
 
-    /// A mask of what the lessor has lent.
+    /// Returns a mask of what the lessor has lent.
     pub fn lent_by(&self, lessor: u32) -> u64
         ensures { (x : ℕ) → has_object result x ≡ is_lent self.now.rows lessor x }
     {
@@ -148,7 +149,7 @@ impl Granted {
         Ok(())
     }
 
-    /// Takes the lease of a lessee away. Its lessor has the mode objects back.
+    /// Removes the lease of a lessee. Its lessor has the mode objects back.
     pub fn remove(&mut self, lessee: u32)
         ensures { self.new.rows ≡ filter (λ x. not (x.lessee == lessee)) self.old.rows }
     {

@@ -29,9 +29,11 @@ use std::marker::Model;
 /// The number of an audit's rows of grants (own).
 const GRANT_KIND: u32 = 7;
 
-/// What lessees control, and the open lease tokens (drm-uapi, leases; tokens are own). Masters are named by their keys. A lease that
-/// ended is not found by its lessee's key, so a key that is given again finds no old lease. Contracts see flat lists, in the order of
-/// the lessees, which they name by the numbers of the steps that made them.
+/// The mode objects that lessees control, and the open lease tokens (drm-uapi, leases; tokens are own).
+///
+/// Masters are named by their keys. A lease that ended is not found by its lessee's key, so a reused key finds no old
+/// lease. Contracts see flat lists, in the order of the lessees, which they name by the numbers of the steps that
+/// created them.
 ///
 /// ```rust
 /// let Some(topology) = Topology::new(2, &[1, 2], &[3, 2], &[5, 6]) else { return };
@@ -46,7 +48,7 @@ pub struct Leases {
     tokens: LeaseTokens,
 }
 
-// Written out, so that it is proved once: a derived one is proved again in each crate that lets such a value go.
+// Written out, so that it is proved once: a derived one is proved again in each crate that drops such a value.
 impl Drop for Leases {
     fn drop(self) {
         let Leases { granted, tokens } = self;
@@ -68,7 +70,7 @@ impl Model for Leases {
 }
 
 impl Leases {
-    /// Returns no lease. Tokens from 1 to `last` may be given. Does not allocate.
+    /// Creates a table without leases. It can allocate the tokens from 1 to `last`. Does not allocate memory.
     ///
     /// ```rust
     /// assert!(Leases::new(alloc, 8).last_given().is_none());
@@ -83,22 +85,24 @@ impl Leases {
         }
     }
 
-    /// What is so of leases at all times. It does nothing.
+    /// States the facts that always hold for leases. Calling it does nothing.
     pub fn laws(&self)
         ensures { sets.AreLeases self.now }
     {
         let _ = &self.granted;
     }
 
-    /// Creates a lessee of a client's master, a lease of the listed mode objects, and the token that opens it (drm-uapi,
-    /// CREATE_LEASE). If the client has universal planes off, each listed CRTC brings along its primary and its cursor plane,
-    /// if the master controls it (own). No master has this birth yet, and that of the client's master is
-    /// lower: the step that made the lessor is earlier.
+    /// Creates a lessee of a client's master, a lease of the listed mode objects, and the token that opens it
+    /// (drm-uapi, CREATE_LEASE).
+    ///
+    /// If the client has universal planes off, the lease also has the primary and the cursor plane of each listed CRTC
+    /// that the master controls (own). No master may have this birth yet. The birth of the client's master must be
+    /// lower.
     ///
     /// # Errors
     ///
-    /// Both leave everything unchanged. [`LeaseFault::Denied`]: the first failing rule, in the order 35, 30 to 34, 43, each
-    /// over all ids, and 34 over what comes along too. [`LeaseFault::NoMemory`]: no rule denies it, and memory was refused.
+    /// `Denied` with the first failing rule, in the order 35, 30 to 34, 43. Each rule is over all ids, and 34 over the
+    /// added planes too. `NoMemory` if no rule denies it, and memory is refused. The state is then unchanged.
     ///
     /// ```rust
     /// assert!(leased.id == 1 && leased.token == 1);
@@ -139,7 +143,8 @@ impl Leases {
         }
     }
 
-    /// Returns whether the lease of a lessee has a mode object; false if no lessee with a lease has the key. Does not allocate.
+    /// Returns whether the lease of a lessee has a mode object. Returns `false` if no lessee with a lease has the key.
+    /// Does not allocate.
     ///
     /// ```rust
     /// assert!(leases.holds(leased.m, 1) && !leases.holds(leased.m, 2));
@@ -153,8 +158,8 @@ impl Leases {
         }
     }
 
-    /// Returns whether a master controls a mode object (drm-uapi, leases): one without a lessor all, a lessee what its lease has. The
-    /// master is named by the number of the step that made it. Does not allocate.
+    /// Returns whether a master controls a mode object (drm-uapi, leases). A master without a lessor controls all, a
+    /// lessee those of its lease. `master` is the number of the step that created it. Does not allocate.
     ///
     /// ```rust
     /// assert!(leases.controls(&masters, 1, 2) && !leases.controls(&masters, 2, 2));
@@ -204,7 +209,8 @@ impl Leases {
         })
     }
 
-    /// Returns the mode objects in the lease of a lessee, rising; none if no lessee with a lease has the key. Does not allocate.
+    /// Returns the mode objects in the lease of a lessee, in rising order. The list is empty if no lessee with a lease
+    /// has the key. Does not allocate.
     ///
     /// ```rust
     /// assert!(leases.objects_of(leased.m).ids() == [1, 3, 7].as_slice());
@@ -230,7 +236,8 @@ impl Leases {
         self.granted.key(lessee)
     }
 
-    /// Returns the open token of a lessee, if it has one. The lessee is named by the number of the step that made it. Does not allocate.
+    /// Returns the open token of a lessee, if it has one. The lessee is named by the number of the step that created
+    /// it. Does not allocate.
     ///
     /// ```rust
     /// assert!(leases.token_of(2) == Some(leased.token));
@@ -256,9 +263,11 @@ impl Leases {
         self.granted.key(lessee)
     }
 
-    /// Ends the leases of a master and of all below it, takes their open tokens, and releases each lessee whose token it takes. Such a
-    /// lessee is freed unless a client or a lessee of its own holds it (drm-uapi, leases; tokens are own). No other master is released:
-    /// the own master of a client that closed stays until [`Masters::release`]. Does not allocate.
+    /// Ends the leases of a master and of all below it (drm-uapi, leases; tokens are own). Does not allocate.
+    ///
+    /// It removes their open tokens, and releases each lessee whose token it removes. Such a lessee is freed unless a
+    /// client or a lessee below it holds it. No other master is released: the own master of a client that closed
+    /// stays until [`Masters::release`].
     ///
     /// ```rust
     /// if masters.of_key(leased.m).is_some() {
@@ -280,8 +289,10 @@ impl Leases {
         release_open(&mut self.tokens, masters, top.step_number);
     }
 
-    /// Ends the leases of all below a master, takes their open tokens, and releases each lessee whose token it takes. The master's own
-    /// lease and open token remain, and no other master is released (drm-uapi, leases; tokens are own). Does not allocate.
+    /// Ends the leases of all below a master (drm-uapi, leases; tokens are own). Does not allocate.
+    ///
+    /// It removes their open tokens, and releases each lessee whose token it removes. The master's own lease and open
+    /// token remain, and no other master is released.
     ///
     /// ```rust
     /// let Some(owner) = masters.master(1) else { return };
@@ -301,7 +312,7 @@ impl Leases {
         release_open_below(&mut self.tokens, masters, top.step_number);
     }
 
-    /// The last token given; none before the first.
+    /// Returns the token that was allocated last, or `None` before the first.
     ///
     /// ```rust
     /// assert!(leases.last_given() == Some(leased.token));
@@ -312,8 +323,8 @@ impl Leases {
         self.tokens.last_given()
     }
 
-    /// Returns the row at a position, from 0, of the rows of an audit's kind (own): grants are kind 7, in the order of lessees and of
-    /// ids in a lease, and no other kind is kept. Does not allocate.
+    /// Returns the row at a position, from 0, of the rows of an audit's kind (own). Grants are kind 7, in the order of
+    /// lessees and of ids in a lease. No other kind has rows here. Does not allocate.
     ///
     /// ```rust
     /// assert!(leases.nth(7, 0) == leases.nth_grant(0) && leases.nth(2, 0).is_none());
@@ -327,7 +338,7 @@ impl Leases {
         self.nth_grant(i)
     }
 
-    /// The grant at a place, from 0, in the order of lessees and of ids in a lease; none past the last. It takes no memory.
+    /// Returns the grant at a position, from 0, in the order of lessees and of ids in a lease. Does not allocate.
     ///
     /// ```rust
     /// assert!(leases.nth_grant(0).is_none());
@@ -379,7 +390,7 @@ impl Leases {
         })
     }
 
-    // the planes that come along with the CRTCs of a lease
+    // the planes that are added to a lease for its CRTCs
     fn brought_along(
         &self,
         masters: &Masters,

@@ -1,4 +1,4 @@
-//! What masters have lent.
+//! The mode objects that masters have lent.
 
 ghost use Rattle.std.specs.Prelude.{◌≡◌, ℕ, ◌==◌, ◌&&◌, ◌||◌, false, not, OnOk, OnErr};
 ghost use Rattle.drm_leases.specs.Masks.{has_object, mask_at};
@@ -8,14 +8,14 @@ use drm_index_array::IndexArray;
 use drm_masters::NoMemory;
 use std::alloc::Global;
 
-/// For each lessor a mask of what it has lent, by its step number; who has none has lent nothing.
+/// For each lessor a mask of what it has lent, by its step number. A master without an entry has lent nothing.
 #[derive(Drop)]
 pub struct Lent {
     pub(crate) masks: IndexArray<u64>,
 }
 
 impl Lent {
-    /// Nothing is lent. It takes no memory.
+    /// Creates a table in which nothing is lent. Does not allocate.
     pub fn new(alloc: Global) -> Lent
         ensures { (m x : ℕ) → has_object (mask_at result.masks.items m) x ≡ false }
     {
@@ -34,7 +34,7 @@ impl Lent {
         }
     }
 
-    /// A master lends these mode objects. Without memory nothing changes.
+    /// Adds mode objects to those that a master has lent. If memory is refused, nothing changes.
     pub fn lend(&mut self, lessor: u32, objects: u64) -> Result<(), NoMemory>
         ensures ok { OnOk result ((m x : ℕ) → has_object (mask_at self.new.masks.items m) x ≡ (has_object (mask_at self.old.masks.items m) x || ((lessor == m) && has_object objects x))) }
         ensures err { OnErr result (self.new ≡ self.old) }
@@ -49,7 +49,7 @@ impl Lent {
         Ok(())
     }
 
-    /// A master has these mode objects back. It takes no memory.
+    /// Removes mode objects from those that a master has lent. Does not allocate.
     pub fn give_back(&mut self, lessor: u32, objects: u64)
         ensures { (m x : ℕ) → has_object (mask_at self.new.masks.items m) x ≡ (has_object (mask_at self.old.masks.items m) x && not ((lessor == m) && has_object objects x)) }
     {

@@ -1,4 +1,7 @@
-//! Leases of outputs: which mode objects a lessee controls, and the tokens that open one (drm-uapi, leases; lease tokens are own).
+//! Leases of outputs: which mode objects a lessee controls, and the tokens that open one (drm-uapi, leases; lease
+//! tokens are own).
+//!
+//! An example is the body of a function that has the runtime `rt`. If memory is refused, it returns.
 #![tactic(auto)]
 
 mod endings;

@@ -27,21 +27,21 @@ pub fn mask_of(ids: &[u32]) -> u64
     mask
 }
 
-/// The mode objects of either mask.
+/// Returns the mode objects of either mask.
 pub fn union(mask: u64, other: u64) -> u64
     ensures { (x : ℕ) → has_object result x ≡ (has_object mask x || has_object other x) }
 {
     mask | other
 }
 
-/// The mode objects of the first mask that the second lacks.
+/// Returns the mode objects of the first mask that the second does not have.
 pub fn without(mask: u64, other: u64) -> u64
     ensures { (x : ℕ) → has_object result x ≡ (has_object mask x && not (has_object other x)) }
 {
     mask & !other
 }
 
-/// The mode objects of a mask, rising.
+/// Returns the mode objects of a mask, in rising order.
 pub fn objects_of(mask: u64) -> ShownList
     ensures { result ≡ objects_in mask }
 {

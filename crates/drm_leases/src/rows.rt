@@ -1,4 +1,4 @@
-//! What is kept of a lease.
+//! The rows of a lease.
 
 use drm_masters::MasterKey;
 
@@ -15,30 +15,37 @@ use drm_masters::MasterKey;
 /// ```
 #[derive(Clone, Copy, PartialEq, Eq, Debug)]
 pub struct Grant {
-    /// The lessee, by the number of the step that made it.
+    /// The lessee, by the number of the step that created it.
     pub master: u32,
     /// The id of the CRTC, plane or connector.
     pub mode_object: u32,
 }
 
-/// A lease: whose it is, who lent it, the key of its lessee, and what it has.
+/// A lease: its lessee, its lessor, the key of the lessee, and its mode objects.
 #[derive(Clone, Copy)]
 pub struct Lease {
+    /// The lessee, by the number of the step that created it.
     pub lessee: u32,
+    /// The lessor, by the number of the step that created it.
     pub lessor: u32,
+    /// The key of the lessee.
     pub key: MasterKey,
+    /// The mask of the mode objects.
     pub objects: u64,
 }
 
-/// What is kept of a lease under its lessee.
+/// The data of a lease under its lessee.
 #[derive(Clone, Copy)]
 pub struct LeaseRecord {
+    /// The lessor, by the number of the step that created it.
     pub lessor: u32,
+    /// The key of the lessee.
     pub key: MasterKey,
+    /// The mask of the mode objects.
     pub objects: u64,
 }
 
-/// A lease that was made.
+/// A lease that was created.
 ///
 /// ```rust
 /// let Leased { m, id, token } = leased;

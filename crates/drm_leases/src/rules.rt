@@ -14,18 +14,18 @@ use drm_masters::Masters;
 use drm_modes::{Kind, Modes};
 use drm_table::ShownList;
 
-/// A lessee of this depth makes no lease (own).
+/// The depth at which a lessee cannot create a lease (own).
 const LAST_DEPTH: u32 = 8;
 
-/// Whether a master may lease: an owner, or a lessee that isn't at the last depth (own).
+/// Returns whether a master may lease: an owner, or a lessee that is not at the last depth (own).
 pub fn may_lease(masters: &Masters, master: u32) -> bool
     ensures { result ≡ rules.may_lease masters.now.masters master }
 {
     masters.depth(master) < LAST_DEPTH
 }
 
-/// Whether each id is that of a fixed mode object that a client of a master sees, with universal planes on or off, or of a
-/// framebuffer, whosever it is.
+/// Returns whether each id is that of a fixed mode object that a client of a master sees, or of any client's
+/// framebuffer. Which planes the client sees depends on universal planes.
 pub fn are_seen(
     granted: &Granted,
     masters: &Masters,
@@ -55,14 +55,16 @@ fn is_seen(
         || modes.fb(id).is_some()
 }
 
-/// Whether a mode object is shown to who controls it: primary and cursor planes with universal planes on alone.
+/// Returns whether a client that controls a mode object sees it: primary and cursor planes only with universal planes
+/// on.
 fn is_shown(modes: &Modes, universal: bool, id: u32) -> bool
     ensures { result ≡ rules.is_shown modes.now.topology universal id }
 {
     modes.crtc_of_plane(id).is_none() || universal
 }
 
-/// What comes along: with universal planes off, of each listed CRTC the primary and the cursor plane that the master controls.
+/// Returns the planes that are added to a lease. With universal planes off, these are the primary and the cursor plane
+/// of each listed CRTC that the master controls.
 pub fn planes_along(
     granted: &Granted,
     masters: &Masters,
@@ -107,7 +109,7 @@ fn is_leasable(modes: &Modes, id: u32) -> bool
     !(modes.is_of_kind(Kind::Encoder, id) || modes.fb(id).is_some())
 }
 
-/// Whether no id stands twice.
+/// Returns whether no id occurs twice.
 pub fn stand_once(ids: &[u32]) -> bool
     ensures { result ≡ list_all (rules.stands_once ids.now) ids.now }
 {
@@ -120,7 +122,7 @@ fn count(ids: &[u32], number: u32) -> usize
     ids.iter().filter(|id| **id == number).count()
 }
 
-/// Whether they are a lease: a CRTC and a connector are among them, and with universal planes on a plane.
+/// Returns whether they are a lease: a CRTC and a connector are among them, and with universal planes on a plane.
 pub fn is_lease(modes: &Modes, universal: bool, ids: &[u32]) -> bool
     ensures { result ≡ rules.is_lease modes.now.topology universal ids.now }
 {

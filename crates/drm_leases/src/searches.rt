@@ -13,7 +13,8 @@ use crate::masks;
 use crate::rows::Grant;
 use drm_masters::Masters;
 
-/// Whether a master controls a mode object: one without a lessor all, a lessee what its lease has.
+/// Returns whether a master controls a mode object. A master without a lessor controls all, a lessee those of its
+/// lease.
 pub fn controls(granted: &Granted, masters: &Masters, master: u32, mode_object: u32) -> bool
     ensures { result ≡ sets.controls (grants_in granted.now.rows) masters.now.masters master mode_object }
 {
@@ -33,8 +34,8 @@ pub fn any_leased_out(granted: &Granted, masters: &Masters, master: u32, ids: &[
     false
 }
 
-/// Whether the lease of a direct lessee of the master has the mode object. Who is a lessee of whom the leases tell, as the
-/// masters do.
+/// Returns whether the lease of a direct lessee of the master has the mode object. Leases and masters agree on which
+/// lessor a lessee has.
 pub fn is_leased_out(granted: &Granted, masters: &Masters, master: u32, mode_object: u32) -> bool
     requires { AllByRecursion (IsAgreed masters.now.members masters.now.masters) (lendings_in granted.now.rows) }
     ensures { result ≡ sets.is_leased_out (grants_in granted.now.rows) masters.now.masters master mode_object }
@@ -42,7 +43,7 @@ pub fn is_leased_out(granted: &Granted, masters: &Masters, master: u32, mode_obj
     masks::has(granted.lent_by(master), mode_object)
 }
 
-/// The grant at a place, from 0, in the order of lessees and of ids in a lease; none past the last.
+/// Returns the grant at a position, from 0, in the order of lessees and of ids in a lease.
 pub fn nth_grant(granted: &Granted, position: usize) -> Option<Grant>
     ensures { result ≡ slice_get (grants_in granted.now.rows) position }
 {

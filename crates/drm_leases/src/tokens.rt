@@ -12,7 +12,7 @@ use drm_masters::NoMemory;
 use std::alloc::Global;
 use std::marker::Model;
 
-/// The open lease tokens, each of one lessee, found both ways. Contracts see a flat list, rising by the tokens.
+/// The open lease tokens, each of one lessee, found both ways. Contracts see a flat list, in the order of the tokens.
 #[derive(Drop)]
 pub struct LeaseTokens {
     // the step numbers of the lessees
@@ -32,7 +32,7 @@ impl Model for LeaseTokens {
 }
 
 impl LeaseTokens {
-    /// Returns no token. Those from 1 to `last` may be given. Does not allocate.
+    /// Creates a table without tokens. It can allocate the tokens from 1 to `last`. Does not allocate memory.
     pub fn new(alloc: Global, last: u32) -> LeaseTokens
         requires { 1 ≤ last }
         ensures { result ≡ no_tokens last }
@@ -50,7 +50,7 @@ impl LeaseTokens {
         self.lessees.is_full()
     }
 
-    /// Returns the last token given. Does not allocate.
+    /// Returns the token that was allocated last. Does not allocate.
     pub fn last_given(&self) -> Option<u32>
         ensures { result ≡ self.now.last_given }
     {
@@ -78,7 +78,7 @@ impl LeaseTokens {
         self.tokens.get(lessee).copied()
     }
 
-    /// Gives a lessee that has no token the next one in rotation. If memory is refused, nothing changes.
+    /// Allocates the next token in rotation for a lessee that has none. If memory is refused, nothing changes.
     pub fn give(&mut self, lessee: u32) -> Result<u32, NoMemory>
         requires free { is_some (sets.next_of self.old.rows self.old.last_given self.old.last) ≡ true }
         ensures given { IfOk result (λ token. sets.next_of self.old.rows self.old.last_given self.old.last ≡ Some token) }
@@ -98,7 +98,7 @@ impl LeaseTokens {
         Ok(token)
     }
 
-    /// Takes an open token away, and returns the lessee that it opened. Does not allocate.
+    /// Removes an open token, and returns the lessee that it opened. Does not allocate.
     pub fn spend(&mut self, token: u32) -> Option<u32>
         ensures lessee { result ≡ sets.token_master self.old.rows token }
         ensures spent { self.new ≡ record self.old { rows = filter (λ row. not (sets.is_token token row)) self.old.rows } }
@@ -110,7 +110,7 @@ impl LeaseTokens {
         Some(lessee)
     }
 
-    /// Takes the token of a lessee away, if it has one. Does not allocate.
+    /// Removes the token of a lessee, if it has one. Does not allocate.
     pub fn forget(&mut self, lessee: u32)
         ensures { self.new ≡ record self.old { rows = filter (λ row. not (sets.is_token_of lessee row)) self.old.rows } }
     {

@@ -1,4 +1,4 @@
-//! What a lease has.
+//! The mode objects of a lease.
 
 ghost use Rattle.std.specs.Prelude.{◌≡◌, ◌++◌};
 ghost use Rattle.drm_lists.specs.Numbers.{is_among};
@@ -10,7 +10,7 @@ use crate::masks::mask_of;
 use drm_modes::Modes;
 use drm_table::ShownList;
 
-/// The fixed mode objects that are listed or come along, as a mask.
+/// Returns the fixed mode objects that are listed or added, as a mask.
 pub fn listed_mask(modes: &Modes, ids: &[u32], along: &[u32]) -> u64
     ensures { objects_in result ≡ calls.listed_objects modes.now.topology (ids.now ++ along.now) }
 {
@@ -19,7 +19,7 @@ pub fn listed_mask(modes: &Modes, ids: &[u32], along: &[u32]) -> u64
     mask_of(objects.ids())
 }
 
-/// The fixed mode objects that are listed or come along, rising.
+/// Returns the fixed mode objects that are listed or added, in rising order.
 fn listed_objects(modes: &Modes, ids: &[u32], along: &[u32]) -> ShownList
     ensures { result ≡ calls.listed_objects modes.now.topology (ids.now ++ along.now) }
 {

@@ -1,8 +1,8 @@
-//! What a change of masters did, and why it did not.
+//! The results of a change of masters.
 
 use drm_table::Rule;
 
-/// Memory was refused, and all is as it was.
+/// The error that memory was refused. The state is unchanged.
 ///
 /// ```rust
 /// let mut masters = Masters::new(alloc, 4, 0);
@@ -12,22 +12,22 @@ use drm_table::Rule;
 #[derive(Clone, Copy, PartialEq, Eq, Debug)]
 pub struct NoMemory;
 
-/// How a client became current (drm-uapi, SET_MASTER).
+/// The way in which a client became current (drm-uapi, SET_MASTER).
 ///
 /// ```rust
 /// assert!(masters.member(1).is_none() || masters.set(1, false, 2) == Ok(SetDone::Already));
 /// ```
 #[derive(Clone, Copy, PartialEq, Eq, Debug)]
 pub enum SetDone {
-    /// It was current already.
+    /// The client was current already.
     Already,
-    /// The master that it is was set again.
+    /// The client's own master was set again.
     Again,
-    /// It was no master: a new one was made for it and set.
+    /// The client was no master: a new one was created for it and set.
     Made,
 }
 
-/// Why it did not. All is as it was.
+/// The reason SET_MASTER failed. The state is unchanged.
 ///
 /// ```rust
 /// let Ok(_second) = masters.on_open(2, 2) else { return };
@@ -42,7 +42,7 @@ pub enum SetFault {
     NoMemory,
 }
 
-/// Why no lessee was made. All is as it was.
+/// The reason a lessee was not created. The state is unchanged.
 ///
 /// ```rust
 /// let Some(owner) = masters.master(1) else { return };

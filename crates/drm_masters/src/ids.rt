@@ -12,8 +12,8 @@ use drm_index_array::{IndexArray, InsertFault};
 use std::alloc::Global;
 use std::marker::Model;
 
-/// The step numbers of lessees, by their owners and ids: those of one owner are found without the others. An owner without lessees takes no
-/// memory. Contracts see a map from each owner to what has its ids.
+/// The step numbers of lessees, by their owners and ids. Those of one owner are found without the others. An owner
+/// without lessees needs no memory. Contracts see a map from each owner to its table of ids.
 #[derive(Drop)]
 pub struct OwnerIds {
     alloc: Global,
@@ -31,7 +31,7 @@ impl Model for OwnerIds {
 }
 
 impl OwnerIds {
-    /// No owner has a lessee. It takes no memory.
+    /// Creates an empty table. Does not allocate.
     pub fn new(alloc: Global) -> OwnerIds
         ensures { (o i : ℕ) → id_at result o i ≡ None }
     {
@@ -41,7 +41,7 @@ impl OwnerIds {
         }
     }
 
-    /// The lessee of an id, if one has it.
+    /// Returns the lessee with an id, if there is one.
     pub fn at(&self, owner: u32, id: u32) -> Option<u32>
         ensures { result ≡ id_at self.now owner id }
     {
@@ -50,7 +50,7 @@ impl OwnerIds {
         Some(*step_number)
     }
 
-    /// The least id from 1 to the last that no lessee of the owner has.
+    /// Returns the lowest id from 1 to the last that no lessee of the owner has.
     pub fn free(&self, owner: u32, last: u32) -> Option<u32>
         ensures { result ≡ least (λ id. not (is_some (id_at self.now owner id))) 1 last }
     {
@@ -64,7 +64,7 @@ impl OwnerIds {
         Some(id)
     }
 
-    /// Notes a lessee under an id that none of its owner has. Without memory nothing changes.
+    /// Adds a lessee under an id that no lessee of its owner has. If memory is refused, nothing changes.
     pub fn note(&mut self, owner: u32, id: u32, step_number: u32) -> Result<(), NoMemory>
         requires { id_at self.old owner id ≡ None }
         ensures ok { OnOk result (IsSet (id_at self.old) owner id (Some step_number) (id_at self.new)) }
@@ -83,7 +83,7 @@ impl OwnerIds {
         Ok(())
     }
 
-    /// Forgets an id of an owner, if a lessee has it. It takes no memory.
+    /// Removes an id of an owner, if a lessee has it. Does not allocate.
     pub fn forget(&mut self, owner: u32, id: u32)
         ensures { IsSet (id_at self.old) owner id None (id_at self.new) }
     {
@@ -98,7 +98,7 @@ impl OwnerIds {
     }
 }
 
-/// The first id, if the last is none before it.
+/// Returns the first id, unless the last is before it.
 fn first_id(last: u32) -> Option<u32>
     ensures { result ≡ least (λ id. true) 1 last }
 {
@@ -108,14 +108,14 @@ fn first_id(last: u32) -> Option<u32>
     Some(1)
 }
 
-/// Takes what has an owner's ids out.
+/// Removes the table of an owner's ids.
 fn take_out(owners: &mut IndexArray<IndexArray<u32>>, owner: u32)
     ensures { owners.new ≡ without_item owners.old owner }
 {
     let _ids = owners.remove(owner);
 }
 
-/// Puts a number where none is. Without memory nothing changes.
+/// Adds a number at an index without one. If memory is refused, nothing changes.
 pub fn put_new(numbers: &mut IndexArray<u32>, index: u32, number: u32) -> Result<(), NoMemory>
     requires vacant { map.get numbers.old.items index ≡ None }
     ensures ok { OnOk result (numbers.new ≡ with_item numbers.old index number) }

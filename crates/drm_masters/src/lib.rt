@@ -1,4 +1,6 @@
-//! Clients, the masters that they stand to, and magics: who may set modes (drm(7), masters; drm-uapi, leases).
+//! Masters, their clients, and magics, which decide which client may set modes (drm(7), masters; drm-uapi, leases).
+//!
+//! An example is the body of a function that has the runtime `rt`. If memory is refused, it returns.
 #![tactic(auto)]
 
 mod faults;

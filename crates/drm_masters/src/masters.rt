@@ -1,4 +1,4 @@
-//! The clients that stand to masters, and the masters.
+//! The masters, and the clients that belong to them.
 
 ghost use Rattle.std.specs.Prelude.{◌≡◌, ◌<◌, ◌≤◌, ◌&&◌, ◌||◌, true, false, None, Some, [], find, length, slice_get, OnOk, OnErr, IfOk, IfSome, IsOk, not};
 ghost use Rattle.std.specs.Option.{is_some, option_map, option_map_or, option_and_then};
@@ -25,9 +25,9 @@ const CLIENT_KIND: u32 = 1;
 
 const MASTER_KIND: u32 = 2;
 
-/// The clients that stand to a master, the masters, and which of these is the device's (drm(7); drm-uapi, leases). A
-/// master stays while it, or one below it, is kept or named by a client. Contracts see flat lists: clients in
-/// the order of their numbers, masters in the order of births.
+/// The masters, the clients that belong to them, and which master is the device's (drm(7); drm-uapi, leases). A master
+/// stays while it, or one below it, is kept or named by a client. Contracts see flat lists: clients in the order of
+/// their numbers, masters in the order in which they were created.
 ///
 /// ```rust
 /// let mut masters = Masters::new(alloc, 4, 4);
@@ -41,7 +41,7 @@ pub struct Masters {
     last_lessee: u32,
 }
 
-// Written out, so that it is proved once: a derived one is proved again in each crate that lets such a value go.
+// Written out, so that it is proved once: a derived one is proved again in each crate that drops such a value.
 impl Drop for Masters {
     fn drop(self) {
         let Masters {
@@ -69,8 +69,10 @@ impl Model for Masters {
 }
 
 impl Masters {
-    /// Returns masters without clients. They hold at most `clients` clients, whose magics are 1 to `clients`, and give
-    /// lessee ids from 1 to `lessees`, at most 64, under each owner. Does not allocate.
+    /// Creates a table without clients and masters. Does not allocate.
+    ///
+    /// It can hold at most `clients` clients, whose magics are 1 to `clients`. The lessee ids under each owner are 1 to
+    /// `lessees`, at most 64.
     ///
     /// ```rust
     /// assert!(Masters::new(alloc, 4, 4).device_master().is_none());
@@ -88,14 +90,14 @@ impl Masters {
         }
     }
 
-    /// What is so of the clients and the masters at all times. It does nothing.
+    /// States the facts that always hold for the clients and the masters. Calling it does nothing.
     pub fn laws(&self)
         ensures { sets.AreMasters self.now }
     {
         let _ = &self.members;
     }
 
-    /// How a client stands to masters, if it does. It takes no memory.
+    /// Returns a client's relation to its master, if it belongs to one. Does not allocate.
     ///
     /// ```rust
     /// assert!(matches!(masters.member(1), Some(row) if row.is_master && row.master == 1));
@@ -107,7 +109,7 @@ impl Masters {
         self.members.get(client)
     }
 
-    /// The key of a client's master, if it stands to one.
+    /// Returns the key of a client's master, if it belongs to one. Does not allocate.
     ///
     /// ```rust
     /// assert!(masters.master_of(1).is_some() && masters.master_of(2).is_none());
@@ -120,7 +122,7 @@ impl Masters {
         Some(master.key)
     }
 
-    /// The master of a step number, if it is there. It takes no memory.
+    /// Returns the master with a step number, if it exists. Does not allocate.
     ///
     /// ```rust
     /// assert!(matches!(masters.master(1), Some(row) if row.lessor.is_none() && !row.kept));
@@ -145,8 +147,8 @@ impl Masters {
         self.masters.of_key(master)
     }
 
-    /// How deep a master lies below its owner: 0 where it has no lessor, else one more than its lessor (own). Masters are named
-    /// by the numbers of the steps that made them. It takes no memory.
+    /// Returns the depth of a master below its owner: 0 without a lessor, else one more than its lessor's (own).
+    /// `master` is the number of the step that created it. Does not allocate.
     ///
     /// ```rust
     /// assert!(masters.depth(1) == 0);
@@ -157,7 +159,7 @@ impl Masters {
         depth_of(&self.masters, master)
     }
 
-    /// The key of a master's lessor, if it is a lessee.
+    /// Returns the key of a master's lessor, if it is a lessee. Does not allocate.
     ///
     /// ```rust
     /// let Some(row) = masters.master(1) else { return };
@@ -172,8 +174,8 @@ impl Masters {
         Some(self.masters.at(lessor)?.key)
     }
 
-    /// The direct lessee of a master at a place, from 0, in the order of step numbers; none past the last. Masters are named by the
-    /// numbers of the steps that made them. It takes no memory.
+    /// Returns the direct lessee of a master at a position, from 0, in the order in which they were created. Masters
+    /// are named by the numbers of the steps that created them. Does not allocate.
     ///
     /// ```rust
     /// assert!(masters.nth_lessee(1, 0).is_none());
@@ -184,7 +186,7 @@ impl Masters {
         self.masters.nth_lessee(lessor, position)
     }
 
-    /// The device's master, by the number of the step that made it.
+    /// Returns the number of the step that created the device's master, if the device has one.
     ///
     /// ```rust
     /// assert!(masters.device_master() == Some(1));
@@ -195,8 +197,8 @@ impl Masters {
         self.device_master
     }
 
-    /// Whether the client is current: it is a master, and the owner of its master is the device's (drm(7); for a lessee
-    /// drm-uapi, leases). One that stands to no master isn't.
+    /// Returns whether the client is current (`drm_is_current_master`; for a lessee drm-uapi, leases). It is if it is a
+    /// master and the owner of its master is the device's. A client without a master is not. Does not allocate.
     ///
     /// ```rust
     /// assert!(masters.is_current(1) && !masters.is_current(2));
@@ -210,10 +212,12 @@ impl Masters {
         is_current_among(&self.masters, self.device_master, member)
     }
 
-    /// Adds a client that opened the primary node. No client has this number yet, and no master this birth.
+    /// Adds a client that opened the primary node (drm(7)). No client may have this number yet, and no master this
+    /// birth.
     ///
-    /// If the device has no master, the client owns a new one with this birth, which becomes the device's: true.
-    /// Otherwise the client belongs to the device's master and is no master itself: false.
+    /// If the device has no master, the client owns a new one with this birth, which becomes the device's. The function
+    /// then returns `true`. Otherwise the client belongs to the device's master and is no master itself. The function
+    /// then returns `false`.
     ///
     /// # Errors
     ///
@@ -248,8 +252,8 @@ impl Masters {
         Ok(true)
     }
 
-    /// Adds the client that redeems a lessee, which is kept no more. No client has this number yet. The client is a
-    /// master, but not once a master by that (own).
+    /// Adds the client that redeems a lessee, which is no longer kept (drm-uapi, leases). No client may have this
+    /// number yet. The client is a master, but this does not count as having been a master once (own).
     ///
     /// # Errors
     ///
@@ -281,10 +285,20 @@ impl Masters {
         Ok(())
     }
 
-    /// SET_MASTER (drm-uapi), in order: a client that was never a master and isn't root is refused (26); one that is
-    /// current is done; while the device has a master others are refused (27); a client that is no master gets a new one,
-    /// with this birth, and loses its magic; a lessee is refused (29); any other has its own set again. A refusal
-    /// changes nothing. No master has this birth yet.
+    /// Makes a client current (SET_MASTER, drm-uapi). No master may have the birth `birth` yet.
+    ///
+    /// The rules, in order:
+    ///
+    /// - A client that was never a master and is not root is denied (26).
+    /// - For a client that is current, nothing changes.
+    /// - While the device has a master, any other client is denied (27).
+    /// - A client that is no master gets a new one, with this birth, and loses its magic.
+    /// - A lessee is denied (29).
+    /// - For any other client, its own master is set again.
+    ///
+    /// # Errors
+    ///
+    /// `Denied` with the rule, or `NoMemory` if memory for a new master is refused. The state is then unchanged.
     ///
     /// ```rust
     /// if masters.member(1).is_some() {
@@ -323,9 +337,15 @@ impl Masters {
         Ok(SetDone::Again)
     }
 
-    /// DROP_MASTER (drm-uapi), in order: a client that was never a master and isn't root is refused (26), one that isn't
-    /// current (28), and a lessee (29). Else the device has no master, and the client stays a master of its own. A refusal
-    /// changes nothing.
+    /// Leaves the device without a master (DROP_MASTER, drm-uapi). The client keeps its own master.
+    ///
+    /// # Errors
+    ///
+    /// These rules, in order. The state is then unchanged.
+    ///
+    /// - 26: the client was never a master and is not root.
+    /// - 28: the client is not current.
+    /// - 29: the client is a lessee.
     ///
     /// ```rust
     /// if masters.member(1).is_some() {
@@ -354,8 +374,14 @@ impl Masters {
         Ok(())
     }
 
-    /// GET_MAGIC (drm(7)): the client's number under its master. Where it has none, it gets the least free one: among so
-    /// many clients as there are numbers one is free, so that this always answers. It takes no memory.
+    /// Returns the client's magic: its number under its master (GET_MAGIC, drm(7)).
+    ///
+    /// If the client has none, it gets the lowest free one. There are as many numbers as clients, so one is free. Does
+    /// not allocate.
+    ///
+    /// # Errors
+    ///
+    /// If memory is refused, nothing changes.
     ///
     /// ```rust
     /// if masters.member(1).is_some() {
@@ -380,8 +406,12 @@ impl Masters {
         Ok(number)
     }
 
-    /// AUTH_MAGIC (drm(7)): spends a number under the caller's master, and says which client it authenticates. A number
-    /// that no client has there, or that is spent, is refused (25), and then nothing changes.
+    /// Spends a magic under the caller's master, and returns the client that it authenticates (AUTH_MAGIC, drm(7)).
+    /// Does not allocate.
+    ///
+    /// # Errors
+    ///
+    /// Rule 25 if no client has the number there, or the number is spent. The state is then unchanged.
     ///
     /// ```rust
     /// if masters.member(1).is_some() {
@@ -403,9 +433,10 @@ impl Masters {
         Ok(found.client)
     }
 
-    /// Takes a client out with its magic. A master of its own is given back and stays until its release, and if it was
-    /// the device's, the device has none. Any other master goes where nothing else holds it. A client that stands to no
-    /// master changes nothing. It takes no memory.
+    /// Removes a client with its magic. Does not allocate.
+    ///
+    /// The client's own master is returned and stays until its release. If it was the device's, the device has none.
+    /// Any other master is freed if nothing else holds it. For a client without a master, nothing changes.
     ///
     /// ```rust
     /// assert!(masters.on_close(1).is_some());
@@ -429,13 +460,14 @@ impl Masters {
     }
 
     /// Creates a lessee of a master with the lowest id that is free under the master's owner (drm-uapi, leases; ids
-    /// own), and returns its key and its id. The lessee stays until it is redeemed or released. No master has this birth
-    /// yet, and the lessor's is lower: the step that made the lessor is earlier.
+    /// own), and returns its key and its id.
+    ///
+    /// The lessee stays until it is redeemed or released. No master may have this birth yet. The lessor's birth must be
+    /// lower.
     ///
     /// # Errors
     ///
-    /// Both leave everything unchanged. [`LesseeFault::Full`]: each id from 1 to the last is taken under the owner.
-    /// [`LesseeFault::NoMemory`]: memory was refused.
+    /// `Full` if each id is taken under the owner, `NoMemory` if memory is refused. The state is then unchanged.
     ///
     /// ```rust
     /// let mut masters = Masters::new(alloc, 4, 4);
@@ -468,7 +500,7 @@ impl Masters {
         Ok((key, id))
     }
 
-    /// Returns the key of the lessee with this id among all of the master's owner. Does not allocate.
+    /// Returns the lessee with this id under the owner of `master`. Does not allocate.
     ///
     /// ```rust
     /// let Some(owner) = masters.master(1) else { return };
@@ -484,7 +516,7 @@ impl Masters {
         Some(self.masters.lessee(owner, id)?.key)
     }
 
-    /// The last id that a lessee may have.
+    /// Returns the highest id that a lessee may have.
     ///
     /// ```rust
     /// assert!(masters.last_lessee() == 4);
@@ -495,7 +527,7 @@ impl Masters {
         self.last_lessee
     }
 
-    /// The least id that no lessee of the master's owner has; none where each is taken. It takes no memory.
+    /// Returns the lowest id that no lessee of the master's owner has, or `None` if each is taken. Does not allocate.
     ///
     /// ```rust
     /// assert!(masters.free_lessee(1) == Some(2));
@@ -507,7 +539,8 @@ impl Masters {
         self.masters.free_id(owner, self.last_lessee)
     }
 
-    /// Ends the stay of a kept master. It goes, and those above it, as far as nothing else holds them. It takes no memory.
+    /// Releases a kept master. It is freed, and so are those above it, as far as nothing else holds them. Does not
+    /// allocate.
     ///
     /// ```rust
     /// if let Some(row) = masters.master(2) {
@@ -526,8 +559,8 @@ impl Masters {
         sweep_up(&self.members, &mut self.masters, released.step_number);
     }
 
-    /// The client at a place, from 0, in the order of their numbers, among those that stand to masters; none past the last. It
-    /// takes no memory.
+    /// Returns the client at a position, from 0, in the order of their numbers, among those that belong to a master.
+    /// Does not allocate.
     ///
     /// ```rust
     /// assert!(matches!(masters.nth_member(0), Some(row) if row.client == 1));
@@ -538,7 +571,7 @@ impl Masters {
         self.members.nth(position)
     }
 
-    /// The master at a place, from 0, in the order of step numbers; none past the last. It takes no memory.
+    /// Returns the master at a position, from 0, in the order in which they were created. Does not allocate.
     ///
     /// ```rust
     /// assert!(matches!(masters.nth_master(0), Some(row) if row.step_number == 1));
@@ -549,8 +582,10 @@ impl Masters {
         self.masters.nth(position)
     }
 
-    /// Returns the row at a position, from 0, of the rows of an audit's kind (own): clients that stand to masters are kind 1, rising
-    /// by client, masters are kind 2, rising by birth, and no other kind is kept. Does not allocate.
+    /// Returns the row at a position, from 0, of the rows of an audit's kind (own). Does not allocate.
+    ///
+    /// Clients that belong to a master are kind 1, in the order of their numbers. Masters are kind 2, in the order in
+    /// which they were created. No other kind has rows here.
     ///
     /// ```rust
     /// assert!(masters.nth(2, 0).is_some() && masters.nth(3, 0).is_none());

@@ -1,4 +1,4 @@
-//! The clients that stand to masters.
+//! The clients that belong to masters.
 
 ghost use Rattle.std.specs.Prelude.{◌≡◌, ◌==◌, ◌++◌, ◌∷◌, ℕ, [], None, not, false, true, filter, map, length, slice_get, OnOk, OnErr, IfSome, if◌then◌else◌};
 ghost use Rattle.std.specs.List.{list_any};
@@ -17,7 +17,7 @@ use drm_index_array::{IndexArray, InsertFault};
 use std::alloc::Global;
 use std::marker::Model;
 
-/// What is kept of a client under its number.
+/// The data of a client under its number.
 #[derive(Clone, Copy)]
 pub(crate) struct Membership {
     pub(crate) once_master: bool,
@@ -26,7 +26,7 @@ pub(crate) struct Membership {
     pub(crate) magic: Option<Magic>,
 }
 
-/// The clients that stand to masters, by their numbers. Contracts see a flat list, in the order of their numbers.
+/// The clients that belong to masters, by their numbers. Contracts see a flat list, in the order of their numbers.
 #[derive(Drop)]
 pub struct Members {
     clients: IndexArray<Membership>,
@@ -47,7 +47,7 @@ impl Model for Members {
 }
 
 impl Members {
-    /// No client. It takes no memory.
+    /// Creates a table without clients. Does not allocate.
     pub fn new(alloc: Global) -> Members
         ensures { result ≡ record { items = [] } }
     {
@@ -57,14 +57,14 @@ impl Members {
         }
     }
 
-    /// How many clients there are.
+    /// Returns the number of clients.
     pub fn len(&self) -> usize
         ensures { result ≡ length self.now.items }
     {
         self.clients.len()
     }
 
-    /// How a client stands to masters, if it does.
+    /// Returns a client's relation to its master, if it belongs to one.
     pub fn get(&self, client: u32) -> Option<Member>
         ensures { result ≡ sets.member_of self.now.items client }
     {
@@ -72,7 +72,7 @@ impl Members {
         Some(row_of(client, *membership))
     }
 
-    /// The client at a place, from 0; none past the last.
+    /// Returns the client at a position, from 0.
     pub fn nth(&self, position: usize) -> Option<Member>
         ensures { result ≡ slice_get self.now.items position }
     {
@@ -80,7 +80,7 @@ impl Members {
         self.get(client)
     }
 
-    /// Whether a client names the master. It looks at no other.
+    /// Returns whether a client names the master. Looks at no other master.
     pub fn is_named(&self, master: u32) -> bool
         ensures { result ≡ list_any (λ x. x.master == master) self.now.items }
     {
@@ -105,7 +105,7 @@ impl Members {
         Ok(())
     }
 
-    /// Puts a client's row in place of the one that it has, if it has one. It keeps its master.
+    /// Replaces the row of a client, if it has one. It keeps its master.
     pub fn set(&mut self, member: Member)
         requires stays { IfSome (sets.member_of self.old.items member.client) (λ x. x.master ≡ member.master) }
         ensures { self.new.items ≡ map (λ x. if sets.is_client member.client x then member else x) self.old.items }
@@ -116,7 +116,7 @@ impl Members {
         *kept = kept_of(member);
     }
 
-    /// Puts a client's row, of another master, in place of the one that it has. Without memory nothing changes.
+    /// Replaces the row of a client by one of another master. If memory is refused, nothing changes.
     pub fn remake(&mut self, member: Member) -> Result<(), NoMemory>
         requires moves { option_map_or (λ x. not (x.master == member.master)) (sets.member_of self.old.items member.client) false ≡ true }
         ensures rows { OnOk result (self.new.items ≡ map (λ x. if sets.is_client member.client x then member else x) self.old.items) }
@@ -135,7 +135,7 @@ impl Members {
         Ok(())
     }
 
-    /// Takes a client away, if it is there.
+    /// Removes a client, if it has a row.
     pub fn remove(&mut self, client: u32)
         ensures { self.new.items ≡ filter (λ x. not (sets.is_client client x)) self.old.items }
     {
@@ -146,7 +146,7 @@ impl Members {
     }
 }
 
-/// Notes a client of a master. Without memory nothing changes.
+/// Adds a client to those of a master. If memory is refused, nothing changes.
 fn note(named: &mut Groups, master: u32, client: u32) -> Result<(), NoMemory>
     ensures ok { OnOk result (IsAdded (has named.old) master client (has named.new)) }
     ensures err { OnErr result (named.new ≡ named.old) }
@@ -157,7 +157,7 @@ fn note(named: &mut Groups, master: u32, client: u32) -> Result<(), NoMemory>
     }
 }
 
-/// Adds what is kept of a client that is not there. Without memory nothing changes.
+/// Adds the data of a client that has none. If memory is refused, nothing changes.
 fn insert(
     clients: &mut IndexArray<Membership>,
     client: u32,
@@ -174,7 +174,7 @@ fn insert(
     }
 }
 
-/// Puts what is kept of a client that is there.
+/// Replaces the data of a client that has some.
 fn put(clients: &mut IndexArray<Membership>, client: u32, kept: Membership)
     requires open_client { is_some (fin.get clients.old.items client) ≡ true }
     ensures { clients.new ≡ with_item clients.old client kept }

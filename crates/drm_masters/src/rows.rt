@@ -1,10 +1,10 @@
-//! What is kept of a client, and of a master.
+//! The rows of clients and of masters.
 
 ghost use Rattle.std.specs.Prelude.{◌≡◌};
 
 use std::marker::Model;
 
-/// Names a master of its [`Masters`](crate::Masters) for as long as it is there; another may have the key afterwards.
+/// The key of a master of [`Masters`](crate::Masters) while it exists. Another master may have the key afterwards.
 /// Contracts see a number.
 ///
 /// ```rust
@@ -35,7 +35,7 @@ impl MasterKey {
         MasterKey { number }
     }
 
-    /// Returns the key as a number, by which another table may find what belongs to the master. Does not allocate.
+    /// Returns the key as a number, which another table can use as an index. Does not allocate.
     ///
     /// ```rust
     /// let Some(row) = masters.master(1) else { return };
@@ -65,7 +65,7 @@ pub struct Magic {
     pub spent: bool,
 }
 
-/// How an open client stands to masters. A render client does not, and is not listed.
+/// An open client's relation to its master. A render client has none, and is not listed.
 ///
 /// ```rust
 /// let member = Member { client: 1, once_master: true, is_master: true, master: 1, magic };
@@ -79,26 +79,26 @@ pub struct Member {
     pub once_master: bool,
     /// Whether its master is its own.
     pub is_master: bool,
-    /// Its master, by the number of the step that made it.
+    /// Its master, by the number of the step that created it.
     pub master: u32,
-    /// Its number under that master, if it asked for one.
+    /// Its number under that master, if it requested one.
     pub magic: Option<Magic>,
 }
 
-/// A row of an audit that [`Masters`](crate::Masters) keeps (own).
+/// A row of an audit from [`Masters`](crate::Masters) (own).
 ///
 /// ```rust
 /// assert!(matches!(masters.nth(1, 0), Some(MasterRow::Client(row)) if row.client == 1));
 /// ```
 #[derive(Clone, Copy, PartialEq, Eq, Debug)]
 pub enum MasterRow {
-    /// A row of kind 1, of a client that stands to a master.
+    /// A row of kind 1, of a client that belongs to a master.
     Client(Member),
     /// A row of kind 2.
     Master(Master),
 }
 
-/// A master.
+/// A master (drm(7)).
 ///
 /// ```rust
 /// let Some(key) = masters.master_of(1) else { return };
@@ -107,13 +107,15 @@ pub enum MasterRow {
 /// ```
 #[derive(Clone, Copy, PartialEq, Eq, Debug)]
 pub struct Master {
+    /// The key of the master.
     pub key: MasterKey,
-    /// The number of the step that made it.
+    /// The number of the step that created it.
     pub step_number: u32,
-    /// Whose lessee it is, by the number of the step that made that one.
+    /// The lessor of a lessee, by the number of the step that created that one.
     pub lessor: Option<u32>,
-    /// The id of a lessee among all of its owner, from 1; of another master 0.
+    /// The id of a lessee among all of its owner, from 1. Any other master has 0.
     pub lessee_id: u32,
-    /// Whether it stays until its release: a lessee that nobody redeemed yet, or the own master of a client that closed.
+    /// Whether it stays until its release: a lessee that no client has redeemed, or the own master of a client that
+    /// closed.
     pub kept: bool,
 }

@@ -43,7 +43,7 @@ pub fn is_current_among(masters: &MasterTable, device: Option<u32>, member: Memb
     member.is_master && is_option(owner_of(masters, member.master), device)
 }
 
-/// How many lessors stand above a master. There are no more than its step number comes to, since each is older.
+/// Returns the number of lessors above a master. It is at most the master's step number, since each is older.
 pub fn depth_of(masters: &MasterTable, step_number: u32) -> u32
     requires older { AllByRecursion (sets.HasOlderLessor masters.now.items) masters.now.items }
     ensures { result ≡ sets.depth_of masters.now.items step_number }

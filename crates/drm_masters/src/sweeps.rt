@@ -1,4 +1,4 @@
-//! Which masters go.
+//! The removal of masters that nothing holds.
 
 ghost use Rattle.std.specs.Prelude.{◌≡◌, ◌<◌, ◌==◌, true, false, filter};
 ghost use Rattle.std.specs.List.{AllByRecursion};
@@ -10,8 +10,8 @@ use crate::members::Members;
 use crate::rows::Master;
 use crate::table::MasterTable;
 
-/// A master goes where neither it nor one below it is held. All but one are used: it goes if it isn't, and then those above it, as far as
-/// nothing else holds them. No other is looked at.
+/// Frees a master if neither it nor one below it is held, and then those above it, as far as nothing else holds them.
+/// All masters but this one must be used. Looks at no other.
 pub fn sweep_up(members: &Members, masters: &mut MasterTable, step_number: u32)
     requires rise { InOrder (λ x y. x.step_number < y.step_number) masters.old.items }
     requires older { AllByRecursion (sets.HasOlderLessor masters.old.items) masters.old.items }

@@ -1,4 +1,4 @@
-//! The masters that are there.
+//! The masters that exist.
 
 ghost use Rattle.std.specs.Prelude.{◌≡◌, ◌+◌, ◌<◌, ◌≤◌, ◌++◌, ◌∷◌, ℕ, [], None, Some, true, false, not, find, filter, map as list_map, length, slice_get, OnOk, OnErr, IfOk, IfNone, if◌then◌else◌};
 ghost use Rattle.std.specs.List.{list_any, AllByRecursion};
@@ -23,7 +23,7 @@ use slab::Slab;
 use std::alloc::Global;
 use std::marker::Model;
 
-/// The masters that are there, under keys that are given again. Contracts see a flat list, in the order of step numbers.
+/// The masters that exist, under keys that are reused. Contracts see a flat list, in the order of step numbers.
 #[derive(Drop)]
 pub struct MasterTable {
     // the keys, by the step numbers of their masters
@@ -48,7 +48,7 @@ impl Model for MasterTable {
 }
 
 impl MasterTable {
-    /// No master. It takes no memory.
+    /// Creates a table without masters. Does not allocate.
     pub fn new(alloc: Global) -> MasterTable
         ensures { result ≡ record { items = [] } }
     {
@@ -60,14 +60,14 @@ impl MasterTable {
         }
     }
 
-    /// How many masters there are.
+    /// Returns the number of masters.
     pub fn len(&self) -> usize
         ensures { result ≡ length self.now.items }
     {
         self.keys.len()
     }
 
-    /// The master of a step number, if it is there.
+    /// Returns the master with a step number, if it exists.
     pub fn at(&self, step_number: u32) -> Option<Master>
         ensures { result ≡ sets.master_at self.now.items step_number }
     {
@@ -76,7 +76,7 @@ impl MasterTable {
         Some(*master)
     }
 
-    /// The master of a key, if it is there.
+    /// Returns the master with a key, if it exists.
     pub fn of_key(&self, key: MasterKey) -> Option<Master>
         ensures { result ≡ find (sets.is_key key) self.now.items }
     {
@@ -84,7 +84,7 @@ impl MasterTable {
         Some(*master)
     }
 
-    /// The master at a place, from 0; none past the last.
+    /// Returns the master at a position, from 0.
     pub fn nth(&self, position: usize) -> Option<Master>
         ensures { result ≡ slice_get self.now.items position }
     {
@@ -92,8 +92,8 @@ impl MasterTable {
         self.at(step_number)
     }
 
-    /// Adds a master under a key of its own, which is given back; a lessee has an id that no other of its owner has. Without memory
-    /// nothing changes.
+    /// Adds a master under its own key, and returns that key. A lessee has an id that no other of its owner has. If
+    /// memory is refused, nothing changes.
     pub fn insert(&mut self, master: Master) -> Result<MasterKey, NoMemory>
         requires absent { is_some (sets.master_at self.old.items master.step_number) ≡ false }
         requires older { AllByRecursion (sets.HasOlderLessor self.old.items) self.old.items }
@@ -107,7 +107,8 @@ impl MasterTable {
         let lessor = master.lessor;
         let id = master.lessee_id;
         let owner = owner_to_be(self, lessor, step_number);
-        // a slab gives low keys, of which its contract says nothing: those of 32 bits end long after the memory
+        // A slab returns low keys, but its contract does not say so. Keys of 32 bits are exhausted long after the
+        // memory.
         let number = self.kept.vacant_key();
         if number > u32::MAX as usize {
             return Err(NoMemory);
@@ -132,7 +133,7 @@ impl MasterTable {
         Ok(key)
     }
 
-    /// Keeps the master of a step number, if it is there, or not any more.
+    /// Sets whether the master with a step number is kept, if it exists.
     pub fn set_kept(&mut self, step_number: u32, kept: bool)
         ensures { self.new.items ≡ list_map (λ x. if sets.is_step_number step_number x then calls.kept_as kept x else x) self.old.items }
     {
@@ -146,7 +147,7 @@ impl MasterTable {
         *master = Master { kept, ..*master };
     }
 
-    /// Takes the master of a step number away, if it is there; it is nobody's lessor. Its key may be given again.
+    /// Removes the master with a step number, if it exists. It must not be a lessor. Its key may be reused.
     pub fn remove(&mut self, step_number: u32)
         requires older { AllByRecursion (sets.HasOlderLessor self.old.items) self.old.items }
         requires no_lessee { list_any (λ x. sets.is_option step_number x.lessor) self.old.items ≡ false }
@@ -163,7 +164,7 @@ impl MasterTable {
         unname(&mut self.ids, owner, master.lessor, master.lessee_id);
     }
 
-    /// The lessee of this id under the owner. It looks at no other.
+    /// Returns the lessee with this id under the owner. Looks at no other.
     pub fn lessee(&self, owner: u32, id: u32) -> Option<Master>
         ensures { result ≡ find (sets.is_lessee_of self.now.items owner id) self.now.items }
     {
@@ -171,7 +172,7 @@ impl MasterTable {
         self.at(step_number)
     }
 
-    /// The least id up to the last that no lessee has under the owner.
+    /// Returns the lowest id up to the last that no lessee has under the owner.
     pub fn free_id(&self, owner: u32, last: u32) -> Option<u32>
         ensures { result ≡ least (λ id. not (list_any (sets.is_lessee_of self.now.items owner id) self.now.items)) 1 last }
     {
@@ -185,7 +186,7 @@ impl MasterTable {
         self.lessees.next(lessor, 0).is_some()
     }
 
-    /// The direct lessee of a master at a place, from 0, in the order of step numbers; none past the last.
+    /// Returns the direct lessee of a master at a position, from 0, in the order of step numbers.
     pub fn nth_lessee(&self, lessor: u32, position: usize) -> Option<u32>
         ensures { result ≡ slice_get (sets.lessees_of self.now.items lessor) position }
     {
@@ -193,7 +194,7 @@ impl MasterTable {
     }
 }
 
-/// The owner of a master that is to come: that of its lessor, or else itself.
+/// Returns the owner of a master to be created: that of its lessor, or else itself.
 fn owner_to_be(masters: &MasterTable, lessor: Option<u32>, step_number: u32) -> u32
     requires older { AllByRecursion (sets.HasOlderLessor masters.now.items) masters.now.items }
     ensures { result ≡ option_map_or (sets.owner_of masters.now.items) lessor step_number }
@@ -204,7 +205,7 @@ fn owner_to_be(masters: &MasterTable, lessor: Option<u32>, step_number: u32) -> 
     }
 }
 
-/// Has a master be found by its id under its owner, if it is a lessee. Without memory nothing changes.
+/// Adds a lessee to the table of ids under its owner. If memory is refused, nothing changes.
 fn name(
     ids: &mut OwnerIds,
     owner: u32,
@@ -222,7 +223,7 @@ fn name(
     ids.note(owner, id, step_number)
 }
 
-/// Not any more.
+/// Removes a lessee from the table of ids.
 fn unname(ids: &mut OwnerIds, owner: u32, lessor: Option<u32>, id: u32)
     ensures { IsUnnamed (id_at ids.old) owner lessor id (id_at ids.new) }
 {
@@ -245,7 +246,7 @@ fn list(lessees: &mut Groups, lessor: Option<u32>, step_number: u32) -> Result<(
     }
 }
 
-/// Lists it no more.
+/// Removes a master from its lessor's lessees.
 fn unlist(lessees: &mut Groups, lessor: Option<u32>, step_number: u32)
     ensures { IsUnlisted (has lessees.old) lessor step_number (has lessees.new) }
 {

@@ -6,7 +6,7 @@ ghost use Rattle.drm_masters.specs.Calls as calls;
 
 use crate::rows::{Magic, Master, MasterKey, Member};
 
-/// A master of a client of its own, whose key is given as it is added.
+/// Returns a client's own master. Its key is set when it is added.
 pub fn founded_master(step_number: u32) -> Master
     ensures { result ≡ calls.founded_master 0 step_number }
 {
@@ -19,7 +19,7 @@ pub fn founded_master(step_number: u32) -> Master
     }
 }
 
-/// A lessee, which stays until it is redeemed or released; its key is given as it is added.
+/// Returns a lessee, which stays until it is redeemed or released. Its key is set when it is added.
 pub fn lessee(step_number: u32, lessor: u32, lessee_id: u32) -> Master
     ensures { result ≡ calls.lessee 0 step_number lessor lessee_id }
 {
@@ -32,7 +32,7 @@ pub fn lessee(step_number: u32, lessor: u32, lessee_id: u32) -> Master
     }
 }
 
-/// A client of a master of its own.
+/// Returns a client that has its own master.
 pub fn owner(client: u32, master: u32) -> Member
     ensures { result ≡ calls.owner client master }
 {

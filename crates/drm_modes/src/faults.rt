@@ -1,6 +1,6 @@
-//! Why no framebuffer was made.
+//! The reasons a framebuffer was not created.
 
-/// Why no framebuffer was made. Everything is then as it was.
+/// The reason a framebuffer was not created. The state is unchanged.
 ///
 /// ```rust
 /// let Some(topology) = Topology::new(2, &[1, 2], &[3, 2], &[5, 6]) else { return };
@@ -14,6 +14,6 @@
 pub enum AddFbFault {
     /// No id is free.
     Full,
-    /// There is no memory for one more.
+    /// Memory was refused.
     NoMemory,
 }

@@ -1,6 +1,6 @@
 //! The kinds of fixed mode objects.
 
-/// What a fixed mode object is (drm-uapi, mode setting).
+/// The kind of a fixed mode object (drm-uapi, mode setting).
 ///
 /// ```rust
 /// let Some(topology) = Topology::new(2, &[1, 2], &[3, 2], &[5, 6]) else { return };
@@ -8,29 +8,29 @@
 /// ```
 #[derive(Clone, Copy, PartialEq, Eq, Debug)]
 pub enum Kind {
-    /// Scans a framebuffer out.
+    /// An object that scans out a framebuffer.
     Crtc,
-    /// A picture that a CRTC shows beside its own.
+    /// A picture that a CRTC shows next to its own.
     Plane,
-    /// Takes the pixels of a CRTC to a connector.
+    /// An object that takes the pixels of a CRTC to a connector.
     Encoder,
-    /// Where a display is connected.
+    /// An object to which a display is connected.
     Connector,
 }
 
-/// What a plane is for (drm-uapi, universal planes).
+/// The kind of a plane (drm-uapi, universal planes).
 ///
 /// ```rust
 /// let kind = PlaneKind::Primary(1);
 /// ```
 #[derive(Clone, Copy, PartialEq, Eq, Debug, Default)]
 pub enum PlaneKind {
-    /// Beside what a CRTC shows: clients see it with universal planes on and off.
+    /// A further picture on a CRTC. Clients see it with universal planes on and off.
     #[default]
     Overlay,
-    /// What the CRTC of this id shows by itself. Clients see it with universal planes on alone.
+    /// The picture of the CRTC with this id. Clients see it only with universal planes on.
     Primary(u32),
-    /// The cursor of the CRTC of this id. Clients see it with universal planes on alone.
+    /// The cursor of the CRTC with this id. Clients see it only with universal planes on.
     Cursor(u32),
 }
 
@@ -38,7 +38,7 @@ impl PlaneKind {
     ghost use Rattle.std.specs.Prelude.{◌≡◌};
     ghost use Rattle.drm_modes.specs.PlaneKinds.{crtc_of_kind};
 
-    /// The CRTC of a primary or a cursor plane; none of an overlay plane.
+    /// Returns the CRTC of a primary or a cursor plane, or `None` for an overlay plane.
     ///
     /// ```rust
     /// assert!(kind.crtc() == Some(1) && PlaneKind::Overlay.crtc().is_none());

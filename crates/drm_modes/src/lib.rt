@@ -1,5 +1,7 @@
 //! The mode objects of a display device: the fixed ones, framebuffers, and what CRTCs and planes show (drm-uapi, mode
 //! setting).
+//!
+//! An example is the body of a function that has the runtime `rt`. If memory is refused, it returns.
 #![tactic(auto)]
 
 mod faults;

@@ -41,7 +41,7 @@ pub struct Modes {
     framebuffers: IdTable<Fb>,
     // The framebuffers, by the clients that created them.
     owned: Groups,
-    // What each CRTC and then each plane shows, 0 where it is dark.
+    // The framebuffer of each CRTC and then of each plane, 0 for a dark one.
     scanouts: ArrayVec<u32, 64>,
 }
 
@@ -57,8 +57,9 @@ impl Model for Modes {
 }
 
 impl Modes {
-    /// No framebuffer, of so many that there may be; all is dark. Their ids follow those of the fixed objects. It takes no
-    /// memory.
+    /// Creates a table without framebuffers, in which all CRTCs and planes are dark. Does not allocate.
+    ///
+    /// At most `framebuffers` may exist at once. Their ids follow those of the fixed objects.
     ///
     /// ```rust
     /// assert!(modes.object_count() == 8);
@@ -79,14 +80,15 @@ impl Modes {
         }
     }
 
-    /// What is so at all times. It does nothing.
+    /// States the facts that always hold. Calling it does nothing.
     pub fn laws(&self)
         ensures { AreModes self.now }
     {
         let _ = &self.framebuffers;
     }
 
-    /// What an id is, if it is that of a fixed mode object (drm-uapi, mode setting). It takes no memory.
+    /// Returns the kind of the fixed mode object with this id, or `None` if there is none (drm-uapi, mode setting).
+    /// Does not allocate.
     ///
     /// ```rust
     /// assert!(modes.kind(3) == Some(Kind::Plane));
@@ -98,8 +100,8 @@ impl Modes {
         self.topology.kind(id)
     }
 
-    /// How many fixed mode objects there are: their ids run from 1 to that (drm-uapi, mode setting; the ids are own). It takes
-    /// no memory.
+    /// Returns the number of fixed mode objects. Their ids are 1 to this number (drm-uapi, mode setting; the ids are
+    /// own). Does not allocate.
     ///
     /// ```rust
     /// assert!(framebuffer > modes.object_count());
@@ -111,7 +113,7 @@ impl Modes {
         self.topology.object_count()
     }
 
-    /// Whether an id is that of a fixed mode object of a kind (drm-uapi, mode setting). It takes no memory.
+    /// Returns whether an id is that of a fixed mode object of a kind (drm-uapi, mode setting). Does not allocate.
     ///
     /// ```rust
     /// assert!(modes.is_of_kind(Kind::Crtc, 2));
@@ -122,8 +124,8 @@ impl Modes {
         self.topology.is_of_kind(kind, id)
     }
 
-    /// The ids of the fixed mode objects of a kind, rising (drm-uapi, mode setting; that they rise is own). It takes no
-    /// memory.
+    /// Returns the ids of the fixed mode objects of a kind (drm-uapi, mode setting), in rising order (own). Does not
+    /// allocate.
     ///
     /// ```rust
     /// assert!(modes.ids(Kind::Connector).ids() == [7, 8].as_slice());
@@ -134,8 +136,8 @@ impl Modes {
         self.topology.ids(kind)
     }
 
-    /// The encoder of a connector (drm-uapi, mode setting; that a connector has one is own); none where the id is no
-    /// connector's. It takes no memory.
+    /// Returns the encoder of a connector, or `None` if the id is not that of a connector (drm-uapi, mode setting).
+    /// That a connector has one encoder is own. Does not allocate.
     ///
     /// ```rust
     /// assert!(modes.encoder_of(8) == Some(6));
@@ -146,7 +148,8 @@ impl Modes {
         self.topology.encoder_of(connector)
     }
 
-    /// What a plane is for; none where the id is no plane's (drm-uapi, universal planes). It takes no memory.
+    /// Returns the kind of a plane, or `None` if the id is not that of a plane (drm-uapi, universal planes). Does not
+    /// allocate.
     ///
     /// ```rust
     /// assert!(modes.plane_kind(4) == Some(PlaneKind::Overlay));
@@ -157,7 +160,8 @@ impl Modes {
         self.topology.plane_kind(id)
     }
 
-    /// The CRTC whose primary or cursor plane it is; none of anything else (drm-uapi, universal planes). It takes no memory.
+    /// Returns the CRTC of a primary or cursor plane, or `None` for any other id (drm-uapi, universal planes). Does not
+    /// allocate.
     ///
     /// ```rust
     /// assert!(modes.crtc_of_plane(4).is_none());
@@ -168,8 +172,8 @@ impl Modes {
         self.topology.crtc_of_plane(id)
     }
 
-    /// The primary and cursor planes of the CRTCs in a list, rising (drm-uapi, universal planes; that they rise is own). It
-    /// takes no memory.
+    /// Returns the primary and cursor planes of the CRTCs in a list (drm-uapi, universal planes), in rising order
+    /// (own). Does not allocate.
     ///
     /// ```rust
     /// assert!(modes.planes_of(&[1, 2]).ids().is_empty());
@@ -180,8 +184,8 @@ impl Modes {
         self.topology.planes_of(crtcs)
     }
 
-    /// The possible CRTCs of a plane or an encoder: bit i is CRTC i + 1. It is 0 where the id is neither. It takes no
-    /// memory.
+    /// Returns the possible CRTCs of a plane or an encoder: bit i is CRTC i + 1. Returns 0 for any other id. Does not
+    /// allocate.
     ///
     /// ```rust
     /// assert!(modes.possible_crtcs(4) == 2);
@@ -192,8 +196,8 @@ impl Modes {
         self.topology.possible_crtcs(id)
     }
 
-    /// Whether a CRTC is a possible one of a plane or an encoder: false where the ids are none of these. It takes no
-    /// memory.
+    /// Returns whether a CRTC is a possible one of a plane or an encoder. Returns `false` if the ids are not theirs.
+    /// Does not allocate.
     ///
     /// ```rust
     /// assert!(modes.drives(5, 1));
@@ -204,8 +208,8 @@ impl Modes {
         self.topology.drives(id, crtc)
     }
 
-    /// Whether a CRTC is a possible one of a connector's encoder: false where the ids are none of these. It takes no
-    /// memory.
+    /// Returns whether a CRTC is a possible one of a connector's encoder. Returns `false` if the ids are not theirs.
+    /// Does not allocate.
     ///
     /// ```rust
     /// assert!(modes.reaches(7, 1));
@@ -216,8 +220,8 @@ impl Modes {
         self.topology.reaches(connector, crtc)
     }
 
-    /// The possible CRTCs of a plane or an encoder among those that are seen: bit i is the i-th of `visible` (drm-uapi,
-    /// leases; for planes own). It is 0 where the id is neither. It takes no memory.
+    /// Returns the possible CRTCs of a plane or an encoder among those that are seen: bit i is the i-th of `visible`
+    /// (drm-uapi, leases; for planes own). Returns 0 for any other id. Does not allocate.
     ///
     /// ```rust
     /// let none_seen = ShownList::new();
@@ -232,8 +236,12 @@ impl Modes {
         self.topology.mask(id, visible)
     }
 
-    /// Makes a framebuffer of a client over an object, at the least free id (the kernel's IDR gives the least). It is
-    /// refused as full where no id is free, and then, as without memory, nothing changes.
+    /// Creates a framebuffer of a client over an object, with the lowest free id (so does the kernel's IDR), and
+    /// returns the id (drm-uapi, MODE_ADDFB).
+    ///
+    /// # Errors
+    ///
+    /// `Full` if no id is free (own), `NoMemory` if memory is refused. The state is then unchanged.
     ///
     /// ```rust
     /// assert!(framebuffer == 9);
@@ -262,7 +270,7 @@ impl Modes {
         Ok(framebuffer)
     }
 
-    /// Whether no id is free. It takes no memory.
+    /// Returns whether no id is free. Does not allocate.
     ///
     /// ```rust
     /// assert!(!modes.is_full());
@@ -273,7 +281,7 @@ impl Modes {
         self.framebuffers.is_full()
     }
 
-    /// The framebuffer of an id, if there is one. It takes no memory.
+    /// Returns the framebuffer with an id, if there is one. Does not allocate.
     ///
     /// ```rust
     /// assert!(matches!(modes.fb(framebuffer), Some(row) if row.object == object));
@@ -286,8 +294,8 @@ impl Modes {
         Some(fb)
     }
 
-    /// The ids of a client's framebuffers, rising (drm-uapi, mode setting; that they rise is own). It takes no memory, and
-    /// goes through the framebuffers.
+    /// Returns the ids of a client's framebuffers (drm-uapi, mode setting), in rising order (own). Looks at all
+    /// framebuffers. Does not allocate.
     ///
     /// ```rust
     /// assert!(modes.framebuffers_of(1).ids() == [framebuffer].as_slice());
@@ -307,8 +315,10 @@ impl Modes {
         list
     }
 
-    /// Removes a framebuffer of a client, and gives its object. What shows it goes dark (drm-uapi, mode setting). Where
-    /// there is no such framebuffer, or another client made it, nothing changes. It takes no memory.
+    /// Removes a framebuffer of a client, and returns its object (drm-uapi, MODE_RMFB). The CRTCs and planes that show
+    /// it are dark afterwards. Does not allocate.
+    ///
+    /// If the framebuffer does not exist or another client created it, it returns `None`, and nothing changes.
     ///
     /// ```rust
     /// assert!(modes.rmfb(2, framebuffer).is_none());
@@ -327,9 +337,10 @@ impl Modes {
         Some(pixels.object)
     }
 
-    /// Removes the framebuffer of a client that has the lowest id, and returns its id and its object. What shows it becomes
-    /// dark. Returns none exactly if the client has no framebuffer. Looks at no framebuffer of another client. Does not
-    /// allocate.
+    /// Removes the framebuffer of a client that has the lowest id, and returns its id and its object. The CRTCs and
+    /// planes that show it are dark afterwards. Does not allocate.
+    ///
+    /// Returns `None` if the client has no framebuffer. Looks at no framebuffer of another client.
     ///
     /// ```rust
     /// let Ok(framebuffer) = modes.addfb(1, shape, object) else { return };
@@ -359,7 +370,8 @@ impl Modes {
         scanouts::darken(self.scanouts.as_mut_slice(), framebuffer);
     }
 
-    /// Has a CRTC show a framebuffer, or nothing where that is 0 (drm-uapi, mode setting). It takes no memory.
+    /// Sets the framebuffer that a CRTC shows, or makes the CRTC dark if it is 0 (drm-uapi, mode setting). Does not
+    /// allocate.
     ///
     /// ```rust
     /// let Ok(framebuffer) = modes.addfb(1, shape, object) else { return };
@@ -375,7 +387,8 @@ impl Modes {
         self.show(crtc, framebuffer);
     }
 
-    /// Has a plane show a framebuffer, or nothing where that is 0 (drm-uapi, mode setting). It takes no memory.
+    /// Sets the framebuffer that a plane shows, or makes the plane dark if it is 0 (drm-uapi, mode setting). Does not
+    /// allocate.
     ///
     /// ```rust
     /// if modes.is_of_kind(Kind::Plane, 3) && modes.fb(framebuffer).is_some() {
@@ -399,7 +412,8 @@ impl Modes {
         self.scanouts.as_mut_slice()[engine as usize - 1] = framebuffer;
     }
 
-    /// The framebuffer that a CRTC or a plane shows; 0 where it is dark, and of any other id. It takes no memory.
+    /// Returns the framebuffer that a CRTC or a plane shows, or 0 if it is dark or the id is another's. Does not
+    /// allocate.
     ///
     /// ```rust
     /// assert!(modes.shown(1) == framebuffer && modes.shown(2) == 0);
@@ -413,8 +427,10 @@ impl Modes {
         self.scanouts[id as usize - 1]
     }
 
-    /// Returns the row at a position, from 0, of the rows of an audit's kind (own): framebuffers are kind 8, rising by id, what CRTCs
-    /// and planes show is kind 9, rising by the id of the CRTC or plane, and no other kind is kept. Does not allocate.
+    /// Returns the row at a position, from 0, of the rows of an audit's kind (own). Does not allocate.
+    ///
+    /// Framebuffers are kind 8, in the order of ids. What CRTCs and planes show is kind 9, in the order of their ids.
+    /// No other kind has rows here.
     ///
     /// ```rust
     /// assert!(modes.nth(8, 0).is_some() && modes.nth(7, 0).is_none());
@@ -429,7 +445,7 @@ impl Modes {
         }
     }
 
-    /// The framebuffer at a place of the list of framebuffers, where 0 is the first. It takes no memory.
+    /// Returns the framebuffer at a position of the list of framebuffers, from 0. Does not allocate.
     ///
     /// ```rust
     /// assert!(matches!(modes.nth_framebuffer(0), Some(row) if row.framebuffer == framebuffer));
@@ -442,8 +458,8 @@ impl Modes {
         Some(row(framebuffer, fb))
     }
 
-    /// The one at a place of the list of the CRTCs and planes that show something, where 0 is the first. It takes no
-    /// memory, and goes through the CRTCs and planes.
+    /// Returns the entry at a position of the list of CRTCs and planes that show something, from 0. Looks at all CRTCs
+    /// and planes. Does not allocate.
     ///
     /// ```rust
     /// assert!(matches!(modes.nth_shown(1), Some(row) if row.engine == 3 && row.framebuffer == framebuffer));

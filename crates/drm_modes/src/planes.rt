@@ -1,4 +1,4 @@
-//! What planes are for: the tests of a list of kinds.
+//! Tests of the kinds of planes.
 
 ghost use Rattle.std.specs.Prelude.{◌≡◌, ◌≤◌, length, filter, replicate};
 ghost use Rattle.std.specs.Bool.{OnTrue};
@@ -11,7 +11,7 @@ use crate::kinds::PlaneKind;
 use crate::topologies::is_in;
 use arrayvec::ArrayVec;
 
-/// So many overlay planes.
+/// Returns `count` overlay planes.
 pub(crate) fn overlays(count: u32) -> ArrayVec<PlaneKind, 64>
     requires { count ≤ 64 }
     ensures { result.items ≡ replicate count IsOverlay }
@@ -23,7 +23,7 @@ pub(crate) fn overlays(count: u32) -> ArrayVec<PlaneKind, 64>
     kinds
 }
 
-/// Whether there is a kind for each plane, whose CRTC is a possible one of it, and no CRTC has two primary or two cursor
+/// Returns whether each plane has a kind whose CRTC is a possible one of it, and no CRTC has two primary or two cursor
 /// planes.
 #[tactic(auto, unfolding(crate::specs::PlaneKinds::are_kinds))]
 pub(crate) fn are_kinds(crtcs: u32, kinds: &[PlaneKind], planes: &[u32]) -> bool
@@ -34,7 +34,7 @@ pub(crate) fn are_kinds(crtcs: u32, kinds: &[PlaneKind], planes: &[u32]) -> bool
     kinds.len() == planes.len() && fit(crtcs, kinds, planes) && stand_once(kinds)
 }
 
-/// Whether each plane, by the mask of its possible CRTCs, may be for what it is.
+/// Returns whether each plane, by the mask of its possible CRTCs, may have its kind.
 fn fit(crtcs: u32, kinds: &[PlaneKind], planes: &[u32]) -> bool
     requires few { crtcs ≤ 8 }
     requires one_each { length kinds.now ≡ length planes.now }
@@ -46,7 +46,7 @@ fn fit(crtcs: u32, kinds: &[PlaneKind], planes: &[u32]) -> bool
         .all(|(kind, mask)| fits(crtcs, *kind, *mask))
 }
 
-/// Whether a plane with this mask may be for this: an overlay plane, or one of a possible CRTC.
+/// Returns whether a plane with this mask may have this kind: an overlay plane, or that of a possible CRTC.
 fn fits(crtcs: u32, kind: PlaneKind, mask: u32) -> bool
     requires { crtcs ≤ 8 }
     ensures { result ≡ kinds_are.fits crtcs (kind, mask) }
@@ -57,7 +57,7 @@ fn fits(crtcs: u32, kind: PlaneKind, mask: u32) -> bool
     }
 }
 
-/// Whether a CRTC, of so many, is one of a mask.
+/// Returns whether a CRTC, out of `crtcs`, is one of a mask.
 pub(crate) fn is_possible(crtcs: u32, mask: u32, crtc: u32) -> bool
     requires { crtcs ≤ 8 }
     ensures { result ≡ kinds_are.is_possible crtcs mask crtc }

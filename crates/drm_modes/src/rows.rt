@@ -1,21 +1,21 @@
-//! What callers give of framebuffers, and are shown of them.
+//! The rows of framebuffers, and of what is shown.
 
 use drm_gem::ObjectKey;
 
-/// How the pixels of a framebuffer lie (drm-uapi, mode setting: MODE_ADDFB).
+/// The shape of a framebuffer's pixels (drm-uapi, mode setting: MODE_ADDFB).
 ///
 /// ```rust
 /// let shape = Shape { width: 640, height: 480, pitch: 2560, bpp: 32 };
 /// ```
 #[derive(Clone, Copy, PartialEq, Eq, Debug)]
 pub struct Shape {
-    /// In pixels.
+    /// The width in pixels.
     pub width: u32,
-    /// In pixels.
+    /// The height in pixels.
     pub height: u32,
-    /// Bytes from one line to the next.
+    /// The number of bytes from one line to the next.
     pub pitch: u32,
-    /// Bits a pixel.
+    /// The number of bits of a pixel.
     pub bpp: u32,
 }
 
@@ -32,30 +32,30 @@ pub struct Shape {
 pub struct Framebuffer {
     /// Its id, above those of the fixed mode objects.
     pub framebuffer: u32,
-    /// The client that made it, which alone may remove it.
+    /// The client that created it. Only it may remove it.
     pub client: u32,
-    /// How its pixels lie.
+    /// The shape of its pixels.
     pub shape: Shape,
-    /// The object that has them.
+    /// The object with the pixels.
     pub object: ObjectKey,
 }
 
-/// A framebuffer without its id: what is known of an object whose pixels can be shown (drm-uapi, mode setting).
+/// A framebuffer without its id (drm-uapi, mode setting).
 ///
 /// ```rust
 /// assert!(modes.fb(framebuffer) == Some(Fb { client: 1, shape, object }));
 /// ```
 #[derive(Clone, Copy, PartialEq, Eq, Debug)]
 pub struct Fb {
-    /// The client that created it, and that alone may remove it.
+    /// The client that created it. Only it may remove it.
     pub client: u32,
-    /// The layout of its pixels.
+    /// The shape of its pixels.
     pub shape: Shape,
     /// The object with the pixels.
     pub object: ObjectKey,
 }
 
-/// A row of an audit that [`Modes`](crate::Modes) keeps (own).
+/// A row of an audit from [`Modes`](crate::Modes) (own).
 ///
 /// ```rust
 /// let row = Framebuffer { framebuffer, client: 1, shape, object };

@@ -1,4 +1,4 @@
-//! What CRTCs and planes show: a list with a framebuffer for each, 0 where it is dark.
+//! What CRTCs and planes show: a list with a framebuffer for each, 0 for a dark one.
 
 ghost use Rattle.std.specs.Prelude.{◌≡◌, ◌≤◌, map, replicate, slice_get, length};
 ghost use Rattle.drm_modes.specs.Modes.{dark_of, lit_rows};
@@ -6,7 +6,7 @@ ghost use Rattle.drm_modes.specs.Modes.{dark_of, lit_rows};
 use crate::rows::Shown;
 use arrayvec::ArrayVec;
 
-/// So many that are dark.
+/// Returns a list of `count` dark ones.
 pub(crate) fn dark(count: u32) -> ArrayVec<u32, 64>
     requires { count ≤ 64 }
     ensures { result.items ≡ replicate count 0 }
@@ -18,7 +18,7 @@ pub(crate) fn dark(count: u32) -> ArrayVec<u32, 64>
     scanouts
 }
 
-/// What shows a framebuffer goes dark.
+/// Makes each one dark that shows a framebuffer.
 pub(crate) fn darken(scanouts: &mut [u32], framebuffer: u32)
     ensures { scanouts.new ≡ map (dark_of framebuffer) scanouts.old }
 {
@@ -33,7 +33,7 @@ fn without(scanout: u32, framebuffer: u32) -> u32
     if scanout == framebuffer { 0 } else { scanout }
 }
 
-/// The one at a place among those that are not dark. The first of all has id 1.
+/// Returns the entry at a position among those that are not dark. The first of all has id 1.
 pub(crate) fn nth_lit(scanouts: &[u32], position: usize) -> Option<Shown>
     requires { length scanouts.now ≤ 64 }
     ensures { result ≡ slice_get (lit_rows 1 scanouts.now) position }

@@ -47,9 +47,14 @@ impl Model for Topology {
 }
 
 impl Topology {
-    /// So many CRTCs; for each plane and each encoder the mask of the CRTCs that it may drive, in which bit i is CRTC
-    /// i + 1 (0 is allowed); for each connector the id of its encoder. None where there aren't 1 to 8 CRTCs, where there
-    /// are more than 64 objects (both own), and where a mask or a connector names what isn't there. Takes no memory.
+    /// Creates a topology with only overlay planes, or returns `None` if there is none with these parts. Does not
+    /// allocate.
+    ///
+    /// There are `crtcs` CRTCs. `planes` and `encoders` have a mask of the CRTCs that each may drive: bit i is CRTC i +
+    /// 1, and 0 is allowed. `connectors` has the id of each one's encoder.
+    ///
+    /// There must be 1 to 8 CRTCs, and at most 64 objects (both own). Masks and connectors must name objects of the
+    /// topology.
     ///
     /// ```rust
     /// assert!(Topology::new(1, &[2], &[1], &[1]).is_none());
@@ -70,9 +75,11 @@ impl Topology {
         })
     }
 
-    /// The same, where what each plane is for is said too (drm-uapi, universal planes). None also where there isn't one kind
-    /// for each plane, where the CRTC of a kind isn't a possible one of its plane, and where a CRTC has two primary or two
-    /// cursor planes. Takes no memory.
+    /// Creates a topology with planes of these kinds, or returns `None` if there is none (drm-uapi, universal planes).
+    /// Does not allocate.
+    ///
+    /// In addition to the conditions of [`Topology::new`], there must be one kind for each plane. The CRTC of a kind
+    /// must be a possible one of its plane. A CRTC may have at most one primary and one cursor plane.
     ///
     /// ```rust
     /// let kinds = [PlaneKind::Primary(1), PlaneKind::Overlay];
@@ -103,14 +110,14 @@ impl Topology {
         })
     }
 
-    /// What is so of each topology. It does nothing.
+    /// States the facts that hold for each topology. Calling it does nothing.
     pub fn laws(&self)
         ensures { IsTopology self.now }
     {
         let _ = &self.crtcs;
     }
 
-    /// What an id is, if it is that of a fixed mode object. Takes no memory.
+    /// Returns the kind of the fixed mode object with this id, or `None` if there is none. Does not allocate.
     ///
     /// ```rust
     /// assert!(topology.kind(3) == Some(Kind::Plane) && topology.kind(9).is_none());
@@ -135,7 +142,7 @@ impl Topology {
         None
     }
 
-    /// Whether an id is that of an object of a kind. Takes no memory.
+    /// Returns whether an id is that of an object of a kind. Does not allocate.
     ///
     /// ```rust
     /// assert!(topology.is_of_kind(Kind::Connector, 7));
@@ -152,7 +159,7 @@ impl Topology {
         }
     }
 
-    /// The ids of the objects of a kind, rising. Takes no memory.
+    /// Returns the ids of the objects of a kind, in rising order. Does not allocate.
     ///
     /// ```rust
     /// assert!(topology.ids(Kind::Encoder).ids() == [5, 6].as_slice());
@@ -169,7 +176,7 @@ impl Topology {
         }
     }
 
-    /// How many fixed mode objects there are.
+    /// Returns the number of fixed mode objects.
     ///
     /// ```rust
     /// assert!(topology.object_count() == 8);
@@ -185,7 +192,7 @@ impl Topology {
             + self.connectors.len() as u32
     }
 
-    /// How many CRTCs and planes there are.
+    /// Returns the number of CRTCs and planes.
     ///
     /// ```rust
     /// assert!(topology.scanout_count() == 4);
@@ -198,7 +205,7 @@ impl Topology {
         self.crtcs + self.planes.len() as u32
     }
 
-    /// The id of the first plane, or of what comes next where there is none.
+    /// Returns the id of the first plane, or of the object after the CRTCs if there is none.
     fn first_plane(&self) -> u32
         ensures first { result ≡ fixed.first_plane self.now }
         ensures few { result + length self.now.planes ≤ 65 }
@@ -207,7 +214,7 @@ impl Topology {
         self.crtcs + 1
     }
 
-    /// The id of the first encoder, or of what comes next where there is none.
+    /// Returns the id of the first encoder, or of the object after the planes if there is none.
     fn first_encoder(&self) -> u32
         ensures first { result ≡ fixed.first_encoder self.now }
         ensures few { result + length self.now.encoders ≤ 65 }
@@ -216,7 +223,7 @@ impl Topology {
         self.crtcs + 1 + self.planes.len() as u32
     }
 
-    /// The id of the first connector, or of what comes next where there is none.
+    /// Returns the id of the first connector, or the id after the encoders if there is none.
     fn first_connector(&self) -> u32
         ensures first { result ≡ fixed.first_connector self.now }
         ensures few { result + length self.now.connectors ≤ 65 }
@@ -225,7 +232,8 @@ impl Topology {
         self.crtcs + 1 + self.planes.len() as u32 + self.encoders.len() as u32
     }
 
-    /// The possible CRTCs of a plane or an encoder: bit i is CRTC i + 1. It is 0 where the id is neither. Takes no memory.
+    /// Returns the possible CRTCs of a plane or an encoder: bit i is CRTC i + 1. Returns 0 for any other id. Does not
+    /// allocate.
     ///
     /// ```rust
     /// assert!(topology.possible_crtcs(5) == 3);
@@ -245,7 +253,8 @@ impl Topology {
         0
     }
 
-    /// Whether a CRTC is a possible one of a plane or an encoder: false where the ids are none of these. Takes no memory.
+    /// Returns whether a CRTC is a possible one of a plane or an encoder. Returns `false` if the ids are not theirs.
+    /// Does not allocate.
     ///
     /// ```rust
     /// assert!(topology.drives(6, 2) && !topology.drives(6, 1));
@@ -257,7 +266,7 @@ impl Topology {
         is_possible(self.crtcs, self.possible_crtcs(id), crtc)
     }
 
-    /// What a plane is for; none where the id is no plane's. Takes no memory.
+    /// Returns the kind of a plane, or `None` if the id is not that of a plane. Does not allocate.
     ///
     /// ```rust
     /// assert!(topology.plane_kind(3) == Some(PlaneKind::Overlay));
@@ -273,7 +282,7 @@ impl Topology {
         Some(self.kinds[(id - first) as usize])
     }
 
-    /// The CRTC whose primary or cursor plane it is; none of anything else. Takes no memory.
+    /// Returns the CRTC of a primary or cursor plane, or `None` for any other id. Does not allocate.
     ///
     /// ```rust
     /// assert!(topology.crtc_of_plane(3).is_none());
@@ -284,7 +293,7 @@ impl Topology {
         self.plane_kind(id)?.crtc()
     }
 
-    /// The primary and cursor planes of the CRTCs in a list, rising. Takes no memory.
+    /// Returns the primary and cursor planes of the CRTCs in a list, in rising order. Does not allocate.
     ///
     /// ```rust
     /// assert!(topology.planes_of(&[1]).ids().is_empty());
@@ -311,7 +320,7 @@ impl Topology {
         }
     }
 
-    /// The encoder of a connector; none where the id is no connector's. Takes no memory.
+    /// Returns the encoder of a connector, or `None` if the id is not that of a connector. Does not allocate.
     ///
     /// ```rust
     /// assert!(topology.encoder_of(7) == Some(5));
@@ -327,8 +336,8 @@ impl Topology {
         Some(self.connectors[(connector - first) as usize])
     }
 
-    /// Whether a connector can show what a CRTC does: the CRTC is a possible one of the connector's encoder. It is false
-    /// where the ids are none of these. Takes no memory.
+    /// Returns whether a connector can show the picture of a CRTC: the CRTC is a possible one of the connector's
+    /// encoder. Returns `false` if the ids are not theirs. Does not allocate.
     ///
     /// ```rust
     /// assert!(topology.reaches(8, 2) && !topology.reaches(8, 1));
@@ -342,8 +351,8 @@ impl Topology {
         self.drives(encoder, crtc)
     }
 
-    /// The possible CRTCs of a plane or an encoder among those that are seen: bit i is the i-th of `visible` (drm-uapi,
-    /// leases). It is 0 where the id is neither. Takes no memory.
+    /// Returns the possible CRTCs of a plane or an encoder among those that are seen: bit i is the i-th of `visible`
+    /// (drm-uapi, leases). Returns 0 for any other id. Does not allocate.
     ///
     /// ```rust
     /// let none_seen = ShownList::new();
@@ -375,7 +384,7 @@ impl Topology {
     }
 }
 
-/// So many ids, from the first on.
+/// Returns `count` ids, from the first on.
 fn ids_from(first: u32, count: u32) -> ShownList
     requires low { 1 ≤ first }
     requires high { first + count ≤ 65 }
@@ -388,7 +397,7 @@ fn ids_from(first: u32, count: u32) -> ShownList
     ids
 }
 
-/// Whether an id is one of so many, from the first on.
+/// Returns whether an id is one of `count` ids, from the first on.
 pub(crate) fn is_in(first: u32, count: u32, id: u32) -> bool
     ensures test { result ≡ is_among (numbers_from first count) id }
     ensures within { OnTrue result ((first ≤ id) × (id < first + count)) }
@@ -396,7 +405,7 @@ pub(crate) fn is_in(first: u32, count: u32, id: u32) -> bool
     first <= id && id - first < count
 }
 
-/// Whether the counts are in range, and masks and connectors name what is there.
+/// Returns whether the counts are in range, and masks and connectors name objects that exist.
 #[tactic(auto, unfolding(crate::specs::Topology::are_objects))]
 fn are_objects(crtcs: u32, planes: &[u32], encoders: &[u32], connectors: &[u32]) -> bool
     ensures value { result ≡ fixed.are_objects (topology_of crtcs planes.now encoders.now connectors.now) }
@@ -424,7 +433,7 @@ fn are_counts(crtcs: u32, planes: usize, encoders: usize, connectors: usize) -> 
         && crtcs as usize + planes + encoders + connectors <= 64
 }
 
-/// Whether each mask names CRTCs that are there, and no others.
+/// Returns whether each mask names only CRTCs that exist.
 #[tactic(auto, using(std::proofs::lemmas::Nat::one_shl))]
 fn are_masks(crtcs: u32, masks: &[u32]) -> bool
     requires { crtcs ≤ 8 }
@@ -433,7 +442,7 @@ fn are_masks(crtcs: u32, masks: &[u32]) -> bool
     masks.iter().all(|mask| *mask < 1 << crtcs)
 }
 
-/// Whether each connector's encoder is one of so many, with ids from the first on.
+/// Returns whether each connector's encoder is one of `count`, with ids from the first on.
 fn are_encoders(first: u32, count: u32, connectors: &[u32]) -> bool
     requires { first + count ≤ 65 }
     ensures { result ≡ list_all (λ encoder. nat_le first encoder && nat_lt encoder (first + count)) connectors.now }
