@@ -1,4 +1,4 @@
--- A client has universal planes on exactly where the history says so, and with them off it is told of overlay planes alone.
+-- A client has universal planes on exactly if the history says so, and with them off it holds for overlay planes alone.
 use Rattle.std.proofs.Common.{◌≡◌, ℕ, ◌+◌, ◌≤◌, ◌==◌, Bool, true, false, not, ◌&&◌, ◌||◌, List, ◌∷◌, Option, None, Some, refl, sym, ap, ◌∙◌, arith}
 use Rattle.std.specs.Prelude.{if◌then◌else◌}
 use Rattle.std.specs.List.{AllByRecursion}
@@ -51,7 +51,7 @@ aged : (past : List AnsweredEvent) (w : Rows) → IsReached past w → CapablesT
 aged past w r a = all_both (CapableTold past) (λ (row : ClientRow). row.client ≤ w.steps) (Aged past w) (λ row h k. (h, k)) w.clients a r.step_numbers.0.1
 
 module _ (past : List AnsweredEvent) (w : Rows) (r : IsReached past w) where
-  -- an older client is as it was where another opens
+  -- an older client is unchanged where another opens
   still : (universal : Bool) (row : ClientRow) → Aged past w row → row.universal ≡ (if next_number past == row.client then universal else is_universal_in past row.client)
   still universal row h =
       let steps = r.steps in

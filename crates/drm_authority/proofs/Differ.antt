@@ -1,5 +1,5 @@
--- No two rows have the same lease token, the same id below one owner, or the same number of a master's magics: each is the one that the
--- history tells of.
+-- No two rows have the same lease token, the same id below one owner, or the same number of a master's magics: each is
+-- the one that the history describes.
 use Rattle.std.proofs.Common.{◌≡◌, ℕ, ◌<◌, ◌==◌, true, false, ◌&&◌, List, [], ◌∷◌, Option, None, Some, refl, sym, ap, ◌∙◌, arith, eq-eqb}
 use Rattle.std.specs.Prelude.{IfSome}
 use Rattle.std.specs.List.{AllByRecursion}

@@ -38,7 +38,7 @@ use Rattle.drm_authority.proofs.Tokens.{TokensTold, TokenTold}
 use Rattle.drm_authority.proofs.Stands.{StandsBy, Ranked, row_stands, open_stands, lease_told, ranks_denied, ranks_carried}
 use Rattle.drm_authority.proofs.Held.{is_row_of, is_there, holds, is_client_held, is_lease_held, LessorThere, MasterThere, LeaseHeld, Held, or_more, held_without, held_mastered, held_authenticated, held_capable, own_apart, non_master_apart, lone_apart, lessors_there, clients_there, device_held}
 
--- ---- grants of what ends are gone, and the others' tokens stay
+-- ---- grants of what ends are removed, and the others' tokens stay
 
 under_itself : (rows : List MasterRow) (m : ℕ) → is_under rows m m ≡ true
 under_itself rows m = itself (lessor_of rows) m m
@@ -266,7 +266,7 @@ held_carried past w event r v p h =
     let made = changed-made w event r.made in
     held_swept (changed w event) (falling (step_number w) (changed w event).masters made.1) (lessor_told (step_number w) (changed w event).masters step_numbers.1) (held_changed past w event r v p h)
 
--- with the history's master state, and with masters that are there
+-- with the history's master state, and with masters that exist
 abbrev pub Rooted : List AnsweredEvent → Rows → Type 0
 Rooted past w = Ranked past w × Held w
 

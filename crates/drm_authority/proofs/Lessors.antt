@@ -79,7 +79,7 @@ module _ (past : List AnsweredEvent) (w : Rows) (told : LessorsTold past w) (h :
   chain_same : (s n : ℕ) → is_there w.masters n ≡ true → chain_within s (lessor_of w.masters) n ≡ chain_within s (lessor_in past) n
   chain_same s n there = same_chain (λ n. is_there w.masters n ≡ true) (lessor_in past) (lessor_of w.masters) lessor_same lessor_higher s n there
 
-  -- of a master that is there
+  -- of a master that exists
   pub under_same : (top n : ℕ) → is_there w.masters n ≡ true → is_under w.masters top n ≡ is_under_in past top n
   under_same top n there = ap (λ chain. is_among chain top) (chain_same n n there)
 
@@ -148,7 +148,7 @@ id_free w c ids v =
 turned : (a b c d : ℕ) → ((a == b) && (c == d)) ≡ false → ((b == a) && (d == c)) ≡ false
 turned a b c d h = grind (arith, nat_tests)
 
--- of a lessee that was there
+-- of a lessee that existed
 other_id : (past : List AnsweredEvent) (step : AnsweredEvent) (rows : List MasterRow) (own fresh n : ℕ) (row : MasterRow) →
     row.master ≤ length past → owner_of rows row.master ≡ top_in past row.master → owner_of rows own ≡ top_in past own → is_lessee_of rows (owner_of rows own) fresh row ≡ false → IdTold past row →
     IfSome row.lessor (λ _. (if (fresh == row.lessee_id) && (top_in past own == top_in (step ∷ past) row.master) then Some n else lessee_in past (top_in (step ∷ past) row.master) row.lessee_id) ≡ Some row.master)
@@ -179,7 +179,7 @@ own_old past w r c = by (master_of w c) (of_row (client_row w c) (of_found (IsMa
     of_row None k = tt
     of_row (Some row) k = k.1
 
--- what is needed of each lessee that was there, where one more comes
+-- what is needed of each lessee that existed, where one more comes
 record Older (past : List AnsweredEvent) (w : Rows) (own fresh : ℕ) (row : MasterRow) : Type 0 where
   told : IdTold past row
   old : row.master ≤ length past

@@ -136,7 +136,7 @@ module _ (past : List AnsweredEvent) (w : Rows) (r : IsReached past w) (a : Stan
   got : (magic : Option ℕ) → ℕ
   got magic = unwrap_or (option_or magic (free_magic w (caller_master w c))) 0
 
-  -- what the history says of a magic that was there, where this is answered
+  -- what the history says of a magic that existed, where this is answered
   Got : ℕ → MagicRow → Type 0
   Got answered row = (if (answered == row.number) && (caller_master_in past c == row.master) then Some c else magic_in past row.master row.number) ≡ Some row.client
 

@@ -14,7 +14,7 @@ least_passes p from to h = by (least p from to) refl h
     by None e k = absurd (let n : false ≡ true = k in cc)
     by (Some n) e k = (least_some p from to n e).passes
 
--- so does the next in turn
+-- so does the next one after the other
 pub next_passes : (p : ℕ → Bool) (given last : ℕ) → is_some (next_in_turn p given last) ≡ true → p (unwrap_or (next_in_turn p given last) 0) ≡ true
 next_passes p given last h = by (least p (given + 1) last) refl h
   where

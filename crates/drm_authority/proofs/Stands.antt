@@ -158,7 +158,7 @@ module _ (past : List AnsweredEvent) (w : Rows) (a : StandsBy past w) (c : ℕ) 
   told_of None e h = absurd (let n : false ≡ true = h in cc)
   told_of (Some row) e h = row_stands (master_state past) w c row a.clients e
 
-  -- it is a master exactly where the history says so, and has the master that it says
+  -- it is a master exactly if the history says so, and has the master that it says
   pub open_stands : is_open w c ≡ true → (is_master w c ≡ (master_state past).is_master c) × (master_of w c ≡ (master_state past).master c)
   open_stands h = told_of (client_row w c) refl h
 

@@ -24,7 +24,7 @@ use Rattle.drm_authority.specs.SeesNothing.{KeepsSeeingNothing}
 abbrev pub OwnerFollows : Rows → List AnsweredEvent → Type 0
 OwnerFollows w history = w.device_master ≡ owner_in history
 
--- an open client is a master exactly where the history says so, and has the master that it says
+-- an open client is a master exactly if the history says so, and has the master that it says
 pub record ClientFollows (w : Rows) (history : List AnsweredEvent) (c : ℕ) : Type 0 where
   pub is_master : is_master w c ≡ is_master_in history c
   pub master : master_of w c ≡ master_in history c
@@ -32,7 +32,7 @@ pub record ClientFollows (w : Rows) (history : List AnsweredEvent) (c : ℕ) : T
 abbrev pub ClientsFollow : Rows → List AnsweredEvent → Type 0
 ClientsFollow w history = (c : ℕ) → is_open w c ≡ true → ClientFollows w history c
 
--- a client is a master exactly where it has become one, and its master is the one that it has since
+-- a client is a master exactly if it has become one, and its master is the one that it has since
 pub record MastersBecome (history : List AnsweredEvent) (c : ℕ) : Type 0 where
   pub is_master : is_master_in history c ≡ has_become_master history c
   pub master : master_in history c ≡ master_since history c
@@ -61,7 +61,7 @@ GrantsFollow t w history = (m x : ℕ) → is_granted w m x ≡ granted t histor
 
 -- ---- of capabilities and magics
 
--- an open client has universal planes on exactly where the history says so
+-- an open client has universal planes on exactly if the history says so
 abbrev pub CapabilitiesFollow : Rows → List AnsweredEvent → Type 0
 CapabilitiesFollow w history = (c : ℕ) → is_open w c ≡ true → has_universal w c ≡ is_universal_in history c
 
@@ -69,7 +69,7 @@ CapabilitiesFollow w history = (c : ℕ) → is_open w c ≡ true → has_univer
 abbrev pub MagicsFollow : Rows → List AnsweredEvent → Type 0
 MagicsFollow w history = AllByRecursion (λ (row : MagicRow). magic_in history row.master row.number ≡ Some row.client) w.magics
 
--- an open client is authenticated exactly where the history says so
+-- an open client is authenticated exactly if the history says so
 abbrev pub AuthenticationFollows : Rows → List AnsweredEvent → Type 0
 AuthenticationFollows w history = (c : ℕ) → is_open w c ≡ true → client_has (λ row. row.authenticated) w c ≡ known history c
 

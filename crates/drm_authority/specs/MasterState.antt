@@ -38,7 +38,7 @@ abbrev pub with_set : ℕ → ℕ → Bool → MasterState → MasterState
 with_set number c true s = record s { owner = option_or s.owner (s.master c) }
 with_set number c false s = record (with_client c true (Some number) s) { owner = option_or s.owner (Some number) }
 
--- the device's master goes with its client
+-- the device's master is freed with its client
 abbrev pub owner_without : Bool → Option ℕ → Option ℕ → Option ℕ
 owner_without true (Some m) owner = if is_option m owner then None else owner
 owner_without true None owner = owner
@@ -61,7 +61,7 @@ master_state (step ∷ past) = transition (effect step) (next_number past) (leas
 abbrev pub owner_in : List AnsweredEvent → Option ℕ
 owner_in history = (master_state history).owner
 
--- whether the client is a master of its own
+-- whether the client is its own master
 abbrev pub is_master_in : List AnsweredEvent → ℕ → Bool
 is_master_in history c = (master_state history).is_master c
 

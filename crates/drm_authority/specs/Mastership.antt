@@ -16,7 +16,7 @@ pub record Opened : Type 0 where
 abbrev pub opened_apart : Opened
 opened_apart = record { is_master = false; master = None }
 
--- a primary client founds a master of its own where the device has none, and joins the device's where it has one
+-- a primary client founds its own master where the device has none, and joins the device's where it has one
 abbrev pub opened_primary : Option ℕ → ℕ → Opened
 opened_primary None number = record { is_master = true; master = Some number }
 opened_primary (Some owner) number = record { is_master = false; master = Some owner }

@@ -1,4 +1,5 @@
--- What a client whose lease ended is still answered (drm-uapi, leases): nothing that tells of a CRTC, a connector or a plane.
+-- What a client whose lease ended is still answered (drm-uapi, leases): nothing that describes a CRTC, a connector or a
+-- plane.
 use Rattle.std.specs.Prelude.{◌≡◌, ℕ, true, List, [], Some}
 use Rattle.drm_table.specs.declared.answers.Answer.{Answer}
 use Rattle.drm_table.specs.declared.answers.Answer.TheVariants.{Number, Resources, List as ListIs}

@@ -19,24 +19,25 @@ pub fn closings_are_for_good()
     ensures { (h : DeviceValue) → ClosingsAreForGood (history_of h) }
 {}
 
-/// Masters follow from the history: the device's master is the owner that it tells of, and an open client is a master exactly
-/// where it says so, and has the master that it says.
+/// Masters follow from the history: the device's master is the owner that it describes, and an open client is a master
+/// exactly if it says so, and has the master that it says.
 pub fn masters_follow_from_history()
     ensures owner { (h : DeviceValue) → OwnerFollows (rows_of h) (history_of h) }
     ensures clients { (h : DeviceValue) → ClientsFollow (rows_of h) (history_of h) }
 {}
 
-/// What the history says of masters, step by step. A client is a master where it redeemed a lease token, was opened on a primary node
-/// while the device had no master, or set master. Its master is the lessee of its token or its own from its opening on, else
-/// that of its first SET_MASTER, or else the device's as it was opened. The device's master is what the last step left.
+/// What the history says of masters, step by step. A client is a master where it redeemed a lease token, was opened on
+/// a primary node while the device had no master, or set master. Its master is the lessee of its token or its own from
+/// its opening on, else that of its first SET_MASTER, or else the device's at its opening. The device's master is what
+/// the last step left.
 pub fn masters_become_so_by_their_steps()
     ensures clients { (h : DeviceValue) (c : ℕ) → MastersBecome (history_of h) c }
     ensures owner { (step : AnsweredEvent) (past : List AnsweredEvent) → owner_in (step ∷ past) ≡ owner_after (effect step) step past }
 {}
 
 /// Lessees follow from the history: an open lease token, and a lessee's id under its owner, are those of the last
-/// MODE_CREATE_LEASE that answered them, however often the number was given before; a lessor is the master of who asked then, and an
-/// owner the top of the lessors.
+/// MODE_CREATE_LEASE that answered them, however often the number was assigned before; a lessor is the master of the
+/// caller then, and an owner the top of the lessors.
 pub fn lessees_follow_from_history()
     ensures tokens { (h : DeviceValue) → LeaseTokensFollow (rows_of h) (history_of h) }
     ensures lessors { (h : DeviceValue) → LessorsFollow (rows_of h) (history_of h) }
@@ -44,9 +45,9 @@ pub fn lessees_follow_from_history()
     ensures ids { (h : DeviceValue) → LesseesFollow (rows_of h) (history_of h) }
 {}
 
-/// Grants follow from the history: a lease has a mode object exactly where its MODE_CREATE_LEASE lent it and no step since ended
-/// the lease. It lends what it names and, where its client had universal planes off, of each CRTC that it names the primary and the
-/// cursor plane that the client's master controlled.
+/// Grants follow from the history: a lease has a mode object exactly if its MODE_CREATE_LEASE lent it and no step since
+/// ended the lease. It lends what it names and, where its client had universal planes off, of each CRTC that it names
+/// the primary and the cursor plane that the client's master controlled.
 pub fn grants_follow_from_history()
     ensures { (h : DeviceValue) → GrantsFollow h.topology (rows_of h) (history_of h) }
 {}
@@ -65,8 +66,9 @@ pub fn capabilities_follow_from_history()
     ensures overlays { (h : DeviceValue) → OverlaysAlone h.topology (history_of h) }
 {}
 
-/// Authentication follows from the history: each magic is that of the last GET_MAGIC that answered its number under its master,
-/// and an open client is authenticated exactly where it opened as root, is a master, or AUTH_MAGIC named its magic.
+/// Authentication follows from the history: each magic is that of the last GET_MAGIC that answered its number under its
+/// master, and an open client is authenticated exactly if it opened as root, is a master, or AUTH_MAGIC named its
+/// magic.
 pub fn authentication_follows_from_history()
     ensures magics { (h : DeviceValue) → MagicsFollow (rows_of h) (history_of h) }
     ensures clients { (h : DeviceValue) → AuthenticationFollows (rows_of h) (history_of h) }

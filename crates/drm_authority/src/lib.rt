@@ -1,5 +1,5 @@
-//! Which masters, leases and authenticated clients the history of a device tells of, from its events and answers alone, and that
-//! a device's rows are those: definitions in `specs/`, and laws of them.
+//! Which masters, leases and authenticated clients the history of a device describes, from its events and answers
+//! alone, and that a device's rows are those: definitions in `specs/`, and laws of them.
 #![tactic(auto)]
 
 mod laws;

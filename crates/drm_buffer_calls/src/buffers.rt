@@ -55,7 +55,7 @@ pub fn create_dumb(
     Ok(())
 }
 
-/// BUF_CREATE: a new object of so many bytes, rounded up to whole pages, and a handle of it. Where memory is refused
+/// BUF_CREATE: a new object of this many bytes, rounded up to whole pages, and a handle of it. Where memory is refused
 /// nothing changes.
 pub fn buf_create(
     state: &mut State,
@@ -82,8 +82,8 @@ pub fn buf_create(
     Ok(())
 }
 
-/// Makes an object of so many bytes and a handle of it, and answers the handle; none where the client has every handle or
-/// as many objects are there as may be. Where memory is refused nothing changes.
+/// Makes an object of this many bytes and a handle of it, and answers the handle; none where the client has every
+/// handle or as many objects are there as may be. Where memory is refused nothing changes.
 fn new_buffer(
     state: &mut State,
     step_number: u32,
@@ -111,7 +111,7 @@ fn new_buffer(
     Ok(Some(handle))
 }
 
-/// The bytes of a row of pixels.
+/// Returns the bytes of a row of pixels.
 fn dumb_pitch(width: u32, bpp: u32) -> u32
     requires narrow { width ≤ 65535 }
     requires shallow { bpp ≤ 64 }
@@ -121,7 +121,7 @@ fn dumb_pitch(width: u32, bpp: u32) -> u32
     (width * bytes_per_pixel(bpp) + 63) / 64 * 64
 }
 
-/// The bytes of a buffer of so many rows of this pitch.
+/// Returns the bytes of a buffer of this many rows of this pitch.
 fn dumb_size(pitch: u32, height: u32) -> u64
     requires narrow { pitch ≤ 524288 }
     requires low { height ≤ 65535 }
@@ -130,14 +130,14 @@ fn dumb_size(pitch: u32, height: u32) -> u64
     (pitch as u64 * height as u64 + 4095) / 4096 * 4096
 }
 
-/// Whether a buffer may have so many bytes.
+/// Returns whether a buffer may have this many bytes.
 fn is_buffer_size(size: u64) -> bool
     ensures { result ≡ model.is_buffer_size size }
 {
     1 <= size && size <= MOST_BYTES
 }
 
-/// The bytes of a buffer of at least so many: whole pages.
+/// Returns the bytes of a buffer of at least this many: whole pages.
 fn buffer_size(size: u64) -> u64
     requires { size ≤ 68719476736 }
     ensures { result ≡ model.buffer_size size }
@@ -145,8 +145,8 @@ fn buffer_size(size: u64) -> u64
     (size + 4095) / 4096 * 4096
 }
 
-/// GEM_CLOSE and MODE_DESTROY_DUMB: the handle goes, the object's name with its last handle, and the object with the last
-/// that refers to it. It takes no memory and asks for no limit.
+/// GEM_CLOSE and MODE_DESTROY_DUMB: the handle goes, the object's name with its last handle, and the object with the
+/// last that refers to it. Does not allocate and needs no limit.
 pub fn gem_close(state: &mut State, client: u32, handle: u32, answer: &mut Answer)
     requires invariants { MeetsInvariants state.old }
     requires open_client { is_open_client state.old.files client ≡ true }

@@ -9,7 +9,7 @@ ghost use Rattle.drm_state.specs.Refinement.{RefinesReply};
 use drm_state::State;
 use drm_table::Answer;
 
-/// LIST_HANDLES: the caller's handles that are not below a number, rising, the first 64. It takes no memory and asks for no
+/// LIST_HANDLES: the caller's handles that are not below a number, rising, the first 64. Does not allocate and needs no
 /// limit.
 pub fn list_handles(state: &State, client: u32, from: u32, answer: &mut Answer)
     requires invariants { MeetsInvariants state.now }

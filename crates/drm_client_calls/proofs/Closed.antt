@@ -37,7 +37,7 @@ leases_stay v c l e = sym ((λ i. ended (none_ends v c e i) l) ∙ none_ended l)
 unreleased : (v : MasterSet) (c : ℕ) → own_master (masters.member_of v.members c) ≡ None → v.masters ≡ released (ends_with v c) v.masters
 unreleased v c e = sym ((λ i. released (none_ends v c e i) v.masters) ∙ none_released v.masters)
 
--- a client that stands to no master
+-- a client that belongs to no master
 pub nobody_gone : (v : MasterSet) (c : ℕ) → AreMasters v → masters.member_of v.members c ≡ None → v ≡ without_its_master c v
 nobody_gone v c are none =
     let stay : filter (λ (x : Member). not (masters.is_client c x)) v.members ≡ v.members = filter_all (λ (x : Member). not (masters.is_client c x)) v.members (all_weaker (λ (x : Member). masters.is_client c x ≡ false) (λ (x : Member). not (masters.is_client c x) ≡ true) (λ x e. ap not e) v.members (none_found (masters.is_client c) v.members none)) in
@@ -92,7 +92,7 @@ closed_kept own ms x at number = by_row (masters.master_at ms x.step_number) ref
         let num : (y.step_number == own) ≡ true = ap (λ n. n == own) (sym (step_number_stays own true y) ∙ ap (λ (z : Master). z.step_number) is) ∙ eq-eqb x.step_number own number in
         sym (ap (λ (z : Master). z.kept) is) ∙ ap (λ b. (if b then kept_as true y else y).kept) num
 
--- one of a master of its own, whose leases end with all below it
+-- one of its own master, whose leases end with all below it
 module _ (v middle : MasterSet) (c : ℕ) (x : Member) (here : masters.member_of v.members c ≡ Some x) (own : x.is_master ≡ true) (is : middle ≡ closed_own x.client x.master v) where
   below_is : is_below (Some x.master) middle.masters ≡ ends_with v c
   below_is =
@@ -115,7 +115,7 @@ module _ (v middle : MasterSet) (c : ℕ) (x : Member) (here : masters.member_of
   pub owner_leases : (l new : LeaseSet) → new ≡ leases.ended middle.masters x.master l → new ≡ without_its_leases c v l
   owner_leases l new f = f ∙ (λ i. ended (below_is i) l)
 
--- ---- by what the closing gave back
+-- ---- by what the closing returned back
 
 pub closed_without : (v new : MasterSet) (c : ℕ) → AreMasters v → ClosedBy v (masters.member_of v.members c) None new → (own_master (masters.member_of v.members c) ≡ None) × (new ≡ without_its_master c v)
 closed_without v new c are h = by_member (masters.member_of v.members c) refl h
@@ -128,7 +128,7 @@ closed_without v new c are h = by_member (masters.member_of v.members c) refl h
     by_member None none k = (ap own_master none, k.1 ∙ nobody_gone v c are none)
     by_member (Some x) here k = by_own x here x.is_master refl k
 
--- the row of a client whose own master's key it gave back
+-- the row of a client whose own master's key it returned back
 pub record Closing (v middle : MasterSet) (c key : ℕ) : Type 0 where
   pub row : Member
   pub here : masters.member_of v.members c ≡ Some row

@@ -40,13 +40,13 @@ use Rattle.drm_client_calls.proofs.Files.{not_there}
 pub not_full : (a b : ℕ) → nat_le a b ≡ false → b < a
 not_full a b h = grind (arith, nat_tests)
 
--- who stands to masters is older than a client that is made now
+-- who belongs to masters is older than a client that is made now
 pub newer : (s : State) (b : ℕ) → MeetsInvariants s → IsLater s b → IsNewClient s.masters b
 newer s b t later = all_weaker (λ (x : Member). is_open_client s.files x.client ≡ true) (λ (x : Member). x.client < b) (λ x e. older x.client b s.files.clients later.clients e) s.masters.members (members_open s t)
 
 -- ---- a file that was opened is closed again
 
--- all is as it was
+-- all is unchanged
 pub back : (P : State → Type 0) (s : State) (fs : FileLists) (set : MasterSet) → fs ≡ s.files → set ≡ s.masters → P s → P (record s { files = fs; masters = set })
 back P s fs set e f h = subst (λ l. P (record s { files = l; masters = set })) (sym e) (subst (λ l. P (record s { masters = l })) (sym f) h)
 
@@ -73,7 +73,7 @@ closed_again fs c flags are newest = λ i. record fs { clients = clients i; hold
 
 -- ---- one more client
 
--- the state with a client that stands to masters so, with these leases
+-- the state with a client that belongs to masters so, with these leases
 abbrev pub joined : State → ℕ → FileFlags → MasterSet → LeaseSet → State
 joined s c flags set l = record s { files = with_file s.files c flags; masters = set; leases = l }
 
@@ -125,7 +125,7 @@ opener_represents s w flags m z row master t later none r k h Magics = subst (Sa
 opener_represents s w flags m z row master t later none r k h DeviceMaster = ap (λ (x : MasterRow). Some x.master) (sym k)
 opener_represents s w flags m z row master t later none r k h part = h part
 
--- ---- one more render client, which does not stand to masters
+-- ---- one more render client, which does not belong to masters
 
 rows_rendered : (s : State) (w : Rows) (c : ℕ) (flags : FileFlags) (row : ClientRow) → MeetsInvariants s → IsLater s c → client_row_by (record { client = c; flags = flags }) None ≡ row → Represents s w →
     (part : Part) → represents_part part (record s { files = with_file s.files c flags }) (record w { clients = w.clients ++ row ∷ [] })
@@ -147,7 +147,7 @@ ties_rendered s c flags render t invariant = t invariant
 pub rendered_invariants : (s : State) (fs : FileLists) (c : ℕ) (flags : FileFlags) → flags.render ≡ true → MeetsInvariants s → fs ≡ with_file s.files c flags → MeetsInvariants (record s { files = fs })
 rendered_invariants s fs c flags render t e = subst (λ l. MeetsInvariants (record s { files = l })) (sym e) (ties_rendered s c flags render t)
 
--- no more clients stand to masters than are open
+-- no more clients belong to masters than are open
 pub fewer_members : (ms : List Member) (fs : List FileClient) → InOrder (λ (x y : Member). x.client < y.client) ms → AllByRecursion (λ (x : Member). is_some (find (files.is_client x.client) fs) ≡ true) ms → length ms ≤ length fs
 fewer_members [] fs h there = omega arith
 fewer_members (m ∷ ms) fs h there =

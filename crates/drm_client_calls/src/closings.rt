@@ -18,11 +18,11 @@ use drm_share::{Names, Tokens};
 use drm_state::{State, release};
 use drm_table::{Answer, Rule};
 
-/// Closes a client: its framebuffers go, and the CRTCs and planes that show them go dark; its tokens, its magic and its handles
-/// go, the names of objects that no handle names any more, and the objects that nothing else refers to; its master goes where
-/// nobody else names it, and the device's master where that was the client's own; the leases of a master of its own end, with those
-/// of all below it and their open tokens. A client that isn't open is denied, and
-/// nothing changes. It takes no memory and asks for no limit.
+/// Closes a client: its framebuffers go, and the CRTCs and planes that show them go dark; its tokens, its magic and its
+/// handles go, the names of objects that no handle names any more, and the objects that nothing else refers to; its
+/// master goes where no client else names it, and the device's master where that was the client's own; the leases of
+/// its own master end, with those of all below it and their open tokens. A client that isn't open is denied, and
+/// nothing changes. Does not allocate and needs no limit.
 pub fn close(state: &mut State, client: u32, answer: &mut Answer)
     requires { MeetsInvariants state.old }
     ensures invariants { MeetsInvariants state.new }
@@ -47,7 +47,7 @@ pub fn close(state: &mut State, client: u32, answer: &mut Answer)
     *answer = Answer::Closed;
 }
 
-/// A client no more stands to masters. The leases of a master of its own end, and of all below it.
+/// A client no more belongs to masters. The leases of its own master end, and of all below it.
 fn close_master(masters: &mut Masters, leases: &mut Leases, client: u32)
     requires are { AreMasters masters.old }
     requires agreed { AreAgreed leases.old masters.old }
@@ -82,7 +82,7 @@ fn close_tokens(tokens: &mut Tokens, objects: &mut Objects, client: u32)
     }
 }
 
-/// A client's framebuffers go, what shows them goes dark, and the objects go that they alone referred to.
+/// A client's framebuffers go, what shows them becomes dark, and the objects go that they alone referred to.
 fn close_framebuffers(modes: &mut Modes, objects: &mut Objects, client: u32)
     requires { (keys others : List ℕ) × AreCounted keys (others ++ framebuffer_keys modes.old.framebuffers) objects.old.objects }
     ensures loses { LosesFramebuffersOf client modes.old modes.new }
@@ -97,8 +97,8 @@ fn close_framebuffers(modes: &mut Modes, objects: &mut Objects, client: u32)
     }
 }
 
-/// A client's file goes with its handles, the names of objects that no other handle names, and the objects that nothing else
-/// refers to.
+/// A client's file is freed with its handles, the names of objects that no other handle names, and the objects that
+/// nothing else refers to.
 fn release_all(files: &mut Files, names: &mut Names, objects: &mut Objects, client: u32)
     requires open_client { is_open_client files.old client ≡ true }
     requires invariants { (refs : List ℕ) × AreCounted (keys_of files.old.holds) refs objects.old.objects }

@@ -1,4 +1,4 @@
-//! How a client comes to be.
+//! The opening of a client.
 
 ghost use Rattle.std.specs.Prelude.{◌≡◌, ◌<◌, ◌∷◌, ◌++◌, [], true, length, OnOk, OnErr, if◌then◌else◌};
 ghost use Rattle.std.specs.List.{AllByRecursion};
@@ -31,7 +31,7 @@ pub fn open(state: &mut State, step_number: u32, opening: Opening) -> Result<Ans
     }
 }
 
-/// A primary client: of a master of its own where the device has none, and else of the device's.
+/// Returns a primary client: of its own master where the device has none, and else of the device's.
 fn open_primary(
     state: &mut State,
     step_number: u32,
@@ -64,7 +64,7 @@ fn open_primary(
     })
 }
 
-/// A render client, which has no master, and universal planes on (own).
+/// Returns a render client, which has no master, and universal planes on (own).
 fn open_render(state: &mut State, step_number: u32) -> Result<Answer, AllocError>
     requires { StepPrecondition state.old step_number }
     ensures refines { Refines state.old step_number (Open Render) result state.new }
@@ -79,7 +79,8 @@ fn open_render(state: &mut State, step_number: u32) -> Result<Answer, AllocError
     })
 }
 
-/// The client of a lessee that nobody redeemed, by the lessee's open token, which is spent (drm-uapi, leases; the token is own).
+/// The client of a lessee that no client redeemed, by the lessee's open token, which is spent (drm-uapi, leases; the
+/// token is own).
 fn open_lease(
     state: &mut State,
     step_number: u32,

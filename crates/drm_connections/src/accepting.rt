@@ -19,7 +19,7 @@ const ENOBUFS: i32 = 105;
 /// How long a listener waits if the system can't accept, in milliseconds.
 const PAUSE: i32 = 100;
 
-/// How many pauses a listener makes in a row while no connection is open, before it gives up: five seconds in all.
+/// How many pauses a listener makes in a row while no connection is open, before it stops: five seconds in all.
 const MOST_PAUSES: u32 = 50;
 
 // The errors that may pass: the system has no descriptor or memory left, or the client left before it was accepted.

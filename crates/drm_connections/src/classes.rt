@@ -5,7 +5,7 @@ ghost use Rattle.drm_connections.specs.Classes as classes;
 
 use drm_sessions::Class;
 
-/// The word for a listener's class, in fault lines and in what is logged (own).
+/// Returns the word for a listener's class, in fault lines and in what is logged (own).
 pub fn class_word(class: Class) -> &'static str
     ensures { result.now ≡ classes.class_word class }
 {

@@ -1,6 +1,6 @@
-//! What is logged of listeners and of sessions, by a thread of its own.
+//! What is logged of listeners and of sessions, by its own thread.
 //!
-//! Nothing here shows in a contract: no clause tells what is logged.
+//! Nothing here is in a contract: no clause says what is logged.
 
 use crate::classes::class_word;
 use crate::counts::MOST_AT_ONCE;
@@ -39,7 +39,7 @@ pub enum Note {
     Retried(Class, Option<i32>),
     /// A connection could not be accepted, by the error of this number, and the listener is closed.
     Closed(Class, Option<i32>),
-    /// A connection behind the last one of a listener.
+    /// A connection after the last one of a listener.
     Refused(Class),
     /// A connection beyond those that a listener has open at once.
     Crowded(Class),
@@ -113,7 +113,7 @@ struct Waiting {
 }
 
 impl Waiting {
-    /// Whether there is nothing to do.
+    /// Returns whether there is nothing to do.
     fn is_idle(&self) -> bool {
         self.notes.is_empty() && self.left_out == 0 && !self.has_ended
     }
@@ -147,7 +147,7 @@ impl Waiting {
     }
 }
 
-/// Notes that a thread of its own logs, so that no other thread waits for standard error.
+/// Notes that its own thread logs, so that no other thread waits for standard error.
 #[derive(Drop)]
 pub struct Notes {
     waiting: Mutex<Waiting>,
@@ -211,7 +211,7 @@ impl Notes {
         waiting.take()
     }
 
-    /// Waits until standard error takes a line, which may be never. After the end it gives up within a second.
+    /// Waits until standard error takes a line, which may be never. After the end it stops within a second.
     fn wait_for_room<R: Wait>(&self, rt: &R) -> bool {
         let mut pauses: u32 = 0;
         for _ in rt.forever() {

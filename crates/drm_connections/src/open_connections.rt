@@ -1,6 +1,6 @@
 //! The connections that are open, as the threads that serve them see them together.
 //!
-//! Nothing here shows in a contract: no clause tells when a connection ends, or that a thread waits for another.
+//! Nothing here is in a contract: no clause says when a connection ends, or that a thread waits for another.
 
 ghost use Rattle.std.specs.Prelude.{◌≤◌};
 
@@ -35,7 +35,8 @@ struct Attending {
 }
 
 impl Attending {
-    /// Whether it is a connection that was closed at the other end, as a process that exits closes all of its own.
+    /// Returns whether it is a connection that was closed at the other end, as a process that exits closes all of its
+    /// own.
     fn is_closed(&self) -> bool {
         let mut asked = [pollfd {
             fd: self.socket,
@@ -45,7 +46,7 @@ impl Attending {
         self.role != Role::Listener && poll(&mut asked, 0) == 1 && asked[0].revents & POLLHUP != 0
     }
 
-    /// Whether its client may be open still, though the connection was closed at the other end.
+    /// Returns whether its client may be open still, though the connection was closed at the other end.
     fn has_gone(&self) -> bool {
         self.role == Role::Admitted && self.is_closed()
     }
@@ -88,7 +89,7 @@ impl Place {
     }
 }
 
-/// All sockets on which threads wait, each at a place of its own.
+/// All sockets on which threads wait, each at its own place.
 #[derive(Drop)]
 struct Places {
     has_ended: bool,
@@ -97,7 +98,7 @@ struct Places {
 }
 
 impl Places {
-    /// Whether there is a connection that nobody is at the other end of, and whose client may be open still.
+    /// Returns whether there is a connection that no client is at the other end of, and whose client may be open still.
     fn has_gone(&self) -> bool {
         for place in self.places.iter() {
             if let Some(attending) = place.attending() {
@@ -109,7 +110,7 @@ impl Places {
         false
     }
 
-    /// Whether there is a connection that was closed at the other end and is still served.
+    /// Returns whether there is a connection that was closed at the other end and is still served.
     fn is_leaving(&self) -> bool {
         for place in self.places.iter() {
             if let Some(attending) = place.attending() {
@@ -121,7 +122,7 @@ impl Places {
         false
     }
 
-    /// Whether a connection is served.
+    /// Returns whether a connection is served.
     fn is_serving(&self) -> bool {
         for place in self.places.iter() {
             if let Some(attending) = place.attending() {
@@ -133,7 +134,7 @@ impl Places {
         false
     }
 
-    /// Ends what goes through each socket.
+    /// Ends what looks at each socket.
     fn shut_all(&self) {
         for place in self.places.iter() {
             if let Some(attending) = place.attending() {
@@ -175,10 +176,12 @@ impl Places {
 
 /// The connections that threads serve at once, and the listeners that they came by.
 ///
-/// Who asks for an opening is served once the closing of each client is made whose connection had been closed at the other end by
-/// then. So who waits for the end of a process, and then opens a client, finds nothing that was that process's.
+/// Who asks for an opening is served once the closing of each client is made whose connection had been closed at the
+/// other end by then. So who waits for the end of a process, and then opens a client, finds nothing that was that
+/// process's.
 ///
-/// They can be told to end: then each connection is ended as if its client had, and so are those that are still to come.
+/// They can be asked to end: then each connection is ended as if its client had, and so are those that are still to
+/// come.
 #[derive(Drop)]
 pub struct OpenConnections {
     places: Mutex<Places>,
@@ -188,10 +191,10 @@ pub struct OpenConnections {
 }
 
 impl OpenConnections {
-    /// None is open yet. There is room for so many, and for their listeners.
+    /// None is open yet. There is room for this many, and for their listeners.
     ///
-    /// A connection that was closed at the other end stands for those that were still to come when they are told to end; they
-    /// are never told where it is lacking.
+    /// A connection that was closed at the other end represents those that were still to come when they are asked to
+    /// end; they are never told where it is missing.
     pub fn new(
         alloc: Global,
         counts: Counts,
@@ -236,12 +239,12 @@ impl OpenConnections {
         places.shut_all();
     }
 
-    /// Whether they were told to end.
+    /// Returns whether they were asked to end.
     pub fn has_ended<R: Wait>(&self, rt: &R) -> bool {
         self.places.lock(rt).has_ended
     }
 
-    /// A connection that has ended, once they were told to end.
+    /// Returns a connection that has ended, once they were asked to end.
     pub fn ended<R: Wait>(&self, rt: &R) -> Option<&UnixStream> {
         if self.has_ended(rt) {
             self.ended.as_ref()
@@ -260,7 +263,7 @@ impl OpenConnections {
         &self.notes
     }
 
-    /// Returns the allocator that the connections were given.
+    /// Returns the allocator that the connections were assigned.
     pub fn alloc<R: Wait>(&self, rt: &R) -> Global {
         self.places.lock(rt).alloc
     }
@@ -285,8 +288,8 @@ impl OpenConnections {
         );
     }
 
-    /// Takes in a socket at a reserved place, until the attendance is let go. The socket has to be open for as long. If all were told to
-    /// end, it is ended.
+    /// Adds a socket at a reserved place, until the attendance is let go. The socket has to be open for as long. If all
+    /// were asked to end, it is ended.
     pub fn attend<'a, R: Wait>(
         &'a self,
         rt: &'a R,
@@ -317,7 +320,8 @@ pub struct Attendance<'a, R: Wait> {
 }
 
 impl<R: Wait> Attendance<'_, R> {
-    /// Waits until each client is closed whose connection has nobody at the other end, and counts this connection's own as open.
+    /// Waits until each client is closed whose connection has no client at the other end, and counts this connection's
+    /// own as open.
     pub fn admit(&self) {
         let admitted = Attending {
             socket: self.socket,

@@ -56,7 +56,7 @@ use Rattle.drm_state.proofs.Represented.{bounds_are, clients_are, masters_are, h
 use Rattle.drm_state.proofs.Refinements.{represented_count}
 use Rattle.drm_state.proofs.Lookups.{is_open_is}
 
--- the state of a device stands for its rows
+-- the state of a device represents its rows
 pub stands : (d : Inside) (n : ℕ) → IsDevice d → n ≡ vec_len d.journal → RepresentsAt d.state (n + 1) (rows_of (value_of d))
 stands d n h e = record {
   rows = h.rows;
@@ -88,7 +88,7 @@ within_after d event journal h room len = omega (arith, fits_after d event h roo
 pub has_room_for : (d : Inside) (event : Event) → IsDevice d → no_room (rows_of (value_of d)) event ≡ false → vec_len d.journal < vec_capacity d.journal
 has_room_for d event h room = omega (arith, fits_after d event h room, h.reserved)
 
--- the fields after an event that was noted
+-- the fields after an event that was recorded
 pub next_history : (d : Inside) (event : Event) (journal : Vec Event) (s : State) → journal.items ≡ d.journal.items ++ event ∷ [] → s.modes.topology ≡ d.state.modes.topology →
     value_of (record { limits = d.limits; journal = journal; state = s }) ≡ journaled_in (value_of d) event
 next_history d event journal s e fixed = λ i. record { topology = fixed i; limits = d.limits; journal = e i }
@@ -151,7 +151,7 @@ journal_fits limits h = at_most 2 100000 limits.journal (and_parts _ (is_between
 at_least : (low high n : ℕ) → is_between low high n ≡ true → low ≤ n
 at_least low high n h = leb-true low n (and_parts (nat_le low n) (nat_le n high) h).0
 
--- `&&` groups to the left: so many parts stand behind each limit
+-- `&&` groups to the left: this many parts follow each limit
 before_objects : (limits : Limits) → are_in_range limits ≡ true → (is_between 1 1024 limits.clients && is_between 1 65535 limits.handles && is_between 1 65535 limits.names && is_between 1 65535 limits.tokens) ≡ true
 unfolding are_in_range
 before_objects limits h =
@@ -310,7 +310,7 @@ all_under last (row ∷ rows) h = let k = neither (nat_lt last row.master) (list
     neither true b e = absurd (let n : true ≡ false = e in cc)
     neither false b e = (refl, e)
 
--- a lessee is a master that is there
+-- a lessee is a master that exists
 lessee_made : (last m : ℕ) (ms : List Master) → AllByRecursion (λ (x : Master). x.step_number < last + 1) ms → is_lessee ms m ≡ true → m < last + 1
 lessee_made last m ms h e = by_row (find (is_step_number m) ms) refl e
   where
@@ -326,7 +326,7 @@ leases_later s w t h made older = record {
       (all_under w.steps (grants_of s) (sym (same-any (λ (row : GrantRow). nat_lt w.steps row.master) w.grants (grants_of s) (grants_are s w h)) ∙ none_over w.steps w.grants made));
 }
 
--- it is later than all that is there
+-- it is later than all that exists
 pub precondition : (d : Inside) (n : ℕ) → IsDevice d → n ≡ vec_len d.journal → StepPrecondition d.state (n + 1)
 precondition d n h e =
     let w = rows_of (value_of d) in
@@ -379,7 +379,7 @@ unfolding no_room
 room_to_close d h c e =
     rw (is_open_is d.state (rows_of (value_of d)) h.rows c, e, places_are d, represented_count d.state (rows_of (value_of d)) h.rows) (not_less (d.limits.journal - vec_len d.journal) (length d.state.files.clients + 1))
 
--- what is left beside the places of the closings
+-- what is left next to the places of the closings
 pub journal_left_is : (d : Inside) → IsDevice d →
     d.limits.journal - vec_len d.journal - length d.state.files.clients + length d.journal.items + length (rows_of (value_of d)).clients ≡ d.limits.journal
 journal_left_is d h =

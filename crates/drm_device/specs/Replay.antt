@@ -1,4 +1,4 @@
--- What a replay gives.
+-- What a replay returns.
 use Rattle.std.specs.Prelude.{◌≡◌, ℕ, ◌+◌, ◌<◌, false, List, [], Result, Ok, Err, Some, slice_get, take, length}
 use Rattle.drm_table.specs.declared.apart.Apart.{Apart}
 use Rattle.drm_table.specs.declared.events.Event.{Event}
@@ -10,15 +10,15 @@ use Rattle.drm_device.specs.declared.replays.ReplayFault.{ReplayFault}
 use Rattle.drm_device.specs.declared.replays.ReplayFault.TheVariants.{New, Stopped}
 use Rattle.drm_table.specs.Limits.{are_in_range}
 
--- a device that has noted nothing
+-- a device that has recorded nothing
 abbrev pub new_device : Topology → Limits → DeviceValue
 new_device topology limits = record { topology = topology; limits = limits; journal = [] }
 
--- a new device behind so many of the events
+-- a new device after this many of the events
 abbrev pub history_before : DeviceValue → List Event → ℕ → DeviceValue
 history_before first events n = record first { journal = take n events }
 
--- the event of this number, from 1, is refused, and why; those before it found room, so that they were noted
+-- the event of this number, from 1, is refused, and why; those before it found room, so that they were recorded
 pub record StopsAt (first : DeviceValue) (events : List Event) (at : ℕ) (apart : Apart) : Type 0 where
   pub index : ℕ
   pub number : at ≡ index + 1

@@ -28,7 +28,7 @@ use drm_table::{Answer, AuditKind, AuditPage, AuditRow};
 /// How many rows a page has at most.
 const PAGE: usize = 16;
 
-/// AUDIT: a page of rows, as they stand before the step of this number. It takes no memory and asks for no limit.
+/// AUDIT: a page of rows, as they are before the step of this number. Does not allocate and needs no limit.
 pub fn audit(state: &State, step_number: u32, kind: AuditKind, from: u32, answer: &mut Answer)
     requires step_number { 1 ≤ step_number }
     requires invariants { MeetsInvariants state.now }
@@ -39,7 +39,7 @@ pub fn audit(state: &State, step_number: u32, kind: AuditKind, from: u32, answer
     };
 }
 
-/// The page of a kind behind the first rows, where so many steps were noted.
+/// Returns the page of a kind after the first rows, where this many steps were recorded.
 pub fn page_of(state: &State, steps: u32, kind: AuditKind, from: u32) -> AuditPage
     requires { MeetsInvariants state.now }
     ensures { IsPage state.now steps kind from result }
@@ -54,7 +54,7 @@ pub fn page_of(state: &State, steps: u32, kind: AuditKind, from: u32) -> AuditPa
     page
 }
 
-/// The row of a kind at a place, from 0, in the order of the rows' numbers; none past the last.
+/// Returns the row of a kind at a place, from 0, in the order of the rows' numbers; none past the last.
 fn row_at(state: &State, steps: u32, kind: AuditKind, position: usize) -> Option<AuditRow>
     requires { MeetsInvariants state.now }
     ensures { IsRowAt state.now steps kind position result }
@@ -88,14 +88,14 @@ fn row_at(state: &State, steps: u32, kind: AuditKind, position: usize) -> Option
     }
 }
 
-/// The item at a place, from 0.
+/// Returns the item at a place, from 0.
 pub fn item_at<T: Copy>(items: &[T], position: usize) -> Option<T>
     ensures { result ≡ slice_get items.now position }
 {
     items.get(position).copied()
 }
 
-/// What is told of a client, by its file and by how it stands to masters; its magic is told with it.
+/// Returns the row of a client, by its file and by how it belongs to masters; its magic is reported with it.
 fn client_row(file: FileClient, member: Option<Member>) -> AuditRow
     ensures { (w : Rows) → magic_row w file.client ≡ option_and_then magic_row_of member → result ≡ client_audit w (client_row_by file member) }
 {
@@ -168,7 +168,7 @@ fn number_of(magic: Option<Magic>) -> u64
     }
 }
 
-/// What is told of a master, and of the lease token that opens a client of it.
+/// Returns the row of a master, and of the lease token that opens a client of it.
 fn master_row(master: Master, token: Option<u32>) -> AuditRow
     ensures { (tokens : List LeaseToken) → token ≡ token_of tokens master.step_number → result ≡ master_audit (master_row_of tokens master) }
 {
@@ -180,7 +180,7 @@ fn master_row(master: Master, token: Option<u32>) -> AuditRow
     }
 }
 
-/// What is told of an object.
+/// Returns the row of an object.
 fn object_row(object: Object) -> AuditRow
     ensures { result ≡ audit_row object.step_number object.size object.holds object.refs }
 {
@@ -192,7 +192,7 @@ fn object_row(object: Object) -> AuditRow
     }
 }
 
-/// What is told of the handle at a place, from 0, in the order of clients and handles; none past the last.
+/// Returns the row of the handle at a place, from 0, in the order of clients and handles, or none past the last.
 fn handle_at(state: &State, position: usize) -> Option<AuditRow>
     requires { MeetsInvariants state.now }
     ensures { result ≡ slice_get (map handle_audit (holds_of state.now)) position }
@@ -206,7 +206,7 @@ fn handle_at(state: &State, position: usize) -> Option<AuditRow>
     })
 }
 
-/// What is told of the name at a place, from 0, in the order of names; none past the last.
+/// Returns the row of the name at a place, from 0, in the order of names, or none past the last.
 fn name_at(state: &State, position: usize) -> Option<AuditRow>
     requires { MeetsInvariants state.now }
     ensures row { result ≡ slice_get (map name_audit (names_of state.now)) position }
@@ -221,7 +221,7 @@ fn name_at(state: &State, position: usize) -> Option<AuditRow>
     })
 }
 
-/// What is told of the token at a place, from 0, in the order of tokens; none past the last.
+/// Returns the row of the token at a place, from 0, in the order of tokens, or none past the last.
 fn token_at(state: &State, position: usize) -> Option<AuditRow>
     requires { MeetsInvariants state.now }
     ensures row { result ≡ slice_get (map token_audit (tokens_of state.now)) position }
@@ -236,7 +236,7 @@ fn token_at(state: &State, position: usize) -> Option<AuditRow>
     })
 }
 
-/// What is told of the framebuffer at a place, from 0, in the order of ids; none past the last.
+/// Returns the row of the framebuffer at a place, from 0, in the order of ids, or none past the last.
 fn framebuffer_at(state: &State, position: usize) -> Option<AuditRow>
     requires { MeetsInvariants state.now }
     ensures { result ≡ slice_get (map framebuffer_audit (framebuffers_of state.now)) position }
@@ -250,7 +250,8 @@ fn framebuffer_at(state: &State, position: usize) -> Option<AuditRow>
     })
 }
 
-/// What is told of the CRTC or plane at a place, from 0, of those that show something, in the order of ids; none past the last.
+/// Returns the row of the CRTC or plane at a place, from 0, of those that show something, in the order of ids, or none
+/// past the last.
 fn shown_at(modes: &Modes, position: usize) -> Option<AuditRow>
     ensures { result ≡ slice_get (map shown_audit (map shown_row_of (shown_rows modes.now))) position }
 {
@@ -263,7 +264,7 @@ fn shown_at(modes: &Modes, position: usize) -> Option<AuditRow>
     })
 }
 
-/// What is told of the grant at a place, from 0, in the order of masters and mode objects; none past the last.
+/// Returns the row of the grant at a place, from 0, in the order of masters and mode objects, or none past the last.
 fn grant_at(leases: &Leases, position: usize) -> Option<AuditRow>
     ensures { result ≡ slice_get (map grant_audit (map grant_row_of leases.now.grants)) position }
 {
@@ -283,7 +284,7 @@ struct LastTokens {
     lease_token: Option<u32>,
 }
 
-/// What is told of the device.
+/// Returns the row of the device.
 fn device_row(device_master: Option<u32>, last: LastTokens, steps: u32) -> AuditRow
     ensures { result ≡ audit_row (model.or_zero device_master) (model.or_zero last.token) (model.or_zero last.lease_token) steps }
 {
@@ -295,7 +296,7 @@ fn device_row(device_master: Option<u32>, last: LastTokens, steps: u32) -> Audit
     }
 }
 
-/// The number of a flag that is set.
+/// Returns the number of a flag that is set.
 fn flag(is_set: bool, number: u64) -> u64
     ensures value { result ≡ (if is_set then number else 0) }
     ensures small { result ≤ number }
@@ -303,7 +304,7 @@ fn flag(is_set: bool, number: u64) -> u64
     if is_set { number } else { 0 }
 }
 
-/// A number, or 0 for none.
+/// Returns a number, or 0 for none.
 fn or_zero(number: Option<u32>) -> u64
     ensures { result ≡ model.or_zero number }
 {

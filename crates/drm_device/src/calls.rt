@@ -1,4 +1,4 @@
-//! The calls: who may make one, and which family carries it out.
+//! The calls: which client may make one, and which family carries it out.
 
 ghost use Rattle.std.specs.Prelude.{◌≡◌, true, None, Some, OnOk, IfOk, IfErr};
 ghost use Rattle.drm_state.specs.Callers.{IsCaller};
@@ -61,14 +61,14 @@ fn admission(state: &State, client: u32, call: &Call) -> Result<Caller, Rule>
     }
 }
 
-/// Whether a row has the call's number.
+/// Returns whether a row has the call's number.
 fn is_known(call: &Call) -> bool
     ensures { result ≡ model.is_known call.now }
 {
     !matches!(call, Call::Unknown(_))
 }
 
-/// Whether the call's fields are its row's.
+/// Returns whether the call's fields are its row's.
 fn is_laid_out(call: &Call) -> bool
     ensures { result ≡ model.is_laid_out call.now }
 {

@@ -1,4 +1,4 @@
-//! What the device tells of itself.
+//! What the device describes itself.
 
 ghost use Rattle.std.specs.Prelude.{◌≡◌};
 ghost use Rattle.drm_table.specs.declared.calls.Call.TheVariants.{GetCap};
@@ -26,7 +26,7 @@ pub fn version(answer: &mut Answer)
     };
 }
 
-/// GET_CAP: dumb buffers there are, and PRIME in both directions. It takes no memory and asks for no limit.
+/// GET_CAP: dumb buffers there are, and PRIME in both directions. Does not allocate and needs no limit.
 pub fn get_cap(state: &State, client: u32, cap: u64, answer: &mut Answer)
     requires { MeetsInvariants state.now }
     ensures { RefinesReply state.now client (GetCap cap) answer.new state.now }

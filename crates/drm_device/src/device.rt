@@ -32,7 +32,7 @@ pub struct Device {
     state: State,
 }
 
-// Written out, so that it is proved once: a derived one is proved again in each crate that lets such a value go.
+// Written out, so that it is proved once: a derived one is proved again in each crate that drops such a value.
 impl Drop for Device {
     fn drop(self) {
         let Device {
@@ -74,8 +74,8 @@ pub enum NewFault {
 }
 
 impl Device {
-    /// A device that nobody has opened yet. The whole journal is reserved. Without memory, or where a limit is out of
-    /// its range, there is no device.
+    /// Returns a device that no client has opened yet. The whole journal is reserved. Without memory, or where a limit
+    /// is out of its range, there is no device.
     ///
     /// ```rust
     /// assert!(device.journal().is_empty());
@@ -109,9 +109,9 @@ impl Device {
         })
     }
 
-    /// Answers one event. A denial is an answer: it names the first rule that fails, and is noted. What stands apart, a
-    /// full journal (own) and want of memory, leaves the device as it was and isn't noted. The lists of an answer have at
-    /// most 251 ids together, which one frame takes.
+    /// Answers one event. A denial is an answer: it names the first rule that fails, and is recorded. A fault, for a
+    /// full journal (own) or refused memory, leaves the device unchanged and isn't recorded. The lists of an answer
+    /// have at most 251 ids together, which one frame takes.
     ///
     /// ```rust
     /// let opening = Opening::Primary { root: false, universal: true };
@@ -133,8 +133,8 @@ impl Device {
         outcome
     }
 
-    /// Answers one event as [`step`](Device::step) does, and writes what came of it to a place of the caller's, so that an answer is
-    /// moved less.
+    /// Answers one event as [`step`](Device::step) does, and writes what resulted from it to a place of the caller's,
+    /// so that an answer is moved less.
     ///
     /// ```rust
     /// let mut outcome = Ok(Answer::Done);
@@ -163,7 +163,7 @@ impl Device {
         self.journal.push_reserved(event);
     }
 
-    /// Whether the journal has a place for the event beside those kept for closings.
+    /// Returns whether the journal has a place for the event next to those kept for closings.
     fn has_room(&self, event: &Event) -> bool
         ensures { result ≡ not (no_room (rows_of self.now) event.now) }
     {
@@ -178,7 +178,7 @@ impl Device {
         }
     }
 
-    /// The events that were carried out or denied, the oldest first.
+    /// Returns the events that were carried out or denied, the oldest first.
     ///
     /// ```rust
     /// assert!(device.journal() == [Event::Open(opening), Event::Ask(1, Call::SetMaster), Event::Ask(1, Call::Version)].as_slice());
@@ -192,7 +192,7 @@ impl Device {
         &self.journal
     }
 
-    /// Up to 16 rows of a kind, behind the first `from`, in the order of their numbers (own). It takes no memory.
+    /// Up to 16 rows of a kind, after the first `from`, in the order of their numbers (own). Does not allocate.
     ///
     /// ```rust
     /// assert!(device.audit(AuditKind::Client, 0).rows().len() == 1);
@@ -204,7 +204,7 @@ impl Device {
         page_of(&self.state, self.journal.len() as u32, kind, from)
     }
 
-    /// How many places the journal has left beside those kept for the closings of the open clients.
+    /// How many places the journal has left next to those kept for the closings of the open clients.
     ///
     /// ```rust
     /// assert!(device.journal_left() < Limits::PROGRAM.journal);

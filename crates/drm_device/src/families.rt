@@ -177,7 +177,7 @@ pub fn share_call(
     }
 }
 
-/// Answers a call of mode objects, or of what CRTCs and planes show, that is admitted. It takes no memory.
+/// Answers a call of mode objects, or of what CRTCs and planes show, that is admitted. Does not allocate.
 #[tactic(auto, using(drm_state::proofs::Refinements::is_answered), unfolding(drm_table::specs::Table::family_of, drm_table::specs::Table::call_row, drm_table::specs::Table::kind_row))]
 pub fn mode_call(
     state: &mut State,

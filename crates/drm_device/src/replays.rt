@@ -9,7 +9,7 @@ use drm_modes::Topology;
 use drm_table::{Apart, Event, Limits};
 use std::alloc::Global;
 
-/// Why a replay gives no device.
+/// Why a replay returns no device.
 ///
 /// ```rust
 /// let Some(topology) = Topology::new(2, &[1, 2], &[3, 2], &[5, 6]) else { return };
@@ -20,7 +20,7 @@ use std::alloc::Global;
 pub enum ReplayFault {
     /// There is no device to begin with.
     New(NewFault),
-    /// The event of this number, from 1, is the first that was not noted.
+    /// The event of this number, from 1, is the first that was not recorded.
     Stopped { at: usize, apart: Apart },
 }
 
@@ -49,9 +49,10 @@ fn step_each(device: Device, events: &[Event]) -> Result<Device, Unnoted>
     Ok(device)
 }
 
-/// A new device that was asked these events in turn: its journal is the events, and its rows are those that they leave.
+/// Returns a new device that was asked these events one after the other: its journal is the events, and its rows are
+/// those that they leave.
 ///
-/// It stops at the first event that the journal has no place for, or that wants a row for which memory is refused.
+/// It stops at the first event that the journal has no place for, or that needs a row for which memory is refused.
 ///
 /// ```rust
 /// let Some(topology) = Topology::new(2, &[1, 2], &[3, 2], &[5, 6]) else { return };
@@ -81,7 +82,7 @@ pub fn replay(
     }
 }
 
-/// The same event.
+/// Returns the same event.
 fn copy_of(event: &Event) -> Event
     ensures { result ≡ event.now }
 {

@@ -44,7 +44,7 @@ module _ (limit last : ℕ) (m : fin.FinMap nat_cmp FileRecord) (c : ℕ) where
       by_rows (fin.insert m c s) (with_change change (lists_of limit last m) c) (clients_changed m c change r s found flags)
       (holds_kept m c s (λ b. ap (λ t. fin.get t b) slots ∙ sym (held_here m c r found c b refl)))
 
-  -- a client's record that has the same flags and the same behind each handle
+  -- a client's record that has the same flags and the same of each handle
   pub rewritten : (r s : FileRecord) → fin.get m c ≡ Some r → s.flags ≡ r.flags → s.handles.slots ≡ r.handles.slots → lists_of limit last (fin.insert m c s) ≡ lists_of limit last m
   rewritten r s found flags slots =
       by_rows (fin.insert m c s) (lists_of limit last m) (clients_kept m c r s found flags)
@@ -54,7 +54,7 @@ module _ (limit last : ℕ) (m : fin.FinMap nat_cmp FileRecord) (c : ℕ) where
   composed f g None = refl
   composed f g (Some x) = refl
 
-  -- what look-ups in the lists give
+  -- what look-ups in the lists return
   pub flags_are : (l : FileLists) → lists_of limit last m ≡ l → option_map (λ (r : FileRecord). r.flags) (fin.get m c) ≡ option_map (λ row. row.flags) (find (is_client c) l.clients)
   flags_are l is =
       sym (ap (option_map (λ row. row.flags)) (find_client m c) ∙ composed (λ (row : FileClient). row.flags) (λ (r : FileRecord). client c r.flags) (fin.get m c))

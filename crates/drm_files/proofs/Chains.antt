@@ -105,7 +105,7 @@ module _ (before : Prime → Prime → Bool) (order : IsOrder before) (primes : 
         still k y there =
             more_is k ∙ by_bool (eqb k h) (λ same. absurd (none-some y (sym absent ∙ ap primes (sym (eqb-true k h same)) ∙ there))) (λ apart. ap (λ b. cond b (Some x) (primes k)) apart ∙ there)
 
-        -- a fact of x and of those that were there is one of all
+        -- a fact of x and of those that existed is one of all
         each : (P : ℕ → Prime → Type 0) → P h x → ((k : ℕ) (y : Prime) → primes k ≡ Some y → P k y) → (k : ℕ) (y : Prime) → more k ≡ Some y → P k y
         each P it others k y there =
             by_bool (eqb k h)

@@ -90,7 +90,7 @@ module _ (m : fin.FinMap nat_cmp FileRecord) (c : ℕ) where
   pub held_here : (r : FileRecord) → fin.get m c ≡ Some r → (a b : ℕ) → a ≡ c → held m a b ≡ fin.get r.handles.slots b
   held_here r found a b same = ap (option_and_then (λ s. fin.get s.handles.slots b)) (ap (fin.get m) same ∙ found)
 
-  -- a client's table that has the same behind each handle
+  -- a client's table that has the same of each handle
   pub holds_kept : (s : FileRecord) → ((b : ℕ) → fin.get s.handles.slots b ≡ held m c b) → holds_in (fin.entries (fin.insert m c s)) ≡ holds_in (fin.entries m)
   holds_kept s same =
       rows_flat _

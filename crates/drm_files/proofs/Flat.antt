@@ -128,7 +128,7 @@ find_tagged a b c (e ∷ hs) =
       | false ↦ refl
     ]
 
--- what is behind a handle of a client
+-- the value of a handle of a client
 abbrev pub held : fin.FinMap nat_cmp FileRecord → ℕ → ℕ → Option Held
 held m c h = option_and_then (λ r. fin.get r.handles.slots h) (fin.get m c)
 
@@ -161,6 +161,6 @@ find_flat (e ∷ es) h a b =
 pub find_held : (m : fin.FinMap nat_cmp FileRecord) (a b : ℕ) → find key_pair_cmp (a, b) (flat (fin.entries m)) ≡ held m a b
 find_held m a b = find_flat (fin.entries m) (fin.entries_sorted m) a b ∙ ap (option_and_then (λ r. fin.get r.handles.slots b)) (sym (fin.get-entries m a))
 
--- a list in order that has the same behind each place is the flat list
+-- a list in order that has the same of each place is the flat list
 pub flat_is : (m : fin.FinMap nat_cmp FileRecord) (es : List (KeyPair × Held)) → T (is_sorted key_pair_cmp es) → ((a b : ℕ) → held m a b ≡ find key_pair_cmp (a, b) es) → flat (fin.entries m) ≡ es
 flat_is m es h same = same_entries key_pair_cmp export_order_total export_order_exact _ es (sorted_flat (fin.entries m) (fin.entries_sorted m)) h (λ q. find_held m q.0 q.1 ∙ same q.0 q.1)

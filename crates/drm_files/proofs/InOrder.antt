@@ -173,7 +173,7 @@ module _ (slots : fin.FinMap nat_cmp Held) (old : ExportOrders) (order : AreInOr
           ∙ first.previous_is d r
           ∙ choose_false slots old order object h (has_room old d r) (is_same_place object (Some h) d r) q (previous_of old d r) (apart_from (prime_at slots d) h object d (no_prime d) r s here))
 
-    -- a handle that is given an export order has its place
+    -- a handle that is assigned an export order has its place
     pub placed_in_order : AreInOrder slots_after new
     placed_in_order = record {
       fit = λ k there. order.fit k (sym (there_after k) ∙ there);
@@ -336,7 +336,7 @@ some_of (Some n) there = (n, refl)
 abbrev pub alone : Neighbours
 alone = record { next = None; previous = None }
 
--- an object that has no room may be given it, and those that have it keep it
+-- an object that has no room may be assigned it, and those that have it keep it
 abbrev pub IsRoomier : fin.FinMap nat_cmp Neighbours → fin.FinMap nat_cmp Neighbours → Type 0
 IsRoomier old new = (d : ℕ) → (fin.get old d ≡ None → (fin.get new d ≡ None → ⊥) → fin.get new d ≡ Some alone) × ((x : Neighbours) → fin.get old d ≡ Some x → fin.get new d ≡ Some x)
 

@@ -60,7 +60,7 @@ module _ (limit last : ℕ) (m : fin.FinMap nat_cmp FileRecord) where
       pairs_in [] = refl
       pairs_in (e ∷ hs) = ap (λ l. (e.0, e.1.object) ∷ l) (pairs_in hs)
 
-  -- the least free handle of a client is that of its table
+  -- the lowest free handle of a client is that of its table
   pub free_is : (c : ℕ) (r : FileRecord) → fin.get m c ≡ Some r → IsTable last r.handles → free_handle (lists_of limit last m) c ≡ least_free r.handles
   free_is c r found table =
       least-same _ (is_free r.handles) 1 last (λ k low high. ap not (ap (λ l. is_among l k) (handles_are c r found) ∙ any_of k (fin.keys r.handles.slots) ∙ sym (fin.contains_key-keys r.handles.slots k)))
@@ -108,7 +108,7 @@ IsTable-empty last t f l none = record { first_is = f; last_is = l; low = λ h t
     nothing : (h : ℕ) → IsTrue (fin.contains_key t.slots h) → ⊥
     nothing h there = false≢true (sym (ap (λ s. is_some (fin.get s h)) none ∙ ap is_some (fin.get-empty nat_cmp h)) ∙ there)
 
--- a number that is there after an insertion is the new one, or was there
+-- a number that exists after an insertion is the new one, or was there
 there_before : (s : fin.FinMap nat_cmp Held) (k : ℕ) (v : Held) (h : ℕ) → (h ≡ k → ⊥) → IsTrue (fin.contains_key (fin.insert s k v) h) → IsTrue (fin.contains_key s h)
 there_before s k v h apart there = sym (ap is_some (get-insert s k v h ∙ ap (λ b. cond b (Some v) (fin.get s h)) (eqb_other h k apart))) ∙ there
 
@@ -126,7 +126,7 @@ entry_there t h x = get-insert t.slots h x h ∙ ap (λ b. cond b (Some x) (fin.
     same_number : (k : ℕ) → eqb k k ≡ true
     same_number k = grind (arith, nat_tests)
 
--- a second value behind a handle
+-- a second value after a handle
 pub entry_twice : (t : Table Held) (h : ℕ) (x y : Held) → with_entry (with_entry t h x) h y ≡ with_entry t h y
 entry_twice t h x y = λ i. record t { slots = same i }
   where
@@ -192,21 +192,21 @@ abbrev pub with_both : FileRecord → Table Held → ExportOrders → FileRecord
 with_both r t orders = record { flags = r.flags; handles = t; orders = orders }
 
 module _ (limit last : ℕ) (m : fin.FinMap nat_cmp FileRecord) (c : ℕ) (r : FileRecord) (t : Table Held) (found : fin.get m c ≡ Some r) where
-  -- a table that is written back as it was
+  -- a table that is written back unchanged
   pub unchanged : t ≡ r.handles → fin.insert m c (with_table r t) ≡ m
   unchanged same = ap (λ h. fin.insert m c (with_table r h)) same ∙ insert_same m c r found
 
   pub are-unchanged : AreRecords limit last m → t ≡ r.handles → AreRecords limit last (fin.insert m c (with_table r t))
   are-unchanged are same = subst (AreRecords limit last) (sym (unchanged same)) are
 
-  -- a record with a handle more, or another value behind one
+  -- a record with a handle more, or another value after one
   pub are-put : AreRecords limit last m → (s : FileRecord) (h : ℕ) (x : Held) → r.handles.first ≤ h → h ≤ r.handles.last → s.handles ≡ with_entry r.handles h x → AreInOrder s.handles.slots s.orders → AreRecords limit last (fin.insert m c s)
   are-put are s h x low high is order =
       let table = are.tables c r found in
       AreRecords-insert limit last m are c s (IsTable-add last r.handles s.handles h x table (omega (arith, low, table.first_is)) (omega (arith, high, table.last_is)) (ap (λ u. u.first) is) (ap (λ u. u.last) is) (ap (λ u. u.slots) is)) order
 
   module _ (are : AreRecords limit last m) (new : ExportOrders) (order : AreInOrder t.slots new) where
-    -- the table is as it was
+    -- the table is unchanged
     pub are-kept : t ≡ r.handles → AreRecords limit last (fin.insert m c (with_both r t new))
     are-kept same = AreRecords-insert limit last m are c (with_both r t new) (subst (IsTable last) (sym same) (are.tables c r found)) order
 

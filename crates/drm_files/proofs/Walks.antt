@@ -98,7 +98,7 @@ module _ {X : Type 0} where
         same_entries nat_cmp nat_cmp_total nat_cmp-IsAntisymmetric _ (fin.entries m) (sorted_from 0) (fin.entries_sorted m) (λ q.
         find_from 0 q ∙ ap (λ b. cond b (fin.get m q) None) (le_yes 0 q (omega arith)) ∙ fin.get-entries m q)
 
-    -- nothing stands above the last number
+    -- nothing is above the last number
     pub from_past : (from : ℕ) → ((k : ℕ) → IsTrue (fin.contains_key m k) → k ≤ 4294967295) → 4294967295 < from → entries_from m from ≡ []
     from_past from bound past = from_none from (λ k le. outside k le (fin.contains_key m k) refl)
       where
@@ -131,7 +131,7 @@ module _ {X : Type 0} where
     pub least_there : (from to h : ℕ) → IsLeast (fin.contains_key m) from to h → None ≡ fin.get m h → ⊥
     least_there from to h is none = some_there (fin.get m h) is.passes none
 
--- a place in the first of two lists, and one behind it
+-- a place in the first of two lists, and one after it
 pub at_front : {Y : Type 0} (xs ys : List Y) (i : ℕ) (y : Y) → slice_get xs i ≡ Some y → slice_get (xs ++ ys) i ≡ Some y
 at_front [] ys i y is = absurd (none-some y is)
 at_front (x ∷ xs) ys zero y is = is
@@ -144,7 +144,7 @@ behind_front (x ∷ xs) ys (suc i) n is le =
     let less : i - (n - 1) ≡ suc i - n = omega (arith, is, le) in
     behind_front xs ys i (n - 1) (omega (arith, is)) (omega (arith, is, le)) ∙ ap (slice_get ys) less
 
--- what is there has a value
+-- what exists has a value
 pub not_both : {Y : Type 0} (y : Option Y) → IsTrue (is_some y) → y ≡ None → ⊥
 not_both None there none = absurd (false≢true there)
 not_both (Some y) there none = false≢true (sym (ap is_some none))

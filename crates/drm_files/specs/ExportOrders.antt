@@ -44,7 +44,7 @@ IsNext before primes place (Some h) = IsFirstPast before primes place h
 abbrev pub AreNext : (Prime → Prime → Bool) → Primes → (Option ℕ → Option ℕ) → Type 0
 AreNext before primes next = (at : Option ℕ) (place : Option Prime) → IsPlace primes at place → IsNext before primes place (next at)
 
--- what stands on one side of a place
+-- what is on one side of a place
 abbrev pub side_of : (Neighbours → Option ℕ) → ExportOrders → ℕ → Option ℕ → Option ℕ
 side_of side orders object None = option_and_then side (map.get orders.ends.items object)
 side_of side orders object (Some h) = option_and_then side (map.get orders.links.items h)

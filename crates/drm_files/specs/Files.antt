@@ -10,8 +10,8 @@ use Rattle.drm_files.specs.declared.rows.FileHandle.{FileHandle}
 use Rattle.drm_files.specs.declared.rows.FileRow.{FileRow}
 use Rattle.drm_files.specs.declared.rows.FileRow.TheVariants.{Client, Hold}
 
--- `limit` clients may be open, and each may hold the handles from 1 to `last_handle`. The clients rise, and the holds stand
--- in the order of their clients, and then of their handles
+-- `limit` clients may be open, and each may hold the handles from 1 to `last_handle`. The clients rise, and the holds
+-- are in the order of their clients, and then of their handles
 pub record FileLists : Type 0 where
   pub limit : ℕ
   pub last_handle : ℕ
@@ -137,7 +137,7 @@ pub record IsHandleOf (files : FileLists) (row : FileHandle) : Type 0 where
   pub handle_low : 1 ≤ row.handle
   pub handle_high : row.handle ≤ files.last_handle
 
--- what is so of the lists: no client and no handle of a client stands twice, since the rows are in order
+-- what is so of the lists: no client and no handle of a client occurs twice, since the rows are in order
 pub record AreFiles (files : FileLists) : Type 0 where
   pub last_low : 1 ≤ files.last_handle
   pub last_high : files.last_handle ≤ 4294967295

@@ -10,7 +10,7 @@ use crate::number::{u32_in, u64_in};
 use crate::text::FrameBytes;
 use drm_table::{Field, Fields, Layout, Width};
 
-/// The field in the first bytes, and the bytes after it.
+/// Returns the field in the first bytes, and the bytes after it.
 #[tactic(auto, unfolding(crate::specs::Fields::field_in))]
 fn field_in(width: Width, bytes: &[u8]) -> Option<(Field, &[u8])>
     ensures { option_map (λ read. (read.0, read.1.now)) result ≡ field_in width bytes.now }

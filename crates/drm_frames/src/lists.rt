@@ -67,7 +67,7 @@ pub(crate) fn push_resources(
     push_counted(fields, framebuffers.ids());
 }
 
-/// The list of `count` ids at the front of the bytes.
+/// Returns the list of `count` ids at the front of the bytes.
 fn list_of(count: usize, bytes: &[u8]) -> ShownList
     requires few { count ≤ 64 }
     requires length { 4 * count ≤ length bytes.now }
@@ -82,7 +82,7 @@ fn list_of(count: usize, bytes: &[u8]) -> ShownList
     list
 }
 
-/// The bytes after the list at the front, if there is one.
+/// Returns the bytes after the list at the front, if there is one.
 #[tactic(auto, unfolding(crate::specs::Lists::behind_list))]
 pub(crate) fn behind_list(bytes: &[u8]) -> Option<&[u8]>
     ensures { option_map (λ rest. rest.now) result ≡ behind_list bytes.now }
@@ -97,7 +97,7 @@ pub(crate) fn behind_list(bytes: &[u8]) -> Option<&[u8]>
     Some(bytes.split_at(4 + 4 * count).1)
 }
 
-/// The list at the front.
+/// Returns the list at the front.
 #[tactic(auto, unfolding(crate::specs::Lists::behind_list))]
 pub(crate) fn front_list(bytes: &[u8]) -> ShownList
     requires { is_some (behind_list bytes.now) ≡ true }

@@ -57,7 +57,7 @@ fn row_at(bytes: &[u8]) -> AuditRow
     }
 }
 
-/// The page of `count` rows in the bytes.
+/// Returns the page of `count` rows in the bytes.
 pub(crate) fn page_of(count: usize, bytes: &[u8]) -> AuditPage
     requires few { count ≤ 16 }
     requires length { length bytes.now ≡ 32 * count }

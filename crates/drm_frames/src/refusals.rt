@@ -4,7 +4,7 @@ ghost use Rattle.drm_frames.specs.Answers.{apart_of, rule_of};
 
 use drm_table::{Apart, Rule};
 
-/// The rule with a number, if the errno is the rule's own.
+/// Returns the rule with a number, if the errno is the rule's own.
 #[tactic(auto, unfolding(crate::specs::Answers::rule_of))]
 pub(crate) fn rule_of(number: u32, errno: u32) -> Option<Rule>
     ensures { result ≡ rule_of number errno }
@@ -17,7 +17,7 @@ pub(crate) fn rule_of(number: u32, errno: u32) -> Option<Rule>
     }
 }
 
-/// The fault with a number, if the errno is the fault's own.
+/// Returns the fault with a number, if the errno is the fault's own.
 #[tactic(auto, unfolding(crate::specs::Answers::apart_of))]
 pub(crate) fn apart_of(number: u32, errno: u32) -> Option<Apart>
     ensures { result ≡ apart_of number errno }

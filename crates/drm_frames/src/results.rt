@@ -13,7 +13,7 @@ use drm_table::{Answer, AnswerKind, Apart, Fields};
 /// The most rows of an audit's page (own).
 const MOST_ROWS: usize = 16;
 
-/// The answer of a kind, if the bytes are its fields.
+/// Returns the answer of a kind, if the bytes are its fields.
 fn row(kind: AnswerKind, bytes: &[u8]) -> Option<Result<Answer, Apart>>
     ensures { result ≡ row_in kind bytes.now }
 {

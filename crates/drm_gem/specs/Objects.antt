@@ -1,4 +1,5 @@
--- The objects that are there, in the order of their step numbers (drm-mm, drm-gem(7); step numbers and stamps are this project's own).
+-- The objects that exist, in the order of their step numbers (drm-mm, drm-gem(7); step numbers and stamps are this
+-- project's own).
 use Rattle.std.specs.Prelude.{ℕ, ◌≡◌, ◌+◌, ◌-◌, ◌<◌, ◌==◌, nat_lt, Bool, false, not, ◌&&◌, List, Option, None, find, map, filter, slice_get, if◌then◌else◌}
 use Rattle.std.specs.List.{AllByRecursion}
 use Rattle.std.specs.Option.{option_map, option_map_or, is_some}
@@ -25,11 +26,11 @@ is_there set key = is_some (object_at set key)
 abbrev pub passes : (Object → Bool) → ObjectSet → ℕ → Bool
 passes test set key = option_map_or test (object_at set key) false
 
--- every object that is there is older
+-- every object that exists is older
 abbrev pub IsNewStepNumber : ObjectSet → ℕ → Type 0
 IsNewStepNumber set step_number = AllByRecursion (λ (x : Object). x.step_number < step_number) set.objects
 
--- no object that is there has the birth
+-- no object that exists has the birth
 abbrev pub IsUnusedBirth : ObjectSet → ℕ → Type 0
 IsUnusedBirth set birth = AllByRecursion (λ (x : Object). (x.step_number == birth) ≡ false) set.objects
 
@@ -49,7 +50,7 @@ with_object set key birth size = record set { objects = placed is_older (new_obj
 abbrev pub changed_at : ℕ → (Object → Object) → ObjectSet → ObjectSet
 changed_at key f set = record set { objects = map (λ (x : Object). if x.key == key then f x else x) set.objects }
 
--- the object of the key is gone
+-- the object of the key is removed
 abbrev pub without_key : ℕ → ObjectSet → ObjectSet
 without_key key set = record set { objects = filter (λ (x : Object). not (x.key == key)) set.objects }
 

@@ -1,4 +1,4 @@
--- One step of each call that gives, takes or publishes.
+-- One step of each call that returns, takes or publishes.
 use Rattle.std.proofs.Common.{◌≡◌, ℕ, ◌+◌, ◌==◌, Bool, true, false, not, ◌&&◌, ◌||◌, List, ◌∷◌, length, filter, find, map, Option, None, Some, refl, sym, ◌∙◌, ap}
 use Rattle.std.specs.Prelude.{if◌then◌else◌, unwrap_or}
 use Rattle.std.specs.List.{AllByRecursion}
@@ -56,7 +56,7 @@ module _ (w : Rows) (past : List AnsweredEvent) (c : ℕ) where
         numbers = numbers_still past w.names w.tokens w.framebuffers (asked_step w c (CreateDumb width height bpp)) (λ key. refl) f.numbers;
       }
 
-  -- ---- handles that are given back
+  -- ---- handles that are returned
 
   one_goes : (handle d k : ℕ) → ((c == d) && (handle == k)) ≡ ((d == c) && (k == handle))
   one_goes handle d k = ap (λ b. b && (handle == k)) (same_either c d) ∙ ap (λ b. (d == c) && b) (same_either handle k)
@@ -237,7 +237,7 @@ module _ (w : Rows) (past : List AnsweredEvent) (c : ℕ) where
         };
       }
 
-  -- by whether it gives a handle
+  -- by whether it returns a handle
   got : (framebuffer : ℕ) (r : Option FramebufferRow) → framebuffer_row w framebuffer ≡ r → is_some r ≡ true → (gives : Bool) → (not gives || is_some (free_handle w c)) ≡ true → FactsOf past w →
       Facts (record { event = Ask c (GetFb framebuffer); answer = framebuffer_answer (if gives then new_handle w c else 0) r } ∷ past)
       (if gives then with_handle_row w c (framebuffer_object w framebuffer) None else w.holds) w.names w.tokens w.framebuffers

@@ -1,4 +1,4 @@
--- A handle that a history gives has a chain, and what a chain leads to is such a handle.
+-- A handle that a history grants has a chain, and what a chain leads to is such a handle.
 use Rattle.std.proofs.Common.{ℕ, ◌≤◌, List, [], ◌∷◌, length, refl, sym, ◌∙◌, ap, arith, length-append}
 use Rattle.drm_history.specs.History.{AnsweredEvent, next_number}
 use Rattle.drm_history.specs.Steps.{Key, Source}

@@ -1,4 +1,4 @@
--- What a history tells of rows, kept by every step.
+-- What a history describes rows, kept by every step.
 use Rattle.std.proofs.Common.{◌≡◌, ℕ, Bool, false, List, ◌∷◌, length, filter, None}
 use Rattle.std.specs.List.{AllByRecursion}
 use Rattle.drm_lists.proofs.Lists.{all_filter}

@@ -44,7 +44,7 @@ recorded_answers w past (e ∷ es) (Err Worn ∷ rs) v h = absurd h.1
 recorded_answers w past [] (r ∷ rs) v h = absurd h
 recorded_answers w past (e ∷ es) [] v h = absurd h
 
--- a device whose journal is of the events that were noted
+-- a device whose journal is of the events that were recorded
 pub history_of_answers : (h : DeviceValue) (events : List Event) (results : List (Result Answer Apart)) (v : Rows) → Answers (start_of h) events results v → h.journal ≡ journaled_events events results → history_of h ≡ with_journaled [] events results
 unfolding history_of
 history_of_answers h events results v answers journal = ap (recorded (start_of h) []) journal ∙ sym (recorded_answers (start_of h) [] events results v answers)

@@ -1,4 +1,5 @@
--- What one step does to the handles that a history gives and to the rows of handles, for each way in which a step can change them.
+-- What one step does to the handles that a history grants and to the rows of handles, for each way in which a step can
+-- change them.
 use Rattle.std.proofs.Common.{◌≡◌, ℕ, ◌==◌, Bool, true, false, cond, not, ◌&&◌, List, [], ◌∷◌, ◌++◌, filter, find, map, Option, None, Some, refl, sym, ◌∙◌, ap, eq-eqb}
 use Rattle.std.specs.List.{AllByRecursion}
 use Rattle.std.specs.Option.{option_map, option_or}
@@ -53,12 +54,12 @@ same_holder c h d k X f e =
     let both = and_parts (c == d) (h == k) e in
     ap (λ x. f x h) (eqb-true c d both.0) ∙ ap (f d) (eqb-true h k both.1)
 
--- ---- what the history gives is what the rows have
+-- ---- what the history grants is what the rows have
 
 abbrev pub HoldsAgree : List AnsweredEvent → List HandleRow → Type 0
 HoldsAgree past rows = (c h : ℕ) → told past (Held c h) ≡ object_at rows c h
 
--- a step that gives and takes no handle
+-- a step that returns and takes no handle
 pub kept_agrees : (step : AnsweredEvent) (past : List AnsweredEvent) (rows after : List HandleRow) → ((c h : ℕ) → gift step c h ≡ None) → ((c h : ℕ) → takes step c h ≡ false) →
     ((c h : ℕ) → object_at after c h ≡ object_at rows c h) → HoldsAgree past rows → HoldsAgree (step ∷ past) after
 unfolding told
@@ -95,7 +96,7 @@ pub taken_agrees : (step : AnsweredEvent) (past : List AnsweredEvent) (test : �
 unfolding told
 taken_agrees step past test rows g t a = λ c h. rw (g c h, t c h, a c h) (sym (without_at test c h rows))
 
--- a step that gives c the handle h
+-- a step that returns c the handle h
 abbrev pub Gives : AnsweredEvent → ℕ → ℕ → Source → Type 0
 Gives step c h source = (d k : ℕ) → gift step d k ≡ cond ((c == d) && (h == k)) (Some source) None
 
@@ -148,7 +149,7 @@ again_at rows c h o held d k =
     elim ((c == d) && (h == k)) as (λ b. ((c == d) && (h == k)) ≡ b → object_at rows d k ≡ cond b (Some o) (object_at rows d k))
     [ true ↦ λ e. sym (same_holder c h d k (Option ℕ) (object_at rows) e) ∙ held | false ↦ λ e. refl ] refl
 
--- ---- rows of handles beside their history
+-- ---- rows of handles next to their history
 
 pub record HoldFacts (past : List AnsweredEvent) (holds : List HandleRow) : Type 0 where
   pub agree : HoldsAgree past holds
@@ -159,7 +160,7 @@ pub no_holds : HoldFacts [] []
 unfolding told Kept
 no_holds = record { agree = λ c h. refl; kept = tt; differ = tt }
 
--- a step that gives and takes no handle
+-- a step that returns and takes no handle
 pub holds_stay : (step : AnsweredEvent) (past : List AnsweredEvent) (holds : List HandleRow) → ((c h : ℕ) → gift step c h ≡ None) → ((c h : ℕ) → takes step c h ≡ false) → HoldFacts past holds → HoldFacts (step ∷ past) holds
 unfolding Kept
 holds_stay step past holds g t f = record { agree = kept_agrees step past holds holds g t (λ c h. refl) f.agree; kept = (giftless_keeps step past g, f.kept); differ = f.differ }
@@ -192,7 +193,7 @@ holds_go step past test holds g t f = record {
   differ = in_order_filter (λ (x y : HandleRow). same_hold x y ≡ false) (kept_by test) holds f.differ;
 }
 
--- that gives a free handle
+-- that returns a free handle
 pub hold_comes : (step : AnsweredEvent) (past : List AnsweredEvent) (x : HandleRow) (source : Source) (holds : List HandleRow) → Gives step x.client x.handle source → ((c h : ℕ) → takes step c h ≡ false) →
     source_told past source ≡ Some x.object → find (is_handle x.client x.handle) holds ≡ None → HoldFacts past holds → HoldFacts (step ∷ past) (holds ++ x ∷ [])
 unfolding Kept
@@ -204,7 +205,7 @@ hold_comes step past x source holds g t s free f =
       differ = with_free holds x free f.differ;
     }
 
--- that gives a handle which the client has already
+-- that returns a handle which the client has already
 pub hold_comes_again : (step : AnsweredEvent) (past : List AnsweredEvent) (c h o : ℕ) (source : Source) (holds : List HandleRow) → Gives step c h source → ((d k : ℕ) → takes step d k ≡ false) →
     source_told past source ≡ Some o → object_at holds c h ≡ Some o → HoldFacts past holds → HoldFacts (step ∷ past) holds
 unfolding Kept

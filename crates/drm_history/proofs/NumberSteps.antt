@@ -19,7 +19,7 @@ use Rattle.drm_history.specs.Steps.{Key, Framebuffer}
 use Rattle.drm_history.proofs.Told.{holder_under, Holder, Question, Held, Published, Publisher, told, from_holder, last_under}
 use Rattle.std.proofs.lemmas.Option.{same_Some}
 
--- what the history tells of each row's number
+-- what the history describes each row's number
 abbrev pub Tells : {X : Type 0} → List AnsweredEvent → (ℕ → Question) → (X → ℕ) → (X → ℕ) → List X → Type 0
 Tells past question number value rows = AllByRecursion (λ row. told past (question (number row)) ≡ Some (value row)) rows
 
@@ -68,7 +68,7 @@ module _ {X : Type 0} (step : AnsweredEvent) (past : List AnsweredEvent) (key : 
       (λ row e k. absurd (let no : false ≡ true = sym (flipped (number row) (number x) e) ∙ k in cc)) rows free) h)
       (tells_one (number x) (value x) (number x) (value x) holder p held (λ b. refl) (λ b. absurd (let no : true ≡ false = sym (eq-eqb (number x) (number x) refl) ∙ b in cc)), tt)
 
--- ---- rows of a kind beside their history
+-- ---- rows of a kind next to their history
 
 abbrev pub NumbersApart : {X : Type 0} → (X → ℕ) → List X → Type 0
 NumbersApart number rows = InOrder (λ x y. (number x == number y) ≡ false) rows
@@ -106,7 +106,7 @@ module _ {X : Type 0} (key : ℕ → Key) (number object : X → ℕ) where
         differ = in_order_append (λ (a b : X). (number a == number b) ≡ false) rows x f.differ others;
       }
 
-  -- a row's number is told to have its object
+  -- a row's number is reported to have its object
   pub numbered_found : (past : List AnsweredEvent) (n : ℕ) (rows : List X) (x : X) → find (λ row. number row == n) rows ≡ Some x → Numbered past key number object rows → told past (Published (key n)) ≡ Some (object x)
   numbered_found past n rows x e f =
       let is = found (λ (row : X). number row == n) (λ (row : X). told past (Published (key (number row))) ≡ Some (object row)) x rows f.objects e in
@@ -117,7 +117,7 @@ module _ {X : Type 0} (key : ℕ → Key) (number object : X → ℕ) where
   numbered_told_of past n rows (Some x) e there f = numbered_found past n rows x e f
   numbered_told_of past n rows None e there f = absurd (let no : false ≡ true = there in cc)
 
-  -- a number that is some row's is told to have its object
+  -- a number that is some row's is reported to have its object
   pub numbered_told : (past : List AnsweredEvent) (n : ℕ) (rows : List X) → is_some (option_map object (find (λ row. number row == n) rows)) ≡ true → Numbered past key number object rows →
       told past (Published (key n)) ≡ Some (unwrap_or (option_map object (find (λ row. number row == n) rows)) 0)
   numbered_told past n rows there f = numbered_told_of past n rows (find (λ row. number row == n) rows) refl there f

@@ -49,6 +49,6 @@ held_of : (o : Option HandleRow) → is_some o ≡ true → option_map (λ (row 
 held_of (Some row) h = refl
 held_of None h = absurd (let e : false ≡ true = h in cc)
 
--- the object of a handle that is there
+-- the object of a handle that exists
 pub held_object : (w : Rows) (c h : ℕ) → has_handle w c h ≡ true → object_at w.holds c h ≡ Some (object_of w c h)
 held_object w c h there = held_of (handle_row w c h) there

@@ -84,7 +84,7 @@ unfolding gift given takes holder_under published
 an_opening w past opening f =
     silent past w.names w.tokens w.framebuffers (record { event = Open opening; answer = Opened (step_number w) }) w.holds (record { gives = λ d k. refl; takes_none = λ d k. refl; publishes = λ key. refl }) f
 
--- what an own master gave has no part in it
+-- what an own master returned has no part in it
 ended_names : (w : Rows) (master : Bool) (m : Option ℕ) → (ended_if w master m).names ≡ w.names
 unfolding ended
 ended_names w true (Some m) = refl
@@ -182,7 +182,7 @@ numbers_differ h =
     let f = (agrees h).facts in
     record { handles = f.held.differ; names = f.numbers.named.differ; tokens = f.numbers.exported.numbered.differ; framebuffers = f.numbers.framed.numbered.differ }
 
--- the step that was told of is the one that added the framebuffer
+-- the step that was reported of is the one that added the framebuffer
 added_so : (past : List AnsweredEvent) (row : FramebufferRow) (last : LastHad past (Framebuffer row.framebuffer) row.client row.object) (handle : ℕ) → last_under past (Framebuffer row.framebuffer) ≡ Some (adding row handle) →
     last.published.step.event ≡ Ask row.client (AddFb row.width row.height row.pitch row.bpp last.handle)
 unfolding published

@@ -1,4 +1,4 @@
--- What a history tells of a handle or of a key, as a function, and that it is what the definitions say.
+-- What a history describes a handle or of a key, as a function, and that it is what the definitions say.
 use Rattle.std.proofs.Common.{◌≡◌, ℕ, ◌==◌, Bool, true, false, cond, ◌&&◌, List, [], ◌∷◌, ◌++◌, Option, None, Some, refl, sym, ◌∙◌, ap, subst, eq-eqb}
 use Rattle.std.specs.Prelude.{if◌then◌else◌}
 use Rattle.std.specs.List.{AllByRecursion}
@@ -18,7 +18,7 @@ abbrev pub gift_in : ℕ → ℕ → Option Giving → Option Source
 gift_in c h None = None
 gift_in c h (Some g) = if (g.client == c) && (g.handle == h) then Some g.source else None
 
--- where the step's gift of this handle comes from, if it gives it
+-- where the step's gift of this handle is from, if it returns it
 unfoldable pub gift : AnsweredEvent → ℕ → ℕ → Option Source
 gift step c h = gift_in c h (given step)
 
@@ -92,7 +92,7 @@ published_nobody : (key : Key) (o : Option Publishing) → option_map_or (λ (p 
 published_nobody key None k = refl
 published_nobody key (Some p) k = let holder : Holder = record { client = p.client; handle = p.handle } in ap (λ b. cond b (Some holder) None) k
 
--- ---- what is told
+-- ---- what is reported
 
 -- the object of a handle, the object under a key, and the client that published it there
 pub data Question : Type 0 where
@@ -123,7 +123,7 @@ unfoldable pub Kept : List AnsweredEvent → Type 0
 Kept [] = Unit {0}
 Kept (step ∷ past) = Keeps step past × Kept past
 
--- ---- what is told is so
+-- ---- what is reported is so
 
 pub given_now : (step : AnsweredEvent) (past : List AnsweredEvent) (c h : ℕ) (source : Source) → gift step c h ≡ Some source → WasGiven (step ∷ past) c h source past
 unfolding gift
@@ -185,13 +185,13 @@ publisher_so step past key c o (Some holder) p under e k =
     (record { handle = holder.handle; past = past; published = published_now step past key holder p; had = told_is_so past (Held holder.client holder.handle) o e })
 publisher_so step past key c o None p under e k = still_had step past key c o p (under e k)
 
--- the client that published is told too
+-- the client that published is reported too
 pub publisher_is_so : (history : List AnsweredEvent) (key : Key) (c o : ℕ) → told history (Published key) ≡ Some o → told history (Publisher key) ≡ Some c → LastHad history key c o
 unfolding told
 publisher_is_so [] key c o e k = none_some o e
 publisher_is_so (step ∷ past) key c o e k = publisher_so step past key c o (holder_under step key) refl (publisher_is_so past key c o) e k
 
--- ---- what is so is told
+-- ---- what is so is reported
 
 kept_past : (later past : List AnsweredEvent) → Kept (later ++ past) → Kept past
 unfolding Kept
@@ -252,7 +252,7 @@ unfolding last_under holder_under
 last_through [] past step key holder none e = rw e refl
 last_through (other ∷ later) past step key holder none e = rw (published_nobody key (published other) none.0) (last_through later past step key holder none.1 e)
 
--- it is the one that was told of
+-- it is the one that was reported of
 pub last_is_so : (history past : List AnsweredEvent) (key : Key) (c h : ℕ) (p : WasPublished history key c h past) → last_under history key ≡ Some p.step
 unfolding holder_under
 last_is_so history past key c h p =

@@ -1,18 +1,18 @@
--- How an object came to a client: by transfers, each of which some step gave, from the step that made it (own).
+-- How an object came to a client: by transfers, each of which some step granted, from the step that made it (own).
 use Rattle.std.specs.Prelude.{◌≡◌, ℕ, ◌<◌, List, [], ◌∷◌}
 use Rattle.drm_history.specs.History.{AnsweredEvent, next_number}
 use Rattle.drm_history.specs.Steps.{Key, Creation, Transfer}
 use Rattle.drm_history.specs.Holds.{WasGiven, WasPublished}
 
--- the step of this number gave the client the handle
+-- the step of this number granted the client the handle
 pub record Link : Type 0 where
   pub step : ℕ
   pub client : ℕ
   pub handle : ℕ
 
--- The last link comes first. The first of all made the object, which is named by its number. Before each other link, and after the
--- one before it, stands the step that published the object for it: that was the client of the link before, with the handle that
--- it was given there and that no step between took.
+-- The last link is first. The first of all made the object, which is named by its number. Before each other link, and
+-- after the one before it, stands the step that published the object for it: that was the client of the link before,
+-- with the handle that it was assigned there and that no step between took.
 unfoldable pub IsChain : List AnsweredEvent → ℕ → List Link → Type 0
 IsChain history o [] = ⊥
 IsChain history o (link ∷ []) = (past : List AnsweredEvent) × WasGiven history link.client link.handle Creation past × (link.step ≡ next_number past) × (link.step ≡ o)

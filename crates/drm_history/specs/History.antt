@@ -1,5 +1,6 @@
--- The history of a device: each step that was noted, with what it was of and what it was answered (own). The newest step comes
--- first, so that what stands behind a step is all that came before it, and the number of a step is how many stand there and one.
+-- The history of a device: each step that was recorded, with what it was of and what it was answered (own). The newest
+-- step is first, so that what follows a step is all that came before it, and the number of a step is how many are there
+-- and one.
 use Rattle.std.specs.Prelude.{ℕ, ◌+◌, List, [], ◌∷◌, ◌++◌, length, Result, Ok, Err}
 use Rattle.drm_table.specs.declared.answers.Answer.{Answer}
 use Rattle.drm_table.specs.declared.apart.Apart.{Apart}
@@ -14,7 +15,7 @@ pub record AnsweredEvent : Type 0 where
   pub event : Event
   pub answer : Answer
 
--- the number of the step that comes after these
+-- the number of the step that follows these
 abbrev pub next_number : List AnsweredEvent → ℕ
 next_number past = length past + 1
 
@@ -32,7 +33,7 @@ unfoldable pub events_in : List AnsweredEvent → List Event
 events_in [] = []
 events_in (step ∷ past) = events_in past ++ step.event ∷ []
 
--- what came before, with the steps of these events and results: those that nothing apart was answered to
+-- what came before, with the steps of these events and results: those without a fault as result
 unfoldable pub with_journaled : List AnsweredEvent → List Event → List (Result Answer Apart) → List AnsweredEvent
 with_journaled past [] results = past
 with_journaled past (event ∷ events) [] = past

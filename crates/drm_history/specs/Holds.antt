@@ -1,10 +1,10 @@
--- Which handles a history gives (drm-gem(7), drm-mm; what follows from the history alone is this project's own).
+-- Which handles a history grants (drm-gem(7), drm-mm; what follows from the history alone is this project's own).
 use Rattle.std.specs.Prelude.{◌≡◌, ℕ, false, List, ◌∷◌, ◌++◌, Some}
 use Rattle.std.specs.List.{AllByRecursion}
 use Rattle.drm_history.specs.History.{AnsweredEvent, next_number}
 use Rattle.drm_history.specs.Steps.{Key, Source, Creation, Transfer, given, takes, published, publishes}
 
--- some step gave the client the handle, from this source, and no later one took it. Before the step came `past`
+-- some step granted the client the handle, from this source, and no later one took it. Before the step came `past`
 pub record WasGiven (history : List AnsweredEvent) (c h : ℕ) (source : Source) (past : List AnsweredEvent) : Type 0 where
   pub later : List AnsweredEvent
   pub step : AnsweredEvent

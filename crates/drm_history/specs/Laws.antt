@@ -34,7 +34,7 @@ pub record NumbersFollow (h : DeviceValue) : Type 0 where
 abbrev pub holds_object : Rows → ℕ → ℕ → ℕ → Bool
 holds_object w c handle o = list_any (λ (row : HandleRow). is_handle c handle row && (row.object == o)) w.holds
 
--- the handles of the rows are those that the history gives
+-- the handles of the rows are those that the history grants
 abbrev pub HoldsFollow : Rows → List AnsweredEvent → Type 0
 HoldsFollow w history = (c handle o : ℕ) → (holds_object w c handle o ≡ true) ↔ Has history c handle o
 

@@ -1,4 +1,5 @@
--- What a step says of handles: which it gives and takes, and which object it publishes, by what it was of and what it was answered.
+-- What a step says of handles: which it grants and takes, and which object it publishes, by what it was of and what it
+-- was answered.
 use Rattle.std.specs.Prelude.{ℕ, ◌==◌, Bool, false, ◌&&◌, Option, None, Some, if◌then◌else◌}
 use Rattle.std.specs.Option.{option_map_or}
 use Rattle.drm_table.specs.declared.answers.Answer.{Answer}
@@ -20,12 +21,12 @@ is_key (Token m) (Token n) = m == n
 is_key (Framebuffer m) (Framebuffer n) = m == n
 is_key _ _ = false
 
--- where the object of a handle comes from: the step makes it, or it was published under a key
+-- where the object of a handle is from: the step makes it, or it was published under a key
 pub data Source : Type 0 where
   Creation : Source
   Transfer : (key : Key) → Source
 
--- a client is given a handle
+-- a client is assigned a handle
 pub record Giving : Type 0 where
   pub client : ℕ
   pub handle : ℕ
@@ -43,7 +44,7 @@ pub record Publishing : Type 0 where
 abbrev pub publishing : Key → ℕ → ℕ → Option Publishing
 publishing key c handle = Some (record { key = key; client = c; handle = handle })
 
--- MODE_GETFB answers 0 where it gives no handle
+-- MODE_GETFB answers 0 where it returns no handle
 abbrev pub given_by : Event → Answer → Option Giving
 given_by (Ask c (BufCreate size)) (Buffer handle bytes) = giving c handle Creation
 given_by (Ask c (CreateDumb width height bpp)) (Dumb handle pitch size) = giving c handle Creation
@@ -52,7 +53,7 @@ given_by (Ask c (PrimeFdToHandle token)) (Buffer handle size) = giving c handle 
 given_by (Ask c (GetFb framebuffer)) (Shape width height pitch bpp handle) = if handle == 0 then None else giving c handle (Transfer (Framebuffer framebuffer))
 given_by event answer = None
 
--- the handle that a step gives
+-- the handle that a step grants
 unfoldable pub given : AnsweredEvent → Option Giving
 given step = given_by step.event step.answer
 

@@ -14,8 +14,8 @@ ghost use Rattle.drm_history.specs.Holds.{Has};
 ghost use Rattle.drm_history.specs.Chains.{Chain};
 ghost use Rattle.drm_history.specs.Laws.{HoldsFollow, HoldsHaveChains, NumbersDiffer, NumbersFollow};
 
-/// The history of a device has the events of its journal, in order, and goes on by the reply to each further one. Whatever a
-/// list of events was answered, the history of the device whose journal they make has those answers.
+/// The history of a device has the events of its journal, in order, and continues by the reply to each further one.
+/// Whatever a list of events was answered, the history of the device whose journal they make has those answers.
 pub fn history_is_of_the_journal()
     ensures events { (h : DeviceValue) → events_in (history_of h) ≡ h.journal }
     ensures grows { (h : DeviceValue) (event : Event) → history_of (journaled_in h event) ≡ record { event = event; answer = reply (rows_of h) event } ∷ history_of h }
@@ -29,14 +29,15 @@ pub fn numbers_differ()
     ensures { (h : DeviceValue) → NumbersDiffer (rows_of h) }
 {}
 
-/// Names, PRIME tokens and framebuffers follow from the history: each is that of the last GEM_FLINK, export or MODE_ADDFB that
-/// answered its number, and is of the object that its caller's handle was of then, however often a number was given before.
+/// Names, PRIME tokens and framebuffers follow from the history: each is that of the last GEM_FLINK, export or
+/// MODE_ADDFB that answered its number, and is of the object that its caller's handle was of then, however often a
+/// number was assigned before.
 pub fn numbers_follow_from_history()
     ensures { (h : DeviceValue) → NumbersFollow h }
 {}
 
-/// Handles follow from the history: a client has a handle of an object exactly where some step gave it and no later one took it.
-/// So they follow from whatever a device answered to events, from the first on.
+/// Handles follow from the history: a client has a handle of an object exactly if some step granted it and no later one
+/// took it. So they follow from whatever a device answered to events, from the first on.
 pub fn holds_follow_from_history()
     ensures rows { (h : DeviceValue) → HoldsFollow (rows_of h) (history_of h) }
     ensures answers { (topology : Topology) (limits : Limits) (events : List Event) (results : List (Result Answer Apart)) (v : Rows)
@@ -48,7 +49,7 @@ pub fn each_hold_has_a_chain()
     ensures { (h : DeviceValue) → HoldsHaveChains h }
 {}
 
-/// A chain leads to the handles that a history gives, and to no other.
+/// A chain leads to the handles that a history grants, and to no other.
 pub fn chains_are_holds()
     ensures { (history : List AnsweredEvent) (c handle o : ℕ) → Chain history c handle o ↔ Has history c handle o }
 {}

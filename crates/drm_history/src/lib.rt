@@ -1,5 +1,5 @@
-//! Which rights the history of a device gives, told from its events and answers alone, and that a device's rows are those:
-//! definitions in `specs/`, and laws of them.
+//! Which rights the history of a device grants, told from its events and answers alone, and that a device's rows are
+//! those: definitions in `specs/`, and laws of them.
 #![tactic(auto)]
 
 mod laws;

@@ -142,7 +142,7 @@ single_least n from to low high =
       none_below = λ k at_least below. single_has n k ∙ grind (arith, nat_tests);
     }))
 
--- the one number is noted again
+-- the one number is recorded again
 pub single_again : (n u : ℕ) → n ≡ u → IsNoted (single n) u (single n)
 single_again n u same = one_there (single n) (single n) u refl (single_has n u ∙ eq-eqb u n (sym same))
 

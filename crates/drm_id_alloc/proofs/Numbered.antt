@@ -30,7 +30,7 @@ module _ {X : Type 0} where
   later_entry : (e : ℕ × X) (es : List (ℕ × X)) (n : ℕ) → (n ≡ e.0 → ⊥) → find nat_cmp n (e ∷ es) ≡ find nat_cmp n es
   later_entry e es n apart = ap (λ b. cond b (Some e.1) (find nat_cmp n es)) (eq_by_cmp-nat_cmp n e.0 ∙ ne_eqb n e.0 apart)
 
-  -- a number that is found behind the first is greater
+  -- a number that is found after the first is greater
   behind_first : (e : ℕ × X) (es : List (ℕ × X)) → T (is_sorted nat_cmp (e ∷ es)) → (n : ℕ) (v : X) → find nat_cmp n es ≡ Some v → e.0 < n
   behind_first e es h n v found =
       elim (cases_lt e.0 n) [
@@ -73,7 +73,7 @@ module _ {X Y : Type 0} (row : ℕ × X → Y) (number : Y → ℕ) (is : (e : �
   pub find_also : (m : fin.FinMap nat_cmp X) (n : ℕ) (q : Y → Bool) → find_row (λ y. (number y == n) && q y) (map row (fin.entries m)) ≡ option_and_then (λ v. cond (q (row (n, v))) (Some (row (n, v))) None) (fin.get m n)
   find_also m n q = find_also_in n q (fin.entries m) (fin.entries_sorted m) ∙ ap (option_and_then (λ v. cond (q (row (n, v))) (Some (row (n, v))) None)) (sym (fin.get-entries m n))
 
-  -- a new number's row stands in its place
+  -- a new number's row is in its place
   pub rows_added : (m : fin.FinMap nat_cmp X) (n : ℕ) (v : X) → fin.get m n ≡ None → map row (fin.entries (fin.insert m n v)) ≡ placed (λ x y. nat_lt (number x) (number y)) (row (n, v)) (map row (fin.entries m))
   rows_added m n v none =
       ap (map row) (fin.entries-insert nat_cmp_total m n v)
@@ -129,7 +129,7 @@ module _ {X Y : Type 0} (row : ℕ × X → Y) where
       ]
 
   module _ (m : fin.FinMap nat_cmp X) where
-    -- what holds of what stands under each number holds of each row
+    -- what holds of what is under each number holds of each row
     pub rows_all : (P : Y → Type 0) → ((k : ℕ) (v : X) → fin.get m k ≡ Some v → P (row (k, v))) → AllByRecursion P (map row (fin.entries m))
     rows_all P each = all_rows nat_cmp nat_cmp_total row P (fin.entries m) (fin.entries_sorted m) (λ k v found. each k v (fin.get-entries m k ∙ found))
 
@@ -143,7 +143,7 @@ module _ {X Y : Type 0} (row : ℕ × X → Y) where
       abbrev pub FailBelow : ℕ → Type 0
       FailBelow to = (k : ℕ) (v : X) → k < to → fin.get m k ≡ Some v → p (row (k, v)) ≡ false
 
-      -- where nothing that stands under a number passes, no row does
+      -- where nothing that is under a number passes, no row does
       pub none_found : ((k : ℕ) (v : X) → fin.get m k ≡ Some v → p (row (k, v)) ≡ false) → find_row p (map row (fin.entries m)) ≡ None
       none_found each = find_none p (map row (fin.entries m)) (rows_all (λ y. p y ≡ false) each)
 

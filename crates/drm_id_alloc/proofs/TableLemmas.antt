@@ -9,7 +9,7 @@ use Rattle.drm_index_array.specs.Least.{least}
 use Rattle.drm_index_array.proofs.Least.{least_is, least_is_none, least_some, least_none}
 use Rattle.drm_id_alloc.specs.Table.{Table, IsWithin, is_free, least_free, next_cyclic, with_entry, without_entry}
 
--- a number that is there after an insertion is the new one, or was there
+-- a number that exists after an insertion is the new one, or was there
 contains-insert : {X : Type 0} (m : map.FinMap nat_cmp X) (k : ℕ) (v : X) (q : ℕ) → (q ≡ k → ⊥) → IsTrue (map.contains_key (map.insert m k v) q) → IsTrue (map.contains_key m q)
 contains-insert m k v q apart there =
     let gets = get-insert m k v q in

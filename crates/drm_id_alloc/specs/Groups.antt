@@ -1,4 +1,4 @@
--- Which numbers stand in which group.
+-- Which numbers are in which group.
 use Rattle.std.specs.Prelude.{◌≡◌, ℕ, ◌==◌, ◌&&◌, ◌||◌, Bool, false, not, List, []}
 use Rattle.std.specs.Option.{option_map_or}
 use Rattle.std.specs.Ordering.{nat_cmp}
@@ -26,7 +26,7 @@ IsTaken old g n new = (d u : ℕ) → new d u ≡ (old d u && not ((d == g) && (
 abbrev pub groups_in : {Y : Type 0} → (Y → ℕ → Bool) → map.FinMap nat_cmp Y → Groups
 groups_in has m g n = option_map_or (λ y. has y n) (map.get m g) false
 
--- each number that the map has stands in the group that its value names, and no other stands in any
+-- each number that the map has is in the group that its value names, and no other is in any
 abbrev pub AreGroupsOf : {X : Type 0} → (X → ℕ) → map.FinMap nat_cmp X → Groups → Type 0
 AreGroupsOf group m groups = (g n : ℕ) → groups g n ≡ option_map_or (λ x. group x == g) (map.get m n) false
 

@@ -1,4 +1,4 @@
--- A table of values under numbers from `first` to `last`, and the number that was given last.
+-- A table of values under numbers from `first` to `last`, and the number that was assigned last.
 use Rattle.std.specs.Prelude.{◌≡◌, ℕ, ◌+◌, ◌≤◌, Bool, not, IsTrue, IfSome, Option, Some, None, refl}
 use Rattle.std.specs.Ordering.{nat_cmp}
 use Rattle.std.specs.FinMap as map
@@ -46,11 +46,11 @@ module _ {T : Type 0} where
   abbrev pub is_free : Table T → ℕ → Bool
   is_free t id = not (map.contains_key t.slots id)
 
-  -- the least free number
+  -- the lowest free number
   abbrev pub least_free : Table T → Option ℕ
   least_free t = least (is_free t) t.first t.last
 
-  -- the least free number above the last one given, or where there is none, the least free number
+  -- the lowest free number above the last one given, or where there is none, the lowest free number
   abbrev pub next_after : Table T → Option ℕ → Option ℕ
   next_after t None = least_free t
   next_after t (Some given) = or_else (least (is_free t) (given + 1) t.last) (least_free t)

@@ -1,6 +1,6 @@
 //! Why an addition is refused.
 
-/// Memory was refused, and all is as it was.
+/// Memory was refused, and all is unchanged.
 ///
 /// ```rust
 /// let mut groups = Groups::new(alloc);

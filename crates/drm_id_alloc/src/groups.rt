@@ -12,11 +12,11 @@ use drm_index_array::IndexArray;
 use std::alloc::Global;
 use std::marker::Model;
 
-/// Which numbers stand in which group: those of one group are found without the others. Groups and numbers are any numbers.
-/// A group costs its place in an array of the groups: some 50 bytes where their numbers are close, and up to six nodes of 64
-/// places where they are far from one another. One number of a group takes no more than that; from the second on, the group
-/// has an array of its own. A group that has no number takes no memory. Contracts see a map from each group to what has its
-/// numbers.
+/// Which numbers are in which group: those of one group are found without the others. Groups and numbers are any
+/// numbers. A group costs its place in an array of the groups: some 50 bytes where their numbers are close, and up to
+/// six nodes of 64 places where they are far from one another. One number of a group takes no more than that; from the
+/// second on, the group has an array of its own. A group that has no number takes no memory. Contracts see a map from
+/// each group to what has its numbers.
 ///
 /// ```rust
 /// let mut groups = Groups::new(alloc);
@@ -39,7 +39,7 @@ impl Model for Groups {
 }
 
 impl Groups {
-    /// No group has a number. It takes no memory.
+    /// No group has a number. Does not allocate.
     ///
     /// ```rust
     /// assert!(!Groups::new(alloc).has(3, 500));
@@ -71,7 +71,7 @@ impl Groups {
         Ok(())
     }
 
-    /// Forgets a number of a group, if the group has it. It takes no memory.
+    /// Forgets a number of a group, if the group has it. Does not allocate.
     ///
     /// ```rust
     /// groups.forget(3, 500);
@@ -90,7 +90,7 @@ impl Groups {
         }
     }
 
-    /// The least number of a group that is not below `from`.
+    /// Returns the least number of a group that is not below `from`.
     ///
     /// ```rust
     /// assert!(groups.next(3, 0) == Some(7));
@@ -102,8 +102,8 @@ impl Groups {
         self.groups.get(group)?.next(from)
     }
 
-    /// The number at a place of a group's, rising, where 0 is the first; none past the last. A late place costs what an
-    /// early one does.
+    /// Returns the number at a place of a group's, rising, where 0 is the first; none past the last. A late place costs
+    /// what an early one does.
     ///
     /// ```rust
     /// assert!(groups.nth(3, 0) == Some(7));
@@ -128,7 +128,7 @@ impl Groups {
         }
     }
 
-    /// Whether a group has a number.
+    /// Returns whether a group has a number.
     ///
     /// ```rust
     /// assert!(groups.has(3, 7) && !groups.has(4, 7));

@@ -1,4 +1,5 @@
-//! A table whose numbers are given out from a range: the least free one, or the next one in turn. And numbers by groups.
+//! A table whose numbers are allocated from a range: the lowest free one, or the next one in rotation. And numbers by
+//! groups.
 #![tactic(auto)]
 
 mod faults;

@@ -64,7 +64,7 @@ impl Numbers {
         }
     }
 
-    /// Takes a number out, if it is there. It takes no memory, and one number that is left takes none.
+    /// Takes a number out, if it is there. Does not allocate, and one number that is left takes none.
     pub fn forget(&mut self, alloc: Global, number: u32)
         ensures { IsForgotten self.old number self.new }
     {
@@ -83,7 +83,7 @@ impl Numbers {
         }
     }
 
-    /// The least number that is not below `from`.
+    /// Returns the least number that is not below `from`.
     pub fn next(&self, from: u32) -> Option<u32>
         ensures least { result ≡ least (has_number self.now) from u32.MAX }
         ensures none_above { IfNone result ((n : ℕ) → from ≤ n → has_number self.now n ≡ false) }
@@ -99,7 +99,7 @@ impl Numbers {
         }
     }
 
-    /// The number at a place of them, rising, where 0 is the first; none past the last.
+    /// Returns the number at a place of them, rising, where 0 is the first; none past the last.
     pub fn nth(&self, position: usize) -> Option<u32>
         ensures { result ≡ slice_get (map.keys self.now.items) position }
     {
@@ -124,7 +124,7 @@ impl Numbers {
         }
     }
 
-    /// Whether a number is there.
+    /// Returns whether a number is there.
     pub fn has(&self, number: u32) -> bool
         ensures { result ≡ has_number self.now number }
     {
@@ -157,7 +157,7 @@ fn noted(numbers: &mut IndexArray<()>, number: u32) -> Result<(), NoMemory>
     }
 }
 
-/// The number that is there alone; none where there is none, or more than one.
+/// Returns the number that exists alone; none where there is none, or more than one.
 fn only_of(numbers: &IndexArray<()>) -> Option<u32>
     ensures { IfSome result (λ only. (n : ℕ) → has_number numbers.now n ≡ (n == only)) }
 {

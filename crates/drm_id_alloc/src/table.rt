@@ -11,8 +11,8 @@ use drm_index_array::IndexArray;
 use std::alloc::Global;
 use std::marker::Model;
 
-/// A table whose numbers are given out from a range, with both its ends (as Linux's IDR). Contracts see the map from
-/// numbers to values, the range, and the number that `add_cyclic` gave last.
+/// A table whose numbers are allocated from a range, with both its ends (as Linux's IDR). Contracts see the map from
+/// numbers to values, the range, and the number that `add_cyclic` returned last.
 ///
 /// ```rust
 /// let mut table: IdTable<u8> = IdTable::new(alloc, 1, 2);
@@ -46,7 +46,7 @@ impl<T> Model for IdTable<T> {
 impl<T: Drop> IdTable<T> {
     ghost use Rattle.drm_id_alloc.specs.Table.{empty_table, least_free, next_cyclic, is_free, with_entry, without_entry};
 
-    /// A table with nothing in it, which takes no memory. It keeps the allocator for the entries to come.
+    /// Returns a table with nothing in it, which takes no memory. It keeps the allocator for the entries to come.
     ///
     /// ```rust
     /// let empty: IdTable<u8> = IdTable::new(alloc, 1, 9);
@@ -64,8 +64,8 @@ impl<T: Drop> IdTable<T> {
         }
     }
 
-    /// Adds the value at the least free number. Where no number is free, or memory is refused, the table stays as it is
-    /// and the value comes back.
+    /// Adds the value at the lowest free number. Where no number is free, or memory is refused, the table stays as it
+    /// is and the value comes back.
     ///
     /// ```rust
     /// assert!(id == 1);
@@ -79,7 +79,7 @@ impl<T: Drop> IdTable<T> {
         ensures err { OnErr result (self.new ≡ self.old) }
         ensures returned { IfErr result (λ fault. value_of fault ≡ value) }
 
-        // It is refused as full exactly where no number is free.
+        // It is refused as full exactly if no number is free.
         ensures full { IfErr result (λ fault. IsFull fault ↔ (least_free self.old ≡ None)) }
     {
         let Some(id) = self.free_from(self.first) else {
@@ -89,9 +89,9 @@ impl<T: Drop> IdTable<T> {
         Ok(id)
     }
 
-    /// Adds the value at the next number in turn: the least free one above the last one that this call gave or, where
-    /// there is none, the least free one. Where no number is free, or memory is refused, the table stays as it is and
-    /// the value comes back.
+    /// Adds the value at the next number in rotation: the lowest free one above the last one that this call returned
+    /// or, where there is none, the lowest free one. Where no number is free, or memory is refused, the table stays as
+    /// it is and the value comes back.
     ///
     /// ```rust
     /// let Ok(other) = table.add_cyclic(8) else { return };
@@ -107,7 +107,7 @@ impl<T: Drop> IdTable<T> {
         ensures err { OnErr result (self.new ≡ self.old) }
         ensures returned { IfErr result (λ fault. value_of fault ≡ value) }
 
-        // It is refused as full exactly where no number is free.
+        // It is refused as full exactly if no number is free.
         ensures full { IfErr result (λ fault. IsFull fault ↔ (next_cyclic self.old ≡ None)) }
     {
         let Some(id) = self.next_in_turn() else {
@@ -118,7 +118,7 @@ impl<T: Drop> IdTable<T> {
         Ok(id)
     }
 
-    /// The least free number not below `from`.
+    /// Returns the lowest free number not below `from`.
     fn free_from(&self, from: u32) -> Option<u32>
         ensures least { result ≡ least (is_free self.now) from self.now.last }
         ensures fresh { IfSome result (λ id. map.get self.now.slots id ≡ None) }
@@ -134,7 +134,7 @@ impl<T: Drop> IdTable<T> {
         Some(id)
     }
 
-    /// The number that `add_cyclic` gives next; none where no number is free.
+    /// Returns the number that `add_cyclic` returns next; none where no number is free.
     ///
     /// ```rust
     /// assert!(table.next_in_turn().is_none());
@@ -173,7 +173,7 @@ impl<T: Drop> IdTable<T> {
         Ok(())
     }
 
-    /// The value at the number, if there is one.
+    /// Returns the value at the number, if there is one.
     ///
     /// ```rust
     /// assert!(table.get(id) == Some(&7));
@@ -186,8 +186,8 @@ impl<T: Drop> IdTable<T> {
         self.entries.get(id)
     }
 
-    /// Puts the value at a number that has one, and gives the old one. Where the number has none, the table stays as it
-    /// is and the new value comes back.
+    /// Puts the value at a number that has one, and returns the old one. Where the number has none, the table stays as
+    /// it is and the new value comes back.
     ///
     /// ```rust
     /// assert!(table.replace(id, 5) == Ok(7));
@@ -219,7 +219,7 @@ impl<T: Drop> IdTable<T> {
         self.entries.remove(id)
     }
 
-    /// The least number not below `from` that is in use.
+    /// Returns the least number not below `from` that is in use.
     ///
     /// ```rust
     /// assert!(table.next(1) == Some(2));
@@ -234,8 +234,8 @@ impl<T: Drop> IdTable<T> {
         self.entries.next(from)
     }
 
-    /// The number at a place of the list of the numbers in use, rising, where 0 is the first. A late place costs what an
-    /// early one does.
+    /// Returns the number at a place of the list of the numbers in use, rising, where 0 is the first. A late place
+    /// costs what an early one does.
     ///
     /// ```rust
     /// assert!(table.nth(0) == Some(2));
@@ -251,7 +251,7 @@ impl<T: Drop> IdTable<T> {
         self.entries.nth(position)
     }
 
-    /// How many numbers are in use.
+    /// Returns the number of in numbers use.
     ///
     /// ```rust
     /// assert!(table.len() == 1);
@@ -263,7 +263,7 @@ impl<T: Drop> IdTable<T> {
         self.entries.len()
     }
 
-    /// Whether no number is free.
+    /// Returns whether no number is free.
     ///
     /// ```rust
     /// assert!(!table.is_full());
@@ -274,7 +274,7 @@ impl<T: Drop> IdTable<T> {
         self.free_from(self.first).is_none()
     }
 
-    /// The last number that `add_cyclic` gave; none before the first.
+    /// Returns the last number that `add_cyclic` returned; none before the first.
     ///
     /// ```rust
     /// assert!(table.last_given() == Some(2));

@@ -1,4 +1,4 @@
--- What a tree says of the array that it stands for.
+-- What a tree says of the array that it represents.
 use Rattle.std.proofs.Common.{◌≡◌, ℕ, ◌-◌, ◌+◌, ◌<◌, ◌≤◌, Bool, true, false, not, cond, eqb, Option, Some, None, IsTrue, IsSome, is_some, option_map, option_copied, Bor, MutBor, refl, sym, ap, ◌∙◌, subst, inl, inr, arith}
 use borrow.Follows.Closed.{read_of}
 use Rattle.std.specs.Option.{option_map_or, option_copied_mut, ghost_name_of}
@@ -267,7 +267,7 @@ module _ {T : Type 0} (items : MarkedMap T) (v : Indexed T) (view_is : array_of 
   pub used_lent : 0 < map.len items → (w : T) → 0 < map.len (set_value items i w)
   used_lent used w = omega (arith, used, len-set_value items i w)
 
-  -- the borrow of a value that is there
+  -- the borrow of a value that exists
   pub lent_there : {D : Type 0} (r : Option (MutBor T)) → option_copied_mut r ≡ get items i → (f h : T → D) (a b : D) → (IsSome (get items i) → (x : T) → f x ≡ h x) → a ≡ b → read_of (ghost_name_of r) f a ≡ read_of (ghost_name_of r) h b
   lent_there None found f h a b fs same = ap inr same
   lent_there (Some m) found f h a b fs same = λ j. inl (m.ghost_name, λ x. fs (ap is_some (sym found)) x j)

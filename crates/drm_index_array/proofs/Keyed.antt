@@ -1,4 +1,4 @@
--- Lists of rows that stand for entries in the order of their keys.
+-- Lists of rows that represent entries in the order of their keys.
 use Rattle.std.proofs.Common.{◌≡◌, ℕ, zero, suc, Bool, true, false, not, ◌&&◌, eqb, cond, T, List, [], ◌∷◌, ◌++◌, map, filter, length, slice_get, find as find_row, is_some, Option, Some, None, option_map, option_and_then, unwrap_or, refl, sym, ap, subst, ◌∙◌, arith, Ordering, Less, Equal, Greater, is_lt, is_eq, nat_cmp}
 use Rattle.std.specs.Ordering.{ordering_reverse, eq_by_cmp}
 use Rattle.std.specs.Cmp.{IsTotalOrder, tied_itself, nat_cmp_total}
@@ -54,7 +54,7 @@ module _ {K X : Type 0} (R : K → K → Ordering) (o : IsTotalOrder R) where
   below_less x y [] p h = tt
   below_less x y (e ∷ es) p h = both _ _ (subst (λ r. T (is_lt r)) (sym (o.trans x y e.0 p (less _ (left _ _ h)))) tt) (below_less x y es p (right _ _ h))
 
-  -- a key that is found behind the first entry is another one
+  -- a key that is found after the first entry is another one
   pub skip_first : (e : K × X) (es : List (K × X)) → T (is_sorted R (e ∷ es)) → (k : K) (v : X) → find R k es ≡ Some v → find R k (e ∷ es) ≡ Some v
   skip_first e es h k v found =
       elim (eq_by_cmp R k e.0) as (λ b. eq_by_cmp R k e.0 ≡ b → cond b (Some e.1) (find R k es) ≡ Some v) [
@@ -134,7 +134,7 @@ module _ {K X : Type 0} (R : K → K → Ordering) (o : IsTotalOrder R) where
     kept_all [] h = refl
     kept_all (e ∷ es) h = λ i. sym (kept e h.0) i ∷ kept_all es h.1 i
 
-    -- another value at a key that is there changes that key's row
+    -- another value at a key that exists changes that key's row
     pub rows_put_found : (v w : X) → ((e : K × X) → eq_by_cmp R k e.0 ≡ true → e.1 ≡ v → row (e.0, w) ≡ f (row e)) → (es : List (K × X)) → T (is_sorted R es) → find R k es ≡ Some v → map row (put R k w es) ≡ map f (map row es)
     rows_put_found v w new [] h found = absurd (none-some v found)
     rows_put_found v w new (e ∷ es) h found =
@@ -157,7 +157,7 @@ tied_key : (a b : ℕ) → a ≡ b → eq_by_cmp nat_cmp a b ≡ true
 tied_key a b same = grind (arith, nat_tests)
 
 module _ {X Y : Type 0} where
-  -- the row at a place, by the key that stands there
+  -- the row at a place, by the key that exists
   pub nth_by_key : (row : ℕ × X → Y) (es : List (ℕ × X)) → T (is_sorted nat_cmp es) → (i : ℕ) → option_and_then (λ k. option_map (λ v. row (k, v)) (find nat_cmp k es)) (slice_get (map (λ e. e.0) es) i) ≡ slice_get (map row es) i
   nth_by_key row [] h i = refl
   nth_by_key row (e ∷ es) h zero = ap (λ b. option_map (λ v. row (e.0, v)) (cond b (Some e.1) (find nat_cmp e.0 es))) (tied_key e.0 e.0 refl)
@@ -206,7 +206,7 @@ module _ {X : Type 0} (m : fin.FinMap nat_cmp X) (c : ℕ) where
       length_of [] = refl
       length_of (e ∷ es) = ap (λ n. suc n) (length_of es)
 
-  -- the row at a place, by the key that stands there
+  -- the row at a place, by the key that exists
   pub row_at : {Y : Type 0} (row : ℕ × X → Y) (i : ℕ) → option_and_then (λ k. option_map (λ v. row (k, v)) (fin.get m k)) (slice_get (fin.keys m) i) ≡ slice_get (map row (fin.entries m)) i
   row_at {Y} row i = same (slice_get (fin.keys m) i) ∙ nth_by_key row (fin.entries m) (fin.entries_sorted m) i
     where

@@ -106,7 +106,7 @@ keys_from-least m from to h is =
 pub keys_from-none : {X : Type 0} (m : map.FinMap nat_cmp X) (from : ℕ) → ((k : ℕ) → from ≤ k → map.contains_key m k ≡ false) → keys_from m from ≡ []
 keys_from-none m from none = no_key (map.entries m) from (λ k low. ap is_some (sym (map.get-entries m k)) ∙ none k low) (map.entries_sorted m)
 
--- a listing of at most so many keys: what is still wanted after i turns
+-- a listing of at most this many keys: what is still needed after i turns
 module _ {X : Type 0} (m : map.FinMap nat_cmp X) where
   pub take_next : (size from h i : ℕ) → i < size → Some h ≡ least (map.contains_key m) from 4294967295 → take (size - i) (keys_from m from) ≡ h ∷ take (size - (i + 1)) (keys_from m (h + 1))
   take_next size from h i lt some =
@@ -116,6 +116,6 @@ module _ {X : Type 0} (m : map.FinMap nat_cmp X) where
   pub take_none : (from n : ℕ) → ((k : ℕ) → from ≤ k → map.contains_key m k ≡ false) → take n (keys_from m from) ≡ []
   take_none from n none = ap (take n) (keys_from-none m from none) ∙ take-nil n
 
-  -- nothing stands above the last number
+  -- nothing is above the last number
   pub take_past : (from n : ℕ) → ((k : ℕ) → IsTrue (map.contains_key m k) → k ≤ 4294967295) → 4294967295 < from → take n (keys_from m from) ≡ []
   take_past from n bound past = take_none from n (λ k ge. false_from_ne_true _ (λ there. omega (arith, bound k there)))

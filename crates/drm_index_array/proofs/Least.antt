@@ -6,7 +6,7 @@ use Rattle.std.proofs.lemmas.Bool.Decides.{nat_tests}
 use Rattle.std.proofs.lemmas.Option.{MatchOption-at_some, MatchOption-at_none}
 use Rattle.drm_index_array.specs.Least.{first_passing, least, IsLeast, NonePasses, lesser, least_of, IsLeastOf}
 
--- what the first of so many numbers from `from` on is
+-- what the first of this many numbers from `from` on is
 record IsFirst (p : ℕ → Bool) (from count n : ℕ) : Type 0 where
   at_least : from ≤ n
   below : n < from + count
@@ -144,7 +144,7 @@ least_of_cases (n ∷ ns) = first (least_of ns) (least_of_cases ns)
 pub least_of_some : (ns : List ℕ) (n : ℕ) → least_of ns ≡ Some n → IsLeastOf ns n
 least_of_some ns n e = MatchOption-at_some _ (IsLeastOf ns) n e (least_of_cases ns)
 
--- there is none exactly where the list is empty
+-- there is none exactly if the list is empty
 pub least_of_none : (ns : List ℕ) → (least_of ns ≡ None) ↔ (ns ≡ [])
 least_of_none ns = ((λ e. MatchOption-at_none (ns ≡ []) (IsLeastOf ns) e (least_of_cases ns)), ap least_of)
 

@@ -322,7 +322,7 @@ module _ {X : Type 0} where
   marked_with-array_of a M1 q = contains-marked_in a M1 q
   marked_with-array_of a M2 q = contains-marked_in a M2 q
 
-  -- a mark stands only where there is an entry
+  -- a mark stands only if there is an entry
   pub marked_is_key : (a : MarkedMap X) (m : Mark) (q : ℕ) → IsTrue (set.contains (ix.marked_with (array_of a) m) q) → IsTrue (map.contains_key (array_of a).items q)
   marked_is_key a m q marked = contains_key-values a q ∙ some (map.get a q) (sym (marked_with-array_of a m q) ∙ marked)
     where

@@ -56,7 +56,7 @@ module _ (p : ℕ → Bool) (w : ℕ) (pos : 0 < w) (tells : ℕ → Bool) (told
   not_told : (k : ℕ) → k ≤ 64 * w - 1 → tells (k / w) ≡ false → p k ≡ false
   not_told k le e = none_of p _ _ (sym (told (k / w) (slot_below k le)) ∙ e) k (omega (arith, (in_slot k).0)) (in_slot k).1
 
-  -- some slot is told just where some number passes
+  -- some slot is reported exactly if some number passes
   pub any_told : is_some (least tells 0 63) ≡ is_some (least p 0 (64 * w - 1))
   any_told = by_word (least tells 0 63) refl
     where

@@ -1,4 +1,4 @@
--- How many numbers of a range pass, and where a key stands among the keys.
+-- How many numbers of a range pass, and where a key is among the keys.
 use Rattle.std.proofs.Common.{◌≡◌, ℕ, zero, suc, ◌+◌, ◌<◌, ◌≤◌, Bool, true, false, cond, ◌∷◌, length, Option, Some, None, refl, sym, ap, ◌∙◌, arith}
 use Rattle.std.specs.List.{slice_get}
 use Rattle.std.specs.Ordering.{nat_cmp}
@@ -53,7 +53,7 @@ module _ {X : Type 0} (m : map.FinMap nat_cmp X) where
   key_here : (from : ℕ) → there from ≡ true → keys_from m from ≡ from ∷ keys_from m (from + 1)
   key_here from passes = keys_from-least m from from from (record { at_least = omega arith; at_most = omega arith; passes = passes; none_below = λ k ge lt. absurd (omega arith) })
 
-  -- a key comes after as many keys as there are below it
+  -- a key follows as many keys as there are below it
   key_at : (n from : ℕ) → there (from + n) ≡ true → slice_get (keys_from m from) (passing there from n) ≡ Some (from + n)
   unfolding passing
   key_at zero from passes =

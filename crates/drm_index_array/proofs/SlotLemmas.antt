@@ -57,7 +57,7 @@ module _ {T : Type 0} where
   slot_least height slots x i from lt =
       least_moved _ _ (i * width height) from (width height - 1) (λ r ge le. ap (is_sought x) (sym (value_in height slots i r lt (omega (arith, pow_pos (6 * height))))))
 
-  -- what the words tell, of the node's value
+  -- what the words say, of the node's value
   pub told : (height : ℕ) (slots : List (Slot T)) (words : Words) (v : Tree T) → IsSound height slots words → view_of height slots ≡ v → (x : Sought) (i : ℕ) → i < 64 → tells_of words x i ≡ is_some (least (λ k. is_sought x (map.get v.items k)) (i * width v.height + 0) (i * width v.height + (width v.height - 1)))
   told height slots words v sound view_is x i lt =
       subst (λ (v : Tree T). tells_of words x i ≡ is_some (least (λ k. is_sought x (map.get v.items k)) (i * width v.height + 0) (i * width v.height + (width v.height - 1)))) view_is

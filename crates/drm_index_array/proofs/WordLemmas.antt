@@ -1,4 +1,4 @@
--- What the machine's operations on a word do to the places that it tells.
+-- What the machine's operations on a word do to the places that it says.
 use Rattle.std.proofs.Common.{◌≡◌, ℕ, ◌-◌, ◌*◌, ◌%◌, ◌^◌, ◌<◌, ◌≤◌, true, false, eqb, ◌==◌, if◌then◌else◌, not, bit_and, w64, Some, None, refl, sym, ap, ◌∙◌, inl, inr, arith}
 use Rattle.std.specs.Int.{bit_at, trailing_zeros, bit_not}
 use Rattle.std.specs.Int.RustNames.{bit_or}

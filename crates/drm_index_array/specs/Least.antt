@@ -2,7 +2,7 @@
 use Rattle.std.specs.Prelude.{◌≡◌, ℕ, zero, suc, ◌+◌, ◌-◌, ◌<◌, ◌≤◌, ◌==◌, nat_le, Bool, true, false, if◌then◌else◌, List, [], ◌∷◌, Option, Some, None}
 use Rattle.std.specs.List.{list_any}
 
--- the first of so many numbers from `from` on that passes
+-- the first of this many numbers from `from` on that passes
 unfoldable pub first_passing : (ℕ → Bool) → ℕ → ℕ → Option ℕ
 first_passing p from zero = None
 first_passing p from (suc count) = elim (p from) [ true ↦ Some from | false ↦ first_passing p (from + 1) count ]

@@ -1,12 +1,12 @@
 -- The place of a number among those that pass a test.
 use Rattle.std.specs.Prelude.{◌≡◌, ℕ, zero, suc, ◌+◌, ◌<◌, ◌≤◌, Bool, true, cond, Option, Some, None}
 
--- how many of so many numbers from `from` on pass
+-- how many of this many numbers from `from` on pass
 unfoldable pub passing : (ℕ → Bool) → ℕ → ℕ → ℕ
 passing p from zero = 0
 passing p from (suc count) = cond (p from) 1 0 + passing p (from + 1) count
 
--- n is below `end` and passes, and so many numbers below it do
+-- n is below `end` and passes, and this many numbers below it do
 pub record IsAtPosition (p : ℕ → Bool) (end position n : ℕ) : Type 0 where
   pub below : n < end
   pub passes : p n ≡ true

@@ -12,7 +12,7 @@ module _ {T : Type 0} where
   items_of None = map.empty
   items_of (Some b) = b.value.items
 
-  -- a tree that is there is not empty
+  -- a tree that exists is not empty
   abbrev pub IsUsedRoot : Option (Box (Node T) Global) → Type 0
   IsUsedRoot None = Unit {0}
   IsUsedRoot (Some b) = 0 < map.len b.value.items

@@ -29,7 +29,7 @@ module _ {X : Type 0} where
   given_at i None m = m
   given_at i (Some x) m = map.insert m i x
 
-  -- what a function gives at the numbers below a bound
+  -- what a function returns at the numbers below a bound
   unfoldable pub table : ℕ → (ℕ → Option X) → map.FinMap nat_cmp X
   table zero f = map.empty
   table (suc n) f = given_at n (f n) (table n f)

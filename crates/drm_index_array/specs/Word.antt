@@ -1,4 +1,4 @@
--- A word as a set of places, and what the five words of a node tell of its slots.
+-- A word as a set of places, and what the five words of a node say about its slots.
 use Rattle.std.specs.Prelude.{ℕ, Bool, not, ◌==◌, ◌<◌, ◌^◌}
 use Rattle.std.specs.Int.{bit_at}
 use Rattle.drm_index_array.specs.declared.marks.Mark.TheVariants.{M0, M1, M2}
@@ -10,7 +10,7 @@ use Rattle.drm_index_array.specs.declared.words.Words.{Words}
 abbrev pub has_bit : ℕ → ℕ → Bool
 has_bit word i = bit_at word i == 1
 
--- the bit of a word that tells of one slot; a bit of `full` says that none below is vacant
+-- the bit of a word that describes one slot; a bit of `full` says that none below is vacant
 abbrev pub tells_of : Words → Sought → ℕ → Bool
 tells_of w Taken i = has_bit w.present i
 tells_of w Vacant i = not (has_bit w.full i)

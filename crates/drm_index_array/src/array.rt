@@ -53,7 +53,7 @@ impl<T: Drop> IndexArray<T> {
     ghost use Rattle.drm_index_array.specs.Lends.{lends_get};
     ghost use Rattle.drm_index_array.specs.declared.marks.Mark.{Mark};
 
-    /// An array with no entry, which takes no memory. It keeps the allocator for the entries to come.
+    /// Returns an array with no entry, which takes no memory. It keeps the allocator for the entries to come.
     ///
     /// ```rust
     /// let empty: IndexArray<u8> = IndexArray::new(alloc);
@@ -69,7 +69,7 @@ impl<T: Drop> IndexArray<T> {
         }
     }
 
-    /// How many entries there are.
+    /// Returns the number of entries.
     ///
     /// ```rust
     /// assert!(array.len() == 1);
@@ -93,7 +93,7 @@ impl<T: Drop> IndexArray<T> {
         ensures err { OnErr result (self.new ≡ self.old) }
         ensures returned { IfErr result (λ fault. value_of fault ≡ value) }
 
-        // It is refused as taken exactly where the index has an entry.
+        // It is refused as taken exactly if the index has an entry.
         ensures absent { OnOk result (map.get self.old.items index ≡ None) }
         ensures taken { IfErr result (λ fault. IsTaken fault ↔ IsSome (map.get self.old.items index)) }
     {
@@ -106,7 +106,7 @@ impl<T: Drop> IndexArray<T> {
         Ok(())
     }
 
-    /// The value at the index, if there is one.
+    /// Returns the value at the index, if there is one.
     ///
     /// ```rust
     /// assert!(array.get(300) == Some(&7));
@@ -124,7 +124,7 @@ impl<T: Drop> IndexArray<T> {
         Some(&entry.value)
     }
 
-    /// The value at the index for writing, if there is one. The entry keeps its marks.
+    /// Returns the value at the index for writing, if there is one. The entry keeps its marks.
     ///
     /// ```rust
     /// if let Some(value) = array.get_mut(300) {
@@ -204,7 +204,7 @@ impl<T: Drop> IndexArray<T> {
         true
     }
 
-    /// Whether the index has an entry that carries the mark.
+    /// Returns whether the index has an entry that carries the mark.
     ///
     /// ```rust
     /// assert!(!array.marked(40, Mark::M0));
@@ -222,7 +222,7 @@ impl<T: Drop> IndexArray<T> {
         entry.has(mark)
     }
 
-    /// The least index not below `from` that has an entry.
+    /// Returns the least index not below `from` that has an entry.
     ///
     /// ```rust
     /// assert!(array.next(0) == Some(40));
@@ -241,8 +241,8 @@ impl<T: Drop> IndexArray<T> {
         Some(found as u32)
     }
 
-    /// The index at a place of the list of the indices that have an entry, rising, where 0 is the first. Whole subtrees
-    /// are passed over, so a late place costs what an early one does.
+    /// Returns the index at a place of the list of the indices that have an entry, rising, where 0 is the first. Whole
+    /// subtrees are passed over, so a late place costs what an early one does.
     ///
     /// ```rust
     /// assert!(array.nth(0) == Some(40) && array.nth(1).is_none());
@@ -262,7 +262,7 @@ impl<T: Drop> IndexArray<T> {
         Some(found as u32)
     }
 
-    /// The least index not below `from` whose entry carries the mark.
+    /// Returns the least index not below `from` whose entry carries the mark.
     ///
     /// ```rust
     /// assert!(array.next_marked(0, Mark::M0).is_none());
@@ -281,7 +281,7 @@ impl<T: Drop> IndexArray<T> {
         Some(found as u32)
     }
 
-    /// The least index not below `from` that has no entry.
+    /// Returns the least index not below `from` that has no entry.
     ///
     /// ```rust
     /// assert!(array.next_vacant(40) == Some(41));

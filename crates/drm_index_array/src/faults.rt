@@ -2,7 +2,7 @@
 
 ghost use Rattle.std.specs.Prelude.{◌≡◌};
 
-/// Why an insertion left the array as it was. Each hands the value back.
+/// Why an insertion left the array unchanged. Each hands the value back.
 ///
 /// ```rust
 /// let taken = InsertFault::Taken(7);
@@ -18,7 +18,7 @@ pub enum InsertFault<T> {
 impl<T> InsertFault<T> {
     ghost use Rattle.drm_index_array.specs.InsertFault.{value_of};
 
-    /// The value that was not stored.
+    /// Returns the value that was not stored.
     ///
     /// ```rust
     /// assert!(taken.into_value() == 7);

@@ -11,7 +11,7 @@ use crate::faults::InsertFault;
 use crate::tree::{Edit, Node};
 use std::alloc::Global;
 
-/// The least height of a node that covers the index.
+/// Returns the least height of a node that covers the index.
 fn height_for(index: u64) -> u32
     requires { index < 2 ^ 36 }
     ensures low { result ≤ 5 }
@@ -36,7 +36,7 @@ fn height_for(index: u64) -> u32
     5
 }
 
-/// The lowest tree with this one entry. Where memory is refused, the value comes back.
+/// Returns the lowest tree with this one entry. Where memory is refused, the value comes back.
 fn sole<T: Drop>(alloc: Global, index: u64, value: T) -> Result<Box<Node<T>>, T>
     requires { index < 2 ^ 36 }
     ensures height { IfOk result (λ root. root.value.height ≤ 5) }
@@ -57,8 +57,8 @@ fn sole<T: Drop>(alloc: Global, index: u64, value: T) -> Result<Box<Node<T>>, T>
     Ok(root)
 }
 
-/// A tree of this height with the same entries. All its nodes are made before the first is linked. Where memory is
-/// refused, the tree comes back as it was.
+/// Returns a tree of this height with the same entries. All its nodes are made before the first is linked. Where memory
+/// is refused, the tree comes back unchanged.
 fn raised<T: Drop>(
     alloc: Global,
     root: Box<Node<T>>,
@@ -86,8 +86,8 @@ fn raised<T: Drop>(
     Ok(above)
 }
 
-/// A tree with one more entry, at an index that the root does not cover. Where memory is refused, the tree comes back
-/// as it was, with the value.
+/// Returns a tree with one more entry, at an index that the root does not cover. Where memory is refused, the tree
+/// comes back unchanged, with the value.
 fn grown<T: Drop>(
     alloc: Global,
     root: Box<Node<T>>,
@@ -118,8 +118,8 @@ fn grown<T: Drop>(
     }
 }
 
-/// The tree with one more entry, with no mark, and how that went. Where the index has an entry, or memory is refused,
-/// the tree stays as it is and the value comes back.
+/// Returns the tree with one more entry, with no mark, and how that went. Where the index has an entry, or memory is
+/// refused, the tree stays as it is and the value comes back.
 pub fn inserted<T: Drop>(
     alloc: Global,
     root: Option<Box<Node<T>>>,
@@ -152,8 +152,8 @@ pub fn inserted<T: Drop>(
     }
 }
 
-/// The tree with no entry at the index, and the value that was there. No memory is taken, and a tree that became empty
-/// is dropped.
+/// Returns the tree with no entry at the index, and the value that existed. No memory is taken, and a tree that became
+/// empty is dropped.
 pub fn removed<T: Drop>(root: Option<Box<Node<T>>>, index: u64) -> (Option<Box<Node<T>>>, Option<T>)
     requires used { IsUsedRoot root }
     ensures used { IsUsedRoot result.0 }

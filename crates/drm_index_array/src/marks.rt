@@ -1,6 +1,6 @@
 //! The marks.
 
-/// One of the three marks that an entry can carry. What each stands for is the caller's choice.
+/// One of the three marks that an entry can carry. What each represents is the caller's choice.
 ///
 /// ```rust
 /// let mut array: IndexArray<u8> = IndexArray::new(alloc);

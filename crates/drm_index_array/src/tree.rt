@@ -110,7 +110,7 @@ impl<T> Entry<T> {
         }
     }
 
-    /// The value for writing.
+    /// Returns the value for writing.
     fn value_mut(&mut self) -> &mut T
         ensures* lends { sem 𝓛 (lends_entry T.row self.entry result) }
         ensures value { self.old.value ≡ result.now }
@@ -119,7 +119,7 @@ impl<T> Entry<T> {
     }
 }
 
-/// The slot of a node of this height where an index lies, and where it lies below that slot.
+/// Returns the slot of a node of this height where an index lies, and where it lies below that slot.
 fn parts(height: u32, index: u64) -> (usize, u64)
     requires { height ≤ 5 }
     ensures slot { result.0 ≡ index / width height }
@@ -129,7 +129,7 @@ fn parts(height: u32, index: u64) -> (usize, u64)
     ((index >> shift) as usize, index & ((1 << shift) - 1))
 }
 
-/// The first index past those that a node of this height covers.
+/// Returns the first index past those that a node of this height covers.
 fn first_past(height: u32) -> u64
     requires { height ≤ 5 }
     ensures { result ≡ span height }
@@ -137,7 +137,7 @@ fn first_past(height: u32) -> u64
     1 << (6 * height + 6)
 }
 
-/// The first index of a slot of a node of this height.
+/// Returns the first index of a slot of a node of this height.
 fn start(height: u32, at: usize) -> u64
     requires low { height ≤ 5 }
     requires slot { at < 64 }
@@ -148,7 +148,7 @@ fn start(height: u32, at: usize) -> u64
     (at as u64) << (6 * height)
 }
 
-/// Whether some index below a slot is sought.
+/// Returns whether some index below a slot is sought.
 fn any_below<T>(slot: &Slot<T>, height: u32, sought: Sought) -> bool
     requires { Fits height slot.now }
     ensures { result ≡ has_below height slot.now sought }
@@ -171,7 +171,7 @@ fn count_below<T>(slot: &Slot<T>) -> usize
     }
 }
 
-/// The words of a node, once one slot was written.
+/// Returns the words of a node, once one slot was written.
 fn refreshed<T>(words: &Words, height: u32, slot: &Slot<T>, at: usize) -> Words
     requires words { AreWords words.now }
     requires slot { at < 64 }
@@ -208,7 +208,7 @@ impl<T> Node<T> {
         self.height
     }
 
-    /// How many entries there are.
+    /// Returns the number of entries.
     pub fn len(&self) -> usize
         ensures len { result ≡ map.len self.now.items }
         ensures past { (k : ℕ) → span self.now.height ≤ k → map.get self.now.items k ≡ None }
@@ -216,7 +216,7 @@ impl<T> Node<T> {
         self.count
     }
 
-    /// Whether the index is low enough to lie below the node.
+    /// Returns whether the index is low enough to lie below the node.
     pub fn covers(&self, index: u64) -> bool
         ensures covers { IsTrue result ↔ (index < span self.now.height) }
         ensures past { (k : ℕ) → span self.now.height ≤ k → map.get self.now.items k ≡ None }
@@ -225,14 +225,14 @@ impl<T> Node<T> {
         index < first_past(self.height)
     }
 
-    /// Whether there is no entry.
+    /// Returns whether there is no entry.
     pub fn is_empty(&self) -> bool
         ensures { IsTrue result ↔ (map.len self.now.items ≡ 0) }
     {
         self.count == 0
     }
 
-    /// The entry at the index, if there is one.
+    /// Returns the entry at the index, if there is one.
     pub fn find(&self, index: u64) -> Option<&Entry<T>>
         ensures entry { option_marked (option_copied result) ≡ map.get self.now.items index }
         ensures within { OnSome result (index < span self.now.height) }
@@ -243,7 +243,7 @@ impl<T> Node<T> {
         self.get(index)
     }
 
-    /// The least index not below `from` that is sought, of those that lie below the node.
+    /// Returns the least index not below `from` that is sought, of those that lie below the node.
     pub fn first(&self, sought: Sought, from: u64) -> Option<u64>
         ensures first { result ≡ least (λ i. is_sought sought (map.get self.now.items i)) from (span self.now.height - 1) }
         ensures past { (k : ℕ) → span self.now.height ≤ k → map.get self.now.items k ≡ None }
@@ -254,7 +254,7 @@ impl<T> Node<T> {
         self.next(sought, from)
     }
 
-    /// The least index not below `from` that has no entry, of all.
+    /// Returns the least index not below `from` that has no entry, of all.
     pub fn next_vacant(&self, from: u64) -> u64
         ensures { IsLeastFrom (λ i. not (map.contains_key self.now.items i)) from result }
     {
@@ -279,7 +279,7 @@ impl<T> Node<T> {
         }
     }
 
-    /// The least index not below `from` that is sought.
+    /// Returns the least index not below `from` that is sought.
     #[cycle(search)]
     fn next(&self, sought: Sought, from: u64) -> Option<u64>
         requires { from < span self.now.height }
@@ -296,7 +296,7 @@ impl<T> Node<T> {
         self.next_in(at as usize, sought, 0)
     }
 
-    /// The same in one slot.
+    /// Returns the same in one slot.
     #[cycle(search)]
     fn next_in(&self, at: usize, sought: Sought, rest: u64) -> Option<u64>
         requires slot { at < 64 }
@@ -326,8 +326,8 @@ impl<T> Node<T> {
         }
     }
 
-    /// The index at a place of the list of the indices that have an entry, rising, where 0 is the first. Whole slots are
-    /// passed over by how many entries lie below them.
+    /// Returns the index at a place of the list of the indices that have an entry, rising, where 0 is the first. Whole
+    /// slots are passed over by how many entries lie below them.
     pub fn nth(&self, position: usize) -> Option<u64>
         ensures placed { IsPlaced (map.contains_key self.now.items) (span self.now.height) position result }
         ensures past { (k : ℕ) → span self.now.height ≤ k → map.get self.now.items k ≡ None }
@@ -347,7 +347,7 @@ impl<T> Node<T> {
         }
     }
 
-    /// The slot below which the index at a place lies, and its place among those below that slot.
+    /// Returns the slot below which the index at a place lies, and its place among those below that slot.
     fn slot_of(&self, position: usize) -> Option<(usize, usize)>
         ensures slot { IfSome result (λ found. found.0 < 64) }
         ensures before { IfSome result (λ found. passing (map.contains_key self.now.items) 0 (found.0 * width self.now.height) + found.1 ≡ position) }
@@ -365,7 +365,7 @@ impl<T> Node<T> {
         None
     }
 
-    /// Whether some index is sought.
+    /// Returns whether some index is sought.
     fn any(&self, sought: Sought) -> bool
         ensures any { result ≡ is_some (least (λ i. is_sought sought (map.get self.now.items i)) 0 (span self.now.height - 1)) }
         ensures past { (k : ℕ) → span self.now.height ≤ k → map.get self.now.items k ≡ None }
@@ -375,7 +375,7 @@ impl<T> Node<T> {
 }
 
 impl<T: Drop> Node<T> {
-    /// A node with no entry.
+    /// Returns a node with no entry.
     pub fn new(alloc: Global, height: u32) -> Result<Node<T>, AllocError>
         requires { height ≤ 5 }
         ensures { IfOk result (λ node. node ≡ record { height = height; items = map.empty }) }
@@ -498,7 +498,7 @@ fn filled<T: Drop>(
     }
 }
 
-/// The slot, once the entry at an index below it was edited, and the value that was taken out.
+/// Returns the slot, once the entry at an index below it was edited, and the value that was taken out.
 #[cycle(edit)]
 fn edited<T: Drop>(slot: Slot<T>, height: u32, rest: u64, edit: Edit) -> (Slot<T>, Option<T>)
     requires fits { Fits height slot }
@@ -538,7 +538,7 @@ trait Level {
 
     ghost height: { ℕ };
 
-    /// The value at an index below the slot for writing, if there is one.
+    /// Returns the value at an index below the slot for writing, if there is one.
     fn lend<T>(slot: &mut Slot<T>, rest: u64) -> Option<&mut T>
         requires fits { Fits height slot.old }
         requires rest { rest < width height }
@@ -581,7 +581,7 @@ impl<T> Node<T> {
     ghost use Rattle.drm_index_array.specs.Lends.{lends_node};
     ghost use Rattle.drm_index_array.specs.Marked.{get};
 
-    /// The value at the index for writing, if there is one, in a node of this level.
+    /// Returns the value at the index for writing, if there is one, in a node of this level.
     fn lend<L: Level>(&mut self, index: u64) -> Option<&mut T>
         requires height { self.old.height ≡ L.height }
         requires index { index < span self.old.height }
@@ -592,7 +592,7 @@ impl<T> Node<T> {
         L::lend(&mut self.slots[at], rest)
     }
 
-    /// The height of a node that covers the index; 6 for one that does not.
+    /// Returns the height of a node that covers the index; 6 for one that does not.
     fn level_of(&self, index: u64) -> u32
         ensures height { result ≤ 5 → (result ≡ self.now.height) × (index < span self.now.height) }
         ensures none { 5 < result → map.get self.now.items index ≡ None }
@@ -603,7 +603,7 @@ impl<T> Node<T> {
         self.height
     }
 
-    /// The value at the index for writing, if there is one. The entry keeps its marks.
+    /// Returns the value at the index for writing, if there is one. The entry keeps its marks.
     pub fn get_mut(&mut self, index: u64) -> Option<&mut T>
         ensures* writes_back { sem 𝓛 (lends_node T.row self.entry index result) }
         ensures value { option_copied_mut result ≡ get self.old.items index }

@@ -34,7 +34,7 @@ pub struct Words {
 
 /// Five facts of what lies below a slot.
 impl Words {
-    /// The words of a node with no entry.
+    /// Returns the words of a node with no entry.
     pub fn none() -> Self
         ensures { result ≡ record { present = 0; full = 0; m0 = 0; m1 = 0; m2 = 0 } }
     {
@@ -47,7 +47,7 @@ impl Words {
         }
     }
 
-    /// The word whose bits tell of what is sought.
+    /// Returns the word whose bits describe what is sought.
     pub fn word(&self, sought: Sought) -> u64
         requires { AreWords self.now }
         ensures { (i : ℕ) → i < 64 → has_bit result i ≡ tells_of self.now sought i }
@@ -62,7 +62,7 @@ impl Words {
     }
 }
 
-/// The place of the least 1 of a word, from a place on.
+/// Returns the place of the least 1 of a word, from a place on.
 pub fn first_one(word: u64, from: u32) -> Option<u32>
     requires { from < 64 }
     ensures { result ≡ least (has_bit word) from 63 }
@@ -74,7 +74,7 @@ pub fn first_one(word: u64, from: u32) -> Option<u32>
     Some(rest.trailing_zeros())
 }
 
-/// The word with the bit of one place written.
+/// Returns the word with the bit of one place written.
 pub fn with_bit(word: u64, at: usize, on: bool) -> u64
     requires { at < 64 }
     ensures { (i : ℕ) → i < 64 → has_bit result i ≡ (if i == at then on else has_bit word i) }

@@ -200,7 +200,7 @@ module _ {X : Type 0} (key step_number : X → ℕ) (nothing : X) where
       unmoved : rows_in nothing new es ≡ rows
       unmoved = rows_alike (row slab) (row new) es (by_get (λ e. row new e ≡ row slab e) (λ b j at. ap (λ o. unwrap_or o nothing) (up.others j (other_key b j at))))
 
-      -- a record beside its step number
+      -- a record next to its step number
       abbrev tagged : ℕ × ℕ → ℕ × X
       tagged e = (e.0, row new e)
 

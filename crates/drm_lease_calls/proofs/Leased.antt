@@ -48,7 +48,7 @@ module _ (s : State) (key b m id token : ℕ) (objects : List ℕ) (rise : InOrd
   abbrev tokens_now : List LeaseToken
   tokens_now = placed token_before (lease_token token b) s.leases.tokens
 
-  -- the tokens of the others are as they were
+  -- the tokens of the others are unchanged
   token_yet : (n : ℕ) → (b == n) ≡ false → token_of tokens_now n ≡ token_of s.leases.tokens n
   token_yet n other = ap (option_map (λ (row : LeaseToken). row.token)) (find_other (λ (row : LeaseToken). row.token) (lease_token token b) s.leases.tokens rise (is_token_of n) other)
 

@@ -103,7 +103,7 @@ module _ (s : State) (w : Rows) (h : Represents s w) where
   pub lessee_step_number : (m id : ℕ) (x : Master) → find (masters.is_lessee_of s.masters.masters (masters.owner_of s.masters.masters m) id) s.masters.masters ≡ Some x → model.lessee_master w m id ≡ x.step_number
   lessee_step_number m id x e = ap (λ o. unwrap_or (option_map (λ (row : MasterRow). row.master) o) 0) (lessee_found m id ∙ ap (option_map (master_row_of s.leases.tokens)) e)
 
-  -- what REVOKE_LEASE comes to, by what is found
+  -- what REVOKE_LEASE is, by what is found
   pub revoke_verdict : (c m id : ℕ) (o : Option Master) → caller_master w c ≡ m → first_failing (admission_checks w c (RevokeLease id)) ≡ None → find (masters.is_lessee_of s.masters.masters (masters.owner_of s.masters.masters m) id) s.masters.masters ≡ o →
       verdict w (Ask c (RevokeLease id)) ≡ first_failing (check NoLessee (is_some o) ∷ check NotYourLessee (option_map_or (λ (x : Master). masters.is_option m x.lessor) o false) ∷ [])
   unfolding meaning

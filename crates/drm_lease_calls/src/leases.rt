@@ -54,8 +54,8 @@ pub fn create_lease(
     }
 }
 
-/// MODE_REVOKE_LEASE (drm-uapi, leases; that a lessee which nobody redeemed goes is own): the lease of a direct lessee of the
-/// caller's master ends, and all that was lent from it. It takes no memory.
+/// MODE_REVOKE_LEASE (drm-uapi, leases; that a lessee which no client redeemed goes is own): the lease of a direct
+/// lessee of the caller's master ends, and all that was lent from it. Does not allocate.
 pub fn revoke_lease(state: &mut State, caller: PrimaryCaller, lessee: u32, answer: &mut Answer)
     requires invariants { MeetsInvariants state.old }
     requires caller { IsPrimaryCaller state.old caller }
@@ -83,7 +83,7 @@ pub fn revoke_lease(state: &mut State, caller: PrimaryCaller, lessee: u32, answe
     answer.set_done();
 }
 
-/// Whether a lessor, if there is one, is this master.
+/// Returns whether a lessor, if there is one, is this master.
 fn is_lent_by(lessor: Option<u32>, master: u32) -> bool
     ensures { result ≡ is_option master lessor }
 {

@@ -11,8 +11,8 @@ use drm_modes::{Kind, Modes};
 use drm_state::{PrimaryCaller, State};
 use drm_table::{Answer, ShownList};
 
-/// MODE_LIST_LESSEES (drm-uapi, leases; that they rise is own): the ids of the direct lessees of the caller's master whose
-/// lease isn't empty. It takes no memory.
+/// MODE_LIST_LESSEES (drm-uapi, leases; that they rise is own): the ids of the direct lessees of the caller's master
+/// whose lease isn't empty. Does not allocate.
 pub fn list_lessees(state: &State, caller: PrimaryCaller, answer: &mut Answer)
     requires invariants { MeetsInvariants state.now }
     requires caller { IsPrimaryCaller state.now caller }
@@ -26,8 +26,8 @@ pub fn list_lessees(state: &State, caller: PrimaryCaller, answer: &mut Answer)
     };
 }
 
-/// MODE_GET_LEASE (drm-uapi, leases; that an owner has a lease of all is own): the mode objects in the lease of the caller's
-/// master, rising; all CRTCs, planes and connectors where it is no lessee. It takes no memory.
+/// MODE_GET_LEASE (drm-uapi, leases; that an owner has a lease of all is own): the mode objects in the lease of the
+/// caller's master, rising; all CRTCs, planes and connectors where it is no lessee. Does not allocate.
 pub fn get_lease(state: &State, caller: PrimaryCaller, answer: &mut Answer)
     requires invariants { MeetsInvariants state.now }
     requires caller { IsPrimaryCaller state.now caller }
@@ -44,7 +44,7 @@ pub fn get_lease(state: &State, caller: PrimaryCaller, answer: &mut Answer)
     *answer = Answer::List { list };
 }
 
-/// The CRTCs, planes and connectors, in this order. It takes no memory.
+/// Returns the CRTCs, planes and connectors, in this order. Does not allocate.
 fn leasable(modes: &Modes) -> ShownList
     ensures { result ≡ leasable_ids modes.now.topology }
 {
@@ -57,7 +57,7 @@ fn leasable(modes: &Modes) -> ShownList
     list
 }
 
-/// Adds ids after the others, for which there is room. It takes no memory.
+/// Adds ids after the others, for which there is room. Does not allocate.
 fn add_all(list: &mut ShownList, ids: &[u32])
     requires { length list.old + length ids.now ≤ 64 }
     ensures { list.new ≡ list.old ++ ids.now }

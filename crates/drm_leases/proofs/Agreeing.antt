@@ -36,7 +36,7 @@ abbrev pub owns : ℕ → Member → Bool
 owns m y = y.is_master && (y.master == m)
 
 module _ (members members2 : List Member) (ms ms2 : List Master) (x : Lending) where
-  -- a lessee that is there yet, by the same lessor, and kept or a client's own
+  -- a lessee that exists yet, by the same lessor, and kept or a client's own
   abbrev Stays : Type 0
   Stays = (y : Master) → master_at ms x.lessee ≡ Some y → (y.step_number ≡ x.lessee) → is_owned members y ≡ true → (z : Master) × (master_at ms2 x.lessee ≡ Some z) × (z.lessor ≡ y.lessor) × (is_owned members2 z ≡ true)
 

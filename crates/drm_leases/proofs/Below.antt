@@ -31,7 +31,7 @@ risen k (x ∷ xs) (suc i) n low rise at =
     all_more [] h = tt
     all_more (y ∷ ys) h = (let lt = h.0 in let le = low.0 in omega (arith, lt, le), all_more ys h.1)
 
--- what stands in a chain is no greater than its first
+-- what is in a chain is no greater than its first
 in_chain : (above : ℕ → Option ℕ) → IsFalling above → (s n y : ℕ) → is_among (chain_within s above n) y ≡ true → y ≤ n
 unfolding chain_within
 in_chain above falls zero n y h = by_test (n == y) refl h
@@ -162,7 +162,7 @@ module _ (v : MasterSet) (are : AreMasters v) where
   pub none_below : (m i k : ℕ) → slice_get (lessees_of v.masters m) i ≡ None → is_below v.masters m k ≡ true → list_any (λ y. is_under above y k) (take i (lessees_of v.masters m)) ≡ true
   none_below m i k past h = ap (list_any (λ y. is_under above y k)) (take_past (lessees_of v.masters m) i past) ∙ sym (below_by_lessees m k) ∙ h
 
-  -- rows of lessees that are gone when all direct lessees were looked at
+  -- rows of lessees that are removed when all direct lessees were looked at
   pub all_taken : {X : Type 0} (lessee : X → ℕ) (m i : ℕ) → slice_get (lessees_of v.masters m) i ≡ None → (old now : List X) → now ≡ filter (λ x. not (list_any (λ y. is_under above y (lessee x)) (take i (lessees_of v.masters m)))) old →
       now ≡ filter (λ x. not (is_below v.masters m (lessee x))) old
   all_taken lessee m i past old now e =

@@ -1,4 +1,4 @@
--- Which mode objects a word stands for.
+-- Which mode objects a word represents.
 use Rattle.std.proofs.Common.{◌≡◌, ℕ, zero, suc, ◌+◌, ◌-◌, ◌*◌, ◌%◌, ◌^◌, ◌<◌, ◌≤◌, ◌==◌, nat_lt, Bool, true, false, cond, not, min, max, ◌&&◌, ◌||◌, List, [], ◌∷◌, ◌++◌, filter, length, w64, eqb, refl, sym, ap, ◌∙◌, inl, inr, arith, append-nil}
 use Rattle.std.proofs.Math.Bool.{and-false, and-true, or-false}
 use Rattle.std.specs.Prelude.{nat_le, if◌then◌else◌}

@@ -1,4 +1,4 @@
--- What the rules of CREATE_LEASE tell of a master that they deny nothing.
+-- What the rules of CREATE_LEASE describe a master that they deny nothing.
 use Rattle.std.proofs.Common.{◌≡◌, ℕ, ◌+◌, ◌==◌, nat_lt, Bool, true, false, not, ◌&&◌, ◌||◌, List, [], ◌∷◌, ◌++◌, length, Option, None, Some, refl, sym, ap, ◌∙◌, eq-eqb, arith}
 use Rattle.std.specs.Prelude.{if◌then◌else◌, nat_le}
 use Rattle.std.specs.List.{list_any, list_all, AllByRecursion}
@@ -119,7 +119,7 @@ unlent l v s m universal ids h mask listed x has =
     let among : (is_among all x && is_among (numbers_from 1 (object_count s.topology)) x) ≡ true = sym (among_passing (is_among all) x (numbers_from 1 (object_count s.topology))) ∙ ap (λ l. is_among l x) (sym listed) ∙ among_objects mask x ∙ has in
     none_among (is_leased_out l.grants v.masters m) all x (not-true (list_any (is_leased_out l.grants v.masters m) all) (each_holds (lease_rules l v s m universal ids (is_some (next_token l))) h).1.1.1.1.1.0) (and_parts (is_among all x) (is_among (numbers_from 1 (object_count s.topology)) x) among).0
 
--- one that passes, and stands in the list
+-- one that passes, and is in the list
 passing : (p : ℕ → Bool) → (ids : List ℕ) → list_any p ids ≡ true → (x : ℕ) × (p x ≡ true) × (is_among ids x ≡ true)
 passing p [] h = absurd (let e : false ≡ true = h in cc)
 passing p (id ∷ ids) h =

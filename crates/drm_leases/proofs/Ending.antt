@@ -20,7 +20,7 @@ without gone l = record l {
   lendings = filter (λ (x : Lending). not (gone x.lessee)) l.lendings;
 }
 
--- the fields stand for those that are left
+-- the fields represent those that are left
 pub left : (gone : ℕ → Bool) (a : Inside) (tokens : TokenRows) (rows : List Lease) → tokens ≡ (let now : TokenRows = record a.tokens { rows = filter (λ (row : LeaseToken). not (gone row.master)) a.tokens.rows } in now) → rows ≡ filter (λ (x : Lease). not (gone x.lessee)) a.granted.rows →
     (let now : LeaseSet = record { last = tokens.last; last_given = tokens.last_given; tokens = tokens.rows; grants = grants_in rows; lendings = lendings_in rows } in now) ≡ without gone (set_of a)
 left gone a tokens rows e f =

@@ -1,4 +1,4 @@
--- The key of a master that is there.
+-- The key of a master that exists.
 use Rattle.std.proofs.Common.{◌≡◌, ℕ, true, List, Option, None, Some, find, refl, ap, subst, ◌∙◌, eq-eqb}
 use Rattle.std.specs.Option.{is_some, option_map, option_map_or}
 use Rattle.std.proofs.lemmas.Option.{none-some, same_Some}

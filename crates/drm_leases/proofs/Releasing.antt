@@ -25,7 +25,7 @@ pub record Releasing (v : MasterSet) (rows : List LeaseToken) (top : ℕ) (v2 : 
   pub masters_are : v2 ≡ swept (released chosen v)
   pub tokens_are : rows2 ≡ filter (λ row. not (chosen row.master)) rows
 
--- a lessee that is there and held
+-- a lessee that exists and held
 abbrev pub Holder : MasterSet → ℕ → Type 0
 Holder v n = (x : Master) × (master_at v.masters x.step_number ≡ Some x) × (is_held v.members x ≡ true) × (x.step_number ≡ n)
 

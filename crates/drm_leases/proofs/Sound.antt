@@ -81,7 +81,7 @@ module _ (l : LeaseSet) (a : AreLeases l) where
           (filter (λ (g : Grant). not (gone g.master)) l.grants) (filter_true (λ (g : Grant). not (gone g.master)) l.grants) (all_filter (λ (g : Grant). has_some_lease l.lendings g.master ≡ true) (λ (g : Grant). not (gone g.master)) l.grants a.grants_lent);
     }
 
--- ---- the token that is given next
+-- ---- the token that is assigned next
 
 next_of : (test : ℕ → Bool) (given last t : ℕ) → (o : Option ℕ) → least test (given + 1) last ≡ o → or_else o (least test 1 last) ≡ Some t → (1 ≤ t) × (t ≤ last) × (test t ≡ true)
 next_of test given last t None e h = let is = least_some test 1 last t h in (is.at_least, is.at_most, is.passes)
@@ -250,6 +250,6 @@ pub some_spent : {X : Type 0} (o : Option X) (P : Type 0) → is_some o ≡ true
 some_spent None P e = absurd (false≢true e)
 some_spent (Some x) P e = tt
 
--- the fields stand for a set of which all of it is so
+-- the fields represent a set of which all of it is so
 pub still : (v l : LeaseSet) → v ≡ l → AreLeases l → AreLeases v
 still v l e are = subst AreLeases (sym e) are

@@ -1,4 +1,4 @@
--- Lists that a loop makes of the numbers that pass a test: what is told so far, and what is still to come.
+-- Lists that a loop makes of the numbers that pass a test: what is reported so far, and what is still to come.
 use Rattle.std.proofs.Common.{◌≡◌, ℕ, ◌+◌, ◌-◌, ◌<◌, ◌≤◌, ◌⊎◌, inl, inr, Bool, true, false, cond, List, [], ◌∷◌, ◌++◌, filter, length, refl, sym, ap, ◌∙◌, append_assoc, append-nil, length-append, arith}
 use Rattle.drm_modes.specs.Numbers.{numbers_from}
 use Rattle.drm_modes.proofs.Listed.{number_told, numbers_told}
@@ -16,7 +16,7 @@ module _ (p : ℕ → Bool) (told all : List ℕ) (n stop : ℕ) where
   failing_passed : n < stop → p n ≡ false → told ++ filter p (numbers_from n (stop - n)) ≡ all → told ++ filter p rest ≡ all
   failing_passed lt fails h = ap (λ l. told ++ l) (sym (rest_is lt ∙ ap (λ b. cond b (n ∷ filter p rest) (filter p rest)) fails)) ∙ h
 
-  -- a number is told where it passes
+  -- a number is reported where it passes
   abbrev pub Looked : Bool → List ℕ → Type 0
   Looked b now = ((b ≡ true) × (now ≡ told ++ n ∷ [])) ⊎ ((b ≡ false) × (now ≡ told))
 

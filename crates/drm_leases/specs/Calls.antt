@@ -82,7 +82,7 @@ ended_below masters top l = record l {
   lendings = filter (λ (x : Lending). not (is_below masters top x.lessee)) l.lendings;
 }
 
--- what lending a master's objects to a new lessee comes to, before any rule
+-- what lending a master's objects to a new lessee is, before any rule
 abbrev pub Lends : LeaseSet → MasterSet → ℕ → List ℕ → ℕ → Result Leased LesseeFault → LeaseSet → MasterSet → Type 0
 Lends l v m objects step_number (Ok made) l2 v2 =
     (free_lessee v m ≡ Some made.id)
@@ -93,7 +93,7 @@ Lends l v m objects step_number (Ok made) l2 v2 =
 Lends l v m objects step_number (Err LesseesFull) l2 v2 = (free_lessee v m ≡ None) × (l2 ≡ l) × (v2 ≡ v)
 Lends l v m objects step_number (Err LesseeNoMemory) l2 v2 = (is_some (free_lessee v m) ≡ true) × (l2 ≡ l) × (v2 ≡ v)
 
--- what making a lease of a master comes to
+-- what making a lease of a master is
 abbrev pub Created : LeaseSet → MasterSet → ModeSet → ℕ → Bool → List ℕ → ℕ → Result Leased LeaseFault → LeaseSet → MasterSet → Type 0
 Created l v s m universal ids step_number (Ok made) l2 v2 =
     (first_failing (lease_checks l v s m universal ids) ≡ None)

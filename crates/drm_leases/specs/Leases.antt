@@ -108,8 +108,8 @@ token_of tokens m = option_map (λ (row : LeaseToken). row.token) (find (is_toke
 abbrev pub is_free : List LeaseToken → ℕ → Bool
 is_free tokens t = not (list_any (is_token t) tokens)
 
--- the least free token above the last one given or, where there is none, the least free one (the kernel's cyclic IDR; that
--- tokens are given so is own)
+-- the lowest free token above the last one given or, where there is none, the lowest free one (the kernel's cyclic IDR;
+-- that tokens are assigned so is own)
 abbrev pub next_of : List LeaseToken → Option ℕ → ℕ → Option ℕ
 next_of tokens last_given last = or_else (least (is_free tokens) (unwrap_or last_given 0 + 1) last) (least (is_free tokens) 1 last)
 
@@ -121,8 +121,8 @@ next_token l = next_of l.tokens l.last_given l.last
 abbrev pub grant_before : Grant → Grant → Type 0
 grant_before g h = (g.master < h.master) ⊎ ((g.master ≡ h.master) × (g.mode_object < h.mode_object))
 
--- no token is open twice, and no lessee has two; no mode object stands twice in a lease, which has 64 at most; each token and each
--- grant is of a lessee that has a lease
+-- no token is open twice, and no lessee has two; no mode object occurs twice in a lease, which has 64 at most; each
+-- token and each grant is of a lessee that has a lease
 pub record AreLeases (l : LeaseSet) : Type 0 where
   pub last_high : l.last ≤ 4294967295
   pub given_high : IfSome l.last_given (λ t. t ≤ l.last)

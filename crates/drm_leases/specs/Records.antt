@@ -1,4 +1,4 @@
--- What the fields of the granted leases stand for.
+-- What the fields of the granted leases represent.
 use Rattle.std.specs.Prelude.{◌≡◌, ℕ, Some}
 use Rattle.std.specs.FinMap as map
 use Rattle.std.specs.List.{AllByRecursion}

@@ -1,5 +1,5 @@
--- The rules of CREATE_LEASE by what leases, masters and modes have (drm-uapi, leases; what each rule asks, and their order,
--- `LeaseRules` of drm_modes tells).
+-- The rules of CREATE_LEASE by what leases, masters and modes have (drm-uapi, leases; what each rule asks, and their
+-- order, `LeaseRules` of drm_modes says).
 use Rattle.std.specs.Prelude.{ℕ, Bool, not, ◌&&◌, List, ◌++◌}
 use Rattle.std.specs.List.{list_any, list_all}
 use Rattle.std.specs.Option.{is_some}

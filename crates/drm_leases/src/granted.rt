@@ -89,7 +89,7 @@ impl Granted {
         Some(self.leases.get(lessee)?.key)
     }
 
-    /// Whether the lease of a lessee has the mode object.
+    /// Returns whether the lease of a lessee has the mode object.
     pub fn has(&self, lessee: u32, mode_object: u32) -> bool
         ensures { result ≡ sets.is_granted (grants_in self.now.rows) lessee mode_object }
     {

@@ -24,7 +24,7 @@ impl Lent {
         }
     }
 
-    /// The mask of what a master has lent.
+    /// Returns the mask of what a master has lent.
     pub fn mask(&self, lessor: u32) -> u64
         ensures { result ≡ mask_at self.now.masks.items lessor }
     {

@@ -5,7 +5,7 @@ ghost use Rattle.drm_modes.specs.Numbers.{numbers_from};
 
 use drm_table::ShownList;
 
-/// The numbers from 1 to the last that pass.
+/// Returns the numbers from 1 to the last that pass.
 pub fn passing<F: Fn(u32) -> bool>(last: u32, test: F) -> ShownList
     requires few { last ≤ 64 }
     requires callable { F.IsAlwaysCallable test }

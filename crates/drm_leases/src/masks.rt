@@ -8,14 +8,14 @@ ghost use Rattle.drm_leases.specs.Masks.{has_object, objects_in, IsFixed};
 use crate::lists::passing;
 use drm_table::ShownList;
 
-/// Whether a mask has a mode object.
+/// Returns whether a mask has a mode object.
 pub fn has(mask: u64, mode_object: u32) -> bool
     ensures { result ≡ has_object mask mode_object }
 {
     1 <= mode_object && mode_object <= 64 && mask >> (mode_object - 1) & 1 == 1
 }
 
-/// The mask of these mode objects.
+/// Returns the mask of these mode objects.
 pub fn mask_of(ids: &[u32]) -> u64
     requires { AllByRecursion IsFixed ids.now }
     ensures { (x : ℕ) → has_object result x ≡ is_among ids.now x }

@@ -82,7 +82,7 @@ pub fn planes_along(
     controlled(granted, masters, master, planes.ids())
 }
 
-/// The planes that a master controls.
+/// Returns the planes that a master controls.
 fn controlled(granted: &Granted, masters: &Masters, master: u32, planes: &[u32]) -> ShownList
     requires { length planes.now ≤ 64 }
     ensures { result ≡ filter (sets.controls (grants_in granted.now.rows) masters.now.masters master) planes.now }
@@ -96,7 +96,7 @@ fn controlled(granted: &Granted, masters: &Masters, master: u32, planes: &[u32])
     list
 }
 
-/// Whether each may be leased: an encoder and a framebuffer may not.
+/// Returns whether each may be leased: an encoder and a framebuffer may not.
 pub fn are_leasable(modes: &Modes, ids: &[u32]) -> bool
     ensures { result ≡ list_all (rules.is_leasable modes.now) ids.now }
 {

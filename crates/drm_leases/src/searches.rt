@@ -21,7 +21,7 @@ pub fn controls(granted: &Granted, masters: &Masters, master: u32, mode_object: 
     lessor_of(masters, master).is_none() || granted.has(master, mode_object)
 }
 
-/// Whether one of the mode objects is in the lease of a direct lessee of the master.
+/// Returns whether one of the mode objects is in the lease of a direct lessee of the master.
 pub fn any_leased_out(granted: &Granted, masters: &Masters, master: u32, ids: &[u32]) -> bool
     requires { AllByRecursion (IsAgreed masters.now.members masters.now.masters) (lendings_in granted.now.rows) }
     ensures { result ≡ list_any (sets.is_leased_out (grants_in granted.now.rows) masters.now.masters master) ids.now }
@@ -64,7 +64,7 @@ pub fn nth_grant(granted: &Granted, position: usize) -> Option<Grant>
     None
 }
 
-/// The lessor of a master, if it is a lessee.
+/// Returns the lessor of a master, if it is a lessee.
 pub fn lessor_of(masters: &Masters, master: u32) -> Option<u32>
     ensures { result ≡ masters_sets.lessor_of masters.now.masters master }
 {
@@ -74,7 +74,7 @@ pub fn lessor_of(masters: &Masters, master: u32) -> Option<u32>
     }
 }
 
-/// Whether the direct lessee of the master with this id has a lease that isn't empty.
+/// Returns whether the direct lessee of the master with this id has a lease that isn't empty.
 pub fn has_lease(granted: &Granted, masters: &Masters, master: u32, id: u32) -> bool
     ensures { result ≡ sets.has_lease (grants_in granted.now.rows) masters.now.masters master id }
 {

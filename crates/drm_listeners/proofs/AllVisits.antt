@@ -1,4 +1,4 @@
--- The sessions of three listeners that accept connections until they are told to end.
+-- The sessions of three listeners that accept connections until they are asked to end.
 use Rattle.std.proofs.Common.{◌≡◌, ℕ, ◌+◌, List, [], ◌∷◌, ◌++◌, length, refl, sym, ap, ◌∙◌, subst, arith, length-append}
 use Rattle.drm_model.specs.Run.{DeviceValue}
 use Rattle.drm_turns.specs.declared.history.Entry.{Entry}
@@ -80,7 +80,7 @@ all-served before after first last seen none same h closes counted =
       journaled = (let more = h.journaled in let long = ap (λ (d : DeviceValue). length d.journal) origin in omega (arith, counted, more, none, long));
     }
 
--- a fault of a listener is neither of the turn nor for want of memory
+-- a fault of a listener is neither of the turn nor for lack of memory
 pub is-outside : (class : Class) (fault : Option ServeFault) → IsFaultIn class fault → IsOutside fault
 is-outside class None h = tt
 is-outside class (Some fault) h = ((λ e. subst (IsFaultOf class) e h), (λ e. subst (IsFaultOf class) e h))

@@ -1,4 +1,4 @@
--- That what the threads of connections and listeners give back may cross threads.
+-- That what the threads of connections and listeners return back may cross threads.
 use denote.Struct.Declared.{shape}
 use denote.Param.Send.{IsSend, recorded_send, struct_send}
 use Rattle.std.proofs.Crossing.{Vec-send}

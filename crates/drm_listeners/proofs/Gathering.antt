@@ -81,7 +81,7 @@ of-class class (s ∷ sittings) h =
 of-listener : (class : Class) (count : ℕ) (participant : ParticipantView) (served : ServedListener) → IsServed class count participant served → All (IsSessionOf class) served.sessions.items
 of-listener class count participant served h = subst (λ (l : List Session). All (IsSessionOf class) l) (sym h.sessions) (of-class class h.sittings h.of_class)
 
--- what stands in each of three parts, whose lengths are the counts
+-- what is in each of three parts, whose lengths are the counts
 pub parted : {A : Type 0} (P Q R : A → Type 0) (counts : Counts) (cards renders roots : List A) → length cards ≡ counts.cards → length renders ≡ counts.renders
     → All P cards → All Q renders → All R roots
     → All P (card_sessions counts (cards ++ (renders ++ roots))) × All Q (render_sessions counts (cards ++ (renders ++ roots))) × All R (root_sessions counts (cards ++ (renders ++ roots)))

@@ -15,7 +15,7 @@ no-more : {A : Type 0} (xs : List A) → length xs ≡ 0 → xs ≡ []
 no-more [] e = refl
 no-more (x ∷ xs) e = absurd (omega (arith, e))
 
--- what it had noted before is its history
+-- what it had recorded before is its history
 device-before : (before : DeviceValue) → device_at before (journaled_before before) ≡ before
 device-before before = ap (λ (es : List Event). record before { journal = es }) (replayed-events (start_of before) before.journal)
 
@@ -27,7 +27,7 @@ as-before before found = record {
   begins = ([], sym (append-nil (journaled_before before)));
 }
 
--- a history that begins with what it had noted before, and is as long
+-- a history that begins with what it had recorded before, and is as long
 pub same-device : (before after : DeviceValue) (log : List Entry) → after ≡ device_at before log → StartsWith log (journaled_before before) → length after.journal ≡ length before.journal → after ≡ before
 same-device before after log is begins count =
     let journaled : List Entry = journaled_before before in

@@ -25,17 +25,17 @@ Matched-all P R Q step [] (b ∷ ys) a m = absurd m
 Matched-all P R Q step (x ∷ xs) [] a m = absurd m
 Matched-all P R Q step (x ∷ xs) (y ∷ ys) a m = All-cons Q y ys (step x y (All-head P x xs a) m.0) (Matched-all P R Q step xs ys (All-tail P x xs a) m.1)
 
--- what holds of a value that is there, and of more
+-- what holds of a value that exists, and of more
 pub some_and : {X : Type 0} {P Q : X → Type 0} (o : Option X) → ((x : X) → P x → Q x) → IsSomeAnd o P → IsSomeAnd o Q
 some_and None step h = h
 some_and (Some x) step h = step x h
 
--- of two facts of a value that is there follows a third, which doesn't speak of it
+-- of two facts of a value that exists follows a third, which doesn't speak of it
 pub some_both : {X : Type 0} {P Q : X → Type 0} {R : Type 0} (o : Option X) → ((x : X) → P x → Q x → R) → IsSomeAnd o P → IsSomeAnd o Q → R
 some_both None step p q = absurd p
 some_both (Some x) step p q = step x p q
 
--- what is said of a value where there is none, and of one that is there
+-- what is said of a value where there is none, and of one that exists
 pub where_none : {X : Type 0} {P : Type 0} (o : Option X) → o ≡ None → IfNone o P → P
 where_none {X} {P} o is h = subst (λ (o : Option X). IfNone o P) is h
 

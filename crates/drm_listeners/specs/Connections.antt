@@ -18,8 +18,8 @@ use Rattle.drm_listeners.specs.declared.serve_faults.ServeFault.TheVariants as f
 abbrev pub connection_turns : ℕ
 connection_turns = 1000000
 
--- A session of a connection on a listener of this class, from a source and into a sink that nobody had asked before: through
--- a participant of the shared device that had made nothing, and is left as `participant`.
+-- A session of a connection on a listener of this class, from a source and into a sink that no client had asked before:
+-- through a participant of the shared device that had made nothing, and is left as `participant`.
 pub record IsSessionBy (class : Class) (participant : ParticipantView) (session : Session) : Type 0 where
   pub in0 : SourceTrace
   pub in1 : SourceTrace
@@ -57,19 +57,19 @@ sessions_in sittings = map (λ sitting. sitting.session) sittings
 abbrev pub IsFresh : TableId → ParticipantView → Type 0
 IsFresh table participant = (participant.table ≡ table) × (participant.mine ≡ []) × (participant.merged ≡ []) × (participant.journaled ≡ 0)
 
--- an empty list with room for so many sessions
+-- an empty list with room for this many sessions
 abbrev pub IsRoomFor : {A : Type 0} → ℕ → Vec Session A → Type 0
 IsRoomFor count sessions = (sessions.items ≡ []) × (count ≤ vec_capacity sessions)
 
--- the faults of a listener's connections: of no other listener, not of the turn, and none for want of memory for lists
+-- the faults of a listener's connections: of no other listener, not of the turn, and none for lack of memory for lists
 abbrev pub IsFaultOf : Class → ServeFault → Type 0
 IsFaultOf class (faults.Accept other) = other ≡ class
 IsFaultOf class faults.NoThread = ⊤
 IsFaultOf class faults.NoMemory = ⊥
 IsFaultOf class faults.TurnOut = ⊥
 
--- The sessions of so many connections, all of one class, and the listener's participant, which has taken in that of each and made
--- nothing itself.
+-- The sessions of this many connections, all of one class, and the listener's participant, which has taken in that of
+-- each and made nothing itself.
 pub record IsServed (class : Class) (count : ℕ) (participant : ParticipantView) (served : ServedListener) : Type 0 where
   pub number : length served.sessions.items ≡ count
   pub same : Same participant served.participant
@@ -92,7 +92,7 @@ pub record IsUnused (class : Class) (participant : ParticipantView) (failed : Fa
   pub table : failed.participant.table ≡ participant.table
   pub child : IsChild participant failed.participant
 
--- what came of a listener that was to accept so many connections, through a participant of its own
+-- what resulted from a listener that was to accept this many connections, through its own participant
 abbrev pub Serves : Class → ℕ → ParticipantView → Result ServedListener Failed → Type 0
 Serves class count participant (Ok served) = IsServed class count participant served
 Serves class count participant (Err failed) = IsFailed class participant failed

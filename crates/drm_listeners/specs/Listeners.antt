@@ -1,4 +1,4 @@
--- What came of three listeners.
+-- What resulted from three listeners.
 use Rattle.std.specs.Prelude.{◌≢◌, Vec, Result, Ok, Err}
 use Rattle.atomic_table.specs.Seated.{TableId}
 use Rattle.drm_turns.specs.Participants.{IsChild, ParticipantView, Same, Unchanged}
@@ -23,13 +23,13 @@ pub record AreRooms {A : Type 0} (counts : Counts) (rooms : ByClass (Vec Session
   pub render : IsRoomFor counts.renders rooms.render
   pub root : IsRoomFor counts.roots rooms.root
 
--- Each of the three accepted and served as many connections as it was to, through its participant.
+-- Each of the three accepted and served as many connections as it had to, through its participant.
 pub record AreServed (counts : Counts) (participants : ByClass ParticipantView) (served : ByClass ServedListener) : Type 0 where
   pub card : IsServed Card counts.cards participants.card served.card
   pub render : IsServed Render counts.renders participants.render served.render
   pub root : IsServed Root counts.roots participants.root served.root
 
--- What came of each of the three.
+-- What resulted from each of the three.
 pub record AreServing (counts : Counts) (participants : ByClass ParticipantView) (served : ByClass (Result ServedListener Failed)) : Type 0 where
   pub card : Serves Card counts.cards participants.card served.card
   pub render : Serves Render counts.renders participants.render served.render
@@ -39,7 +39,7 @@ pub record AreServing (counts : Counts) (participants : ByClass ParticipantView)
 abbrev pub IsReturned : ParticipantView → ParticipantView → Type 0
 IsReturned old new = Same old new × Unchanged old new
 
--- Not all of the three were served. The fault is not of the turn, and not for want of memory for lists.
+-- Not all of the three were served. The fault is not of the turn, and not for lack of memory for lists.
 pub record AreReturned (participants : ByClass ParticipantView) (failed : FailedListeners) : Type 0 where
   pub card : IsReturned participants.card failed.participants.card
   pub render : IsReturned participants.render failed.participants.render

@@ -38,7 +38,8 @@ pub record AreSessionsOf (counts : Counts) (sessions : List Session) : Type 0 wh
 abbrev pub IsBy : Class → SessionState → Type 0
 IsBy class sitting = IsSessionBy class sitting.participant sitting.session
 
--- Each session was of its class, through a participant of a number of its own, and this participant has seen what that had seen.
+-- Each session was of its class, through a participant of its own number, and this participant has seen what that had
+-- seen.
 pub record HaveSat (counts : Counts) (participant : ParticipantView) (sessions : List Session) : Type 0 where
   pub sittings : List SessionState
   pub are : sessions ≡ sessions_in sittings
@@ -55,8 +56,8 @@ pub record IsTold (log : List Entry) (class : Class) (sitting : SessionState) : 
   pub own : calls_by sitting.participant.number sitting.participant.seen ≡ sitting.participant.mine
   pub steps : length (calls_by sitting.participant.number sitting.participant.seen) ≡ sitting.session.steps
 
--- One legal history, of which the device has the events: it begins with what the device had noted before, and has each
--- session, as one of its class, under numbers that differ.
+-- One legal history, of which the device has the events: it begins with what the device had recorded before, and has
+-- each session, as one of its class, under numbers that differ.
 pub record IsHistoryOf (counts : Counts) (before after : DeviceValue) (sessions : List Session) : Type 0 where
   pub log : List Entry
   pub device : after ≡ device_at before log
@@ -69,7 +70,7 @@ pub record IsHistoryOf (counts : Counts) (before after : DeviceValue) (sessions 
   pub roots : All (IsTold log Root) (root_sessions counts sittings)
   pub differ : AllDiffer (numbers_of (participants_in sittings))
 
--- The device has the events of a legal history that begins with what it had noted before.
+-- The device has the events of a legal history that begins with what it had recorded before.
 pub record Continues (before after : DeviceValue) : Type 0 where
   pub log : List Entry
   pub device : after ≡ device_at before log

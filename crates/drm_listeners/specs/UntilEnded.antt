@@ -1,4 +1,4 @@
--- Listeners that accept connections until they are told to end.
+-- Listeners that accept connections until they are asked to end.
 use Rattle.std.specs.Prelude.{◌≡◌, ◌≢◌, ◌+◌, All, List, Option, Result, Ok, Err, IfSome, IsSomeAnd, length}
 use Rattle.drm_model.specs.Run.{DeviceValue}
 use Rattle.drm_turns.specs.Participants.{HasTakenIn, IsChild, ParticipantView, Same, Unchanged}
@@ -45,24 +45,24 @@ pub record HasKept (class : Class) (participant own : ParticipantView) : Type 0 
   pub unchanged : Unchanged participant own
   pub served : HasServed class own
 
--- what came of a listener, with a fault or without
+-- what resulted from a listener, with a fault or without
 abbrev pub Keeps : Class → ParticipantView → Result ParticipantView Failed → Type 0
 Keeps class participant (Ok own) = HasKept class participant own
 Keeps class participant (Err failed) = HasKept class participant failed.participant × IsFaultOf class failed.fault
 
 -- ---- three listeners
 
--- what came of each of the three
+-- what resulted from each of the three
 pub record AreKeeping (participants : ByClass ParticipantView) (kept : ByClass (Result ParticipantView Failed)) : Type 0 where
   pub card : Keeps Card participants.card kept.card
   pub render : Keeps Render participants.render kept.render
   pub root : Keeps Root participants.root kept.root
 
--- the fault, if there is one, is neither of the turn nor for want of memory
+-- the fault, if there is one, is neither of the turn nor for lack of memory
 abbrev pub IsOutside : Option ServeFault → Type 0
 IsOutside fault = IfSome fault (λ fault. (fault ≢ faults.TurnOut) × (fault ≢ faults.NoMemory))
 
--- what came of the three
+-- what resulted from the three
 pub record AreKept (participants : ByClass ParticipantView) (kept : KeptListeners) : Type 0 where
   pub card : HasKept Card participants.card kept.participants.card
   pub render : HasKept Render participants.render kept.participants.render
@@ -79,8 +79,8 @@ pub record HaveAllSat (old participant : ParticipantView) : Type 0 where
   pub sat : HaveSat counts participant sessions
   pub journaled : participant.journaled ≡ old.journaled + all_steps sessions
 
--- What came of a server: how many connections each listener accepted, a session of each, of its class, and one legal history of
--- all of them.
+-- What resulted from a server: how many connections each listener accepted, a session of each, of its class, and one
+-- legal history of all of them.
 pub record HasServedAll (before after : DeviceValue) : Type 0 where
   pub counts : Counts
   pub sessions : List Session

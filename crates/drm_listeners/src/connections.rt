@@ -1,4 +1,4 @@
-//! The connections of one listener, each served in a thread of its own.
+//! The connections of one listener, each served in its own thread.
 
 ghost use Rattle.std.specs.Prelude.{◌≡◌, ◌+◌, ◌-◌, ◌≤◌, [], All, List, IfOk, IfErr, IfSome, IfNone, IsSomeAnd, vec_len};
 ghost use Rattle.std.specs.Vec.{vec_capacity};
@@ -58,7 +58,7 @@ struct Started {
     failed: Option<Failed>,
 }
 
-/// That a thread serves a connection of this class through the participant, and gives that back.
+/// That a thread serves a connection of this class through the participant, and returns that back.
 #[derive(Drop)]
 pub(crate) struct ConnectionServed {
     class: Class,
@@ -84,7 +84,7 @@ pub(crate) struct Visitor {
 /// reserved before can't go to that thread, since handles don't cross threads.
 type ConnectionHandles = ArrayVec<Option<ConnectionHandle>, MOST>;
 
-// Serves a connection over its two sides, which nobody had asked before.
+// Serves a connection over its two sides, which no client had asked before.
 fn serve_sides<R: Wait, D: Sharing, S: Source, K: Sink>(
     rt: &R,
     shared: &D,
@@ -114,7 +114,7 @@ fn serve_sides<R: Wait, D: Sharing, S: Source, K: Sink>(
     )
 }
 
-// Serves a connection, which is closed as the session ends. Nobody waits for it any more afterwards.
+// Serves a connection, which is closed as the session ends. No client waits for it any more afterwards.
 fn serve_attended<R: Wait, D: Gathering>(
     rt: &R,
     shared: &D,
@@ -140,7 +140,8 @@ fn serve_attended<R: Wait, D: Gathering>(
     serve_sides(rt, shared, participant, class, &mut source, &mut sink)
 }
 
-// Serves a connection. A session that doesn't end plainly is logged once its connection is closed, unless all were told to end.
+// Serves a connection. A session that doesn't end plainly is logged once its connection is closed, unless all were
+// asked to end.
 fn serve_connection<R: Wait + Log, D: Gathering>(
     rt: &R,
     shared: &D,
@@ -231,8 +232,8 @@ fn start_connection<'s, E: 's, R: Wait + Threads + Log + Sync, D: Gathering + Sy
     }
 }
 
-// Starts a thread for each connection, with a participant of its own. The listener is closed once the last connection was accepted, or
-// one couldn't be served.
+// Starts a thread for each connection, with its own participant. The listener is closed once the last connection was
+// accepted, or one couldn't be served.
 fn start_connections<'s, E: 's, R: Wait + Threads + Log + Sync, D: Gathering + Sync>(
     scope: &Scope<'s, E>,
     rt: &'s R,
@@ -316,7 +317,7 @@ fn join_connections<R: Threads>(
     sessions
 }
 
-// Serves the connections in threads of the scope. It takes no memory for lists.
+// Serves the connections in threads of the scope. Does not allocate for lists.
 fn serve_in_scope<'s, E: 's, R: Wait + Threads + Log + Sync, D: Gathering + Sync>(
     scope: &Scope<'s, E>,
     rt: &'s R,
@@ -353,10 +354,11 @@ fn serve_in_scope<'s, E: 's, R: Wait + Threads + Log + Sync, D: Gathering + Sync
     }
 }
 
-/// Accepts the connections of a listener and serves each in a thread of its own, until all have ended. It may wait.
+/// Accepts the connections of a listener and serves each in its own thread, until all have ended. It may wait.
 ///
-/// The listener is closed before the sessions are waited for. On a fault the threads that were started are waited for, and their
-/// participants are taken in. The sessions are told in the list that is handed in, which has room for them.
+/// The listener is closed before the sessions are waited for. On a fault the threads that were started are waited for,
+/// and their participants are taken in. The sessions are reported in the list that is handed in, which has room for
+/// them.
 pub(crate) fn serve_listener<R: Wait + Threads + Log + Sync, D: Gathering + Sync>(
     rt: &R,
     shared: &D,

@@ -7,7 +7,7 @@ use drm_turns::{SharedDevice, Sharing};
 
 /// What threads share a device and the open connections by, as a type parameter (see `Sharing`).
 pub(crate) trait Gathering: Sharing {
-    /// The connections.
+    /// Returns the connections.
     fn open(&self) -> &OpenConnections;
 }
 

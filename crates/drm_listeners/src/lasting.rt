@@ -1,4 +1,4 @@
-//! A listener that accepts connections until it is told to end, each served in a thread of its own.
+//! A listener that accepts connections until it is asked to end, each served in its own thread.
 
 ghost use Rattle.std.specs.Prelude.{◌≡◌, ◌+◌, ◌≤◌, ◌<◌, true, IfOk, IfErr};
 ghost use Rattle.arrayvec.specs.ArrayVec.{array_vec_len};
@@ -194,14 +194,14 @@ fn admit_visitor<'s, E: 's, R: Wait + Threads + Log + Sync, D: Gathering + Sync>
     visits
 }
 
-/// The connections that are served as a listener is closed, and why it was if it was not told to end.
+/// The connections that are served as a listener is closed, and why it was if it was not asked to end.
 #[derive(Drop)]
 struct Closed {
     visits: Visits,
     fault: Option<ServeFault>,
 }
 
-// Accepts connections until all are told to end, or none can be accepted. Then the listener is closed.
+// Accepts connections until all are asked to end, or none can be accepted. Then the listener is closed.
 fn accept_visitors<'s, E: 's, R: Wait + Threads + Log + Sync, D: Gathering + Sync>(
     scope: &Scope<'s, E>,
     rt: &'s R,
@@ -267,11 +267,11 @@ fn keep_in_scope<'s, E: 's, R: Wait + Threads + Log + Sync, D: Gathering + Sync>
     }
 }
 
-/// Accepts connections on a listener and serves each in a thread of its own, until all are told to end and all sessions have ended. It may
-/// wait.
+/// Accepts connections on a listener and serves each in its own thread, until all are asked to end and all sessions
+/// have ended. It may wait.
 ///
-/// At most [`MOST_AT_ONCE`] are served at once. A connection beyond them is closed, and so is one for which no thread can be started. On a
-/// fault the listener is closed, and sessions go on.
+/// At most [`MOST_AT_ONCE`] are served at once. A connection beyond them is closed, and so is one for which no thread
+/// can be started. On a fault the listener is closed, and sessions go on.
 pub(crate) fn keep_listener<R: Wait + Threads + Log + Sync, D: Gathering + Sync>(
     rt: &R,
     shared: &D,

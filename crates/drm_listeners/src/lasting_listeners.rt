@@ -1,4 +1,4 @@
-//! Three listeners that accept connections until they are told to end, each in a thread of its own.
+//! Three listeners that accept connections until they are asked to end, each in its own thread.
 
 ghost use Rattle.std.specs.Prelude.{◌≡◌, Err, IfOk, IfErr};
 ghost use Rattle.drm_turns.specs.Participants.{ParticipantView};
@@ -41,7 +41,7 @@ impl Promise<Result<Seat, Failed>> for ListenerKept {
 /// A thread that serves a listener.
 type KeeperHandle = PromisedHandle<Result<Seat, Failed>, ListenerKept>;
 
-/// The participant of a listener, and why the listener was closed if it was not told to end.
+/// The participant of a listener, and why the listener was closed if it was not asked to end.
 #[derive(Drop)]
 struct Kept {
     participant: Seat,
@@ -78,8 +78,8 @@ fn threadless(kept: Result<Seat, Failed>) -> Failed
     }
 }
 
-// Starts the thread that serves a listener. If none can be started, all are told to end: then serving the listener here returns the
-// participant.
+// Starts the thread that serves a listener. If none can be started, all are asked to end: then serving the listener
+// here returns the participant.
 fn start_keeper<'s, E: 's, R: Wait + Threads + Log + Sync, D: Gathering + Sync>(
     scope: &Scope<'s, E>,
     rt: &'s R,
@@ -217,9 +217,9 @@ fn keep_logged<'s, E: 's, R: Wait + Threads + Log + Sync, D: Gathering + Sync>(
     kept
 }
 
-/// Serves the connections of three listeners, until all are told to end and all sessions have ended. It may wait.
+/// Serves the connections of three listeners, until all are asked to end and all sessions have ended. It may wait.
 ///
-/// If a thread for a listener can't be started, all are told to end.
+/// If a thread for a listener can't be started, all are asked to end.
 pub(crate) fn keep_listeners<R: Wait + Threads + Log + Sync, D: Gathering + Sync>(
     rt: &R,
     shared: &D,

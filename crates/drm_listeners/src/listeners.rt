@@ -1,4 +1,4 @@
-//! Three listeners at once, each in a thread of its own.
+//! Three listeners at once, each in its own thread.
 
 ghost use Rattle.std.specs.Prelude.{◌≡◌, ℕ, IfErr, IfOk};
 ghost use Rattle.drm_turns.specs.Participants.{ParticipantView};
@@ -35,7 +35,7 @@ pub(crate) struct FailedListeners {
     pub(crate) participants: ByClass<Seat>,
 }
 
-/// That a thread serves a listener of this class through the participant, with so many connections.
+/// That a thread serves a listener of this class through the participant, with this many connections.
 #[derive(Drop)]
 struct ListenerServed {
     class: Class,
@@ -200,7 +200,7 @@ fn serve_in_scope<'s, E: 's, R: Wait + Threads + Log + Sync, D: Gathering + Sync
     })
 }
 
-// Logs what is noted, until the end.
+// Logs what is recorded, until the end.
 fn log_notes<R: Wait + Log, D: Gathering>(rt: &R, shared: &D) {
     shared.open().notes().log_all(rt);
 }
@@ -245,10 +245,10 @@ fn serve_logged<'s, E: 's, R: Wait + Threads + Log + Sync, D: Gathering + Sync>(
     served
 }
 
-/// Serves so many connections of three listeners at once, until all have ended. It may wait.
+/// Serves this many connections of three listeners at once, until all have ended. It may wait.
 ///
-/// On a fault the threads that were started are waited for, and the participant of each listener is returned. None is for want of memory
-/// for lists: `rooms` has room for the sessions of each listener.
+/// On a fault the threads that were started are waited for, and the participant of each listener is returned. None is
+/// for lack of memory for lists: `rooms` has room for the sessions of each listener.
 pub(crate) fn serve_listeners<R: Wait + Threads + Log + Sync, D: Gathering + Sync>(
     rt: &R,
     shared: &D,

@@ -25,7 +25,7 @@ use std::os::unix::net::UnixListener;
 use std::sync::Wait;
 use std::thread::Threads;
 
-// Moves sessions behind others, for which there is room.
+// Moves sessions after others, for which there is room.
 fn put_behind(sessions: &mut Vec<Session>, more: Vec<Session>)
     requires reserved { vec_len sessions.old + vec_len more ≤ vec_capacity sessions.old }
     ensures items { sessions.new.items ≡ sessions.old.items ++ more.items }
@@ -60,7 +60,7 @@ pub(crate) fn take_in(shared: &SharedDevice, participant: &mut Seat, participant
     shared.join(participant, root);
 }
 
-// Takes in the participants of the listeners, and gives their sessions one behind another. It takes no memory.
+// Takes in the participants of the listeners, and returns their sessions one after another. Does not allocate.
 fn gather(
     shared: &SharedDevice,
     participant: &mut Seat,
@@ -100,7 +100,7 @@ fn gather(
     sessions
 }
 
-// An empty list with room for so many sessions.
+// An empty list with room for this many sessions.
 fn reserve(alloc: Global, count: usize) -> Result<Vec<Session>, ServeFault>
     ensures empty { IfOk result (λ sessions. sessions.items ≡ []) }
     ensures room { IfOk result (λ sessions. count ≤ vec_capacity sessions) }
@@ -222,32 +222,33 @@ pub fn serve_keeping<R: Wait + Threads + Log + Sync>(
     }
 }
 
-/// Accepts so many connections on the three listeners and serves each in a thread of its own, on one device that they
+/// Accepts this many connections on the three listeners and serves each in its own thread, on one device that they
 /// share, until all have ended (own). It may wait.
 ///
-/// The device and the sessions are given back: first those of `card`, then those of `render`, then those of `root`, each
+/// The device and the sessions are returned: first those of `card`, then those of `render`, then those of `root`, each
 /// listener's in the order in which they were accepted. A session makes at most 1,000,000 reads and writes, and its
 /// connection is closed as it ends. However a session ends, the others go on.
 ///
-/// The device has the events of one legal history, which begins with what it had noted before. Each session's steps stand
-/// there as the entries of its participant, whose number no other session's has, and nothing else was noted.
+/// The device has the events of one legal history, which begins with what it had recorded before. Each session's steps
+/// are there as the entries of its participant, whose number no other session's has, and nothing else was recorded.
 ///
 /// A listener is closed once it has accepted its last connection, or couldn't accept one, while sessions go on: whoever
-/// connects later is refused. One that accepts none is closed at once. Where the system lacks descriptors or memory for a connection,
-/// or its client has gone, the listener asks again while a connection is open, and then for five seconds before that is a fault.
+/// connects later is refused. One that accepts none is closed at once. Where the system does not have descriptors or
+/// memory for a connection, or its client has exited, the listener asks again while a connection is open, and then for
+/// five seconds before that is a fault.
 ///
-/// The connections stand in `open` for as long as they are served, which needs room for all of them. Where that is told to end,
-/// each connection ends as if its client had ended it. Those that were still to come count as accepted: each is one whose client
-/// had ended before its first frame, so that it made no step. What ends so is not logged.
+/// The connections are in `open` for as long as they are served, which needs room for all of them. Where that is asked
+/// to end, each connection ends as if its client had ended it. Those that were still to come count as accepted: each is
+/// one whose client had ended before its first frame, so that it made no step. What ends so is not logged.
 ///
-/// On a fault the threads that were started are waited for, and then the device is dropped. [`serve_keeping`] returns it. `NoThread`
-/// comes where a thread can't be started, for whatever cause. `NoMemory` comes only before the first connection is accepted: room
-/// for the sessions of all listeners is reserved before the first thread is started, so that nothing that was served is lost for
-/// want of it.
+/// On a fault the threads that were started are waited for, and then the device is dropped. [`serve_keeping`] returns
+/// it. `NoThread` comes where a thread can't be started, for whatever cause. `NoMemory` comes only before the first
+/// connection is accepted: room for the sessions of all listeners is reserved before the first thread is started, so
+/// that nothing that was served is lost for lack of it.
 ///
-/// A session that ends in another way than `Ended` is logged as it ends, with its listener and its client; so is the system's
-/// reason where a connection can't be accepted, at the first try and at the last, and a connection that waits behind a listener's last
-/// one.
+/// A session that ends in another way than `Ended` is logged as it ends, with its listener and its client; so is the
+/// system's reason where a connection can't be accepted, at the first try and at the last, and a connection that waits
+/// after a listener's last one.
 pub fn serve_until_told<R: Wait + Threads + Log + Sync>(
     rt: &R,
     alloc: Global,
@@ -272,7 +273,8 @@ pub fn serve_until_told<R: Wait + Threads + Log + Sync>(
     }
 }
 
-/// Serves so many connections of three listeners, as `serve_until_told` does where nobody tells it (own). It may wait.
+/// Serves this many connections of three listeners, as `serve_until_told` does where no client says it (own). It may
+/// wait.
 pub fn serve_all<R: Wait + Threads + Log + Sync>(
     rt: &R,
     alloc: Global,

@@ -1,4 +1,4 @@
-//! Serving any number of connections, until told to end.
+//! Serving any number of connections, until asked to end.
 
 ghost use Rattle.std.specs.Prelude.{◌≡◌, ◌≢◌, ◌+◌, [], IfOk, IfErr};
 ghost use Rattle.drm_turns.specs.History.{StartsWith};
@@ -49,23 +49,24 @@ fn keep_shared<R: Wait + Threads + Log + Sync>(
     kept.fault
 }
 
-/// Accepts connections on the three listeners and serves each in a thread of its own, on one device that they share, until `open` is told
-/// to end and all sessions have ended (own). It may wait.
+/// Accepts connections on the three listeners and serves each in its own thread, on one device that they share, until
+/// `open` is asked to end and all sessions have ended (own). It may wait.
 ///
-/// At most 64 connections of each listener are served at once. A connection beyond them is closed, and so is one for which no thread can
-/// be started; each is logged once. Each session is one as [`serve_all`](crate::serve_all) describes it, of the class of its listener.
-/// The device has the events of one legal history, which begins with what it had recorded before and has the steps of each session.
+/// At most 64 connections of each listener are served at once. A connection beyond them is closed, and so is one for
+/// which no thread can be started; each is logged once. Each session is one as [`serve_all`](crate::serve_all)
+/// describes it, of the class of its listener. The device has the events of one legal history, which begins with what
+/// it had recorded before and has the steps of each session.
 ///
-/// If the system is out of descriptors or memory for a connection, the listener waits. `open` has room for the connections if it was made by
-/// [`OpenConnections::until_ended`]. Does not allocate for a connection.
+/// If the system is out of descriptors or memory for a connection, the listener waits. `open` has room for the
+/// connections if it was made by [`OpenConnections::until_ended`]. Does not allocate for a connection.
 ///
 /// # Errors
 ///
 /// [`Unserved`] has the fault and the device.
 ///
 /// - `NoMemory`: there was no memory for the shared device. It is unchanged, and no connection was accepted.
-/// - `NoThread`: no thread could be started for a listener or for the log. All were told to end.
-/// - `Accept`: a listener failed and was closed. The others were served until they were told to end.
+/// - `NoThread`: no thread could be started for a listener or for the log. All were asked to end.
+/// - `Accept`: a listener failed and was closed. The others were served until they were asked to end.
 ///
 /// With the last two the device has one legal history of all sessions, as without a fault.
 pub fn serve_until_ended<R: Wait + Threads + Log + Sync>(

@@ -1,4 +1,4 @@
--- What stands in a chain.
+-- What is in a chain.
 use Rattle.std.proofs.Common.{◌≡◌, ℕ, zero, suc, ◌<◌, ◌≤◌, ◌==◌, Bool, true, false, ◌||◌, ◌⊎◌, inl, inr, List, [], ◌∷◌, ◌+◌, length, drop, Option, None, Some, refl, sym, ap, ◌∙◌, arith}
 use Rattle.std.proofs.lemmas.Bool.{eqb-true}
 use Rattle.drm_lists.specs.Numbers.{is_among}
@@ -6,11 +6,11 @@ use Rattle.drm_lists.specs.Chains.{chain_within, chain_of, last_of, top_of, is_u
 use Rattle.drm_lists.proofs.Numbers.{among-first, among-more}
 use Rattle.std.proofs.Math.Bool.{or-false}
 
--- what stands above a number is less
+-- what is above a number is less
 abbrev pub IsFalling : (ℕ → Option ℕ) → Type 0
 IsFalling above = (n m : ℕ) → above n ≡ Some m → m < n
 
--- the rest of a chain, by what stands above
+-- the rest of a chain, by what is above
 abbrev rest : ℕ → (ℕ → Option ℕ) → Option ℕ → List ℕ
 rest s above o = elim o [ None ↦ [] | Some m ↦ chain_within s above m ]
 
@@ -22,7 +22,7 @@ itself above (suc s) n = among-first (rest s above (above n)) n
 only : (n top : ℕ) → (n == top || false) ≡ true → n ≡ top
 only n top h = (elim (n == top) as (λ b. (n == top) ≡ b → (b || false) ≡ true → n ≡ top) [ true ↦ λ e k. eqb-true n top e | false ↦ λ e k. absurd (let j : false ≡ true = k in cc) ]) refl h
 
--- a number that stands in a chain is its first, or above another that stands there
+-- a number that is in a chain is its first, or above another that exists
 pub child : (above : ℕ → Option ℕ) (s top n : ℕ) → is_among (chain_within s above n) top ≡ true → (top ≡ n) ⊎ ((y : ℕ) × (above y ≡ Some top) × (is_among (chain_within s above n) y ≡ true))
 unfolding chain_within
 child above zero top n h = inl (sym (only n top h))
@@ -40,7 +40,7 @@ child above (suc s) top n h =
     higher from None e k = absurd (let j : false ≡ true = k in cc)
     higher from (Some m) e k = of_rest m e (from m k)
 
--- with a number that stands in a chain stands the one above it
+-- with a number that is in a chain stands the one above it
 pub above_too : (above : ℕ → Option ℕ) → IsFalling above → (s y n top : ℕ) → n ≤ s → above y ≡ Some top → is_among (chain_within s above n) y ≡ true → is_among (chain_within s above n) top ≡ true
 unfolding chain_within
 above_too above falls zero y n top few e h =
@@ -120,7 +120,7 @@ under_some above falls top (suc n) m e =
     let lt = falls (suc n) m e in
     ap (λ o. (suc n == top) || is_among (rest n above o) top) e ∙ ap (λ l. (suc n == top) || is_among l top) (enough above falls n m m (omega (arith, lt)) (omega arith))
 
--- nothing stands above what has nothing above
+-- nothing is above what has nothing above
 pub depth_none : (above : ℕ → Option ℕ) (n : ℕ) → above n ≡ None → depth_of above n ≡ 0
 unfolding chain_within
 depth_none above zero e = refl
@@ -131,7 +131,7 @@ unfolding chain_within
 all_of_chain above zero n = refl
 all_of_chain above (suc s) n = let l = length (rest s above (above n)) in omega arith
 
--- one more stands above anything else than above what is above it
+-- one more is above anything else than above what is above it
 pub depth_some : (above : ℕ → Option ℕ) → IsFalling above → (n m : ℕ) → above n ≡ Some m → depth_of above n ≡ depth_of above m + 1
 unfolding chain_within
 depth_some above falls zero m e = let lt = falls 0 m e in absurd (omega (arith, lt))
@@ -148,7 +148,7 @@ few_in_chain above (suc s) n = of_rest (λ m. few_in_chain above s m) (above n)
     of_rest few None = omega arith
     of_rest few (Some m) = let fewer = few m in omega (arith, fewer)
 
--- no more stand above a number than it comes to
+-- no more are above a number than it is
 pub depth_low : (above : ℕ → Option ℕ) (n : ℕ) → depth_of above n ≤ n
 depth_low above n =
     let all = all_of_chain above n n in
@@ -167,7 +167,7 @@ shorter above other f (suc s) n = of_rest (λ m. shorter above other f s m) (oth
         let same : length (rest s above (above n)) ≡ length (chain_within s above m) = ap (λ o. length (rest s above o)) (f n m e) in
         omega (arith, fewer, same)
 
--- no more stand above a number where nothing new does
+-- no more are above a number where nothing new does
 pub depth_fewer : (above other : ℕ → Option ℕ) → ((n m : ℕ) → other n ≡ Some m → above n ≡ Some m) → (n : ℕ) → depth_of other n ≤ depth_of above n
 depth_fewer above other f n =
     let fewer = shorter above other f n n in

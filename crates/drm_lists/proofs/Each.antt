@@ -22,7 +22,7 @@ some_found (Some x) h = (x, refl)
 
 -- ---- some element that passes
 
--- what each gives of itself the list gives
+-- what each returns of itself the list returns
 pub each_any : {X : Type 0} (p : X → X → Bool) → (xs : List X) → AllByRecursion (λ x. p x x ≡ true → list_any (p x) xs ≡ true) xs
 each_any p [] = tt
 each_any p (x ∷ xs) = (λ e. or_left (p x x) (list_any (p x) xs) e, all_weaker (λ y. p y y ≡ true → list_any (p y) xs ≡ true) (λ y. p y y ≡ true → list_any (p y) (x ∷ xs) ≡ true) (λ y h e. or_right (p y x) (list_any (p y) xs) (h e)) xs (each_any p xs))

@@ -87,7 +87,7 @@ module _ {X : Type 0} where
         let fewer = filter-shorter stays xs in
         omega (arith, all, changed, fewer)
 
-  -- what stays stands before the new one
+  -- what stays is before the new one
   pub in_order_edited : (stays : X → Bool) (change : X → X) (o : Option X) (xs : List X) (R : X → X → Type 0) → ((x y : X) → R x y → R (change x) (change y)) →
       AllByRecursion (λ x. stays x ≡ true → IfSome o (R (change x))) xs → InOrder R xs → InOrder R (edited stays change (listed o) xs)
   in_order_edited stays change o xs R still before h =

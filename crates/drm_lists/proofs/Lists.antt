@@ -1,4 +1,4 @@
--- What a map, a filter and a test give of a list, and what is true of all of its elements.
+-- What a map, a filter and a test return of a list, and what is true of all of its elements.
 use Rattle.std.proofs.Common.{◌≡◌, suc, ◌+◌, ◌≤◌, ◌<◌, Bool, true, false, not, cond, ◌&&◌, ◌||◌, List, [], ◌∷◌, ◌++◌, map, filter, length, refl, sym, ◌∙◌, ap, arith, length-append}
 use Rattle.std.specs.List.{list_any, AllByRecursion}
 use Rattle.std.proofs.lemmas.Bool.{or_left, or_right, or_parts}
@@ -39,7 +39,7 @@ filter-shorter p (x ∷ xs) =
     let rest = filter-shorter p xs in
     elim (p x) as (λ b. length (cond b (x ∷ filter p xs) (filter p xs)) ≤ suc (length xs)) [ true ↦ omega (arith, rest) | false ↦ omega (arith, rest) ]
 
--- one that passes is gone, and with it at least one of the list
+-- one that passes is removed, and with it at least one of the list
 pub filter-fewer : {X : Type 0} (p : X → Bool) → (xs : List X) → list_any p xs ≡ true → length (filter (λ x. not (p x)) xs) < length xs
 filter-fewer p [] h = absurd (let e : false ≡ true = h in cc)
 filter-fewer p (x ∷ xs) h =
@@ -68,7 +68,7 @@ list_any_left p xs ys h = list_any-append p xs ys ∙ or_left (list_any p xs) (l
 pub list_any_right : {X : Type 0} (p : X → Bool) (xs ys : List X) → list_any p ys ≡ true → list_any p (xs ++ ys) ≡ true
 list_any_right p xs ys h = list_any-append p xs ys ∙ or_right (list_any p xs) (list_any p ys) h
 
--- what each element that passes gives
+-- what each element that passes returns
 pub list_any_gives : {X : Type 0} (p : X → Bool) (b : Bool) → ((x : X) → p x ≡ true → b ≡ true) → (xs : List X) → list_any p xs ≡ true → b ≡ true
 list_any_gives p b f [] h = absurd (let e : false ≡ true = h in cc)
 list_any_gives p b f (x ∷ xs) h =

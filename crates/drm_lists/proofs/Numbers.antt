@@ -40,14 +40,14 @@ among-left xs ys n h = among-append xs ys n ∙ or_left (is_among xs n) (is_amon
 pub among-right : (xs ys : List ℕ) (n : ℕ) → is_among ys n ≡ true → is_among (xs ++ ys) n ≡ true
 among-right xs ys n h = among-append xs ys n ∙ or_right (is_among xs n) (is_among ys n) h
 
--- numbers that are fewer, beside the same others
+-- numbers that are fewer, next to the same others
 pub fewer_among : (fewer numbers others : List ℕ) (n : ℕ) → (is_among fewer n ≡ true → is_among numbers n ≡ true) → is_among (fewer ++ others) n ≡ true → is_among (numbers ++ others) n ≡ true
 fewer_among fewer numbers others n f h =
     among-append numbers others n
     ∙ elim (is_among fewer n) as (λ b. (b ≡ true → is_among numbers n ≡ true) → (b || is_among others n) ≡ true → (is_among numbers n || is_among others n) ≡ true)
     [ true ↦ λ g e. or_left (is_among numbers n) (is_among others n) (g refl) | false ↦ λ g e. or_right (is_among numbers n) (is_among others n) e ] f (sym (among-append fewer others n) ∙ h)
 
--- a number that is there differs from one that isn't
+-- a number that exists differs from one that isn't
 pub among-differs : (numbers : List ℕ) (k n : ℕ) → is_among numbers k ≡ false → is_among numbers n ≡ true → (n == k) ≡ false
 among-differs numbers k n h e =
     elim (n == k) as (λ b. (n == k) ≡ b → b ≡ false) [ true ↦ λ is. absurd (let j : false ≡ true = sym h ∙ ap (is_among numbers) (sym (eqb-true n k is)) ∙ e in cc) | false ↦ λ is. refl ] refl
@@ -82,7 +82,7 @@ count_of f n (x ∷ xs) =
     elim (f x == n) as (λ b. length (cond b (x ∷ filter (λ x. f x == n) xs) (filter (λ x. f x == n) xs)) ≡ length (cond b (f x ∷ filter (λ x. x == n) (map f xs)) (filter (λ x. x == n) (map f xs))))
     [ true ↦ ap (λ m. suc m) (count_of f n xs) | false ↦ count_of f n xs ]
 
--- ---- numbers that stand once each
+-- ---- numbers that are once each
 
 -- a number that isn't there differs from each
 absent-differs : (k : ℕ) → (numbers : List ℕ) → is_among numbers k ≡ false → AllByRecursion (λ x. (k == x) ≡ false) numbers
@@ -124,7 +124,7 @@ at_most_once numbers h k =
       | false ↦ λ e. let none = count-absent numbers k e in omega (arith, none)
     ] refl
 
--- numbers from 1 to n that stand once each are n at most
+-- numbers from 1 to n that are once each are n at most
 pub few_once : (n : ℕ) (numbers : List ℕ) → list_all (λ x. count numbers x == 1) numbers ≡ true → ((k : ℕ) → is_among numbers k ≡ true → (1 ≤ k) × (k ≤ n)) → length numbers ≤ n
 few_once n numbers h each =
     let few = length-le_from_distinct_below (0 ∷ numbers) (n + 1) (IsDistinct-cons ◌==◌ 0 numbers (absent-differs 0 numbers no_zero) (once-distinct numbers (at_most_once numbers h))) below in

@@ -93,14 +93,14 @@ in_order_weaker before after f (x ∷ xs) h = (all_weaker (before x) (after x) (
 
 -- ---- rows that are sorted
 
--- an order by a test: of two rows one may stand before the other, and `is` tells whether they are the same
+-- an order by a test: of two rows one may are before the other, and `is` says whether they are the same
 pub record IsOrder {X : Type 0} (before is : X → X → Bool) : Type 0 where
   pub total : (x y : X) → before x y ≡ false → before y x ≡ true
   pub trans : (x y z : X) → before x y ≡ true → before y z ≡ true → before x z ≡ true
   pub itself : (x : X) → is x x ≡ true
   pub same : (x y : X) → is x y ≡ true → x ≡ y
 
--- x stands before y and y not before x
+-- x is before y and y not before x
 abbrev pub RisesTo : {X : Type 0} → (X → X → Bool) → X → X → Type 0
 RisesTo before x y = (before x y ≡ true) × (before y x ≡ false)
 
@@ -166,7 +166,7 @@ all_pass (x ∷ xs) = ap (λ l. x ∷ l) (all_pass xs)
 pub length-sorted : {X : Type 0} (before : X → X → Bool) (xs : List X) → length (sorted_by before xs) ≡ length xs
 length-sorted before xs = sym (ap length (all_pass (sorted_by before xs))) ∙ same-sorted before xs (λ x. true) ∙ ap length (all_pass xs)
 
--- ---- rows that rise are told by which rows they are
+-- ---- rows that rise are reported by which rows they are
 
 found_in : {X : Type 0} (before is : X → X → Bool) (order : IsOrder before is) (P : X → Type 0) (x : X) → (ys : List X) → AllByRecursion P ys → list_any (is x) ys ≡ true → P x
 found_in before is order P x [] h k = absurd (let e : false ≡ true = k in cc)

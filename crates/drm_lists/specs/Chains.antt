@@ -2,7 +2,7 @@
 use Rattle.std.specs.Prelude.{ℕ, zero, suc, Bool, List, [], ◌∷◌, length, drop, Option, None, Some}
 use Rattle.drm_lists.specs.Numbers.{is_among}
 
--- a number, the one above it, the one above that and so on, in so many steps at most
+-- a number, the one above it, the one above that and so on, in this many steps at most
 unfoldable pub chain_within : ℕ → (ℕ → Option ℕ) → ℕ → List ℕ
 chain_within zero above n = n ∷ []
 chain_within (suc steps) above n = n ∷ elim (above n) [ None ↦ [] | Some m ↦ chain_within steps above m ]
@@ -23,6 +23,6 @@ top_of above n = last_of n (chain_of above n)
 abbrev pub is_under : (ℕ → Option ℕ) → ℕ → ℕ → Bool
 is_under above top n = is_among (chain_of above n) top
 
--- how many stand above it in the chain
+-- how many are above it in the chain
 abbrev pub depth_of : (ℕ → Option ℕ) → ℕ → ℕ
 depth_of above n = length (drop 1 (chain_of above n))

@@ -1,4 +1,4 @@
--- A client that is authenticated now, and stands to masters otherwise.
+-- A client that is authenticated now, and belongs to masters otherwise.
 use Rattle.std.proofs.Common.{◌≡◌, ℕ, ◌≤◌, ◌==◌, ◌||◌, true, false, List, [], ◌∷◌, map, find, Option, None, Some, refl, sym, ap, subst, ◌∙◌, eq-eqb}
 use Rattle.std.specs.Prelude.{if◌then◌else◌}
 use Rattle.std.specs.Option.{is_some, option_map}
@@ -20,7 +20,7 @@ use Rattle.drm_leases.specs.Agreed.{AreAgreed}
 use Rattle.drm_state.specs.Invariants.{Invariant, MembersOpen, ClientsHave, MastersAre, MagicsSuffice, TokensOfLessees, KeptHaveTokens, LeasesAgree, HasMaster, AreOfLessees, AreKeptBy, meets_invariant, MeetsInvariants}
 use Rattle.drm_state.proofs.Represented.{members_open, clients_have, magics_suffice}
 
--- ---- a client that stands to masters otherwise
+-- ---- a client that belongs to masters otherwise
 
 abbrev pub put : Member → Member → Member
 put y z = if is_client y.client z then y else z

@@ -39,7 +39,7 @@ use Rattle.drm_state.proofs.Represented.{device_master_is}
 use Rattle.drm_state.proofs.Lookups.{credentials_is}
 use Rattle.drm_state.proofs.Callers.{row_is, caller_row, lessee_is}
 
--- ---- what is asked of a caller that stands to a master
+-- ---- what is asked of a caller that belongs to a master
 
 module _ (s : State) (w : Rows) (c : ℕ) (flags : FileFlags) (x : Member) (h : Represents s w) (file : find (files.is_client c) s.files.clients ≡ Some (record { client = c; flags = flags })) (look : member_of s.masters.members c ≡ Some x) where
   stands : credentials_of w c ≡ record { root = flags.root; render = flags.render; authenticated = flags.authenticated; current = is_current s.masters c }
@@ -61,7 +61,7 @@ module _ (s : State) (w : Rows) (c : ℕ) (flags : FileFlags) (x : Member) (h : 
   unfolding drop_checks
   drop_checks_are = λ i. check MasterPerm (may_be i) ∷ check NotCurrent (current_is i) ∷ check IsLessee (not (lessee_is s w c flags x h file look i)) ∷ []
 
-  -- what DROP_MASTER comes to
+  -- what DROP_MASTER is
   pub drop_verdict : (root : Bool) → root ≡ root_of s c → first_failing (admission_checks w c DropMaster) ≡ None → verdict w (Ask c DropMaster) ≡ first_failing (calls.drop_checks s.masters x root)
   unfolding meaning
   drop_verdict root is admitted = call_verdict w c DropMaster admitted ∙ ap first_failing drop_checks_are ∙ ap (λ b. first_failing (calls.drop_checks s.masters x b)) (sym is)

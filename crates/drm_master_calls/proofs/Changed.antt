@@ -60,7 +60,7 @@ module _ (s : State) (x y : Member) (look : member_of s.masters.members x.client
       agreed_changed s.masters.members x y s.masters.masters s.leases.lendings (masters_so s t).members_rise (ap (member_of s.masters.members) client ∙ look) (λ n its. (λ i. own i && (master i == n)) ∙ its) (leases_agree s t)
   magic_invariants t are invariant = t invariant
 
-  -- of what is told of the client in its row nothing changes
+  -- of what holds for the client in its row nothing changes
   row_yet : (f : FileClient) (o : Option Member) → member_of s.masters.members f.client ≡ o → client_row_by f (option_map put o) ≡ client_row_by f o
   row_yet f None e = refl
   row_yet f (Some z) e =
@@ -81,13 +81,13 @@ module _ (s : State) (x y : Member) (look : member_of s.masters.members x.client
   clients_yet [] = refl
   clients_yet (f ∷ fs) = λ i. (ap (client_row_by f) (found_yet f.client) ∙ row_yet f (member_of s.masters.members f.client) refl) i ∷ clients_yet fs i
 
--- ---- a magic is given
+-- ---- a magic is assigned
 
 unmoved : (y : Member) → (zs : List Member) → AllByRecursion (λ (u : Member). is_client y.client u ≡ false) zs → map (λ (u : Member). if is_client y.client u then y else u) zs ≡ zs
 unmoved y [] h = refl
 unmoved y (u ∷ zs) h = ap (λ b. (if b then y else u) ∷ map (λ (v : Member). if is_client y.client v then y else v) zs) h.0 ∙ ap (λ l. u ∷ l) (unmoved y zs h.1)
 
--- the row that is new stands among those that were
+-- the row that is new is among those that were
 pub magic_given : (y : Member) (r : MagicRow) → magic_row_of y ≡ Some r → (x : Member) → magic_row_of x ≡ None → y.client ≡ x.client → (xs : List Member) → InOrder (λ (z u : Member). z.client < u.client) xs → member_of xs x.client ≡ Some x →
     SameRows (filter_map magic_row_of xs ++ r ∷ []) (filter_map magic_row_of (map (λ (z : Member). if is_client y.client z then y else z) xs))
 magic_given y r e x none client [] rise look = absurd (let n : None ≡ Some x = look in cc)
@@ -121,7 +121,7 @@ magic_given y r e x none client (z ∷ zs) rise look =
 same_more : (r : MagicRow) (xs ys : List MagicRow) → SameRows xs ys → SameRows (xs ++ r ∷ []) (ys ++ r ∷ [])
 same_more r xs ys h = same-trans (xs ++ r ∷ []) (r ∷ xs) (ys ++ r ∷ []) (last_first xs r) (same-trans (r ∷ xs) (r ∷ ys) (ys ++ r ∷ []) (same-cons r xs ys h) (same-sym (ys ++ r ∷ []) (r ∷ ys) (last_first ys r)))
 
--- the state stands for the rows with one magic more
+-- the state represents the rows with one magic more
 pub given_represents : (s : State) (w : Rows) (x y : Member) (r : MagicRow) (look : member_of s.masters.members x.client ≡ Some x) (client : y.client ≡ x.client) (once : y.once_master ≡ x.once_master) (own : y.is_master ≡ x.is_master) (master : y.master ≡ x.master) → magic_row_of x ≡ None → magic_row_of y ≡ Some r → AreMasters s.masters → Represents s w →
     (part : Part) → represents_part part (record s { masters = changed_member y s.masters }) (record w { magics = w.magics ++ r ∷ [] })
 unfolding represents_part

@@ -29,7 +29,7 @@ use Rattle.drm_state.proofs.Ended.{fresh_token, kept_more, kept_swept, of_lessee
 use Rattle.drm_state.proofs.Sweeps.{named_by_clients, magics_left, unswept}
 use Rattle.drm_master_calls.proofs.Authenticated.{put, changed_clients, changed_invariants, authenticated_invariants}
 
--- who has no magic now is as one that is gone, where magics are told
+-- who has no magic now is as one that is removed, where magics are reported
 magics_put : (y : Member) → magic_row_of y ≡ None → (xs : List Member) → filter_map magic_row_of (filter (λ (z : Member). not (is_client y.client z)) xs) ≡ filter_map magic_row_of (map (put y) xs)
 magics_put y none [] = refl
 magics_put y none (z ∷ zs) =
@@ -55,7 +55,7 @@ remade_last c key b v = masters_swept (with_device (Some b) (changed_member (own
 pub last_remade : (c key b : ℕ) (v : MasterSet) → IsNewStepNumber v b → remade c key b v ≡ remade_last c key b v
 last_remade c key b v newest = ap (λ u. masters_swept (with_device (Some b) (changed_member (owner c b) u))) (newest_master v (founded_master key b) newest)
 
--- the state where it has it, and what it stands for
+-- the state where it has it, and what it represents
 module _ (s : State) (x : Member) (key b : ℕ) (t : MeetsInvariants s) (new : AllByRecursion (λ (row : LeaseToken). row.master < b) s.leases.tokens) (are : AreMasters (remade_last x.client key b s.masters)) (look : member_of s.masters.members x.client ≡ Some x) (non_master : x.is_master ≡ false) where
   abbrev remade_state : State
   remade_state = record s { files = with_authenticated s.files x.client; masters = remade_last x.client key b s.masters }

@@ -150,7 +150,7 @@ module _ (m n : ℕ) (y : Member) where
         ∙ find-filter_map (is_open_magic m n) magic_row_of v.members ∙ ap (λ (test : Member → Bool). option_and_then magic_row_of (find test v.members)) (λ i u. open_is m n u i) ∙ ap (option_and_then magic_row_of) e)
         ∙ ap (λ (g : Option Magic). option_map (λ (row : MagicRow). row.client) (option_map (λ (d : Magic). record { master = y.master; number = d.number; client = y.client; spent = d.spent }) g)) (its_magic opens).2
 
--- the state stands for the rows where the magic is spent and its client is authenticated
+-- the state represents the rows where the magic is spent and its client is authenticated
 module _ (s : State) (w : Rows) (m n : ℕ) (y : Member) (t : MeetsInvariants s) (e : find (has_open_magic m n) s.masters.members ≡ Some y) (h : Represents s w) where
   abbrev pub authenticated_rows : Rows
   authenticated_rows = record w { clients = with_authenticated (Some y.client) w.clients; magics = with_spent m n w.magics }

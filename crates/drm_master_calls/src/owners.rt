@@ -52,7 +52,7 @@ pub fn set_master(
     }
 }
 
-/// DROP_MASTER: the device has no master, and the client's stays its own. It takes no memory.
+/// DROP_MASTER: the device has no master, and the client's stays its own. Does not allocate.
 pub fn drop_master(state: &mut State, caller: PrimaryCaller, answer: &mut Answer)
     requires invariants { MeetsInvariants state.old }
     requires caller { IsPrimaryCaller state.old caller }

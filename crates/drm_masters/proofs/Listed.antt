@@ -52,7 +52,7 @@ module _ (m : Clients) where
       rise [] h = tt
       rise (e ∷ es) h = (above e.0 es (left _ _ h), rise es (right _ _ h))
 
-  -- a new client stands at its place
+  -- a new client is at its place
   pub client_added : (c : ℕ) (v : Membership) → fin.get m c ≡ None → members_in (fin.insert m c v) ≡ placed member_before (member_row (c, v)) (members_in m)
   client_added c v absent =
       ap (map member_row) (fin.entries-insert nat_cmp_total m c v)

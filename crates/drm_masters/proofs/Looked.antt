@@ -21,7 +21,7 @@ module _ {X : Type 0} (xs : List X) (i : ℕ) where
     pub front_is : take (i + 1) xs ≡ take i xs ++ x ∷ []
     front_is = take_more xs i x (slice_get_within xs i x at) ∙ ap (λ y. take i xs ++ y ∷ []) (get_or_from_slice_get xs i x x at)
 
-    -- a search that finds it, or goes on
+    -- a search that finds it, or continues
     pub find_here : (p : X → Bool) → find p xs ≡ find p (drop i xs) → p x ≡ true → Some x ≡ find p xs
     find_here p so_far passes = sym (so_far ∙ ap (find p) next_is ∙ ap (λ b. cond b (Some x) (find p (drop (i + 1) xs))) passes)
 

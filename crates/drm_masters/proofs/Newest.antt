@@ -35,7 +35,7 @@ newest_last v y newest =
 pub newest_unused : (ms : List Master) (birth : ℕ) → AllByRecursion (λ (x : Master). x.step_number < birth) ms → is_some (master_at ms birth) ≡ false
 newest_unused ms birth newest = is_some-find (is_step_number birth) ms ∙ none_passes (is_step_number birth) ms (all_weaker (λ (x : Master). x.step_number < birth) (λ (x : Master). is_step_number birth x ≡ false) (λ x less. less-differ x.step_number birth less) ms newest)
 
--- those that are there are older
+-- those that exist are older
 pub newest_older : (ms : List Master) (birth : ℕ) → AllByRecursion (λ (x : Master). x.step_number < birth) ms → (m : ℕ) → is_some (master_at ms m) ≡ true → m < birth
 newest_older ms birth newest m there =
     let x = some_found (master_at ms m) there in

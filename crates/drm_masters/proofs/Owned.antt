@@ -84,7 +84,7 @@ other_step_number : (n b : ℕ) (t : Bool) (o : Option ℕ) → (n == b) ≡ fal
 other_step_number n b true o differs none = differs ∙ sym (none refl)
 other_step_number n b false o differs none = refl
 
--- nobody's
+-- no client's
 no_step_number : (b : ℕ) (t : Bool) (o : Option ℕ) → (t ≡ true → is_option b o ≡ false) → is_option b (if t then None else o) ≡ is_option b o
 no_step_number b true o none = sym (none refl)
 no_step_number b false o none = refl
@@ -205,7 +205,7 @@ module _ (g : Master → Master) (step_numbers : (x : Master) → (g x).step_num
       row None = refl
       row (Some y) = λ i. (is_some (lessors y i) && (lessee_ids y i == q)) && ((ap (owner_of (map g ms)) (step_numbers y) ∙ owners y.step_number) i == p)
 
--- ---- who is nobody's lessor
+-- ---- who is no client's lessor
 
 -- a master that isn't used
 pub unnamed : (members : List Member) (ms : List Master) (x : Master) → is_used members ms x ≡ false → list_any (λ (y : Master). is_option x.step_number y.lessor) ms ≡ false

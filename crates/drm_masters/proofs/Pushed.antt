@@ -126,7 +126,7 @@ module _ (ms : List Master) (y : Master) (fresh : IsFresh ms y.step_number) wher
   pub new_there : is_some (master_at (placed master_before y ms) y.step_number) ≡ true
   new_there = is_some-find (is_step_number y.step_number) (placed master_before y ms) ∙ any_placed (is_step_number y.step_number) (λ x. master_before x y) y ms ∙ or_left (y.step_number == y.step_number) (list_any (is_step_number y.step_number) ms) (eq-eqb y.step_number y.step_number refl)
 
-  -- a master that is there has another birth
+  -- a master that exists has another birth
   pub there_apart : (n : ℕ) → is_some (master_at ms n) ≡ true → (n == y.step_number) ≡ false
   there_apart n h = ne_eqb n y.step_number (λ same. false≢true (sym fresh.1 ∙ ap (λ k. is_some (master_at ms k)) (sym same) ∙ h))
 
@@ -147,11 +147,11 @@ module _ (ms : List Master) (y : Master) (fresh : IsFresh ms y.step_number) wher
   pub lessors_apart : Older ms → (k l : ℕ) → (k == y.step_number) ≡ false → lessor_of ms k ≡ Some l → (l == y.step_number) ≡ false
   lessors_apart older k l p e = there_apart l (lessor_there ms older k l e).0
 
-  -- a master that is there has its owner yet
+  -- a master that exists has its owner yet
   pub pushed_owner : Older ms → (n : ℕ) → is_some (master_at ms n) ≡ true → owner_of (placed master_before y ms) n ≡ owner_of ms n
   pushed_owner older n there = owner_stays (λ k. (k == y.step_number) ≡ false) ms (placed master_before y ms) other_lessors (lessors_apart older) n (there_apart n there)
 
-  -- a master that is there has its lessor yet
+  -- a master that exists has its lessor yet
   pub pushed_lessor : (n : ℕ) → is_some (master_at ms n) ≡ true → lessor_of (placed master_before y ms) n ≡ lessor_of ms n
   pushed_lessor n there = other_lessors n (there_apart n there)
 
@@ -159,7 +159,7 @@ module _ (ms : List Master) (y : Master) (fresh : IsFresh ms y.step_number) wher
   pub pushed_rise : Rise (placed master_before y ms)
   pushed_rise = rise_placed (λ (x : Master). x.step_number) y ms fresh.0 (others_apart ms y.step_number fresh)
 
-  -- a new master has no lessor, or one that is there and older
+  -- a new master has no lessor, or one that exists and older
   pub pushed_older : HasOlderLessor ms y → Older ms → Older (placed master_before y ms)
   pushed_older new older =
       all_placed (HasOlderLessor (placed master_before y ms)) (λ x. master_before x y) y ms (still y new) (all_weaker (HasOlderLessor ms) (HasOlderLessor (placed master_before y ms)) still ms older)

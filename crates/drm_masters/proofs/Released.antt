@@ -33,7 +33,7 @@ map_each : {X : Type 0} (f g : X → X) → ((x : X) → f x ≡ g x) → (xs : 
 map_each f g same [] = refl
 map_each f g same (x ∷ xs) = λ i. same x i ∷ map_each f g same xs i
 
--- where none is chosen all is as it was
+-- where none is chosen all is unchanged
 pub none_released : (v : MasterSet) → AreMasters v → v ≡ swept (released (λ n. false) v)
 none_released v are = λ i. record v { masters = (sym (filter_all (λ (x : Master). is_living v.members v.masters x.step_number) v.masters are.used) ∙ ap (λ (ms : List Master). filter (λ (x : Master). is_living v.members ms x.step_number) ms) (unmarked v.masters)) i }
   where
@@ -149,7 +149,7 @@ module _ (v : MasterSet) (rise : Rise v.masters) (older : Older v.masters) (chos
                 | false ↦ refl
               ]
 
-  -- a master that is held and not chosen is as it was, and so is what is above it
+  -- a master that is held and not chosen is unchanged, and so is what is above it
   module _ (x : Master) (here : master_at v.masters x.step_number ≡ Some x) (held : is_held v.members x ≡ true) (spared : chosen x.step_number ≡ false) where
     marked_here : master_at marks x.step_number ≡ Some x
     marked_here = over_at (marked chosen) (marked_step_number chosen) (marked_lessor chosen) v.masters x.step_number ∙ ap (option_map (marked chosen)) here ∙ ap (λ b. Some (if b then kept_as false x else x)) spared

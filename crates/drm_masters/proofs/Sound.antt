@@ -331,7 +331,7 @@ module _ (v : MasterSet) (a : AreMasters v) where
     pub put_rise : MembersRise (map put v.members)
     put_rise = in_order_kept (λ (z u : Member). z.client < u.client) put (λ z u lt. omega (arith, lt, put_client z, put_client u)) v.members a.members_rise
 
-    -- it is this row, or the row is as it was
+    -- it is this row, or the row is unchanged
     by_row : (P : Member → Type 0) (z : Member) → member_of v.members z.client ≡ Some z → (z ≡ x → P y) → P z → P (put z)
     by_row P z e it other =
         (elim (z.client == y.client) as (λ b. (z.client == y.client) ≡ b → P (if b then y else z)) [
@@ -484,7 +484,7 @@ released_used v a m =
 
 -- ---- the fields
 
--- the fields stand for a set of which all of it is so
+-- the fields represent a set of which all of it is so
 pub sound : (a : Inside) (v : MasterSet) → set_of a ≡ v → AreMasters v → Keyed v.masters → IsSound a
 sound a v e are keyed = record {
   are = subst AreMasters (sym e) are;

@@ -69,7 +69,7 @@ module _ (members : List Member) (ms : List Master) (rise : Rise ms) (older : Ol
     abbrev pub gone : List Master
     gone = filter (λ (z : Master). not (is_step_number x.step_number z)) ms
 
-    -- it is nobody's lessor
+    -- it is no client's lessor
     apart : (n l : ℕ) → lessor_of ms n ≡ Some l → (l == x.step_number) ≡ false
     apart n l e = by_row (master_at ms n) refl e
       where

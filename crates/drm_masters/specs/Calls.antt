@@ -17,11 +17,11 @@ use Rattle.drm_masters.specs.declared.rows.Master.{Master}
 use Rattle.drm_masters.specs.declared.rows.Member.{Member}
 use Rattle.drm_masters.specs.Masters.{MasterSet, is_client, member_before, master_before, is_step_number, is_key, is_option, IsKeyOf, is_lessee, is_current_member, has_open_magic, free_magic, free_lessee, swept}
 
--- each client that is there is older
+-- each client that exists is older
 abbrev pub IsNewClient : MasterSet → ℕ → Type 0
 IsNewClient v c = AllByRecursion (λ (x : Member). x.client < c) v.members
 
--- each master that is there is older
+-- each master that exists is older
 abbrev pub IsNewStepNumber : MasterSet → ℕ → Type 0
 IsNewStepNumber v step_number = AllByRecursion (λ (x : Master). x.step_number < step_number) v.masters
 
@@ -37,7 +37,7 @@ founded_master key step_number = record { key = key; step_number = step_number; 
 abbrev pub lessee : ℕ → ℕ → ℕ → ℕ → Master
 lessee key step_number lessor id = record { key = key; step_number = step_number; lessor = Some lessor; lessee_id = id; kept = true }
 
--- a client of a master of its own
+-- a client of its own master
 abbrev pub owner : ℕ → ℕ → Member
 owner c m = record { client = c; once_master = true; is_master = true; master = m; magic = None }
 
@@ -68,7 +68,7 @@ with_device m v = record v { device_master = m }
 abbrev pub without_member : ℕ → MasterSet → MasterSet
 without_member c v = record v { members = filter (λ (x : Member). not (is_client c x)) v.members }
 
--- the client stands to masters as told now
+-- the client belongs to masters as told now
 abbrev pub changed_member : Member → MasterSet → MasterSet
 changed_member y v = record v { members = map (λ (x : Member). if is_client y.client x then y else x) v.members }
 
@@ -113,7 +113,7 @@ drop_checks v x root =
     ∷ check IsLessee (not (is_lessee v.masters x.master))
     ∷ []
 
--- a new master of a client, which becomes the device's; a master that nobody holds any more goes
+-- a new master of a client, which becomes the device's; a master that no client holds any more goes
 abbrev pub remade : ℕ → ℕ → ℕ → MasterSet → MasterSet
 remade c key step_number v = swept (with_device (Some step_number) (changed_member (owner c step_number) (with_master (founded_master key step_number) v)))
 
@@ -123,7 +123,7 @@ SetBy v x step_number Already new = (is_current_member v x ≡ true) × (new ≡
 SetBy v x step_number Again new = (is_current_member v x ≡ false) × (x.is_master ≡ true) × (new ≡ with_device (Some x.master) v)
 SetBy v x step_number Made new = (is_current_member v x ≡ false) × (x.is_master ≡ false) × ((key : ℕ) × IsFreeKey v key × (new ≡ remade x.client key step_number v))
 
--- memory is refused only where a new master is made
+-- memory is refused only if a new master is made
 abbrev pub SetOf : MasterSet → Member → Bool → ℕ → Result SetDone SetFault → MasterSet → Type 0
 SetOf v x root step_number (Ok done) new = (first_failing (set_checks v x root) ≡ None) × SetBy v x step_number done new
 SetOf v x root step_number (Err (Denied rule)) new = (first_failing (set_checks v x root) ≡ Some rule) × (new ≡ v)
@@ -135,7 +135,7 @@ DroppedBy v x root (Err rule) new = (first_failing (drop_checks v x root) ≡ So
 
 -- magics
 
--- the number that the client has, or else the least free one
+-- the number that the client has, or else the lowest free one
 abbrev pub GaveMagic : MasterSet → Member → Option Magic → ℕ → MasterSet → Type 0
 GaveMagic v x (Some g) n new = (n ≡ g.number) × (new ≡ v)
 GaveMagic v x None n new = (free_magic v x.master ≡ Some n) × (new ≡ changed_member (with_magic n false x) v)
@@ -151,7 +151,7 @@ AuthenticatedBy v m n (Err rule) new = (find (has_open_magic m n) v.members ≡ 
 abbrev pub closed_own : ℕ → ℕ → MasterSet → MasterSet
 closed_own c m v = with_device (if is_option m v.device_master then None else v.device_master) (with_kept m true (without_member c v))
 
--- its key is given back
+-- its key is returned
 abbrev pub ClosedOf : MasterSet → Member → Bool → Option ℕ → MasterSet → Type 0
 ClosedOf v x true own new = ((key : ℕ) × (own ≡ Some key) × IsKeyOf new.masters x.master key) × (new ≡ closed_own x.client x.master v)
 ClosedOf v x false own new = (own ≡ None) × (new ≡ swept (without_member x.client v))

@@ -60,7 +60,7 @@ step_number_at masters key = option_map_or (λ (x : Master). x.step_number) (fin
 abbrev pub key_of : List Master → ℕ → Option ℕ
 key_of masters m = option_map (λ (x : Master). x.key) (master_at masters m)
 
--- the key is that of a master which is there
+-- the key is that of a master which exists
 abbrev pub IsKeyOf : List Master → ℕ → ℕ → Type 0
 IsKeyOf masters m key = option_map (λ (x : Master). x.step_number) (find (is_key key) masters) ≡ Some m
 
@@ -82,7 +82,7 @@ is_lessee masters m = is_some (lessor_of masters m)
 abbrev pub owner_of : List Master → ℕ → ℕ
 owner_of masters m = top_of (lessor_of masters) m
 
--- how many lessors stand above a master: 0 where it has none, else one more than above its lessor (own)
+-- how many lessors are above a master: 0 where it has none, else one more than above its lessor (own)
 abbrev pub depth_of : List Master → ℕ → ℕ
 depth_of masters m = chains.depth_of (lessor_of masters) m
 
@@ -114,7 +114,7 @@ is_used members masters x = is_held members x || list_any (λ (y : Master). is_o
 abbrev pub is_living : List Member → List Master → ℕ → Bool
 is_living members masters m = list_any (λ (x : Master). is_held members x && is_under (lessor_of masters) m x.step_number) masters
 
--- a master goes with the last that is held below it
+-- a master is freed with the last that is held below it
 abbrev pub swept : MasterSet → MasterSet
 swept v = record v { masters = filter (λ (x : Master). is_living v.members v.masters x.step_number) v.masters }
 
@@ -135,7 +135,7 @@ has_magic m n x = (x.master == m) && option_map_or (λ (g : Magic). g.number == 
 abbrev pub has_open_magic : ℕ → ℕ → Member → Bool
 has_open_magic m n x = (x.master == m) && option_map_or (λ (g : Magic). (g.number == n) && not g.spent) x.magic false
 
--- the least number that no client has under the master (drm(7); the kernel's IDR gives the least)
+-- the least number that no client has under the master (drm(7); the kernel's IDR returns the least)
 abbrev pub free_magic : MasterSet → ℕ → Option ℕ
 free_magic v m = least (λ n. not (list_any (has_magic m n) v.members)) 1 v.last_magic
 
@@ -163,9 +163,9 @@ HasOlderLessor masters x = (l : ℕ) → x.lessor ≡ Some l → (is_some (maste
 abbrev pub HaveOtherMagics : Member → Member → Type 0
 HaveOtherMagics x y = (n : ℕ) → has_magic x.master n x ≡ true → has_magic x.master n y ≡ false
 
--- the lists stand in the order of step numbers; all that is named is there; the device's master is some client's own; neither it
--- nor the master of a client that is no master has a lessor; each master is held, or one below it; no two clients of a
--- master have one number, and there are no more clients than numbers; ids of lessees run to 64 at most
+-- the lists are in the order of step numbers; all that is named is there; the device's master is some client's own;
+-- neither it nor the master of a client that is no master has a lessor; each master is held, or one below it; no two
+-- clients of a master have one number, and there are no more clients than numbers; ids of lessees run to 64 at most
 pub record AreMasters (v : MasterSet) : Type 0 where
   pub members_rise : InOrder (λ (x y : Member). x.client < y.client) v.members
   pub masters_rise : InOrder (λ (x y : Master). x.step_number < y.step_number) v.masters

@@ -1,4 +1,4 @@
--- What the fields of the clients stand for.
+-- What the fields of the clients represent.
 use Rattle.drm_id_alloc.specs.Groups.{has, AreGroupsOf}
 use Rattle.drm_masters.specs.declared.members.Members.TheInside.{Inside}
 use Rattle.drm_masters.specs.declared.members.Membership.{Membership}
@@ -7,6 +7,6 @@ use Rattle.drm_masters.specs.Tables.{MemberRows, members_in}
 abbrev pub rows_of : Inside → MemberRows
 rows_of a = record { items = members_in a.clients.items }
 
--- each client stands in the group of its master
+-- each client is in the group of its master
 abbrev pub AreNamed : Inside → Type 0
 AreNamed a = AreGroupsOf (λ (x : Membership). x.master) a.clients.items (has a.named)

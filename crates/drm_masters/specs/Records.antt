@@ -1,4 +1,4 @@
--- What the fields of the table of masters stand for.
+-- What the fields of the table of masters represent.
 use Rattle.std.specs.Prelude.{List, ◌≤◌}
 use Rattle.std.specs.List.{AllByRecursion}
 use Rattle.std.specs.FinMap as map

@@ -1,4 +1,4 @@
--- The lists that the records of clients and masters stand for.
+-- The lists that the records of clients and masters represent.
 use Rattle.std.specs.Prelude.{◌≡◌, ℕ, ◌==◌, ◌&&◌, ◌||◌, not, Option, List, map as list_map, None, false}
 use Rattle.std.specs.Ordering.{nat_cmp}
 use Rattle.std.specs.FinMap as map
@@ -8,7 +8,7 @@ use Rattle.drm_masters.specs.declared.rows.Member.{Member}
 use Rattle.drm_id_alloc.specs.Groups.{Groups}
 use Rattle.drm_masters.specs.Masters.{is_option, lessor_of}
 
--- a client and how it stands to masters
+-- a client and how it belongs to masters
 abbrev pub member_row : ℕ × Membership → Member
 member_row e = record { client = e.0; once_master = e.1.once_master; is_master = e.1.is_master; master = e.1.master; magic = e.1.magic }
 
@@ -28,7 +28,7 @@ nothing = record { key = 0; step_number = 0; lessor = None; lessee_id = 0; kept 
 pub record MasterRows : Type 0 where
   pub items : List Master
 
--- the step numbers of a master's lessees stand in its group
+-- the step numbers of a master's lessees are in its group
 abbrev pub AreLesseesOf : List Master → Groups → Type 0
 AreLesseesOf ms groups = (m n : ℕ) → groups m n ≡ is_option m (lessor_of ms n)
 

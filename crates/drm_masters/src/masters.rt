@@ -627,7 +627,7 @@ impl Masters {
     }
 }
 
-/// Whether a client was ever a master by its opening or SET_MASTER, or is root.
+/// Returns whether a client was ever a master by its opening or SET_MASTER, or is root.
 fn is_permitted(member: Member, root: bool) -> bool
     ensures { result ≡ (member.once_master || root) }
 {

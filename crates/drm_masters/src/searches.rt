@@ -10,7 +10,7 @@ use crate::members::Members;
 use crate::rows::{Master, Member};
 use crate::table::MasterTable;
 
-/// The lessor of a master, if it is a lessee.
+/// Returns the lessor of a master, if it is a lessee.
 pub fn lessor_of(masters: &MasterTable, step_number: u32) -> Option<u32>
     ensures { result ≡ sets.lessor_of masters.now.items step_number }
 {
@@ -20,7 +20,7 @@ pub fn lessor_of(masters: &MasterTable, step_number: u32) -> Option<u32>
     }
 }
 
-/// The top of a master's chain of lessors.
+/// Returns the top of a master's chain of lessors.
 pub fn owner_of(masters: &MasterTable, step_number: u32) -> u32
     requires older { AllByRecursion (sets.HasOlderLessor masters.now.items) masters.now.items }
     ensures { result ≡ sets.owner_of masters.now.items step_number }
@@ -31,7 +31,8 @@ pub fn owner_of(masters: &MasterTable, step_number: u32) -> u32
     }
 }
 
-/// Whether a client is current: it is a master, and the owner of its master is the device's, which has no lessor.
+/// Returns whether a client is current: it is a master, and the owner of its master is the device's, which has no
+/// lessor.
 pub fn is_current_among(masters: &MasterTable, device: Option<u32>, member: Member) -> bool
     requires older { AllByRecursion (sets.HasOlderLessor masters.now.items) masters.now.items }
     requires top { (m : ℕ) → device ≡ Some m → sets.lessor_of masters.now.items m ≡ None }
@@ -54,7 +55,7 @@ pub fn depth_of(masters: &MasterTable, step_number: u32) -> u32
     }
 }
 
-/// Whether the option is this number.
+/// Returns whether the option is this number.
 pub fn is_option(number: u32, option: Option<u32>) -> bool
     ensures { result ≡ sets.is_option number option }
 {
@@ -64,7 +65,7 @@ pub fn is_option(number: u32, option: Option<u32>) -> bool
     }
 }
 
-/// The client that has the number under the master, unspent.
+/// Returns the client that has the number under the master, unspent.
 pub fn find_open_magic(members: &Members, master: u32, number: u32) -> Option<Member>
     ensures { result ≡ find (sets.has_open_magic master number) members.now.items }
 {
@@ -97,7 +98,7 @@ fn has_magic(member: Member, master: u32, number: u32) -> bool
     }
 }
 
-/// Whether a client has the number under the master.
+/// Returns whether a client has the number under the master.
 pub fn is_magic(members: &Members, master: u32, number: u32) -> bool
     ensures { result ≡ list_any (sets.has_magic master number) members.now.items }
 {
@@ -112,7 +113,7 @@ pub fn is_magic(members: &Members, master: u32, number: u32) -> bool
     false
 }
 
-/// The least number up to the last that no client has under the master.
+/// Returns the least number up to the last that no client has under the master.
 pub fn free_magic(members: &Members, master: u32, last: u32) -> Option<u32>
     ensures { result ≡ least (λ n. not (list_any (sets.has_magic master n) members.now.items)) 1 last }
 {

@@ -31,7 +31,7 @@ pub fn sweep_up(members: &Members, masters: &mut MasterTable, step_number: u32)
     }
 }
 
-/// Whether the master is held, or is some master's lessor.
+/// Returns whether the master is held, or is some master's lessor.
 fn is_used(members: &Members, masters: &MasterTable, master: Master) -> bool
     ensures { result ≡ sets.is_used members.now.items masters.now.items master }
 {

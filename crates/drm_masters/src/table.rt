@@ -179,7 +179,7 @@ impl MasterTable {
         self.ids.free(owner, last)
     }
 
-    /// Whether a master names it as its lessor. It looks at no other.
+    /// Returns whether a master names it as its lessor. It looks at no other.
     pub fn has_lessee(&self, lessor: u32) -> bool
         ensures { result ≡ list_any (λ x. sets.is_option lessor x.lessor) self.now.items }
     {

@@ -45,7 +45,7 @@ pub fn owner(client: u32, master: u32) -> Member
     }
 }
 
-/// A client of another's master.
+/// Returns a client of another's master.
 pub fn non_master(client: u32, master: u32) -> Member
     ensures { result ≡ calls.non_master client master }
 {
@@ -58,7 +58,7 @@ pub fn non_master(client: u32, master: u32) -> Member
     }
 }
 
-/// A client that redeemed a lessee.
+/// Returns a client that redeemed a lessee.
 pub fn lease_client(client: u32, master: u32) -> Member
     ensures { result ≡ calls.lease_client client master }
 {
@@ -71,7 +71,7 @@ pub fn lease_client(client: u32, master: u32) -> Member
     }
 }
 
-/// The client with a number under its master.
+/// Returns the client with a number under its master.
 pub fn with_magic(member: Member, number: u32, spent: bool) -> Member
     ensures { result ≡ calls.with_magic number spent member }
 {
@@ -81,7 +81,7 @@ pub fn with_magic(member: Member, number: u32, spent: bool) -> Member
     }
 }
 
-/// The device's master, unless it is this one.
+/// Returns the device's master, unless it is this one.
 pub fn device_without(device: Option<u32>, master: u32) -> Option<u32>
     ensures { result ≡ (if is_option master device then None else device) }
 {

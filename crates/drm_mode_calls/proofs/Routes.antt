@@ -1,4 +1,4 @@
--- What SETCRTC and SETPLANE come to, and which scanout they set.
+-- What SETCRTC and SETPLANE are, and which scanout they set.
 use Rattle.std.proofs.Common.{◌≡◌, ℕ, ◌+◌, ◌-◌, ◌<◌, ◌==◌, Bool, true, false, not, ◌&&◌, ◌||◌, length, None, Some, refl, ◌∙◌, arith}
 use Rattle.std.specs.Prelude.{if◌then◌else◌}
 use Rattle.drm_table.specs.declared.calls.Call.TheVariants.{SetCrtc, SetPlane}

@@ -22,11 +22,11 @@ sees_route s k crtc connector = sees_object s k Crtc crtc && ((connector == 0) |
 abbrev pub is_route : State → ℕ → ℕ → ℕ → Bool
 is_route s crtc f connector = topology.is_route s.modes.topology crtc f connector
 
--- whether the caller sees the plane, and the CRTC unless the plane goes dark
+-- whether the caller sees the plane, and the CRTC unless the plane becomes dark
 abbrev pub sees_plane_route : State → PrimaryCaller → ℕ → ℕ → ℕ → Bool
 sees_plane_route s k plane crtc f = sees_object s k Plane plane && ((f == 0) || sees_object s k Crtc crtc)
 
--- whether the plane can be shown on the CRTC, or goes dark
+-- whether the plane can be shown on the CRTC, or becomes dark
 abbrev pub is_plane_route : State → ℕ → ℕ → ℕ → Bool
 is_plane_route s plane crtc f = topology.is_plane_route s.modes.topology plane crtc f
 

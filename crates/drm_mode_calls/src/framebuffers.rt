@@ -47,9 +47,9 @@ pub fn get_fb(
     Ok(())
 }
 
-/// MODE_ADDFB: makes a framebuffer of the caller over the object of its handle, and answers its id, the lowest that is free
-/// (drm-uapi, mode setting; the kernel's IDR gives the lowest). Where the caller has no such handle, the shape does not fit
-/// the object, no id is free or memory is refused, nothing changes.
+/// MODE_ADDFB: makes a framebuffer of the caller over the object of its handle, and answers its id, the lowest that is
+/// free (drm-uapi, mode setting; the kernel's IDR returns the lowest). Where the caller has no such handle, the shape
+/// does not fit the object, no id is free or memory is refused, nothing changes.
 pub fn add_fb(
     state: &mut State,
     step_number: u32,
@@ -85,8 +85,9 @@ pub fn add_fb(
     Ok(())
 }
 
-/// MODE_RMFB: the caller's framebuffer goes, what shows it goes dark, and its object goes with the last that refers to it
-/// (drm-uapi, mode setting). Where the caller made no such framebuffer, nothing changes. It takes no memory.
+/// MODE_RMFB: the caller's framebuffer goes, what shows it becomes dark, and its object is freed with the last that
+/// refers to it (drm-uapi, mode setting). Where the caller made no such framebuffer, nothing changes. Does not
+/// allocate.
 pub fn rm_fb(state: &mut State, client: u32, framebuffer: u32, answer: &mut Answer)
     requires invariants { MeetsInvariants state.old }
     requires open_client { is_open_client state.old.files client ≡ true }
@@ -102,14 +103,15 @@ pub fn rm_fb(state: &mut State, client: u32, framebuffer: u32, answer: &mut Answ
     answer.set_done();
 }
 
-/// Whether the caller is told of a framebuffer with a handle, as a current one and a root one are (drm-uapi, mode setting).
+/// Returns whether the caller holds for a framebuffer with a handle, as a current one and a root one are (drm-uapi,
+/// mode setting).
 fn gives_handle(caller: PrimaryCaller) -> bool
     ensures { result ≡ (caller.current || caller.flags.root) }
 {
     caller.current || caller.flags.root
 }
 
-/// What is told of a framebuffer of this shape, with a handle of its object, or 0 for none.
+/// Returns the answer for a framebuffer of this shape, with a handle of its object, or 0 for none.
 fn framebuffer_answer(shape: Shape, handle: u32) -> Answer
     ensures { result ≡ FramebufferIs shape.width shape.height shape.pitch shape.bpp handle }
 {
@@ -122,14 +124,14 @@ fn framebuffer_answer(shape: Shape, handle: u32) -> Answer
     }
 }
 
-/// Whether a framebuffer may have this shape over an object of so many bytes.
+/// Returns whether a framebuffer may have this shape over an object of this many bytes.
 fn is_shape_over(shape: Shape, size: u64) -> bool
     ensures { result ≡ (buffers.is_dumb_shape shape.width shape.height shape.bpp && model.fits_object shape.width shape.height shape.pitch shape.bpp size) }
 {
     is_dumb_shape(shape.width, shape.height, shape.bpp) && fits_object(shape, size)
 }
 
-/// Whether a line has room for its pixels, and the object for the lines.
+/// Returns whether a line has room for its pixels, and the object for the lines.
 fn fits_object(shape: Shape, size: u64) -> bool
     requires narrow { shape.width ≤ 65535 }
     requires shallow { shape.bpp ≤ 64 }

@@ -14,9 +14,10 @@ use drm_state::{PrimaryCaller, State};
 use drm_table::{Answer, Rule};
 
 /// MODE_SETCRTC (drm-uapi, mode setting; that one connector is named at most is own): a CRTC shows a framebuffer of any
-/// client, or goes dark where that is 0. The connector is checked and not kept. It is denied where the caller doesn't see
-/// the CRTC or the connector (0 for none), where there is no such framebuffer, and where a framebuffer comes without a
-/// connector that the CRTC reaches, or a connector without a framebuffer. Then nothing changes. It takes no memory.
+/// client, or becomes dark where that is 0. The connector is checked and not kept. It is denied where the caller
+/// doesn't see the CRTC or the connector (0 for none), where there is no such framebuffer, and where a framebuffer
+/// comes without a connector that the CRTC reaches, or a connector without a framebuffer. Then nothing changes. Does
+/// not allocate.
 pub fn set_crtc(
     state: &mut State,
     caller: PrimaryCaller,
@@ -39,9 +40,10 @@ pub fn set_crtc(
     answer.set_done();
 }
 
-/// MODE_SETPLANE (drm-uapi, mode setting): a plane shows a framebuffer of any client on a CRTC, or goes dark where that is 0,
-/// whichever CRTC is named then. It is denied where the caller doesn't see the plane, or the CRTC that is to show it, where
-/// there is no such framebuffer, and where the plane can't be shown on the CRTC. Then nothing changes. It takes no memory.
+/// MODE_SETPLANE (drm-uapi, mode setting): a plane shows a framebuffer of any client on a CRTC, or becomes dark where
+/// that is 0, whichever CRTC is named then. It is denied where the caller doesn't see the plane, or the CRTC that is to
+/// show it, where there is no such framebuffer, and where the plane can't be shown on the CRTC. Then nothing changes.
+/// Does not allocate.
 pub fn set_plane(
     state: &mut State,
     caller: PrimaryCaller,
@@ -64,7 +66,7 @@ pub fn set_plane(
     answer.set_done();
 }
 
-/// The first rule of MODE_SETCRTC that fails; what comes after it isn't looked up.
+/// The first rule of MODE_SETCRTC that fails; what follows it isn't looked up.
 fn crtc_refusal(
     state: &State,
     caller: PrimaryCaller,
@@ -86,7 +88,7 @@ fn crtc_refusal(
     None
 }
 
-/// The first rule of MODE_SETPLANE that fails; what comes after it isn't looked up.
+/// The first rule of MODE_SETPLANE that fails; what follows it isn't looked up.
 fn plane_refusal(
     state: &State,
     caller: PrimaryCaller,
@@ -108,7 +110,7 @@ fn plane_refusal(
     None
 }
 
-/// Whether the client sees a CRTC, and a connector unless that is 0.
+/// Returns whether the client sees a CRTC, and a connector unless that is 0.
 fn sees_route(state: &State, caller: PrimaryCaller, crtc: u32, connector: u32) -> bool
     ensures { result ≡ scanned.sees_route state.now caller crtc connector }
 {
@@ -116,7 +118,7 @@ fn sees_route(state: &State, caller: PrimaryCaller, crtc: u32, connector: u32) -
         && (connector == 0 || sees_object(state, caller, Kind::Connector, connector))
 }
 
-/// Whether a framebuffer comes with a connector that a CRTC reaches, or neither is named.
+/// Returns whether a framebuffer comes with a connector that a CRTC reaches, or neither is named.
 fn is_route(state: &State, crtc: u32, framebuffer: u32, connector: u32) -> bool
     ensures { result ≡ scanned.is_route state.now crtc framebuffer connector }
 {
@@ -126,7 +128,7 @@ fn is_route(state: &State, crtc: u32, framebuffer: u32, connector: u32) -> bool
     framebuffer != 0 && state.modes.reaches(connector, crtc)
 }
 
-/// Whether the client sees a plane, and a CRTC unless the plane goes dark.
+/// Whether the client sees a plane, and a CRTC unless the plane becomes dark.
 fn sees_plane_route(
     state: &State,
     caller: PrimaryCaller,
@@ -140,14 +142,14 @@ fn sees_plane_route(
         && (framebuffer == 0 || sees_object(state, caller, Kind::Crtc, crtc))
 }
 
-/// Whether a plane can be shown on a CRTC, or goes dark.
+/// Returns whether a plane can be shown on a CRTC, or becomes dark.
 fn is_plane_route(state: &State, plane: u32, crtc: u32, framebuffer: u32) -> bool
     ensures { result ≡ scanned.is_plane_route state.now plane crtc framebuffer }
 {
     framebuffer == 0 || state.modes.drives(plane, crtc)
 }
 
-/// Whether an id is that of a framebuffer, or 0 for none.
+/// Returns whether an id is that of a framebuffer, or 0 for none.
 fn can_show(state: &State, framebuffer: u32) -> bool
     ensures { result ≡ shown.can_show state.now.modes framebuffer }
 {

@@ -9,8 +9,9 @@ use drm_modes::Kind;
 use drm_state::{PrimaryCaller, State};
 use drm_table::ShownList;
 
-/// Whether a caller sees a fixed mode object (drm-uapi, leases and universal planes): all see an encoder, and of the rest a
-/// caller sees what it controls, but primary and cursor planes with universal planes on alone. It takes no memory.
+/// Returns whether a caller sees a fixed mode object (drm-uapi, leases and universal planes): all see an encoder, and
+/// of the rest a caller sees what it controls, but primary and cursor planes with universal planes on alone. Does not
+/// allocate.
 pub(crate) fn sees(state: &State, caller: PrimaryCaller, id: u32) -> bool
     ensures { result ≡ views.sees state.now caller id }
 {
@@ -23,7 +24,7 @@ pub(crate) fn sees(state: &State, caller: PrimaryCaller, id: u32) -> bool
     state.modes.crtc_of_plane(id).is_none() || caller.flags.universal
 }
 
-/// Whether a caller's master controls a fixed mode object.
+/// Returns whether a caller's master controls a fixed mode object.
 fn controls(state: &State, caller: PrimaryCaller, id: u32) -> bool
     ensures { result ≡ views.controls state.now caller id }
 {
@@ -32,14 +33,15 @@ fn controls(state: &State, caller: PrimaryCaller, id: u32) -> bool
         .controls(&state.masters, caller.member.master, id)
 }
 
-/// Whether an id is that of an object of a kind that the caller sees. It takes no memory.
+/// Returns whether an id is that of an object of a kind that the caller sees. Does not allocate.
 pub(crate) fn sees_object(state: &State, caller: PrimaryCaller, kind: Kind, id: u32) -> bool
     ensures { result ≡ views.sees_object state.now caller kind id }
 {
     state.modes.is_of_kind(kind, id) && sees(state, caller, id)
 }
 
-/// The objects of a kind that a caller sees, rising (drm-uapi, leases; that they rise is own). It takes no memory.
+/// Returns the objects of a kind that a caller sees, rising (drm-uapi, leases; that they rise is own). Does not
+/// allocate.
 pub(crate) fn visible(state: &State, caller: PrimaryCaller, kind: Kind) -> ShownList
     ensures { result ≡ views.visible state.now caller kind }
 {
@@ -53,8 +55,8 @@ pub(crate) fn visible(state: &State, caller: PrimaryCaller, kind: Kind) -> Shown
     seen
 }
 
-/// The possible CRTCs of a plane or an encoder, as a mask over those that the caller sees: bit i is the i-th of them
-/// (drm-uapi, leases; for planes own). It is 0 of anything else, and takes no memory.
+/// Returns the possible CRTCs of a plane or an encoder, as a mask over those that the caller sees: bit i is the i-th of
+/// them (drm-uapi, leases; for planes own). It is 0 of anything else, and takes no memory.
 #[tactic(auto, using(drm_modes::proofs::Fixed::picked_crtcs))]
 pub(crate) fn visible_mask(state: &State, caller: PrimaryCaller, id: u32) -> u32
     ensures { result ≡ mask_over state.now.modes.topology id (views.visible state.now caller Crtc) }

@@ -42,7 +42,7 @@ abbrev pub client_stays : Rows → Event → ClientRow → Bool
 client_stays w (Close c) row = not (row.client == c)
 client_stays w _ row = true
 
--- with a master of its own where it is neither current nor a master
+-- with its own master where it is neither current nor a master
 abbrev pub set_row : Rows → ℕ → Bool → Bool → ClientRow → ClientRow
 set_row w c true master row = row
 set_row w c false true row = row
@@ -244,7 +244,7 @@ module _ (w : Rows) where
     shown = alone w.shown i;
   }
 
-  -- ---- what goes by what is there
+  -- ---- what goes by what exists
 
   primary : (root universal : Bool) (m : Option ℕ) → opened_primary w root universal m ≡ record (alone_rows (opened_primary w root universal m)) {
     clients = edited (λ row. true) (λ row. row) (primary_row w root universal m ∷ []) w.clients;

@@ -1,4 +1,4 @@
--- What has ended stays ended: grants and lease tokens are given to new masters alone.
+-- What has ended stays ended: grants and lease tokens are assigned to new masters alone.
 use Rattle.std.proofs.Common.{◌≡◌, ◌∙◌, ℕ, ◌+◌, ◌≤◌, ◌==◌, Bool, true, false, ◌&&◌, ◌||◌, List, Option, None, Some, refl, ap, arith}
 use Rattle.std.specs.Prelude.{if◌then◌else◌, IfSome}
 use Rattle.std.specs.List.{list_any}

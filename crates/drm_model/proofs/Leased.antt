@@ -131,7 +131,7 @@ along_once w c ids k =
     elim (has_universal w c) as (λ b. count (if b then [] else filter (controls w c) (planes_of w.topology ids)) k ≤ 1)
     [ true ↦ omega arith | false ↦ picked_once (controls w c) (λ x. option_map_or (is_among ids) (crtc_of_plane w.topology x) false) (first_plane w.topology) (length w.topology.planes) k ]
 
--- and stands once
+-- and occurs once
 pub leased_once : (w : Rows) (c : ℕ) (ids : List ℕ) → verdict w (Ask c (CreateLease ids)) ≡ None → list_all (stands_once (leased w c ids)) (leased w c ids) ≡ true
 unfolding meaning
 leased_once w c ids accepted = each_once ids (brought_along w c ids) (rules_hold w c (CreateLease ids) accepted).1.1.1.0 (along_once w c ids) (apart w c ids accepted)

@@ -40,7 +40,7 @@ use Rattle.drm_model.proofs.Changes.{along, by_verdict}
 abbrev has : List GrantRow → ℕ → ℕ → Bool
 has grants m x = list_any (λ (row : GrantRow). (row.master == m) && (row.mode_object == x)) grants
 
--- by who stands above whom, and the grants
+-- by who is above whom, and the grants
 abbrev Nest : (ℕ → Option ℕ) → List GrantRow → Type 0
 Nest above grants = ((m : ℕ) → chains.depth_of above m ≤ last_depth) × ((m l x : ℕ) → above m ≡ Some l → is_some (above l) ≡ true → has grants m x ≡ true → has grants l x ≡ true)
 
@@ -67,7 +67,7 @@ true_unless false b f h = sym (f refl) ∙ h
 
 -- ---- masters that come, stay and go
 
--- nothing new stands above any
+-- nothing new is above any
 fewer : (above other : ℕ → Option ℕ) (grants : List GrantRow) → ((n m : ℕ) → other n ≡ Some m → above n ≡ Some m) → Nest above grants → Nest other grants
 fewer above other grants f h = (
   λ m. let deep = depth_fewer above other f m in let low = h.0 m in omega (arith, deep, low),
@@ -101,7 +101,7 @@ lessors_stay test rows n =
     same None = refl
     same (Some row) = untokened_lessor (test row) row
 
--- a new master that nobody lent has nobody above it
+-- a new master that no client lent has no client above it
 lessors_yet : (b n : ℕ) (rows : List MasterRow) → lessor_of (rows ++ new_master b ∷ []) n ≡ lessor_of rows n
 lessors_yet b n [] = elim (b == n) as (λ t. option_and_then (λ (row : MasterRow). row.lessor) (cond t (Some (new_master b)) None) ≡ None) [ true ↦ refl | false ↦ refl ]
 lessors_yet b n (x ∷ xs) =

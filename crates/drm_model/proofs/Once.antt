@@ -1,4 +1,4 @@
--- Numbers that stand once each in two lists, one behind the other.
+-- Numbers that are once each in two lists, one after the other.
 use Rattle.std.proofs.Common.{◌≡◌, ℕ, zero, suc, ◌+◌, ◌<◌, ◌≤◌, ◌==◌, Bool, true, false, cond, not, ◌||◌, List, [], ◌∷◌, ◌++◌, filter, length, refl, sym, ap, ◌∙◌, arith, eq-eqb}
 use Rattle.std.specs.List.{list_all}
 use Rattle.std.proofs.lemmas.Bool.{false≢true, eqb-true, and_from}
@@ -8,7 +8,7 @@ use Rattle.drm_lists.proofs.Numbers.{among-append, among-more, among-first, all_
 use Rattle.drm_modes.specs.Numbers.{numbers_from}
 use Rattle.drm_modes.specs.LeaseRules.{stands_once}
 
--- what is so of each number that is there, passes in all
+-- what is so of each number that exists, passes in all
 each_there : (p : ℕ → Bool) (xs : List ℕ) → ((x : ℕ) → is_among xs x ≡ true → p x ≡ true) → list_all p xs ≡ true
 each_there p [] h = refl
 each_there p (x ∷ xs) h = and_from (p x) (list_all p xs) (h x (among-first xs x)) (each_there p xs (λ y e. h y (among-more xs x y e)))

@@ -1,4 +1,4 @@
--- A run that goes on by one step, and what it leaves.
+-- A run that continues by one step, and what it leaves.
 use Rattle.std.proofs.Common.{◌≡◌, List, [], ◌∷◌, ◌++◌, Result, Ok, Err, refl, ap, ◌∙◌, subst}
 use Rattle.drm_table.specs.declared.answers.Answer.{Answer}
 use Rattle.drm_table.specs.declared.apart.Apart.{Apart}
@@ -15,7 +15,7 @@ answers_push w (e ∷ es) (r ∷ rs) v event result u h s = (h.0, h.1, answers_p
 answers_push w [] (r ∷ rs) v event result u h s = absurd h
 answers_push w (e ∷ es) [] v event result u h s = absurd h
 
--- the rows afterwards are those of the noted events alone
+-- the rows afterwards are those of the recorded events alone
 pub answers-run : (w : Rows) (events : List Event) (results : List (Result Answer Apart)) (v : Rows) → Answers w events results v → v ≡ run w (journaled_events events results)
 unfolding Answers run Step
 answers-run w [] [] v h = h

@@ -1,4 +1,4 @@
--- A CRTC and a plane show one framebuffer at most, which is there.
+-- A CRTC and a plane show one framebuffer at most, which exists.
 use Rattle.std.proofs.Common.{◌≡◌, ℕ, ◌==◌, true, not, Option, None, Some, sym, subst, ap}
 use Rattle.std.specs.Prelude.{IfSome}
 use Rattle.drm_lists.specs.Orders.{InOrder}
@@ -39,7 +39,7 @@ changed-shown w event h =
     subst (InOrder IsOtherEngine) (sym (ap (λ (v : Rows). v.shown) (each_edits w event)))
     (in_order_edited (shown_stays event) (λ row. row) (new_shown_row event) w.shown IsOtherEngine (λ x y k. k) (all_each (λ row. shown_stays event row ≡ true → IfSome (new_shown_row event) (IsOtherEngine row)) (new-other event) w.shown) h)
 
--- what shows a framebuffer that went goes dark
+-- what shows a framebuffer that went becomes dark
 swept-shown : (w : Rows) → ShowOnce w → EachShowsOne (journaled (swept w))
 unfolding swept
 swept-shown w h = record {

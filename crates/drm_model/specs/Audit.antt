@@ -12,7 +12,7 @@ use Rattle.drm_model.specs.Rows.{Rows, ClientRow, MasterRow, MagicRow, HandleRow
 abbrev pub audit_row : ℕ → ℕ → ℕ → ℕ → AuditRow
 audit_row a b c d = record { a = a; b = b; c = c; d = d }
 
--- 0 stands for none
+-- 0 represents none
 abbrev pub or_zero : Option ℕ → ℕ
 or_zero number = unwrap_or number 0
 

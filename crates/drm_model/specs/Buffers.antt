@@ -1,5 +1,6 @@
 -- BUF_CREATE, MODE_CREATE_DUMB, GEM_CLOSE, MODE_DESTROY_DUMB, STAMP_WRITE, STAMP_READ and LIST_HANDLES. Handles are as
--- drm-mm and drm-gem(7) tell, dumb buffers as drm-uapi tells; stamps, lists of handles and BUF_CREATE are this project's own.
+-- drm-mm and drm-gem(7) say, dumb buffers as drm-uapi says; stamps, lists of handles and BUF_CREATE are this project's
+-- own.
 use Rattle.std.specs.Prelude.{ℕ, ◌+◌, ◌*◌, ◌/◌, ◌-◌, ◌==◌, nat_le, Bool, ◌&&◌, List, [], ◌∷◌, ◌++◌, None, unwrap_or, map, filter, take, if◌then◌else◌}
 use Rattle.std.specs.Option.{is_some, option_map}
 use Rattle.drm_table.specs.declared.answers.Answer.TheVariants.{Number, Dumb, Buffer, List as ListIs}

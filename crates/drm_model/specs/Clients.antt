@@ -54,7 +54,7 @@ opened w (Primary root universal) = opened_primary w root universal w.device_mas
 opened w Render = opened_render w
 opened w (Lease token root universal) = opened_lease w token root universal
 
--- a closing client that is a master: what its master gave goes, and the device's master if it was that one
+-- a closing client that is a master: what its master returned goes, and the device's master if it was that one
 abbrev pub ended_if : Rows → Bool → Option ℕ → Rows
 ended_if w true (Some m) = record (ended w m) { device_master = if is_option m w.device_master then None else w.device_master }
 ended_if w true None = w
@@ -64,7 +64,7 @@ abbrev pub ended_own : Rows → Option ClientRow → Rows
 ended_own w (Some row) = ended_if w row.is_master row.master
 ended_own w None = w
 
--- all rows of the client go, and what its own master gave
+-- all rows of the client go, and what its own master returned
 unfoldable pub closed : Rows → ℕ → Rows
 closed w c = record (ended_own w (client_row w c)) {
   clients = without (λ row. row.client == c) w.clients;

@@ -62,7 +62,8 @@ is_leased_out w m x = list_any (λ (grant : GrantRow). (grant.mode_object == x) 
 abbrev pub is_lessee_of : List MasterRow → ℕ → ℕ → MasterRow → Bool
 is_lessee_of rows owner id row = is_some row.lessor && (row.lessee_id == id) && (owner_of rows row.master == owner)
 
--- the lowest id that no lessee with the owner of this master has (the kernel's IDR gives the lowest; the limit is own)
+-- the lowest id that no lessee with the owner of this master has (the kernel's IDR returns the lowest; the limit is
+-- own)
 abbrev pub free_lessee : Rows → ℕ → Option ℕ
 free_lessee w m = least (λ id. not (list_any (is_lessee_of w.masters (owner_of w.masters m) id) w.masters)) 1 w.limits.lessees
 
@@ -70,7 +71,7 @@ free_lessee w m = least (λ id. not (list_any (is_lessee_of w.masters (owner_of 
 abbrev pub is_free_lease_token : Rows → ℕ → Bool
 is_free_lease_token w token = not (list_any (λ (row : MasterRow). is_option token row.lease_token) w.masters)
 
--- the next lease token in turn
+-- the next lease token in rotation
 abbrev pub next_lease_token : Rows → Option ℕ
 next_lease_token w = next_in_turn (is_free_lease_token w) w.last_lease_token w.limits.tokens
 

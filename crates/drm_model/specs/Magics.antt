@@ -25,8 +25,8 @@ magic_of w c = option_map (λ (row : MagicRow). row.number) (magic_row w c)
 abbrev pub magics_under : Rows → ℕ → List ℕ
 magics_under w m = map (λ row. row.number) (filter (λ row. row.master == m) w.magics)
 
--- the lowest free magic of a master, from 1; each client has one at most, so that none is wanting (the kernel's IDR gives the
--- lowest)
+-- the lowest free magic of a master, from 1; each client has one at most, so that none is wanting (the kernel's IDR
+-- returns the lowest)
 abbrev pub free_magic : Rows → ℕ → Option ℕ
 free_magic w m = least (λ number. not (is_among (magics_under w m) number)) 1 w.limits.clients
 
@@ -75,7 +75,7 @@ auth_magic w c number = auth_under w (caller_master w c) number
 abbrev pub is_current : Rows → ℕ → Bool
 is_current w c = (credentials_of w c).current
 
--- whether the client is a master of its own
+-- whether the client is its own master
 abbrev pub is_master : Rows → ℕ → Bool
 is_master w c = client_has (λ row. row.is_master) w c
 

@@ -6,7 +6,7 @@ use Rattle.drm_lists.specs.Chains.{top_of}
 use Rattle.drm_model.specs.Rows.{Rows, MasterRow, ClientRow, client_row}
 use Rattle.drm_table.specs.declared.permits.Standing.{Standing}
 
--- a master that nobody lent: it has no lessor
+-- a master that no client lent: it has no lessor
 abbrev pub new_master : ℕ → MasterRow
 new_master m = record { master = m; lessor = None; lessee_id = 0; lease_token = None }
 
@@ -28,7 +28,7 @@ is_lessee w c = is_some (option_and_then (lessor_of w.masters) (master_of w c))
 abbrev pub owner_of : List MasterRow → ℕ → ℕ
 owner_of rows m = top_of (lessor_of rows) m
 
--- how many lessors stand above a master: 0 where it has none, else one more than above its lessor (own)
+-- how many lessors are above a master: 0 where it has none, else one more than above its lessor (own)
 abbrev pub depth_of : List MasterRow → ℕ → ℕ
 depth_of rows m = chains.depth_of (lessor_of rows) m
 

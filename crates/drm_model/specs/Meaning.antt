@@ -10,6 +10,6 @@ pub record Meaning : Type 0 where
   pub rows : Rows
   pub answer : Answer
 
--- a call that has no rules, changes no row and tells nothing
+-- a call that has no rules, changes no row and says nothing
 abbrev pub nothing : Rows → Meaning
 nothing w = record { checks = []; rows = w; answer = Done }

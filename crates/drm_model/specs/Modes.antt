@@ -1,6 +1,7 @@
--- MODE_GETRESOURCES, GETCRTC, SETCRTC, GETENCODER, GETCONNECTOR, GETFB, ADDFB, RMFB, GETPLANERESOURCES, GETPLANE and SETPLANE
--- (drm-uapi, kernel mode setting). The ranges of sizes, the limits, and that one connector is named at most are this project's
--- own. The flags of a call's row, as that SETCRTC and SETPLANE want a current master, are tested before the checks here (`Permit`).
+-- MODE_GETRESOURCES, GETCRTC, SETCRTC, GETENCODER, GETCONNECTOR, GETFB, ADDFB, RMFB, GETPLANERESOURCES, GETPLANE and
+-- SETPLANE (drm-uapi, kernel mode setting). The ranges of sizes, the limits, and that one connector is named at most
+-- are this project's own. The flags of a call's row, as that SETCRTC and SETPLANE need a current master, are tested
+-- before the checks here (`Permit`).
 use Rattle.std.specs.Prelude.{ℕ, ◌+◌, ◌*◌, ◌==◌, nat_le, Bool, not, ◌&&◌, ◌||◌, List, [], ◌∷◌, ◌++◌, Option, None, Some, unwrap_or, find, map, if◌then◌else◌}
 use Rattle.std.specs.Option.{is_some, option_map}
 use Rattle.drm_lists.specs.Numbers.{is_among}
@@ -64,8 +65,8 @@ get_crtc w c crtc = record (nothing w) {
   answer = Number (shown_by w crtc);
 }
 
--- MODE_SETCRTC: the CRTC shows the framebuffer, or goes dark. BadRoute: the connector reaches the CRTC, or there is neither connector
--- nor framebuffer. The connector is checked and not kept
+-- MODE_SETCRTC: the CRTC shows the framebuffer, or becomes dark. BadRoute: the connector reaches the CRTC, or there is
+-- neither connector nor framebuffer. The connector is checked and not kept
 abbrev pub set_crtc : Rows → ℕ → ℕ → ℕ → ℕ → Meaning
 set_crtc w c crtc f connector = record (nothing w) {
   checks =
@@ -83,8 +84,8 @@ get_plane w c plane = record (nothing w) {
   answer = Plane (shown_by w plane) (visible_mask w c plane);
 }
 
--- MODE_SETPLANE: the plane shows the framebuffer on a CRTC, or goes dark, whichever CRTC is named then. BadRoute: the CRTC is one of
--- the plane's possible CRTCs, or there is no framebuffer
+-- MODE_SETPLANE: the plane shows the framebuffer on a CRTC, or becomes dark, whichever CRTC is named then. BadRoute:
+-- the CRTC is one of the plane's possible CRTCs, or there is no framebuffer
 abbrev pub set_plane : Rows → ℕ → ℕ → ℕ → ℕ → Meaning
 set_plane w c plane crtc f = record (nothing w) {
   checks =
@@ -126,7 +127,7 @@ fits_object width height pitch bpp size = nat_le (width * bytes_per_pixel bpp) p
 abbrev pub is_free_framebuffer : Rows → ℕ → Bool
 is_free_framebuffer w f = not (is_among (map (λ (row : FramebufferRow). row.framebuffer) w.framebuffers) f)
 
--- the lowest free id above those of the fixed objects (the kernel's IDR gives the lowest)
+-- the lowest free id above those of the fixed objects (the kernel's IDR returns the lowest)
 abbrev pub free_framebuffer : Rows → Option ℕ
 free_framebuffer w = least (is_free_framebuffer w) (first_framebuffer w.topology) (object_count w.topology + w.limits.framebuffers)
 
@@ -162,7 +163,7 @@ add_fb w c shape handle = record {
 abbrev pub is_framebuffer_of : ℕ → ℕ → FramebufferRow → Bool
 is_framebuffer_of c f row = (row.client == c) && (row.framebuffer == f)
 
--- MODE_RMFB: by its owner alone. What shows it goes dark with the sweep
+-- MODE_RMFB: by its owner alone. What shows it becomes dark with the sweep
 abbrev pub rm_fb : Rows → ℕ → ℕ → Meaning
 rm_fb w c f = record (nothing w) {
   checks = check NoFb (is_some (find (is_framebuffer_of c f) w.framebuffers)) ∷ [];

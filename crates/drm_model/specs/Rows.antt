@@ -1,5 +1,6 @@
--- The rows of a device: flat lists, in which a client, a master or an object is named by its step number, the number of the
--- step that made it (step numbers are this project's own; what a row stands for is in drm-uapi, drm-mm, drm(7) and drm-gem(7)).
+-- The rows of a device: flat lists, in which a client, a master or an object is named by its step number, the number of
+-- the step that made it (step numbers are this project's own; what a row represents is in drm-uapi, drm-mm, drm(7) and
+-- drm-gem(7)).
 use Rattle.std.specs.Prelude.{ℕ, ◌+◌, ◌==◌, Bool, false, not, ◌&&◌, nat_lt, List, [], ◌∷◌, ◌++◌, length, Option, None, Some, unwrap_or, find, map, filter}
 use Rattle.std.specs.Option.{is_some, option_map, option_map_or}
 use Rattle.drm_lists.specs.Numbers.{is_among}
@@ -18,7 +19,7 @@ pub record ClientRow : Type 0 where
   pub master : Option ℕ
   pub universal : Bool
 
--- a master; a lessee has a lessor, and the lease token where nobody redeemed it (drm-uapi, leases; the token own)
+-- a master; a lessee has a lessor, and the lease token where no client redeemed it (drm-uapi, leases; the token own)
 pub record MasterRow : Type 0 where
   pub master : ℕ
   pub lessor : Option ℕ
@@ -39,7 +40,7 @@ pub record HandleRow : Type 0 where
   pub object : ℕ
   pub export_order : Option ℕ
 
--- a buffer, its size in bytes (drm-mm); the stamp stands for its contents (own)
+-- a buffer, its size in bytes (drm-mm); the stamp represents its contents (own)
 pub record ObjectRow : Type 0 where
   pub object : ℕ
   pub size : ℕ
@@ -95,7 +96,7 @@ pub record Rows : Type 0 where
   pub last_token : ℕ
   pub last_lease_token : ℕ
 
--- a device that nobody has opened yet
+-- a device that no client has opened yet
 abbrev pub empty_rows : Topology → Limits → Rows
 empty_rows topology limits = record {
   topology = topology;
@@ -174,7 +175,8 @@ object_row w o = find (λ row. row.object == o) w.objects
 abbrev pub handles_of : Rows → ℕ → List ℕ
 handles_of w c = map (λ row. row.handle) (filter (λ row. row.client == c) w.holds)
 
--- handles are a client's own, the lowest free from 1 (drm-gem(7); the kernel's IDR gives the lowest; the limit is own)
+-- handles are a client's own, the lowest free from 1 (drm-gem(7); the kernel's IDR returns the lowest; the limit is
+-- own)
 abbrev pub free_handle : Rows → ℕ → Option ℕ
 free_handle w c = least (λ h. not (is_among (handles_of w c) h)) 1 w.limits.handles
 

@@ -1,4 +1,4 @@
--- Whole runs, and what stands apart from them: a full journal and want of memory (the journal is this project's own).
+-- Whole runs, and the faults: a full journal and refused memory (the journal is this project's own).
 use Rattle.std.specs.Prelude.{◌≡◌, ℕ, ◌+◌, ◌-◌, ◌<◌, ◌⊎◌, Bool, true, false, not, ◌&&◌, nat_lt, List, [], ◌∷◌, ◌++◌, length, None, Result, Ok, Err}
 use Rattle.drm_table.specs.declared.answers.Answer.{Answer}
 use Rattle.drm_table.specs.declared.apart.Apart.{Apart}
@@ -57,7 +57,7 @@ unfoldable pub FoundRoom : Rows → List Event → Type 0
 FoundRoom w [] = Unit {0}
 FoundRoom w (event ∷ events) = (no_room w event ≡ false) × FoundRoom (after w event) events
 
--- the events that were noted: those that nothing apart was answered to
+-- the events that were recorded: those without a fault as result
 abbrev pub journaled_events : List Event → List (Result Answer Apart) → List Event
 journaled_events [] results = []
 journaled_events (event ∷ events) [] = []

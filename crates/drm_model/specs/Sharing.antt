@@ -1,6 +1,6 @@
--- GEM_FLINK and GEM_OPEN (drm-gem(7), drm-mm), PRIME_HANDLE_TO_FD and PRIME_FD_TO_HANDLE (drm-mm, PRIME), and TOKEN_CLOSE. Tokens,
--- which stand for file descriptors, and the export order of handles, which says which of several an import gives, are this
--- project's own.
+-- GEM_FLINK and GEM_OPEN (drm-gem(7), drm-mm), PRIME_HANDLE_TO_FD and PRIME_FD_TO_HANDLE (drm-mm, PRIME), and
+-- TOKEN_CLOSE. Tokens, which represent file descriptors, and the export order of handles, which says which of several
+-- an import returns, are this project's own.
 use Rattle.std.specs.Prelude.{ℕ, ◌==◌, Bool, not, ◌&&◌, List, [], ◌∷◌, ◌++◌, Option, None, Some, unwrap_or, find, map, filter, if◌then◌else◌}
 use Rattle.std.specs.List.{filter_map}
 use Rattle.std.specs.Option.{is_some, option_map, option_and_then, option_or}
@@ -28,7 +28,7 @@ name_of w o = option_map (λ (row : NameRow). row.name) (find (λ row. row.objec
 abbrev pub named_object : Rows → ℕ → Option ℕ
 named_object w name = option_map (λ (row : NameRow). row.object) (find (λ row. row.name == name) w.names)
 
--- the lowest free name, from 1 (the kernel's IDR gives the lowest; the limit is own)
+-- the lowest free name, from 1 (the kernel's IDR returns the lowest; the limit is own)
 abbrev pub free_name : Rows → Option ℕ
 free_name w = least (λ name. not (is_among (map (λ row. row.name) w.names) name)) 1 w.limits.names
 
@@ -67,7 +67,7 @@ gem_open w c name = record {
 abbrev pub is_free_token : Rows → ℕ → Bool
 is_free_token w token = not (is_among (map (λ row. row.token) w.tokens) token)
 
--- the next token in turn
+-- the next token in rotation
 abbrev pub next_token : Rows → Option ℕ
 next_token w = next_in_turn (is_free_token w) w.last_token w.limits.tokens
 

@@ -5,7 +5,7 @@ use Rattle.drm_lists.specs.Orders.{InOrder}
 use Rattle.drm_model.specs.Parts.{Part, Grants, count_in}
 use Rattle.drm_model.specs.Rows.{Rows, ClientRow, MasterRow, ObjectRow, GrantRow}
 
--- the rows stand in the order of the steps that made them, a step made one at most, and the last step is this one
+-- the rows are in the order of the steps that made them, a step made one at most, and the last step is this one
 abbrev pub MadeInTurn : {X : Type 0} → (X → ℕ) → ℕ → List X → Type 0
 MadeInTurn step_number_of last rows = InOrder (λ x y. step_number_of x < step_number_of y) rows × AllByRecursion (λ x. step_number_of x ≤ last) rows
 
@@ -21,7 +21,7 @@ abbrev pub most_in : Part → ℕ → ℕ
 most_in Grants steps = 64 * steps
 most_in _ steps = steps
 
--- each list has no more rows than so many steps can add
+-- each list has no more rows than this many steps can add
 abbrev pub FewRows : ℕ → Rows → Type 0
 FewRows steps w = (part : Part) → count_in part w ≤ most_in part steps
 

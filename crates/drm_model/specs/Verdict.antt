@@ -24,7 +24,7 @@ abbrev pub is_laid_out : Call → Bool
 is_laid_out (BadLayout number) = false
 is_laid_out _ = true
 
--- what comes before a call's own rules: it is known and laid out, its client is open, and its row's flags let the client
+-- what is before a call's own rules: it is known and laid out, its client is open, and its row's flags let the client
 -- make it
 unfoldable pub admission_checks : Rows → ℕ → Call → List Check
 admission_checks w c call =

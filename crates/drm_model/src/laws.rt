@@ -20,7 +20,7 @@ ghost use Rattle.drm_model.specs.Endings.{IsForgotten, HasEnded};
 ghost use Rattle.drm_model.specs.Nesting.{LeasesNest};
 ghost use Rattle.drm_model.specs.Run.{Step, Answers, DeviceValue, run, journaled_events, journaled_in, rows_of};
 
-/// A denial changes no row: it is noted, and that is all.
+/// A denial changes no row: it is recorded, and that is all.
 pub fn denials_change_no_row()
     ensures { (w : Rows) (event : Event) (rule : Rule) → verdict w event ≡ Some rule → after w event ≡ journaled w }
 {}
@@ -32,7 +32,7 @@ pub fn answers_go_on()
         → Answers w events results v → Step v event result u → Answers w (events ++ event ∷ []) (results ++ result ∷ []) u }
 {}
 
-/// What stands apart leaves no trace: the rows are those of the noted events alone.
+/// A fault leaves no trace: the rows are those of the recorded events alone.
 pub fn rows_are_those_of_journaled_events()
     ensures { (w : Rows) (events : List Event) (results : List (Result Answer Apart)) (v : Rows)
         → Answers w events results v → v ≡ run w (journaled_events events results) }
@@ -43,8 +43,8 @@ pub fn closings_are_carried_out()
     ensures { (w : Rows) (c : ℕ) (result : Result Answer Apart) (v : Rows) → is_open w c ≡ true → Step w (Close c) result v → result ≡ Ok Closed }
 {}
 
-/// Step numbers rise: after any events clients, masters and objects stand in the order of the steps that made them, and no two of
-/// a kind have the same number.
+/// Step numbers rise: after any events clients, masters and objects are in the order of the steps that made them, and
+/// no two of a kind have the same number.
 pub fn step_numbers_rise()
     ensures { (h : DeviceValue) → StepNumbersRise (rows_of h).steps (rows_of h) }
 {}
@@ -81,8 +81,8 @@ pub fn leases_nest()
     ensures { (h : DeviceValue) → LeasesNest (rows_of h) }
 {}
 
-/// Each shows one framebuffer: after any events no CRTC and no plane has two rows of what it shows, and each row shows a framebuffer
-/// that is there.
+/// Each shows one framebuffer: after any events no CRTC and no plane has two rows of what it shows, and each row shows
+/// a framebuffer that exists.
 pub fn each_shows_one_framebuffer()
     ensures { (h : DeviceValue) → EachShowsOne (rows_of h) }
 {}

@@ -1,4 +1,5 @@
-//! The rows that a device stands for, and what each event does to them: definitions alone, in `specs/`, and laws of them.
+//! The rows that a device represents, and what each event does to them: definitions alone, in `specs/`, and laws of
+//! them.
 #![tactic(auto)]
 
 mod laws;

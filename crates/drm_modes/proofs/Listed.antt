@@ -1,4 +1,4 @@
--- Lists that a loop makes: what is told so far, and what is still to come.
+-- Lists that a loop makes: what is reported so far, and what is still to come.
 use Rattle.std.proofs.Common.{◌≡◌, ℕ, zero, suc, ◌+◌, ◌-◌, ◌<◌, ◌≤◌, Bool, true, false, cond, List, [], ◌∷◌, ◌++◌, map, filter, drop, None, Some, refl, sym, ap, ◌∙◌, append_assoc, append-nil, arith}
 use Rattle.std.specs.Prelude.{slice_get}
 use Rattle.drm_modes.specs.Numbers.{numbers_from}
@@ -45,7 +45,7 @@ module _ {X : Type 0} (p : X → Bool) (f : X → ℕ) where
   rest_is : (xs : List X) (i : ℕ) (x : X) → Some x ≡ slice_get xs i → rest_of xs i ≡ map f (cond (p x) (x ∷ filter p (drop (i + 1) xs)) (filter p (drop (i + 1) xs)))
   rest_is xs i x h = ap (λ l. map f (filter p l)) (next_at xs i x h ∙ ap (λ n. x ∷ drop n xs) (one_more i))
 
-  -- one that passes is told
+  -- one that passes is reported
   pub row_told : (xs : List X) (told all : List ℕ) (i : ℕ) (x : X) → Some x ≡ slice_get xs i → p x ≡ true → told ++ rest_of xs i ≡ all → (told ++ f x ∷ []) ++ rest_of xs (i + 1) ≡ all
   row_told xs told all i x at passes h =
       append_assoc told (f x ∷ []) (rest_of xs (i + 1))

@@ -43,7 +43,7 @@ higher : (b : Bool) (r : ℕ) → (cond b 1 0 + 2 * r) / 2 ≡ r
 higher true r = omega arith
 higher false r = omega arith
 
--- a bit tells whether the element at its place passes
+-- a bit says whether the element at its place passes
 pub bit_of : (p : ℕ → Bool) (xs : List ℕ) (i : ℕ) → (bit_at (bits_of p xs) i == 1) ≡ option_map_or p (slice_get xs i) false
 bit_of p [] i = ap (λ n. n == 1) (bit_at-zero i)
 bit_of p (x ∷ xs) zero = ap (λ n. n == 1) (bit_at_lowest (bits_of p (x ∷ xs))) ∙ lowest (p x) (bits_of p xs)

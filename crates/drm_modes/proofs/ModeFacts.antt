@@ -1,4 +1,4 @@
--- The lists that the table and the scanouts stand for, and how they change.
+-- The lists that the table and the scanouts represent, and how they change.
 use Rattle.std.proofs.Common.{◌≡◌, ℕ, zero, suc, ◌+◌, ◌≤◌, ◌<◌, ◌==◌, eqb, nat_lt, length, Bool, true, false, cond, ◌||◌, find, is_some, List, [], ◌∷◌, replicate, map, set, Option, Some, None, option_map, option_and_then, refl, sym, ap, ◌∙◌, eq-eqb, arith, nat_cmp}
 use Rattle.std.proofs.lemmas.Bool.{false≢true, eqb-true}
 use Rattle.std.proofs.lemmas.List.{length-map, length-set, length-replicate}

@@ -1,6 +1,6 @@
--- The rules of CREATE_LEASE, and what a client sees, over what is known of the lessor and of the ids (drm-uapi, leases; the order,
--- how deep lessees may lease, the rule of ids that stand twice, what an empty list comes to, and what comes along with a CRTC are
--- own). The leases and the model both read them here.
+-- The rules of CREATE_LEASE, and what a client sees, over what is known of the lessor and of the ids (drm-uapi, leases;
+-- the order, how deep lessees may lease, the rule of ids that occur twice, what an empty list is, and what comes along
+-- with a CRTC are own). The leases and the model both read them here.
 use Rattle.std.specs.Prelude.{ℕ, ◌==◌, nat_lt, Bool, not, ◌&&◌, ◌||◌, if◌then◌else◌, List, [], ◌∷◌, filter}
 use Rattle.std.specs.List.{list_any, list_all}
 use Rattle.std.specs.Option.{is_some}

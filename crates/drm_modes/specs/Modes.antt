@@ -28,7 +28,7 @@ scanout_count t = t.crtcs + length t.planes
 abbrev pub first_framebuffer : Topology → ℕ
 first_framebuffer t = object_count t + 1
 
--- no framebuffer, of so many that there may be; all is dark
+-- no framebuffer, of this many that there may be; all is dark
 abbrev pub empty_modes : Topology → ℕ → ModeSet
 empty_modes t framebuffers = record { topology = t; framebuffers = []; scanouts = replicate (scanout_count t) 0; last = object_count t + framebuffers }
 
@@ -61,7 +61,7 @@ has_framebuffer set f = list_any (is_framebuffer f) set.framebuffers
 abbrev pub is_free : ModeSet → ℕ → Bool
 is_free set f = not (is_among (map (λ row. row.framebuffer) set.framebuffers) f)
 
--- the least id that no framebuffer has (the kernel's IDR gives the least; the limit is own)
+-- the least id that no framebuffer has (the kernel's IDR returns the least; the limit is own)
 abbrev pub free_framebuffer : ModeSet → Option ℕ
 free_framebuffer set = least (is_free set) (first_framebuffer set.topology) set.last
 
@@ -71,7 +71,7 @@ with_framebuffer set row = record set { framebuffers = placed framebuffer_before
 abbrev pub dark_of : ℕ → ℕ → ℕ
 dark_of f scanout = if scanout == f then 0 else scanout
 
--- what shows it goes dark
+-- what shows it becomes dark
 abbrev pub without_framebuffer : ModeSet → ℕ → ModeSet
 without_framebuffer set f = record set { framebuffers = filter (λ row. not (is_framebuffer f row)) set.framebuffers; scanouts = map (dark_of f) set.scanouts }
 
@@ -115,7 +115,7 @@ pub record IsFramebufferFrom (first last : ℕ) (row : Framebuffer) : Type 0 whe
   pub low : first ≤ row.framebuffer
   pub high : row.framebuffer ≤ last
 
--- what is so at all times: no framebuffer stands twice, since they rise, and what is shown is there
+-- what is so at all times: no framebuffer occurs twice, since they rise, and what is shown is there
 pub record AreModes (set : ModeSet) : Type 0 where
   pub topology : IsTopology set.topology
   pub last_low : first_framebuffer set.topology ≤ set.last

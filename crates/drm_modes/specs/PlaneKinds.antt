@@ -24,7 +24,7 @@ is_kind _ _ = false
 abbrev pub stands_once : List PlaneKind → PlaneKind → Bool
 stands_once kinds kind = not (is_some (crtc_of_kind kind)) || (length (filter (is_kind kind) kinds) == 1)
 
--- whether the CRTC, of so many, is one of the mask, whose bit i is CRTC i + 1
+-- whether the CRTC, of this many, is one of the mask, whose bit i is CRTC i + 1
 abbrev pub is_possible : ℕ → ℕ → ℕ → Bool
 is_possible crtcs mask crtc = is_among (numbers_from 1 crtcs) crtc && (bit_at mask (crtc - 1) == 1)
 

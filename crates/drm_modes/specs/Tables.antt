@@ -1,4 +1,4 @@
--- The flat lists that the table and the scanouts stand for.
+-- The flat lists that the table and the scanouts represent.
 use Rattle.std.specs.Prelude.{◌≡◌, ℕ, ◌+◌, ◌==◌, ◌≤◌, Bool, true, ◌||◌, List, length, map as list_map}
 use Rattle.std.specs.List.{AllByRecursion}
 use Rattle.std.specs.Ordering.{nat_cmp}
@@ -19,7 +19,7 @@ framebuffers_in slots = list_map framebuffer_row (map.entries slots)
 abbrev pub mode_set : Topology → Table Fb → List ℕ → ModeSet
 mode_set t table scanouts = record { topology = t; framebuffers = framebuffers_in table.slots; scanouts = scanouts; last = table.last }
 
--- dark, or a framebuffer that is there
+-- dark, or a framebuffer that exists
 abbrev pub is_scanout : map.FinMap nat_cmp Fb → ℕ → Bool
 is_scanout slots f = (f == 0) || map.contains_key slots f
 

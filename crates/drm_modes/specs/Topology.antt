@@ -10,8 +10,8 @@ use Rattle.drm_modes.specs.declared.kinds.Kind.TheVariants.{Crtc, Plane, Encoder
 use Rattle.drm_modes.specs.declared.kinds.PlaneKind.{PlaneKind}
 use Rattle.drm_modes.specs.PlaneKinds.{is_possible, crtc_of_kind, are_kinds}
 
--- so many CRTCs; of each plane and encoder the mask of possible CRTCs, whose bit i is CRTC i + 1; of each plane what it is for;
--- of each connector its encoder
+-- this many CRTCs; of each plane and encoder the mask of possible CRTCs, whose bit i is CRTC i + 1; of each plane what
+-- it is for; of each connector its encoder
 pub record Topology : Type 0 where
   pub crtcs : ℕ
   pub planes : List ℕ
@@ -73,11 +73,11 @@ ids_of_kind t Connector = connector_ids t
 abbrev pub object_count : Topology → ℕ
 object_count t = t.crtcs + length t.planes + length t.encoders + length t.connectors
 
--- whether a mask names CRTCs that are there, and no others
+-- whether a mask names CRTCs that exist, and no others
 abbrev pub is_mask : Topology → ℕ → Bool
 is_mask t mask = nat_lt mask (2 ^ t.crtcs)
 
--- 1 to 8 CRTCs and at most 64 objects (own); each mask and each encoder names what is there
+-- 1 to 8 CRTCs and at most 64 objects (own); each mask and each encoder names what exists
 unfoldable pub are_objects : Topology → Bool
 are_objects t =
     nat_le 1 t.crtcs
@@ -147,7 +147,7 @@ pub record AreCrtcs (t : Topology) (crtcs : List ℕ) : Type 0 where
   pub each : AllByRecursion (λ x. is_crtc t x ≡ true) crtcs
   pub rise : InOrder nat_lt crtcs
 
--- the number whose bit i tells of the i-th element whether it passes
+-- the number whose bit i describes the i-th element whether it passes
 abbrev pub bits_of : (ℕ → Bool) → List ℕ → ℕ
 bits_of p [] = 0
 bits_of p (x ∷ xs) = (if p x then 1 else 0) + 2 * bits_of p xs

@@ -68,7 +68,7 @@ pub(crate) fn is_possible(crtcs: u32, mask: u32, crtc: u32) -> bool
     (mask >> (crtc - 1)) & 1 == 1
 }
 
-/// Whether no CRTC has two primary or two cursor planes.
+/// Returns whether no CRTC has two primary or two cursor planes.
 fn stand_once(kinds: &[PlaneKind]) -> bool
     ensures { result ≡ list_all (stands_once kinds.now) kinds.now }
 {

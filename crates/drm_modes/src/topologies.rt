@@ -421,7 +421,7 @@ fn are_objects(crtcs: u32, planes: &[u32], encoders: &[u32], connectors: &[u32])
         && are_encoders(first_encoder, encoders.len() as u32, connectors)
 }
 
-/// Whether there are 1 to 8 CRTCs and at most 64 objects.
+/// Returns whether there are 1 to 8 CRTCs and at most 64 objects.
 fn are_counts(crtcs: u32, planes: usize, encoders: usize, connectors: usize) -> bool
     ensures { result ≡ (nat_le 1 crtcs && nat_le crtcs 8 && nat_le (crtcs + planes + encoders + connectors) 64) }
 {
@@ -452,7 +452,7 @@ fn are_encoders(first: u32, count: u32, connectors: &[u32]) -> bool
         .all(|encoder| first <= *encoder && *encoder < first + count)
 }
 
-/// The same, in a list of fixed size.
+/// Returns the same, in a list of fixed size.
 fn list_of<T: Copy + Default>(items: &[T]) -> ArrayVec<T, 64>
     requires { length items.now ≤ 64 }
     ensures { result.items ≡ items.now }

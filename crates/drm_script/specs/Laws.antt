@@ -14,7 +14,7 @@ use Rattle.drm_script.specs.Words.{words_of, AreWords}
 abbrev pub WordsStandBetweenSpaces : Type 0
 WordsStandBetweenSpaces = (line : List ℕ) (words : List (List ℕ)) → (words_of line ≡ words) ↔ AreWords line words
 
--- A line is read as a command just where the grammar says so.
+-- A line is read as a command exactly if the grammar says so.
 abbrev pub ReadsTheGrammar : Type 0
 ReadsTheGrammar = (line : List ℕ) (command : Command) → (reading_of line ≡ Some (readings.Says command)) ↔ IsCommandLine line command
 

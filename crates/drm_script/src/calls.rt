@@ -40,7 +40,7 @@ fn raw(text: &[u8]) -> Result<Call, Fault<'_>>
     Ok(raw_of(number))
 }
 
-/// A fault if the first field of an audit is a number, but not that of a kind.
+/// Returns a fault if the first field of an audit is a number, but not that of a kind.
 fn known_kind(kind: CallKind, text: &[u8]) -> Result<(), Fault<'_>>
     ensures passed { IfOk result (λ _. KindFits kind (words_of text.now)) }
     ensures reading { IfErr result (λ _. option_and_then (call_with kind) (fields_at (kind_layout kind) (words_of text.now)) ≡ None) }

@@ -13,7 +13,7 @@ use crate::numbers::{u32_word, u64_word};
 use crate::words::{end_of, word_count};
 use drm_table::{Field, Fields, Layout, Width};
 
-/// The field that the first word spells, and the rest of the text.
+/// Returns the field that the first word spells, and the rest of the text.
 #[tactic(auto, unfolding(crate::specs::Fields::field_at))]
 fn field_of(width: Width, text: &[u8]) -> Result<(Field, &[u8]), Fault<'_>>
     ensures reading { option_map (λ read. (read.0, words_of read.1.now)) (result_ok result) ≡ field_at width (words_of text.now) }
@@ -32,7 +32,7 @@ fn field_of(width: Width, text: &[u8]) -> Result<(Field, &[u8]), Fault<'_>>
     }
 }
 
-/// The fields of these widths that the words spell, if no word follows.
+/// Returns the fields of these widths that the words spell, if no word follows.
 #[tactic(auto, unfolding(crate::specs::Fields::numbers_at))]
 fn numbers_of<'a>(widths: &[Width], text: &'a [u8]) -> Result<Fields, Fault<'a>>
     requires { length widths.now ≤ 32 }
@@ -51,14 +51,14 @@ fn numbers_of<'a>(widths: &[Width], text: &'a [u8]) -> Result<Fields, Fault<'a>>
     Ok(fields)
 }
 
-/// The number of ids that the words of a text can be: the number of words, and at most that of a call's ids.
+/// Returns the number of ids that the words of a text can be: the number of words, and at most that of a call's ids.
 fn id_count(text: &[u8]) -> usize
     ensures { result ≡ id_count (words_of text.now) }
 {
     word_count(text).min(Layout::MOST_IDS)
 }
 
-/// The fields of a layout that the words spell, if no word follows.
+/// Returns the fields of a layout that the words spell, if no word follows.
 #[tactic(auto, unfolding(crate::specs::Fields::fields_at))]
 pub(crate) fn fields_of(layout: Layout, text: &[u8]) -> Result<Fields, Fault<'_>>
     requires { IsShort (layout_of layout) }

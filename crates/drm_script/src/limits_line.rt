@@ -72,7 +72,7 @@ impl Limit {
     }
 }
 
-/// The number of a limit, in its range, and the rest of the text.
+/// Returns the number of a limit, in its range, and the rest of the text.
 #[tactic(auto, unfolding(crate::specs::LimitsLine::limit_at))]
 fn limit_of(limit: Limit, text: &[u8]) -> Result<(u32, &[u8]), Fault<'_>>
     ensures reading { option_map (λ found. (found.0, words_of found.1.now)) (result_ok result) ≡ limit_at limit (words_of text.now) }
@@ -90,8 +90,8 @@ fn limit_of(limit: Limit, text: &[u8]) -> Result<(u32, &[u8]), Fault<'_>>
     Ok((number, rest))
 }
 
-/// The limits that the words of a text spell, each in its range. A number is tried against its range before the next
-/// word is read.
+/// Returns the limits that the words of a text spell, each in its range. A number is tried against its range before the
+/// next word is read.
 #[tactic(auto, unfolding(crate::specs::LimitsLine::limits_at))]
 pub(crate) fn limits_of(text: &[u8]) -> Result<Limits, Fault<'_>>
     ensures reading { result_ok result ≡ limits_at (words_of text.now) }

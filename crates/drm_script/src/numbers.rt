@@ -30,7 +30,7 @@ pub(crate) fn number(word: &[u8]) -> Option<u64>
     text.parse().ok()
 }
 
-/// The number of 64 bits that the first word spells, and the rest of the text.
+/// Returns the number of 64 bits that the first word spells, and the rest of the text.
 #[tactic(auto, unfolding(crate::specs::Fields::number_at))]
 pub(crate) fn u64_word(text: &[u8]) -> Result<(u64, &[u8]), Fault<'_>>
     ensures reading { option_map (λ found. (found.0, words_of found.1.now)) (result_ok result) ≡ number_at 64 (words_of text.now) }
@@ -64,7 +64,7 @@ pub fn u32_of(word: &[u8]) -> Option<u32>
     u32::try_from(number(word)?).ok()
 }
 
-/// The number of 32 bits that the first word spells, and the rest of the text.
+/// Returns the number of 32 bits that the first word spells, and the rest of the text.
 #[tactic(auto, unfolding(crate::specs::Fields::number_at))]
 pub(crate) fn u32_word(text: &[u8]) -> Result<(u32, &[u8]), Fault<'_>>
     ensures reading { option_map (λ found. (found.0, words_of found.1.now)) (result_ok result) ≡ number_at 32 (words_of text.now) }
@@ -86,7 +86,7 @@ fn u16_of(word: &[u8]) -> Option<u16>
     u16::try_from(number(word)?).ok()
 }
 
-/// The number of 16 bits that the first word spells, and the rest of the text.
+/// Returns the number of 16 bits that the first word spells, and the rest of the text.
 #[tactic(auto, unfolding(crate::specs::Fields::number_at))]
 pub(crate) fn u16_word(text: &[u8]) -> Result<(u16, &[u8]), Fault<'_>>
     ensures reading { option_map (λ found. (found.0, words_of found.1.now)) (result_ok result) ≡ number_at 16 (words_of text.now) }

@@ -44,7 +44,7 @@ impl OpeningWord {
     }
 }
 
-/// The opening that a word names.
+/// Returns the opening that a word names.
 #[tactic(auto, unfolding(crate::specs::Openings::opening_word_of))]
 pub(crate) fn opening_word(word: &[u8]) -> Option<OpeningWord>
     ensures { result ≡ opening_word_of word.now }
@@ -55,7 +55,7 @@ pub(crate) fn opening_word(word: &[u8]) -> Option<OpeningWord>
         .find(|name| name.text() == word)
 }
 
-/// A lease, by its token.
+/// Returns a lease, by its token.
 #[tactic(auto, unfolding(crate::specs::Openings::lease_at))]
 fn lease(universal: bool, root: bool, text: &[u8]) -> Result<Opening, Fault<'_>>
     ensures reading { result_ok result ≡ lease_at universal root (words_of text.now) }
@@ -70,7 +70,7 @@ fn lease(universal: bool, root: bool, text: &[u8]) -> Result<Opening, Fault<'_>>
     })
 }
 
-/// A primary node.
+/// Returns a primary node.
 #[tactic(auto, unfolding(crate::specs::Openings::primary_at))]
 fn primary(universal: bool, root: bool, text: &[u8]) -> Result<Opening, Fault<'_>>
     ensures reading { result_ok result ≡ primary_at universal root (words_of text.now) }
@@ -80,7 +80,7 @@ fn primary(universal: bool, root: bool, text: &[u8]) -> Result<Opening, Fault<'_
     Ok(Opening::Primary { root, universal })
 }
 
-/// A render node.
+/// Returns a render node.
 #[tactic(auto, unfolding(crate::specs::Openings::render_at))]
 fn render(text: &[u8]) -> Result<Opening, Fault<'_>>
     ensures reading { result_ok result ≡ render_at (words_of text.now) }
@@ -90,7 +90,7 @@ fn render(text: &[u8]) -> Result<Opening, Fault<'_>>
     Ok(Opening::Render)
 }
 
-/// The opening of a word and its fields.
+/// Returns the opening of a word and its fields.
 fn opening_fields(universal: bool, word: OpeningWord, text: &[u8]) -> Result<Opening, Fault<'_>>
     ensures reading { result_ok result ≡ opening_fields_at universal word (words_of text.now) }
     ensures fault { IfErr result (λ fault. IsFirstMisfit (opening_fields (Some word)) (words_of text.now) fault.cause (words_of fault.at.now)) }
@@ -104,7 +104,7 @@ fn opening_fields(universal: bool, word: OpeningWord, text: &[u8]) -> Result<Ope
     }
 }
 
-/// The opening that the words of a text spell, with universal planes on or off.
+/// Returns the opening that the words of a text spell, with universal planes on or off.
 #[tactic(auto, unfolding(crate::specs::Openings::opening_at))]
 pub(crate) fn opening_of(universal: bool, text: &[u8]) -> Result<Opening, Fault<'_>>
     ensures reading { result_ok result ≡ opening_at universal (words_of text.now) }

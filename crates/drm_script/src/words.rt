@@ -51,7 +51,7 @@ pub fn next_word(text: &[u8]) -> Option<(&[u8], &[u8])>
     }
 }
 
-/// The number of words of a text.
+/// Returns the number of words of a text.
 pub(crate) fn word_count(text: &[u8]) -> usize
     ensures count { result ≡ length (words_of text.now) }
 {

@@ -1,4 +1,4 @@
--- That what a job's thread takes along and gives back may cross threads.
+-- That what a job's thread takes along and returns may cross threads.
 use denote.RattleType.{RattleType}
 use denote.Struct.Declared.{shape}
 use denote.Param.Send.{IsSend, recorded_send, sendable, struct_send}

@@ -88,7 +88,7 @@ end_condition-closed e client (Err aparts.Worn) end class rest answered later h 
     subst (λ (x : SessionEnd). EndCondition x class rest answered (request_reply (Close client) (Err aparts.Worn) ∷ []) later) (sym is)
     (inr ((client, refl), refl, whole-or-cut e rest (outcomes answered) later h))
 
--- no end by reading alone has an answer behind it
+-- no end by reading alone has an answer after it
 end_condition-read : (e : SessionEnd) (class : Class) (rest : List ℕ) → StopsAt e rest → EndCondition e class rest [] [] []
 end_condition-read ends.Ended class rest h = (h, refl)
 end_condition-read ends.Truncated class rest h = (h, refl)

@@ -42,14 +42,14 @@ kept_case true true outstanding e = absurd (cc)
 kept_case true false outstanding e = refl
 kept_case false none outstanding e = refl
 
--- one more is out of a participant that one was split off, where that is given back without all of its own
+-- one more is out of a participant that one was split off, where that is returned without all of its own
 pub one_more_outstanding : (participant lent own : ParticipantView) (outstanding few : ℕ) → lent ≡ with_outstanding participant (participant.outstanding + 1)
     → outstanding ≡ outstanding_after lent.number lent.outstanding own.parent own.outstanding → few < own.outstanding → outstanding ≡ participant.outstanding + 1
 one_more_outstanding participant lent own outstanding few same now some =
     let others : eqb own.outstanding 0 ≡ false = grind (arith, nat_tests) in
     now ∙ (kept_case (eqb own.parent lent.number) (eqb own.outstanding 0) lent.outstanding others ∙ ap (λ (s : ParticipantView). s.outstanding) same)
 
--- as many are out of a participant that one was split off, where that is given back with all of its own
+-- as many are out of a participant that one was split off, where that is returned with all of its own
 pub as_many_outstanding : (participant lent child own : ParticipantView) (outstanding : ℕ) → lent ≡ with_outstanding participant (participant.outstanding + 1) → child.parent ≡ participant.number → child.outstanding ≡ 0 → own.parent ≡ child.parent
     → outstanding ≡ outstanding_after lent.number lent.outstanding own.parent own.outstanding → own.outstanding ≡ child.outstanding → outstanding ≡ participant.outstanding
 as_many_outstanding participant lent child own outstanding same parent none kept now whole =

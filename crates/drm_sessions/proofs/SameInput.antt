@@ -96,7 +96,7 @@ texts-begin w class fs gs (inr h) =
 
 -- ---- where all whole frames are used
 
--- Where a frame stands in front, nothing else is found.
+-- Where a frame is in front, nothing else is found.
 frame-found : (rest x : List ℕ) (f : FrameValue) (other : Decoded) → IsFrame f → rest ≡ frame_text f ++ x → Decodes rest other → other ≡ Whole f (length (frame_text f))
 frame-found rest x f other fits is h =
     one-decoding (frame_text f ++ x) other (Whole f (length (frame_text f))) (subst (λ (bytes : List ℕ). Decodes bytes other) is h) (text-reads f fits x)

@@ -48,7 +48,7 @@ Runs-mine old new (call ∷ log) r =
     ∙ ap (λ (l : List Entry). l ++ entries_by old.number log) (turn-mine old mid call.event call.outcome r.1)
     ∙ append_assoc old.mine first (entries_by old.number log)
 
--- a call adds an entry where it is noted
+-- a call adds an entry where it is recorded
 entries-one : (result : CallResult) → entries_of result ≡ one_if_journaled result
 entries-one (Ok answer) = refl
 entries-one (Err apart) = refl

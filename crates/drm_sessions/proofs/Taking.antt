@@ -1,4 +1,4 @@
--- Bytes that are taken in turn.
+-- Bytes that are taken one after the other.
 use Rattle.std.proofs.Common.{◌≡◌, ℕ, Bool, true, false, List, [], ◌∷◌, ◌++◌, length, refl, sym, ap, ◌∙◌, subst, append_assoc}
 use Rattle.std.proofs.lemmas.List.{append-nil}
 use Rattle.drm_frames.specs.Grammar.{FrameValue, frame_text, IsPart}
@@ -7,7 +7,7 @@ use Rattle.drm_streams.proofs.Traces.{Gave-none, ReadCost-then}
 use Rattle.drm_sessions.specs.ReadChunks.{ReadChunk, Chunk, Used, InTurn, bytes_taken, frames_used, last_chunk, ends_in_chunk, Takes}
 use Rattle.drm_sessions.specs.Reading.{Gives, Comes, Uses}
 
--- ---- chunks and frames, one behind the other
+-- ---- chunks and frames, one after the other
 
 InTurn-then : (a b c : List ℕ) (xs ys : List ReadChunk) → InTurn a xs b → InTurn b ys c → InTurn a (xs ++ ys) c
 InTurn-then a b c [] ys p q = subst (λ (w : List ℕ). InTurn w ys c) p q

@@ -1,4 +1,4 @@
--- What sources and sinks tell by which a session ends.
+-- What sources and sinks say by which a session ends.
 use Rattle.std.proofs.Common.{◌≡◌, ℕ, ◌+◌, ◌≤◌, ◌⊎◌, inl, inr, List, [], ◌∷◌, Ok, Err, refl, sym, ap, ◌∙◌, subst, arith}
 use Rattle.drm_table.specs.declared.apart.Apart.TheVariants as aparts
 use Rattle.drm_frames.specs.Answers.{CallResult}
@@ -16,7 +16,7 @@ Untold-none c = record { ends = refl; failures = refl; faults = omega arith }
 pub Untold-then : {a b c : Counts} → Untold a b → Untold b c → Untold a c
 Untold-then p q = record { ends = q.ends ∙ p.ends; failures = q.failures ∙ p.failures; faults = omega arith }
 
--- ---- one call, behind interruptions
+-- ---- one call, after interruptions
 
 pub got-untold : {old new : Counts} (row : ℕ) → new ≡ one_call (interrupted row old) → Untold old new
 got-untold row e = record {
@@ -70,7 +70,7 @@ wrote-fault {from} {to} {text} {had} {has} w calls hands =
       pays = record { took = record { taken = hands.3; counts = w.0.pays.took.counts }; cost = w.0.pays.cost };
     } in (part, w.1, hands.4, put-fault calls)
 
--- ---- what was told in the end, behind calls that told nothing
+-- ---- what was reported in the end, after calls that told nothing
 
 end-later : {a b c : Counts} → Untold a b → EndTold b c → EndTold a c
 end-later p q = record { ends = q.ends ∙ ap (λ (n : ℕ). n + 1) p.ends; failures = q.failures ∙ p.failures }
@@ -151,7 +151,7 @@ hands-read (ends.OpenRefused rule) waits to h = tt
 hands-read ends.TurnsUsed waits to h = tt
 hands-read (ends.Apart apart) waits to h = tt
 
--- ---- behind the closing
+-- ---- after the closing
 
 pub hands-closed : (e : SessionEnd) (r : CallResult) (end : SessionEnd) (to : SinkTrace) (later : List ℕ) → EndsClosed e r end → HandsLater e to later → HandsLater end to later
 hands-closed e (Ok answer) end to later is h = subst (λ (x : SessionEnd). HandsLater x to later) (sym is) h
@@ -165,7 +165,7 @@ tells-closed e (Err aparts.JournalFull) end is t = record { stopped = e; same = 
 tells-closed e (Err aparts.NoMemory) end is t = record { stopped = e; same = inl is; tells = t }
 tells-closed e (Err aparts.Worn) end is t = record { stopped = e; same = inr is; tells = t }
 
--- a refusal that ends as is meant tells nothing
+-- a refusal that ends as is meant says nothing
 pub tells-refused : (meant : SessionEnd) {end : SessionEnd} {from to : SinkTrace} {text : List ℕ} {had has : ℕ} (c : Counts) → SourceTells meant c c → (Untold from.counts to.counts → SinkTells meant from.counts to.counts)
     → Refuses meant end from to text had has → TellsStop end c c from.counts to.counts
 tells-refused meant c source sink (inl p) = record { stopped = meant; same = inl p.0; tells = record { source = source; sink = sink p.2 } }

@@ -26,8 +26,8 @@ use Rattle.drm_sessions.specs.Serving.{Serves, calls_made}
 abbrev pub journaled_all : DeviceValue → List Event → DeviceValue
 journaled_all h more = record h { journal = h.journal ++ more }
 
--- A session on a device alone: its results are what the device answers from its rows, and the journal has its
--- noted events more. The gate was called once for each request.
+-- A session on a device alone: its results are what the device answers from its rows, and the journal has its recorded
+-- events more. The gate was called once for each request.
 pub record ServesAlone {G : Type 0} (passes : G → ℕ → G → Type 0) (class : Class) (gate0 gate1 : G) (old new : DeviceValue) (in0 in1 : SourceTrace) (out0 out1 : SinkTrace) (session : Session) : Type 0 where
   pub serves : Serves DeviceSteps class old new in0 in1 out0 out1 session
   pub gated : LetsAllPass passes gate0 (calls_made serves) gate1

@@ -52,8 +52,8 @@ pub record Tells (end : SessionEnd) (in0 in1 out0 out1 : Counts) : Type 0 where
   pub source : SourceTells end in0 in1
   pub sink : SinkTells end out0 out1
 
--- The requests of a client up to their end, after these results were said: what was written is a front of the
--- text of all results. Bytes were taken behind the last frame only where it was all of it.
+-- The requests of a client up to their end, after these results were returned: what was written is a front of the text
+-- of all results. Bytes were taken after the last frame only if it was all of it.
 pub record Ends {A : Type 0} (answers : A → Event → CallResult → A → Type 0) (client : ℕ) (old new : A) (in0 in1 : SourceTrace) (out0 out1 : SinkTrace) (said : List CallResult) (waited : List ℕ) (steps : ℕ) (end : SessionEnd) : Type 0 where
   pub waits : List ℕ
   pub results : List CallResult

@@ -1,4 +1,4 @@
--- What reading takes from a source into the bytes that wait, and what writing one answer gives to a sink.
+-- What reading takes from a source into the bytes that wait, and what writing one answer puts into a sink.
 use Rattle.std.specs.Prelude.{◌≡◌, ◌≢◌, ◌⊎◌, ℕ, ◌+◌, ◌<◌, ◌≤◌, List, [], ◌++◌, length, Result, Ok, Err, ⊤}
 use Rattle.std.specs.Io.KnownBytes.{Appends, IsAtEnd}
 use Rattle.drm_frames.specs.Grammar.{FrameValue, frame_text, IsFrame, IsPart, IsTooLong}
@@ -10,18 +10,18 @@ use Rattle.drm_sessions.specs.ReadChunks.{ReadChunk, Takes}
 use Rattle.drm_sessions.specs.declared.end.SessionEnd.{SessionEnd}
 use Rattle.drm_sessions.specs.declared.end.SessionEnd.TheVariants as ends
 
--- Neither an end was told nor a failure.
+-- Neither an end was reported nor a failure.
 pub record Untold (old new : Counts) : Type 0 where
   pub ends : new.ends ≡ old.ends
   pub failures : new.failures ≡ old.failures
   pub faults : old.faults ≤ new.faults
 
--- One end was told, and no failure.
+-- One end was reported, and no failure.
 pub record EndTold (old new : Counts) : Type 0 where
   pub ends : new.ends ≡ old.ends + 1
   pub failures : new.failures ≡ old.failures
 
--- One failure was told, or 1,000 interruptions at least and no failure; and no end.
+-- One failure was reported, or 1,000 interruptions at least and no failure; and no end.
 pub record FaultTold (old new : Counts) : Type 0 where
   pub ends : new.ends ≡ old.ends
   pub fault : (new.failures ≡ old.failures + 1) ⊎ ((new.failures ≡ old.failures) × (old.faults + 1000 ≤ new.faults))
@@ -43,7 +43,7 @@ abbrev pub HandsLater : SessionEnd → SinkTrace → List ℕ → Type 0
 HandsLater ends.WriteFault to later = to.handed ≡ length later
 HandsLater _ to later = ⊤
 
--- One call of the source gave bytes, which wait behind those that waited.
+-- One call of the source returned bytes, which wait after those that waited.
 pub record Gives (from to : SourceTrace) (waited waits : List ℕ) (had has : ℕ) : Type 0 where
   pub more : List ℕ
   pub spends : ReadCost from to more had has
@@ -52,7 +52,7 @@ pub record Gives (from to : SourceTrace) (waited waits : List ℕ) (had has : �
   pub gave : to.gave ≡ length more
   pub untold : Untold from.counts to.counts
 
--- Bytes came from the source in turn, each call at the cost of a turn, and wait behind those that waited.
+-- Bytes came from the source one after the other, each call at the cost of a turn, and wait after those that waited.
 pub record Comes (from to : SourceTrace) (waited waits : List ℕ) (had has : ℕ) : Type 0 where
   pub more : List ℕ
   pub spends : ReadCost from to more had has
@@ -60,7 +60,7 @@ pub record Comes (from to : SourceTrace) (waited waits : List ℕ) (had has : �
   pub chunks : List ReadChunk
   pub takes : Takes from to waited waits chunks more []
 
--- Bytes came from the source in turn, and this frame stood at the front of all that waited.
+-- Bytes came from the source one after the other, and this frame stood at the front of all that waited.
 pub record Uses (from to : SourceTrace) (waited waits : List ℕ) (had has : ℕ) (frame : FrameValue) : Type 0 where
   pub more : List ℕ
   pub spends : ReadCost from to more had has
@@ -70,7 +70,7 @@ pub record Uses (from to : SourceTrace) (waited waits : List ℕ) (had has : ℕ
   pub takes : Takes from to waited (frame_text frame ++ waits) chunks more []
   pub untold : Untold from.counts to.counts
 
--- what came of taking bytes behind those that wait
+-- what resulted from taking bytes after those that wait
 abbrev pub Supplies : Refill → SourceTrace → SourceTrace → List ℕ → List ℕ → ℕ → ℕ → Type 0
 Supplies (refill.Got n) from to waited waits had has = Gives from to waited waits had has × (has < had)
 Supplies refill.End from to waited waits had has = ReadCost from to [] had has × (waits ≡ waited) × IsAtEnd to.left × (from.counts.ends < to.counts.ends) × (to.gave ≡ from.gave) × EndTold from.counts to.counts
@@ -113,7 +113,7 @@ abbrev pub Wrote : Result ⊤ SessionEnd → SinkTrace → SinkTrace → List �
 Wrote (Ok _) from to text had has = WriteCost from to text had has × (0 < length text → has < had) × Untold from.counts to.counts
 Wrote (Err end) from to text had has = (part : PartialWriteCost from to text had has) × WriteShows end from to has × HandsLater end to part.rest × SinkTells end from.counts to.counts
 
--- A front of the text was given to the sink, and the later part wasn't.
+-- A front of the text was written to the sink, and the later part wasn't.
 pub record WritesFront (from to : SinkTrace) (text front later : List ℕ) : Type 0 where
   pub parts : text ≡ front ++ later
   pub commits : Appends from.written to.written front

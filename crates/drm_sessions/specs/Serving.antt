@@ -68,13 +68,13 @@ abbrev pub IsAccepted : CallResult → Type 0
 IsAccepted (Ok (Opened c)) = ⊤
 IsAccepted _ = ⊥
 
--- Bytes are taken behind a frame that was used where the opening was accepted and each answer so far is written whole.
+-- Bytes are taken after a frame that was used where the opening was accepted and each answer so far is written whole.
 abbrev pub MayRead : List RequestReply → List ℕ → Type 0
 MayRead [] later = ⊤
 MayRead (first ∷ asks) later = IsAccepted first.outcome × (later ≡ [])
 
--- A session: of the bytes that it read, which it took in turn, these whole frames were used, and the rest was not; its
--- calls follow from the frames; what it wrote is a front of the text of their results.
+-- A session: of the bytes that it read, which it took one after the other, these whole frames were used, and the rest
+-- was not; its calls follow from the frames; what it wrote is a front of the text of their results.
 pub record Serves {A : Type 0} (answers : A → Event → CallResult → A → Type 0) (class : Class) (old new : A) (in0 in1 : SourceTrace) (out0 out1 : SinkTrace) (session : Session) : Type 0 where
   pub read : List ℕ
   pub frames : List FrameValue
@@ -126,7 +126,7 @@ abbrev pub calls_made : {A : Type 0} {answers : A → Event → CallResult → A
     → Serves answers class old new in0 in1 out0 out1 session → List Event
 calls_made serves = events (serves.answered ++ serves.closing)
 
--- how many events of all these sessions the device noted
+-- how many events of all these sessions the device recorded
 abbrev pub all_steps : List Session → ℕ
 all_steps [] = 0
 all_steps (session ∷ sessions) = session.steps + all_steps sessions

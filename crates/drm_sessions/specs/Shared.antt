@@ -25,12 +25,12 @@ pub record TakesTurn (old : ParticipantView) (event : Event) (result : CallResul
   pub turn : Answered (device_at new.origin new.seen) event result
   pub journaled : new.journaled ≡ old.journaled + entries_of result
 
--- the entry of a call that was noted, by the participant of this number
+-- the entry of a call that was recorded, by the participant of this number
 abbrev pub journaled_by : ℕ → Event → CallResult → List Entry
 journaled_by number event (Ok answer) = entry number event answer ∷ []
 journaled_by number event (Err apart) = []
 
--- the noted events of these calls with their answers, in their order
+-- the recorded events of these calls with their answers, in their order
 abbrev pub entries_by : ℕ → List RequestReply → List Entry
 entries_by number log = flat_map (λ call. journaled_by number call.event call.outcome) log
 

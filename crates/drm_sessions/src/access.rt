@@ -17,7 +17,7 @@ use drm_table::{Answer, Apart, Event};
 /// assert!(opened == Ok(Answer::Opened { client: 1 }));
 /// ```
 pub trait Access {
-    /// The values before and after a call with this event that gave this result.
+    /// The values before and after a call with this event that returned this result.
     ghost answers: { Self → AnEvent → CallResult → Self → Type 0 };
 
     /// Answers one event. An opening is answered by a client, a denial, or what stands apart. Resources are few enough for
@@ -27,8 +27,8 @@ pub trait Access {
         ensures opening { AnswersOpening event result }
         ensures few { FitsOneFrame result };
 
-    /// Answers one event as [`call`](Access::call) does, and writes what came of it to a place of the caller's. A session has one
-    /// such place for all its requests, so that an answer is moved less.
+    /// Answers one event as [`call`](Access::call) does, and writes what resulted from it to a place of the caller's. A
+    /// session has one such place for all its requests, so that an answer is moved less.
     fn call_at(&mut self, event: Event, outcome: &mut Result<Answer, Apart>)
         ensures answers { answers self.old event outcome.new self.new }
         ensures opening { AnswersOpening event outcome.new }

@@ -13,7 +13,7 @@ use drm_device::Device;
 use drm_streams::{Sink, Source};
 use drm_table::{Answer, Apart, Event};
 
-/// A device that one session has alone: each call is a step of the device.
+/// A device that one session has alone: each call is a step.
 ///
 /// ```rust
 /// let mut source = FromRead::new(hello.as_slice());
@@ -38,7 +38,7 @@ impl Access for Alone<'_> {
     }
 }
 
-/// One session whose results are steps of the device that the access was lent.
+/// One session whose results are steps that the access was lent.
 ///
 /// The rest is as `serve` says.
 ///
@@ -68,7 +68,7 @@ pub fn serve_lent<G: Gate, S: Source, K: Sink>(
     serve(alone, gate, class, source, sink, turns)
 }
 
-/// One session on a device that it has alone. The results are steps of the device.
+/// One session on a device that it has alone. The results are steps.
 ///
 /// The rest is as `serve` says.
 ///

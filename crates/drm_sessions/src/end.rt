@@ -74,6 +74,6 @@ pub struct Session {
     pub end: SessionEnd,
     /// The client that it opened, or 0.
     pub client: u32,
-    /// How many of its events the device noted. A denial is noted; what stands apart isn't.
+    /// How many of its events the device recorded. A denial is recorded; a fault isn't.
     pub steps: u64,
 }

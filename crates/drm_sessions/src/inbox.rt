@@ -50,7 +50,7 @@ impl Inbox {
         self.len -= count;
     }
 
-    /// Takes bytes from the source behind those that wait. Only `Got` changes what waits.
+    /// Takes bytes from the source after those that wait. Only `Got` changes what waits.
     pub(crate) fn refill<S: Source>(&mut self, source: &mut S, turns: &mut u64) -> Refill
         requires room { length self.old < 1028 }
         requires countable { (S.trace source.old).counts.calls + turns.old < 2 ^ 48 }

@@ -1,4 +1,4 @@
-//! A session that is to be served in a thread of its own.
+//! A session that is to be served in its own thread.
 
 ghost use Rattle.std.specs.Prelude.{◌≡◌, IfSome};
 ghost use Rattle.drm_sessions.specs.Jobs.{HasTurns, IsServed};
@@ -57,14 +57,14 @@ pub struct Finished<S, K> {
     pub participant: Snapshot<Seat>,
 }
 
-/// What a job's thread gives back.
+/// What a job's thread returns.
 #[derive(Drop)]
 pub(crate) struct Returned<S, K> {
     pub(crate) finished: Finished<S, K>,
     pub(crate) participant: Seat,
 }
 
-/// That a thread serves the job that it was given, through the participant that it was given.
+/// That a thread serves the job that it was assigned, through the participant that it was assigned.
 #[derive(Drop)]
 pub(crate) struct JobServed<G, S, K> {
     pub(crate) job: Snapshot<Job<G, S, K>>,

@@ -37,7 +37,7 @@ pub enum ManyFault {
     NoThread,
 }
 
-// Starts a thread for each job, in order, with a participant of its own.
+// Starts a thread for each job, in order, with its own participant.
 fn start_all<
     's,
     E: 's,
@@ -152,14 +152,15 @@ fn serve_in_scope<
     Ok(join_all(rt, shared, own, handles, sessions))
 }
 
-/// Serves each job in a thread of its own, and gives their sessions in the order of the jobs. It may wait.
+/// Serves each job in its own thread, and returns their sessions in the order of the jobs. It may wait.
 ///
-/// Each job is served as `serve_through` says, through a participant that is split off and merged again: what that participant had seen is
-/// told, and the entries of its number there are those of its session. The numbers of the jobs' participants differ, and stand
-/// behind the number of one that took them in. On a fault the threads that were started are waited for, and their steps of
-/// the device stand. What the lent participant made itself is as it was, and without a fault no more are out of it. Where memory was
-/// wanting no job was started: no job's participant was taken in, and none is out. Where a thread couldn't be made, one more is out. The
-/// participant and those that it took in made as many entries more as the jobs' sessions have steps, and without sessions none.
+/// Each job is served as `serve_through` says, through a participant that is split off and merged again: what that
+/// participant had seen is reported, and the entries of its number there are those of its session. The numbers of the
+/// jobs' participants differ, and follow the number of one that took them in. On a fault the threads that were started
+/// are waited for, and their steps stand. What the lent participant made itself is unchanged, and without a fault no
+/// more are out of it. Where memory was wanting no job was started: no job's participant was taken in, and none is out.
+/// Where a thread couldn't be made, one more is out. The participant and those that it took in made as many entries
+/// more as the jobs' sessions have steps, and without sessions none.
 ///
 /// ```rust
 /// let jobs: Vec<Job<NoGate, FromRead<&[u8]>, ToWrite<Vec<u8>>>> = Vec::new(alloc);

@@ -7,7 +7,7 @@ use crate::class::Class;
 use drm_frames::Hello;
 use drm_table::Opening;
 
-/// The opening that the first frame asks for, if it is a hello that the class allows.
+/// Returns the opening that the first frame asks for, if it is a hello that the class allows.
 pub(crate) fn opening_of(class: Class, hello: Option<Hello>) -> Option<Opening>
     ensures { result ≡ opening_by class hello }
 {
@@ -21,7 +21,7 @@ pub(crate) fn opening_of(class: Class, hello: Option<Hello>) -> Option<Opening>
     }
 }
 
-/// A primary node, or what a lease token grants.
+/// Returns a primary node, or what a lease token grants.
 fn node_or_lease(root: bool, universal: bool, lease: Option<u32>) -> Opening
     ensures { result ≡ node_or_lease root universal lease }
 {

@@ -41,7 +41,7 @@ impl Message for Option<Hello> {
     }
 }
 
-/// What the next frame says, from the bytes that wait and the source. A byte is taken only where no whole frame waits.
+/// What the next frame says, from the bytes that wait and the source. A byte is taken only if no whole frame waits.
 pub(crate) fn next_message<M: Message, S: Source>(
     source: &mut S,
     inbox: &mut Inbox,

@@ -17,14 +17,14 @@ use drm_frames::AnswerText;
 use drm_streams::{Sink, Source};
 use drm_table::{Answer, Apart, Call, Event};
 
-/// How the requests ended, and how many were noted.
+/// How the requests ended, and how many were recorded.
 #[derive(Clone, Copy, Debug)]
 pub(crate) struct Stopped {
     pub(crate) end: SessionEnd,
     pub(crate) steps: u64,
 }
 
-/// Whether a request was noted, and what came of writing its answer.
+/// Whether a request was recorded, and what resulted from writing its answer.
 #[derive(Clone, Copy, Debug)]
 struct Answered {
     steps: u64,

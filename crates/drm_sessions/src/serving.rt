@@ -135,13 +135,12 @@ fn run_session<A: Access, G: Gate, S: Source, K: Sink>(
     }
 }
 
-/// One session: its hello, its opening, its requests in the order of their frames, and one closing
-/// where the opening was accepted (own). It takes no memory.
+/// One session: its hello, its opening, its requests in the order of their frames, and one closing where the opening
+/// was accepted (own). Does not allocate.
 ///
-/// At most `turns` calls are made of the source and the sink together. Each answer is written
-/// before the next frame is looked for; the closing's isn't written. Whichever read or write
-/// fails, the client is closed, and nothing more is read or written. The gate is called once for
-/// each request, and for nothing else.
+/// At most `turns` calls are made of the source and the sink together. Each answer is written before the next frame is
+/// looked for; the closing's isn't written. Whichever read or write fails, the client is closed, and nothing more is
+/// read or written. The gate is called once for each request, and for nothing else.
 ///
 /// ```rust
 /// let mut source = FromRead::new(hello.as_slice());

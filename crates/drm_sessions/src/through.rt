@@ -43,7 +43,7 @@ impl<'a, R: Wait> Model for Through<'a, R> {
 }
 
 impl<'a, R: Wait> Through<'a, R> {
-    /// The shared device, through this participant of it.
+    /// Returns the shared device, through this participant of it.
     ///
     /// ```rust
     /// let opened = through.call(Event::Open(Opening::Render));
@@ -60,7 +60,7 @@ impl<'a, R: Wait> Through<'a, R> {
         }
     }
 
-    /// Gives the participant back.
+    /// Returns the participant back.
     ///
     /// ```rust
     /// let participant = through.into_seat();
@@ -101,14 +101,14 @@ impl<R: Wait> Access for Through<'_, R> {
 pub struct Served {
     /// How it ended, and what it did.
     pub session: Session,
-    /// The participant, which has the noted events of the session with their answers more.
+    /// The participant, which has the recorded events of the session with their answers more.
     pub participant: Seat,
 }
 
 /// One session through a participant of a shared device. It may wait for its turns.
 ///
-/// Each call has a turn of the device, in the history that the participant then has seen. The participant's own entries are those that it
-/// had, and the noted events of the session with their answers. The rest is as `serve` says.
+/// Each call has a turn of the device, in the history that the participant then has seen. The participant's own entries
+/// are those that it had, and the recorded events of the session with their answers. The rest is as `serve` says.
 ///
 /// ```rust
 /// let mut source = FromRead::new(hello.as_slice());

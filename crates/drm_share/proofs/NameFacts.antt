@@ -1,4 +1,4 @@
--- The list of names that a table stands for, and how it changes.
+-- The list of names that a table represents, and how it changes.
 use Rattle.std.proofs.Common.{◌≡◌, ℕ, ◌≤◌, ◌==◌, eqb, Bool, true, false, not, cond, find, is_some, Option, Some, None, option_map, refl, sym, ap, ◌∙◌, arith, eq-eqb, nat_cmp}
 use Rattle.std.specs.FinMap as fin
 use Rattle.std.proofs.lemmas.Bool.{eqb-true, eqb-false, ne_eqb}

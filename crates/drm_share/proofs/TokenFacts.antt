@@ -1,4 +1,4 @@
--- The list of tokens that a table stands for, and how it changes.
+-- The list of tokens that a table represents, and how it changes.
 use Rattle.std.proofs.Common.{◌≡◌, ℕ, ◌+◌, ◌≤◌, ◌==◌, cond, find, is_some, Option, Some, None, option_map, option_and_then, unwrap_or, IfSome, ◌↔◌, refl, sym, ap, ◌∙◌, arith}
 use Rattle.std.specs.FinMap as fin
 use Rattle.std.proofs.lemmas.Option.{none-some}

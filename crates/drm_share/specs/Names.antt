@@ -7,7 +7,7 @@ use Rattle.drm_index_array.specs.Least.{least}
 use Rattle.drm_index_array.specs.Rows.{placed, InOrder}
 use Rattle.drm_share.specs.declared.rows.SharedName.{SharedName}
 
--- the names from 1 to `last` may be given; those that are given rise
+-- the names from 1 to `last` may be assigned; those that are assigned rise
 pub record NameList : Type 0 where
   pub last : ℕ
   pub names : List SharedName
@@ -35,7 +35,7 @@ shared_name n k = record { name = n; object = k }
 abbrev pub name_of : NameList → ℕ → Option ℕ
 name_of list k = option_map (λ (row : SharedName). row.name) (find (names_object k) list.names)
 
--- the least number that is no name (the kernel's IDR gives the least; the limit is own)
+-- the least number that is no name (the kernel's IDR returns the least; the limit is own)
 abbrev pub free_name : NameList → Option ℕ
 free_name list = least (λ n. not (is_among (map (λ row. row.name) list.names) n)) 1 list.last
 
@@ -53,7 +53,7 @@ pub record IsNameUpTo (last : ℕ) (row : SharedName) : Type 0 where
   pub low : 1 ≤ row.name
   pub high : row.name ≤ last
 
--- what is so of the list: no name stands twice, since the rows rise, and no object has two names
+-- what is so of the list: no name occurs twice, since the rows rise, and no object has two names
 pub record AreNames (list : NameList) : Type 0 where
   pub last_low : 1 ≤ list.last
   pub last_high : list.last ≤ 4294967295

@@ -1,4 +1,4 @@
--- Why nothing was given.
+-- Why nothing was assigned.
 use Rattle.drm_share.specs.declared.faults.ShareFault.{ShareFault}
 use Rattle.drm_share.specs.declared.faults.ShareFault.TheVariants.{Full, NoMemory}
 

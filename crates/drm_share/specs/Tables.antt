@@ -1,4 +1,4 @@
--- The flat lists that the tables stand for.
+-- The flat lists that the tables represent.
 use Rattle.std.specs.Prelude.{◌≡◌, ℕ, List, map as list_map, Some}
 use Rattle.std.specs.Ordering.{nat_cmp}
 use Rattle.std.specs.FinMap as map

@@ -7,7 +7,7 @@ use Rattle.drm_index_array.specs.Rows.{placed, InOrder}
 pub use Rattle.drm_id_alloc.specs.Table.{or_else}
 use Rattle.drm_share.specs.declared.rows.SharedToken.{SharedToken}
 
--- the tokens from 1 to `last` may be given; those that are open rise. `last_given` is the last one given, if any was
+-- the tokens from 1 to `last` may be assigned; those that are open rise. `last_given` is the last one given, if any was
 pub record TokenList : Type 0 where
   pub last : ℕ
   pub last_given : Option ℕ
@@ -34,8 +34,8 @@ token t c k = record { token = t; client = c; object = k }
 abbrev pub is_free : TokenList → ℕ → Bool
 is_free list t = not (is_among (map (λ row. row.token) list.tokens) t)
 
--- the least free token above the last one given or, where there is none, the least free one (the kernel's cyclic IDR;
--- that tokens are given so is own)
+-- the lowest free token above the last one given or, where there is none, the lowest free one (the kernel's cyclic IDR;
+-- that tokens are assigned so is own)
 abbrev pub next_token : TokenList → Option ℕ
 next_token list = or_else (least (is_free list) (unwrap_or list.last_given 0 + 1) list.last) (least (is_free list) 1 list.last)
 
@@ -53,7 +53,7 @@ pub record IsTokenUpTo (last : ℕ) (row : SharedToken) : Type 0 where
   pub low : 1 ≤ row.token
   pub high : row.token ≤ last
 
--- what is so of the list: no token stands twice, since the rows rise
+-- what is so of the list: no token occurs twice, since the rows rise
 pub record AreTokens (list : TokenList) : Type 0 where
   pub last_low : 1 ≤ list.last
   pub last_high : list.last ≤ 4294967295

@@ -1,4 +1,4 @@
-//! PRIME tokens, which stand for file descriptors (own).
+//! PRIME tokens, which represent file descriptors (own).
 
 ghost use Rattle.std.specs.Prelude.{◌≡◌, true};
 ghost use Rattle.drm_files.specs.Files.{is_open_client};
@@ -78,8 +78,8 @@ pub fn prime_import(
     Ok(())
 }
 
-/// TOKEN_CLOSE: the token goes, if the caller exported it, and the object with the last that refers to it (own). It takes no
-/// memory and asks for no limit.
+/// TOKEN_CLOSE: the token goes, if the caller exported it, and the object with the last that refers to it (own). Does
+/// not allocate and needs no limit.
 pub fn token_close(state: &mut State, client: u32, token: u32, answer: &mut Answer)
     requires invariants { MeetsInvariants state.old }
     requires open_client { is_open_client state.old.files client ≡ true }

@@ -144,7 +144,7 @@ read_field : (f : Object → ℕ) (g : ObjectRow → ℕ) → ((x : Object) → 
 read_field f g is None n h = absurd (let e : None ≡ Some n = h in cc)
 read_field f g is (Some x) n h = let e : Some (f x) ≡ Some n = h in let k : f x ≡ n = cc in is x ∙ k
 
--- what the row of a key's object tells
+-- what the row of a key's object says
 field_found : (f : Object → ℕ) (g : ObjectRow → ℕ) → ((x : Object) → g (object_row_of x) ≡ f x) → (s : State) (w : Rows) (key n : ℕ) → MeetsInvariants s → is_among (keys_of s.files.holds ++ referring_keys s) key ≡ true → Represents s w → option_map f (find (is_key key) s.objects.objects) ≡ Some n →
     n ≡ unwrap_or (option_map g (object_row w (step_number_at s.objects.objects key))) 0
 field_found f g is s w key n t e h k =

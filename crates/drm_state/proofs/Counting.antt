@@ -237,7 +237,7 @@ handle_fewer k keys refs = record {
   others = λ x e c. (c.0 ∙ count-other keys k x.key e, c.1);
 }
 
--- a key that stands between others
+-- a key that is between others
 pub among-between : (keys refs : List ℕ) (k n : ℕ) → is_among (keys ++ k ∷ refs) n ≡ (k == n || is_among (keys ++ refs) n)
 among-between [] refs k n = refl
 among-between (x ∷ keys) refs k n = ap (λ b. x == n || b) (among-between keys refs k n) ∙ elim (x == n) as (λ b. (b || (k == n || is_among (keys ++ refs) n)) ≡ (k == n || (b || is_among (keys ++ refs) n)))

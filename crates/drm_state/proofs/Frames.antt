@@ -21,7 +21,7 @@ use Rattle.drm_state.specs.Invariants.{MeetsInvariants}
 use Rattle.drm_state.specs.Refinement.{Represents}
 use Rattle.drm_state.proofs.Represented.{framebuffers_are, shown_are, modes_so}
 
--- a framebuffer has a row exactly where it is there
+-- a framebuffer has a row exactly if it is there
 pub framebuffer_there : (v : Rows) (objects : List Object) (fs : List Framebuffer) (f : ℕ) → SameRows v.framebuffers (map (framebuffer_row_of objects) fs) → is_framebuffer v f ≡ list_any (modes.is_framebuffer f) fs
 framebuffer_there v objects fs f h =
     let is = λ (row : FramebufferRow). row.framebuffer == f in
@@ -34,7 +34,7 @@ lit_shows p x (f ∷ fs) h =
     elim (f == 0) as (λ b. (b || p f) ≡ true → AllByRecursion (λ (row : Shown). p row.framebuffer ≡ true) (cond (not b) (shown x f ∷ lit_rows (x + 1) fs) (lit_rows (x + 1) fs)))
     [ true ↦ λ e. lit_shows p (x + 1) fs h.1 | false ↦ λ e. (e, lit_shows p (x + 1) fs h.1) ] h.0
 
--- of what is shown stays what shows a framebuffer that is there
+-- of what is shown stays what shows a framebuffer that exists
 pub shown_left : (v : Rows) (objects : List Object) (old now : ModeSet) → SameRows v.framebuffers (map (framebuffer_row_of objects) now.framebuffers) → SameRows v.shown (map shown_row_of (shown_rows old)) →
     shown_rows now ≡ filter (λ (x : Shown). has_framebuffer now x.framebuffer) (shown_rows old) → SameRows (filter (λ (row : ShownRow). is_framebuffer v row.framebuffer) v.shown) (map shown_row_of (shown_rows now))
 shown_left v objects old now h k e =
@@ -46,7 +46,7 @@ shown_left v objects old now h k e =
     ∙ ap (map shown_row_of) (sym e) in
     subst (SameRows (filter stays v.shown)) same (same-filter stays v.shown (map shown_row_of (shown_rows old)) k)
 
--- all of it, where framebuffers are as they were
+-- all of it, where framebuffers are unchanged
 pub all_shown : (set : ModeSet) → AreModes set → shown_rows set ≡ filter (λ (x : Shown). has_framebuffer set x.framebuffer) (shown_rows set)
 all_shown set are = sym (filter_all (λ (x : Shown). has_framebuffer set x.framebuffer) (shown_rows set) (lit_shows (has_framebuffer set) 1 set.scanouts are.scanouts_are))
 
@@ -100,7 +100,7 @@ others_there f g (x ∷ xs) =
     stays true b d h = rw (h refl) refl
     stays false b d h = refl
 
--- a framebuffer fewer leaves of what was shown what shows those that are there yet
+-- a framebuffer fewer leaves of what was shown what shows those that exist yet
 left_of : (p q : ℕ → Bool) (f : ℕ) → ((g : ℕ) → q g ≡ (p g && not (g == f))) → (rows : List Shown) → filter (λ (row : Shown). not (row.framebuffer == f)) (filter (λ (row : Shown). p row.framebuffer) rows) ≡ filter (λ (row : Shown). q row.framebuffer) rows
 left_of p q f h [] = refl
 left_of p q f h (x ∷ xs) =

@@ -48,7 +48,7 @@ use Rattle.drm_state.proofs.SharedChanges.{pushed_same, known_too, either}
 later : (n : ℕ) (x y : Framebuffer) → modes.is_framebuffer n x ≡ true → framebuffer_before x y ≡ true → modes.is_framebuffer n y ≡ false
 later n x y h e = grind (arith, nat_tests)
 
--- what a row tells, by its numbers
+-- what a row says, by its numbers
 told_by : (handle : ℕ) (o : Option FramebufferRow) (width height pitch bpp : ℕ) → option_map (λ (row : FramebufferRow). row.width) o ≡ Some width → option_map (λ (row : FramebufferRow). row.height) o ≡ Some height →
     option_map (λ (row : FramebufferRow). row.pitch) o ≡ Some pitch → option_map (λ (row : FramebufferRow). row.bpp) o ≡ Some bpp → framebuffer_answer handle o ≡ FramebufferIs width height pitch bpp handle
 told_by handle None width height pitch bpp a b c d = absurd (let e : None ≡ Some width = a in cc)
@@ -65,7 +65,7 @@ through_fb of None = refl
 through_fb of (Some x) = refl
 
 module _ (s : State) (w : Rows) (t : MeetsInvariants s) (h : Represents s w) where
-  -- a framebuffer has a row exactly where it is there
+  -- a framebuffer has a row exactly if it is there
   pub framebuffer_is : (f : ℕ) → is_framebuffer w f ≡ has_framebuffer s.modes f
   framebuffer_is f = framebuffer_there w s.objects.objects s.modes.framebuffers f (framebuffers_are s w h)
 
@@ -83,7 +83,7 @@ module _ (s : State) (w : Rows) (t : MeetsInvariants s) (h : Represents s w) whe
         number_is f told (λ y. of (modes.fb_of y)) number is ∙ through_fb (λ v. number (of v)) (find (modes.is_framebuffer f) s.modes.framebuffers)
         ∙ ap (option_map (λ v. number (of v))) found
 
-    -- what is told of a framebuffer
+    -- what holds for a framebuffer
     pub framebuffer_told : (handle : ℕ) → framebuffer_answer handle (framebuffer_row w f) ≡ FramebufferIs x.shape.width x.shape.height x.shape.pitch x.shape.bpp handle
     framebuffer_told handle =
         told_by handle (framebuffer_row w f) x.shape.width x.shape.height x.shape.pitch x.shape.bpp (number_found (λ row. row.width) (λ y. y.shape.width) itself (λ y. refl)) (number_found (λ row. row.height) (λ y. y.shape.height) itself (λ y. refl))
@@ -192,7 +192,7 @@ module _ (s : State) (n c key : ℕ) (shape : Shape) (t : MeetsInvariants s) (na
 abbrev pub others : ℕ → List Framebuffer → List Framebuffer
 others f fs = filter (λ (x : Framebuffer). not (modes.is_framebuffer f x)) fs
 
--- a framebuffer that was there and is another stays
+-- a framebuffer that existed and is another stays
 stays : (f g : ℕ) (fs : List Framebuffer) → list_any (modes.is_framebuffer g) fs ≡ true → not (g == f) ≡ list_any (modes.is_framebuffer g) (others f fs)
 stays f g fs has =
     elim (g == f) as (λ b. (g == f) ≡ b → not b ≡ list_any (modes.is_framebuffer g) (others f fs)) [
@@ -206,14 +206,14 @@ stays f g fs has =
     not_so true k = sym k
     not_so false k = refl
 
--- what shows it goes dark, and nothing else
+-- what shows it becomes dark, and nothing else
 goes_dark : (set : ModeSet) (f : ℕ) → AreModes set → shown_rows (without_framebuffer set f) ≡ filter (λ (x : Shown). has_framebuffer (without_framebuffer set f) x.framebuffer) (shown_rows set)
 goes_dark set f are =
     one_dark set f
     ∙ filter-same (λ (x : Shown). not (x.framebuffer == f)) (λ (x : Shown). has_framebuffer (without_framebuffer set f) x.framebuffer) (shown_rows set)
     (all_weaker (λ (x : Shown). has_framebuffer set x.framebuffer ≡ true) (λ (x : Shown). not (x.framebuffer == f) ≡ has_framebuffer (without_framebuffer set f) x.framebuffer) (λ x e. stays f x.framebuffer set.framebuffers e) (shown_rows set) (lit_shows (has_framebuffer set) 1 set.scanouts are.scanouts_are))
 
--- of framebuffers in their order one goes with its id, and it is the client's
+-- of framebuffers in their order one is freed with its id, and it is the client's
 record Goes (c f key : ℕ) (fs : List Framebuffer) : Type 0 where
   pub keys : SameRows (framebuffer_keys fs) (key ∷ framebuffer_keys (others f fs))
   pub own : AllByRecursion (λ (x : Framebuffer). modes.is_framebuffer_of c f x ≡ modes.is_framebuffer f x) fs

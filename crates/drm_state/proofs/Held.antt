@@ -1,4 +1,4 @@
--- What a handle that was looked up stands for.
+-- What a handle that was looked up represents.
 use Rattle.std.proofs.Common.{◌≡◌, ℕ, true, find, Option, Some, None, refl}
 use Rattle.std.specs.Option.{is_some, option_map}
 use Rattle.drm_lists.specs.Numbers.{is_among}
@@ -34,7 +34,7 @@ module _ (s : State) (c n key : ℕ) (t : MeetsInvariants s) (found : Some key �
     pub name_is : AreNames s.names → name_of w (step_number_at s.objects.objects key) ≡ names.name_of s.names key
     name_is are = name_found s w key t are r (among-left (keys_of s.files.holds) (referring_keys s) key among)
 
--- a number that is there, since it is not none
+-- a number that exists, since it is not none
 pub some_free : (o : Option ℕ) → (o ≡ None → ⊥) → is_some o ≡ true
 some_free None h = absurd (h refl)
 some_free (Some n) h = refl

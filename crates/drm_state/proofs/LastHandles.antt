@@ -1,4 +1,5 @@
--- What goes with a handle: the name of its object with the last one, and the object with the last that refers to it.
+-- What is freed with a handle: the name of its object with the last one, and the object with the last that refers to
+-- it.
 use Rattle.std.proofs.Common.{◌≡◌, ℕ, suc, ◌==◌, Bool, true, false, not, ◌||◌, List, ◌∷◌, Option, Some, refl, sym, ap, ◌∙◌, arith, eq-eqb}
 use Rattle.std.specs.Option.{option_map, OnSome, IfNone}
 use Rattle.std.proofs.lemmas.Bool.Decides.{nat_tests}

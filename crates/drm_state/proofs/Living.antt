@@ -27,7 +27,7 @@ lessors_are tokens ms n = ap (option_and_then (λ (row : MasterRow). row.lessor)
 abbrev pub above_is : (tokens : List LeaseToken) (ms : List Master) → lessor_of (map (master_row_of tokens) ms) ≡ masters.lessor_of ms
 above_is tokens ms = λ i n. lessors_are tokens ms n i
 
--- whether a client is current, by its row and by how it stands to masters
+-- whether a client is current, by its row and by how it belongs to masters
 pub current_is : (tokens : List LeaseToken) (ms : List Master) (device : Option ℕ) (o : Option Member) →
     (option_map_or (λ (x : Member). x.is_master) o false && is_owner (map (master_row_of tokens) ms) device (option_map (λ (x : Member). x.master) o)) ≡ option_map_or (λ (x : Member). x.is_master && masters.is_option (masters.owner_of ms x.master) device) o false
 current_is tokens ms device None = refl

@@ -21,7 +21,7 @@ use Rattle.drm_state.specs.Refinement.{Represents}
 use Rattle.drm_state.proofs.Represented.{magics_are, masters_so}
 use Rattle.drm_lists.proofs.Each.{none_passes}
 
--- ---- lists that some elements give a row of
+-- ---- lists that some elements return a row of
 
 pub find-filter_map : {X Y : Type 0} (p : Y → Bool) (h : X → Option Y) → (xs : List X) → find p (filter_map h xs) ≡ option_and_then h (find (λ x. option_map_or p (h x) false) xs)
 find-filter_map p h [] = refl

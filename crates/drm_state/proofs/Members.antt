@@ -1,4 +1,4 @@
--- The rows of clients, by their files and how they stand to masters.
+-- The rows of clients, by their files and how they belong to masters.
 use Rattle.std.proofs.Common.{◌≡◌, ℕ, ◌<◌, ◌==◌, Bool, true, false, cond, not, ◌||◌, List, [], ◌∷◌, ◌++◌, map, filter, find, Option, Some, None, refl, sym, ap, ◌∙◌, subst, eq-eqb}
 use Rattle.std.specs.List.{list_any, AllByRecursion}
 use Rattle.std.specs.Option.{is_some, option_map}
@@ -56,7 +56,7 @@ older c b (f ∷ fs) h e =
     elim (f.client == c) as (λ t. (f.client == c) ≡ t → is_some (cond t (Some f) (find (is_client c) fs)) ≡ true → c < b)
     [ true ↦ λ is k. subst (λ n. n < b) (eqb-true f.client c is) h.0 | false ↦ λ is k. older c b fs h.1 k ] refl e
 
--- those that stand to masters are older than a new client
+-- those that belong to masters are older than a new client
 pub members_older : (b : ℕ) (fs : List FileClient) (ms : List Member) → AllByRecursion (λ (f : FileClient). f.client < b) fs → AllByRecursion (IsThere fs) ms → AllByRecursion (λ (m : Member). (m.client == b) ≡ false) ms
 members_older b fs ms h k = all_weaker (IsThere fs) (λ (m : Member). (m.client == b) ≡ false) (λ m e. less-differ m.client b (older m.client b fs h e)) ms k
 
@@ -69,7 +69,7 @@ rows_before m ms [] h = refl
 rows_before m ms (f ∷ fs) h =
     ap (λ o. client_row_by f o ∷ map (client_row_of (ms ++ m ∷ [])) fs) (find_before f.client m (flipped f.client m.client (less-differ f.client m.client h.0)) ms) ∙ ap (λ l. client_row_of ms f ∷ l) (rows_before m ms fs h.1)
 
--- the rows with one more client, which stands to masters
+-- the rows with one more client, which belongs to masters
 pub client_pushed : (flags : FileFlags) (m : Member) (fs : List FileClient) (ms : List Member) → AllByRecursion (λ (f : FileClient). f.client < m.client) fs → AllByRecursion (IsThere fs) ms →
     map (client_row_of (ms ++ m ∷ [])) (fs ++ record { client = m.client; flags = flags } ∷ []) ≡ map (client_row_of ms) fs ++ client_row_by (record { client = m.client; flags = flags }) (Some m) ∷ []
 client_pushed flags m fs ms h k =

@@ -70,7 +70,7 @@ rows_left objects now keys h = sym (map-map object_row_of core now) ∙ ap (map 
 all_true : (xs : List Object) → AllByRecursion (λ (x : Object). ⊤) xs
 all_true xs = all_each (λ (x : Object). ⊤) (λ x. tt) xs
 
--- an object has the number of a key's object exactly where it has the key
+-- an object has the number of a key's object exactly if it has the key
 pub one_number : (k : ℕ) (z : Object) → (xs : List Object) → find (is_key k) xs ≡ Some z → InOrder (λ (x y : Object). (x.key == y.key) ≡ false) xs → InOrder (λ (x y : Object). (x.step_number == y.step_number) ≡ false) xs → AllByRecursion (λ (x : Object). (z.step_number == x.step_number) ≡ (k == x.key)) xs
 one_number k z [] e h b = absurd (let n : None ≡ Some z = e in cc)
 one_number k z (y ∷ ys) e h b =
@@ -92,13 +92,13 @@ one_number k z (y ∷ ys) e h b =
 step_number_there : (k : ℕ) (xs : List Object) (z : Object) → find (is_key k) xs ≡ Some z → step_number_at xs k ≡ z.step_number
 step_number_there k xs z e = ap (λ o. option_map_or (λ (x : Object). x.step_number) o 0) e
 
--- a key that names an object there tells it by number
+-- a key that names an object there says it by number
 pub key_by_number : (keys refs : List ℕ) (objects : List Object) (k : ℕ) → AreCounted keys refs objects → is_among (keys ++ refs) k ≡ true → AllByRecursion (λ (x : Object). (step_number_at objects k == x.step_number) ≡ (k == x.key)) objects
 key_by_number keys refs objects k h e =
     let it = is_found k objects (h.there k e) (λ x. ⊤) (all_true objects) in
     all_weaker (λ (x : Object). (it.0.step_number == x.step_number) ≡ (k == x.key)) (λ (x : Object). (step_number_at objects k == x.step_number) ≡ (k == x.key)) (λ x r. ap (λ n. n == x.step_number) (step_number_there k objects it.0 it.1) ∙ r) objects (one_number k it.0 objects it.1 h.keys_differ h.step_numbers_differ)
 
--- an object's number stands among the numbers of keys as often as its key among them
+-- an object's number is among the numbers of keys as often as its key among them
 pub count_numbers : (keys refs : List ℕ) (objects : List Object) → AreCounted keys refs objects → (some : List ℕ) → ((n : ℕ) → is_among some n ≡ true → is_among (keys ++ refs) n ≡ true) →
     AllByRecursion (λ (x : Object). count (map (step_number_at objects) some) x.step_number ≡ count some x.key) objects
 count_numbers keys refs objects h [] f = all_each _ (λ x. refl) objects
@@ -118,7 +118,7 @@ same_not false false h = refl
 same_not true false h = absurd (let e : false ≡ true = h in cc)
 same_not false true h = absurd (let e : true ≡ false = h in cc)
 
--- and stands among them exactly where its key does
+-- and is among them exactly if its key does
 pub among_numbers : (keys refs : List ℕ) (objects : List Object) → AreCounted keys refs objects → (some : List ℕ) → ((n : ℕ) → is_among some n ≡ true → is_among (keys ++ refs) n ≡ true) →
     AllByRecursion (λ (x : Object). is_among (map (step_number_at objects) some) x.step_number ≡ is_among some x.key) objects
 among_numbers keys refs objects h some f =
@@ -139,14 +139,14 @@ pub holds_naming : (rows : List HandleRow) (objects : List Object) (hs : List Fi
 holds_naming rows objects hs n h =
     same-any (λ (row : HandleRow). row.object == n) rows (map (handle_row_of objects) hs) h ∙ sym (list_any-map (λ x. x == n) named_object (map (handle_row_of objects) hs)) ∙ ap (λ l. is_among l n) (numbers_of objects hs)
 
--- a key's number stands among the numbers of keys exactly where the key does
+-- a key's number is among the numbers of keys exactly if the key does
 pub among_key : (keys refs : List ℕ) (objects : List Object) → AreCounted keys refs objects → (some : List ℕ) → ((n : ℕ) → is_among some n ≡ true → is_among (keys ++ refs) n ≡ true) →
     (k : ℕ) → is_among (keys ++ refs) k ≡ true → is_among (map (step_number_at objects) some) (step_number_at objects k) ≡ is_among some k
 among_key keys refs objects h some f k e =
     let it = is_found k objects (h.there k e) (λ (x : Object). is_among (map (step_number_at objects) some) x.step_number ≡ is_among some x.key) (among_numbers keys refs objects h some f) in
     ap (is_among (map (step_number_at objects) some)) (step_number_there k objects it.0 it.1) ∙ it.3 ∙ ap (is_among some) it.2
 
--- two keys have one number exactly where they are the same
+-- two keys have one number exactly if they are the same
 pub one_key : (keys refs : List ℕ) (objects : List Object) (k m : ℕ) → AreCounted keys refs objects → is_among (keys ++ refs) k ≡ true → is_among (keys ++ refs) m ≡ true → (step_number_at objects k == step_number_at objects m) ≡ (k == m)
 one_key keys refs objects k m h e f =
     let it = is_found m objects (h.there m f) (λ (x : Object). (step_number_at objects k == x.step_number) ≡ (k == x.key)) (key_by_number keys refs objects k h e) in
@@ -156,7 +156,7 @@ one_key keys refs objects k m h e f =
 abbrev pub references : Rows → List ℕ
 references w = map (λ (row : TokenRow). row.object) w.tokens ++ map (λ (row : FramebufferRow). row.object) w.framebuffers
 
--- rows one behind the other
+-- rows one after the other
 pub same-append : {X : Type 0} (xs ys us vs : List X) → SameRows xs ys → SameRows us vs → SameRows (xs ++ us) (ys ++ vs)
 same-append xs ys us vs h k = λ test. length-filter_append test xs us ∙ ap (λ n. n + length (filter test us)) (h test) ∙ ap (λ n. length (filter test ys) + n) (k test) ∙ sym (length-filter_append test ys vs)
 
@@ -168,7 +168,7 @@ same-middle x xs ys = λ test.
     elim (test x) as (λ b. length (filter test (xs ++ x ∷ ys)) ≡ length (filter test xs) + length (cond b (x ∷ filter test ys) (filter test ys)) → length (filter test (xs ++ x ∷ ys)) ≡ length (cond b (x ∷ filter test (xs ++ ys)) (filter test (xs ++ ys))))
     [ true ↦ λ h. omega (arith, h, shorter) | false ↦ λ h. omega (arith, h, shorter) ] longer
 
--- the numbers that rows name, by the keys of what they stand for
+-- the numbers that rows name, by the keys of what they represent
 numbers_named : {X Y : Type 0} (named : Y → ℕ) (row : X → Y) (key : X → ℕ) (objects : List Object) (rows : List Y) (xs : List X) → ((x : X) → named (row x) ≡ step_number_at objects (key x)) → SameRows rows (map row xs) → SameRows (map named rows) (map (step_number_at objects) (map key xs))
 numbers_named named row key objects rows xs is h =
     subst (SameRows (map named rows)) (map-map named row xs ∙ ap (λ f. map f xs) (λ i x. is x i) ∙ sym (map-map (step_number_at objects) key xs)) (same-map named rows (map row xs) h)

@@ -53,12 +53,12 @@ carried s w event answer e a h =
 pub carried_on : (s : State) (w : Rows) (event : Event) (answer : Answer) → MeetsInvariants s → verdict w event ≡ None → answer ≡ answer_of w event → Represents s (changed w event) → IsRefined w event (Ok answer) s
 carried_on s w event answer t e a h = carried s w event answer e a (unswept s (changed w event) t h)
 
--- want of memory
+-- lack of memory
 pub refused : (s : State) (w : Rows) (event : Event) (error : AllocError) → verdict w event ≡ None → IsLonger w (changed w event) → Represents s w → IsRefined w event (Err error) s
 unfolding Growing
 refused s w event error e l h = ((e, l), h)
 
--- an answer that no memory is wanted for is one
+-- an answer that no memory is needed for is one
 pub is_done : (old : State) (step_number : ℕ) (event : Event) (answer : Answer) (new : State) → RefinesAnswer old event answer new → Refines old step_number event (Ok answer) new
 unfolding RefinesAnswer Refines
 is_done old step_number event answer new h = λ w s. h w s.rows

@@ -1,4 +1,4 @@
--- The parts of what a state stands for, and its invariants, one by one.
+-- The parts of what a state represents, and its invariants, one by one.
 use Rattle.std.proofs.Common.{◌≡◌, ◌≤◌, true}
 use Rattle.std.specs.List.{AllByRecursion}
 use Rattle.drm_lists.specs.Orders.{SameRows, InOrder}

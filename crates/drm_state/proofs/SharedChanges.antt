@@ -1,4 +1,4 @@
--- What a handle of an object that is there, a name, a token and the end of a token leave of the parts.
+-- What a handle of an object that exists, a name, a token and the end of a token leave of the parts.
 use Rattle.std.proofs.Common.{◌≡◌, ℕ, ◌+◌, ◌==◌, ◌<◌, ◌≤◌, Bool, true, false, not, cond, ◌&&◌, ◌||◌, List, [], ◌∷◌, ◌++◌, map, filter, find, length, Option, Some, None, refl, sym, ap, ◌∙◌, subst, arith}
 use Rattle.std.specs.Prelude.{nat_lt, unwrap_or, if◌then◌else◌}
 use Rattle.std.specs.List.{AllByRecursion}
@@ -59,7 +59,7 @@ either xs ys n b f g e =
 fewer_than : (n m last : ℕ) → n ≤ m → m < last → last ≤ 100001 → n < 4294967295
 fewer_than n m last h k l = omega (arith, h, k, l)
 
--- ---- a handle of an object that is there
+-- ---- a handle of an object that exists
 
 -- the state with one more handle
 abbrev pub with_handle : State → ℕ → ℕ → ℕ → Option ℕ → State
@@ -170,11 +170,11 @@ export_order_is : (o : Option ℕ) (m n : ℕ) → m ≡ n → Some (unwrap_or o
 export_order_is None m n e = ap Some e
 export_order_is (Some p) m n e = refl
 
--- a handle with an export order, or as it was
+-- a handle with an export order, or unchanged
 abbrev placed_at : ℕ → ℕ → ℕ → FileHandle → FileHandle
 placed_at c h export_order x = if files.is_handle c h x then given_export_order export_order x else x
 
--- the change of a place leaves what stands in the list, and its order
+-- the change of a place leaves what is in the list, and its order
 object_stays : (c h export_order : ℕ) (x : FileHandle) → (placed_at c h export_order x).object ≡ x.object
 object_stays c h export_order x = elim (files.is_handle c h x) as (λ b. (if b then given_export_order export_order x else x).object ≡ x.object) [ true ↦ refl | false ↦ refl ]
 
@@ -286,7 +286,7 @@ keeps_tokens : (n : ℕ) (x : SharedToken) → is_token n x ≡ true → (xs : L
 keeps_tokens n x h [] k = refl
 keeps_tokens n x h (z ∷ zs) k = ap (λ b. cond (not b) (z ∷ filter (λ (z : SharedToken). not (is_token n z)) zs) (filter (λ (z : SharedToken). not (is_token n z)) zs)) (other_token n x z h k.0) ∙ ap (λ l. z ∷ l) (keeps_tokens n x h zs k.1)
 
--- of tokens in their order one goes with its number
+-- of tokens in their order one is freed with its number
 pub one_token_goes : (n : ℕ) (x : SharedToken) → (ts : List SharedToken) → rows.InOrder token_before ts → find (is_token n) ts ≡ Some x → SameRows (token_keys ts) (x.object ∷ token_keys (filter (λ (z : SharedToken). not (is_token n z)) ts))
 one_token_goes n x [] o e = absurd (let k : None ≡ Some x = e in cc)
 one_token_goes n x (y ∷ ys) o e =

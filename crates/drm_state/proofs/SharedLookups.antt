@@ -246,7 +246,7 @@ prime_found s w c key t h known =
 -- ---- by what a look-up found
 
 module _ (s : State) (w : Rows) (r : Represents s w) where
-  -- a name that is there, or not
+  -- a name that exists, or not
   pub name_there : (n key : ℕ) → AreNames s.names → Some key ≡ option_map (λ (x : SharedName). x.object) (find (is_name n) s.names.names) → model.named_object w n ≡ Some (step_number_at s.objects.objects key)
   name_there n key are e = named_found s w n are r ∙ told_some (λ (x : SharedName). x.object) (step_number_at s.objects.objects) (find (is_name n) s.names.names) key e
 

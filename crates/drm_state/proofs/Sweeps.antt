@@ -123,8 +123,9 @@ swept_names v objects keys refs hs ns invariants h m sub known =
 
 -- ---- what a sweep leaves of handles, tokens, framebuffers, names and objects
 
--- rows before a sweep, told by the objects that were there: handles, tokens, framebuffers and names; what shows a framebuffer that
--- is there is left, of the names those are left whose objects a handle names, and of the objects those that are named
+-- rows before a sweep, told by the objects that existed: handles, tokens, framebuffers and names; what shows a
+-- framebuffer that exists is left, of the names those are left whose objects a handle names, and of the objects those
+-- that are named
 pub record Moves (s : State) (v : Rows) (hs : List FileHandle) (ts : List SharedToken) (ms : ModeSet) (ns left : List SharedName) (set : ObjectSet) : Type 0 where
   pub holds : SameRows v.holds (map (handle_row_of s.objects.objects) hs)
   pub tokens : SameRows v.tokens (map (token_row_of s.objects.objects) ts)
@@ -186,7 +187,7 @@ all_moved_to s hs ts given ms left set = record s {
 abbrev pub all_shared_rows : Rows → List HandleRow → List TokenRow → ℕ → List FramebufferRow → List NameRow → Rows
 all_shared_rows w holds tokens last framebuffers names = record w { holds = holds; tokens = tokens; last_token = last; framebuffers = framebuffers; names = names }
 
--- the state stands for them when they are swept
+-- the state represents them when they are swept
 pub all_moved : (s : State) (w : Rows) (holds : List HandleRow) (tokens : List TokenRow) (last : ℕ) (framebuffers : List FramebufferRow) (names : List NameRow) (hs : List FileHandle) (ts : List SharedToken) (given : Option ℕ) (ms : ModeSet) (ns left : List SharedName) (set : ObjectSet) →
     MeetsInvariants s → Represents s w → Moves s (all_shared_rows w holds tokens last framebuffers names) hs ts ms ns left set → set.limit ≡ s.objects.limit → ms.topology ≡ s.modes.topology → ms.last ≡ s.modes.last → last ≡ unwrap_or given 0 →
     (part : Part) → represents_part part (all_moved_to s hs ts given ms left set) (swept (all_shared_rows w holds tokens last framebuffers names))
@@ -212,7 +213,7 @@ all_moved_invariants s hs ts given ms left set t o are invariants named ObjectsC
 all_moved_invariants s hs ts given ms left set t o are invariants named NamesHeld = named
 all_moved_invariants s hs ts given ms left set t o are invariants named invariant = t invariant
 
--- the same where framebuffers are as they were
+-- the same where framebuffers are unchanged
 abbrev pub moved_to : State → List FileHandle → List SharedToken → Option ℕ → List SharedName → ObjectSet → State
 moved_to s hs ts given left set = all_moved_to s hs ts given s.modes left set
 
@@ -242,7 +243,7 @@ nothing_moves s v t h = record {
   those = all_named (keys_of s.files.holds) (referring_keys s) s.objects.objects (objects_counted s t);
 }
 
--- a sweep takes nothing of rows that a state stands for that meets the invariants
+-- a sweep takes nothing of rows that a state represents that meets the invariants
 pub unswept : (s : State) (v : Rows) → MeetsInvariants s → Represents s v → (part : Part) → represents_part part s (swept v)
 unfolding represents_part swept
 unswept s v t h Masters = masters_left v s t (clients_are s v h) (masters_are s v h)
@@ -287,7 +288,7 @@ handle_gone s w c n names set t left h =
 
 -- ---- a client goes
 
--- the device's master without a client that stands to masters so
+-- the device's master without a client that belongs to masters so
 abbrev device_left : Option ℕ → Option Member → Option ℕ
 device_left d o = option_map_or (λ (x : Member). if x.is_master && masters.is_option x.master d then None else d) o d
 
@@ -322,7 +323,7 @@ none_ended_represents s w h Masters = masters_are s w h ∙ (λ i. map (master_r
 none_ended_represents s w h Grants = subst (λ (l : LeaseSet). SameRows w.grants (map grant_row_of l.grants)) (sym (none_ended s.leases)) (grants_are s w h)
 none_ended_represents s w h part = h part
 
--- what a client's own master gave goes, and the device's master if it was that
+-- what a client's own master returned goes, and the device's master if it was that
 ended_by_own : (s : State) (w : Rows) (m : ℕ) (b : Bool) → Represents s w → (part : Part) → represents_part part (with_ended s (is_below (if b then Some m else None) s.masters.masters) (if b && masters.is_option m s.masters.device_master then None else s.masters.device_master)) (ended_if w b (Some m))
 unfolding represents_part model.ended
 ended_by_own s w m true h DeviceMaster = ap (λ (d : Option ℕ). if is_option m d then None else d) (device_master_is s w h) ∙ same_option m s.masters.device_master
@@ -458,7 +459,7 @@ module _ (s : State) (w : Rows) (c : ℕ) (flags : FileFlags) (ms : ModeSet) (na
   now : MeetsInvariants (without_its s c ms names set)
   now = client_gone_invariants s c ms names set t are leases_are modes_are gone
 
-  -- when what its own master gave is gone
+  -- when what its own master returned is removed
   own_ended : Represents (with_ended s (ends_with s.masters c) (device_without s.masters c)) (ended_own w (client_row w c))
   own_ended = subst (λ o. Represents (with_ended s (ends_with s.masters c) (device_without s.masters c)) (ended_own w o)) (sym of) (ended_if_represents s w (masters.member_of s.masters.members c) h)
 

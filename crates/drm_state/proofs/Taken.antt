@@ -18,7 +18,7 @@ others client c xs = filter (λ x. not (client x == c)) xs
 abbrev pub except : {X : Type 0} → (X → ℕ) → ℕ → List X → List X
 except number n xs = filter (λ x. not (number x == n)) xs
 
--- what taking a row tells: its number, and the key that it names
+-- what taking a row says: its number, and the key that it names
 abbrev pub number_and_key : {X : Type 0} → (X → ℕ) → (X → ℕ) → X → ℕ × ℕ
 number_and_key number key x = (number x, key x)
 

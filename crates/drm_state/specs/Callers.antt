@@ -8,7 +8,7 @@ use Rattle.drm_state.specs.declared.state.State.{State}
 use Rattle.drm_state.specs.declared.caller.Caller.{Caller}
 use Rattle.drm_state.specs.declared.caller.PrimaryCaller.{PrimaryCaller}
 
--- the client is open, and its flags, how it stands to masters and whether it is current are those that are kept
+-- the client is open, and its flags, how it belongs to masters and whether it is current are those that are kept
 pub record IsCaller (s : State) (caller : Caller) : Type 0 where
   pub flags : Some caller.flags ≡ option_map (λ (f : FileClient). f.flags) (find (is_client caller.client) s.files.clients)
   pub member : caller.member ≡ member_of s.masters.members caller.client

@@ -60,7 +60,7 @@ pub record Leaves (all_names : NameList) (all_objects : ObjectSet) (keys refs : 
   pub limit : now_objects.limit ≡ all_objects.limit
   pub names : now_names ≡ names_among keys all_names
 
--- a render client, or one that stands to a master
+-- a render client, or one that belongs to a master
 abbrev pub HasMaster : MasterSet → FileClient → Type 0
 HasMaster v f = (f.flags.render || is_some (member_of v.members f.client)) ≡ true
 
@@ -72,10 +72,11 @@ AreOfLessees tokens ms = AllByRecursion (λ (row : LeaseToken). is_lessee ms row
 abbrev pub AreKeptBy : List LeaseToken → List Master → Type 0
 AreKeptBy tokens ms = AllByRecursion (λ (x : Master). x.kept ≡ is_some (token_of tokens x.step_number)) ms
 
--- the invariants of the parts: who stands to masters is open, and of the clients all but those of render nodes do; what is so of masters
--- at all times, and there are as many magics as clients may be; what is so of leases at all times,
--- whose open tokens are of lessees, and of masters those are kept that have one; leases agree with masters; what is so of mode objects at all times; handles stand in the order of their clients and numbers; objects are those that handles, tokens and framebuffers name, which they
--- count; names are of objects that handles name
+-- the invariants of the parts: who belongs to masters is open, and of the clients all but those of render nodes do;
+-- what is so of masters at all times, and there are as many magics as clients may be; what is so of leases at all
+-- times, whose open tokens are of lessees, and of masters those are kept that have one; leases agree with masters; what
+-- is so of mode objects at all times; handles are in the order of their clients and numbers; objects are those that
+-- handles, tokens and framebuffers name, which they count; names are of objects that handles name
 pub data Invariant : Type 0 where
   MembersOpen : Invariant
   ClientsHave : Invariant
@@ -107,8 +108,8 @@ meets_invariant NamesHeld s = AreNamed (keys_of s.files.holds) s.names.names
 abbrev pub MeetsInvariants : State → Type 0
 MeetsInvariants s = (invariant : Invariant) → meets_invariant invariant s
 
--- the step of this number is later than those that made what is there, and a step makes one handle, one token and one framebuffer
--- at most
+-- the step of this number is later than those that made what exists, and a step makes one handle, one token and one
+-- framebuffer at most
 pub record IsLater (s : State) (step_number : ℕ) : Type 0 where
   pub clients : AllByRecursion (λ (f : FileClient). f.client < step_number) s.files.clients
   pub objects : IsNewStepNumber s.objects step_number

@@ -1,4 +1,4 @@
--- The rows that the parts of the device stand for.
+-- The rows that the parts of the device represent.
 use Rattle.std.specs.Prelude.{◌≡◌, ℕ, Bool, false, not, ◌&&◌, List, ◌++◌, Option, None, Some, find, filter, map, unwrap_or, if◌then◌else◌}
 use Rattle.std.specs.List.{filter_map}
 use Rattle.std.specs.Option.{option_map, option_map_or, option_and_then}
@@ -25,7 +25,7 @@ use Rattle.drm_leases.specs.Tokens.{LeaseToken}
 use Rattle.drm_leases.specs.Leases.{LeaseSet, Lending, token_of}
 use Rattle.drm_state.specs.declared.state.State.{State}
 
--- a render client does not stand to masters
+-- a render client does not belong to masters
 abbrev pub client_row_by : FileClient → Option Member → ClientRow
 client_row_by f m = record {
   client = f.client;
@@ -41,7 +41,7 @@ client_row_by f m = record {
 abbrev pub client_row_of : List Member → FileClient → ClientRow
 client_row_of members f = client_row_by f (member_of members f.client)
 
--- a lessee that nobody redeemed has an open lease token
+-- a lessee that no client redeemed has an open lease token
 abbrev pub master_row_of : List LeaseToken → Master → MasterRow
 master_row_of tokens x = record { master = x.step_number; lessor = x.lessor; lessee_id = x.lessee_id; lease_token = token_of tokens x.step_number }
 
@@ -153,7 +153,7 @@ referring tokens framebuffers = token_keys tokens ++ framebuffer_keys framebuffe
 abbrev pub referring_keys : State → List ℕ
 referring_keys s = referring s.tokens.tokens s.modes.framebuffers
 
--- now the framebuffers of a client are gone, and what showed one of them is dark
+-- now the framebuffers of a client are removed, and what showed one of them is dark
 pub record LosesFramebuffersOf (c : ℕ) (old now : ModeSet) : Type 0 where
   pub topology : now.topology ≡ old.topology
   pub last : now.last ≡ old.last
@@ -181,7 +181,7 @@ is_below (Some top) ms m = is_under (lessor_of ms) top m
 abbrev pub released : (ℕ → Bool) → List Master → List Master
 released below ms = map (λ (x : Master). if below x.step_number then kept_as false x else x) ms
 
--- their leases and open lease tokens are gone
+-- their leases and open lease tokens are removed
 abbrev pub ended : (ℕ → Bool) → LeaseSet → LeaseSet
 ended below l = record l {
   tokens = filter (λ (row : LeaseToken). not (below row.master)) l.tokens;
@@ -193,8 +193,8 @@ ended below l = record l {
 abbrev pub ends_with : MasterSet → ℕ → ℕ → Bool
 ends_with v c m = is_below (own_master (member_of v.members c)) v.masters m
 
--- the masters without a client: its magic goes with it, those that end with it are kept no more, and those go that no client names
--- any more and that are not kept
+-- the masters without a client: its magic is freed with it, those that end with it are kept no more, and those go that
+-- no client names any more and that are not kept
 abbrev pub without_its_master : ℕ → MasterSet → MasterSet
 without_its_master c v = swept (record v {
   members = filter (λ (x : Member). not (is_client c x)) v.members;

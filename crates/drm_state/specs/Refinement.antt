@@ -1,4 +1,4 @@
--- Which rows the state of the device stands for, and how the function of each event refines the definitions.
+-- Which rows the state of the device represents, and how the function of each event refines the definitions.
 use Rattle.std.specs.Prelude.{◌≡◌, ℕ, ◌+◌, false, true, Option, None, Some, Result, Ok, Err}
 use Rattle.std.specs.declared.alloc.AllocError.{AllocError}
 use Rattle.drm_lists.specs.Orders.{SameRows}
@@ -35,8 +35,8 @@ HaveBounds s w =
     × (s.masters.last_lessee ≡ w.limits.lessees)
     × (s.leases.last ≡ w.limits.tokens)
 
--- what the state stands for in a part of the rows. Magics, handles, names, tokens, grants, framebuffers and what is shown have
--- their own order
+-- what the state represents in a part of the rows. Magics, handles, names, tokens, grants, framebuffers and what is
+-- shown have their own order
 unfoldable pub represents_part : Part → State → Rows → Type 0
 represents_part Bounds s w = HaveBounds s w
 represents_part Clients s w = w.clients ≡ clients_of s
@@ -53,27 +53,27 @@ represents_part DeviceMaster s w = w.device_master ≡ s.masters.device_master
 represents_part LastToken s w = w.last_token ≡ last_token_of s
 represents_part LastLeaseToken s w = w.last_lease_token ≡ last_lease_token_of s
 
--- the state stands for the rows
+-- the state represents the rows
 abbrev pub Represents : State → Rows → Type 0
 Represents s w = (part : Part) → represents_part part s w
 
--- the state stands for w, where the next step has this number
+-- the state represents w, where the next step has this number
 pub record RepresentsAt (s : State) (step_number : ℕ) (w : Rows) : Type 0 where
   pub rows : Represents s w
   pub step_numbers : StepNumbersRise w.steps w
   pub step_number_is : w.steps + 1 ≡ step_number
 
--- the answer is the reply, and the state stands for the rows after the event; or memory was refused, and it stands for
+-- the answer is the reply, and the state represents the rows after the event; or memory was refused, and it represents
 -- those before
 abbrev pub IsRefined : Rows → Event → Result Answer AllocError → State → Type 0
 IsRefined w event (Ok answer) s = (answer ≡ reply w event) × Represents s (after w event)
 IsRefined w event (Err e) s = Growing w event × Represents s w
 
--- how the function of an event refines them, whichever rows the state stands for
+-- how the function of an event refines them, whichever rows the state represents
 unfoldable pub Refines : State → ℕ → Event → Result Answer AllocError → State → Type 0
 Refines old step_number event result new = (w : Rows) → RepresentsAt old step_number w → IsRefined w event result new
 
--- the same where no memory is wanted, and the number of the step is nothing to it
+-- the same where no memory is needed, and the number of the step is nothing to it
 unfoldable pub RefinesAnswer : State → Event → Answer → State → Type 0
 RefinesAnswer old event answer new = (w : Rows) → Represents old w → IsRefined w event (Ok answer) new
 
@@ -86,8 +86,8 @@ unfoldable pub RefinesReply : State → ℕ → Call → Answer → State → Ty
 RefinesReply old c call answer new =
     (w : Rows) → Represents old w → first_failing (admission_checks w c call) ≡ None → IsRefined w (Ask c call) (Ok answer) new
 
--- what making a buffer comes to: none where the client may have no more handles or no more objects may be there, or its new
--- handle; or memory was refused, and the state stands for the rows before
+-- what making a buffer is: none where the client may have no more handles or no more objects may be there, or its new
+-- handle; or memory was refused, and the state represents the rows before
 abbrev pub MadeBuffer : Rows → ℕ → ℕ → Result (Option ℕ) AllocError → State → Type 0
 MadeBuffer w c size (Ok None) s = (has_buffer_room w c ≡ false) × Represents s w
 MadeBuffer w c size (Ok (Some handle)) s = (has_buffer_room w c ≡ true) × (handle ≡ new_handle w c) × Represents s (swept (with_object w c size))
@@ -96,8 +96,8 @@ MadeBuffer w c size (Err e) s = (has_buffer_room w c ≡ true) × Represents s w
 unfoldable pub MakesBuffer : State → ℕ → ℕ → ℕ → Result (Option ℕ) AllocError → State → Type 0
 MakesBuffer old step_number c size result new = (w : Rows) → RepresentsAt old step_number w → MadeBuffer w c size result new
 
--- what a fresh handle of an object that is there comes to: none where the client has every handle, or the handle; or memory was
--- refused, and the state stands for the rows before
+-- what a fresh handle of an object that exists is: none where the client has every handle, or the handle; or memory was
+-- refused, and the state represents the rows before
 abbrev pub AddedHandle : Rows → ℕ → ℕ → Option ℕ → Result (Option ℕ) AllocError → State → Type 0
 AddedHandle w c o export_order (Ok None) s = (free_handle w c ≡ None) × Represents s w
 AddedHandle w c o export_order (Ok (Some handle)) s = (free_handle w c ≡ Some handle) × Represents s (swept (record w { holds = with_handle_row w c o export_order }))
@@ -107,6 +107,6 @@ AddedHandle w c o export_order (Err e) s = (is_some (free_handle w c) ≡ true) 
 unfoldable pub AddsHandle : State → ℕ → ℕ → Option ℕ → Result (Option ℕ) AllocError → State → Type 0
 AddsHandle old c key export_order result new = (w : Rows) → Represents old w → AddedHandle w c (step_number_at old.objects.objects key) export_order result new
 
--- the first rule of admission that fails, whichever rows the state stands for
+-- the first rule of admission that fails, whichever rows the state represents
 unfoldable pub IsAdmission : State → ℕ → Call → Option Rule → Type 0
 IsAdmission s c call rule = (w : Rows) → Represents s w → rule ≡ first_failing (admission_checks w c call)

@@ -17,14 +17,14 @@ pub struct Caller {
     pub client: u32,
     /// What its file says of it.
     pub flags: FileFlags,
-    /// How it stands to masters; a render client stands to none.
+    /// How it belongs to masters; a render client stands to none.
     pub member: Option<Member>,
     /// Whether it is current (`drm_is_current_master`).
     pub current: bool,
 }
 
 impl Caller {
-    /// The client of this number, as it is kept now; none where it isn't open. It takes no memory.
+    /// Returns the client of this number, as it is kept now; none where it isn't open. Does not allocate.
     pub fn of(state: &State, client: u32) -> Option<Caller>
         ensures client { IfSome result (λ caller. caller.client ≡ client) }
         ensures caller { IfSome result (λ caller. IsCaller state.now caller) }
@@ -39,7 +39,7 @@ impl Caller {
         })
     }
 
-    /// What the flags of a call's row are tested against (`drm_ioctl_permit`). It takes no memory.
+    /// What the flags of a call's row are tested against (`drm_ioctl_permit`). Does not allocate.
     pub fn credentials(self) -> Standing
         ensures { result ≡ record { root = self.flags.root; render = self.flags.render; authenticated = self.flags.authenticated; current = self.current } }
     {

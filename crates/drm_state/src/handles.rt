@@ -1,4 +1,4 @@
-//! Handles of objects that are there.
+//! Handles of objects that exist.
 
 ghost use Rattle.std.specs.Prelude.{◌≡◌, true, ◌++◌};
 ghost use Rattle.drm_lists.specs.Numbers.{is_among};
@@ -12,8 +12,8 @@ use drm_files::FileFault;
 use drm_gem::ObjectKey;
 use std::alloc::AllocError;
 
-/// Gives a client a fresh handle of an object, and answers it; none where the client has every handle. Where memory is
-/// refused nothing changes.
+/// Returns a client a fresh handle of an object, and answers it; none where the client has every handle. Where memory
+/// is refused nothing changes.
 pub fn new_handle(
     state: &mut State,
     step_number: u32,

@@ -1,4 +1,4 @@
-//! What the device keeps: its parts, how they fit together, and the rows that they stand for.
+//! What the device keeps: its parts, how they fit together, and the rows that they represent.
 #![tactic(auto)]
 
 mod caller;

@@ -1,4 +1,4 @@
-//! What goes with a handle.
+//! What is freed with a handle.
 
 ghost use Rattle.std.specs.Prelude.{ℕ, List, ◌∷◌};
 ghost use Rattle.drm_state.specs.Invariants.{AreCounted, AreNamed, Leaves};
@@ -6,8 +6,8 @@ ghost use Rattle.drm_state.specs.Invariants.{AreCounted, AreNamed, Leaves};
 use drm_gem::{ObjectKey, Objects};
 use drm_share::Names;
 
-/// One handle fewer names an object: its name goes with the last handle of any client, and the object with the last that
-/// refers to it (drm-gem(7)). It takes no memory.
+/// One handle fewer names an object: its name is freed with the last handle of any client, and the object with the last
+/// that refers to it (drm-gem(7)). Does not allocate.
 pub fn release(names: &mut Names, objects: &mut Objects, object: ObjectKey)
     requires invariants { (keys : List ℕ) × (refs : List ℕ) × AreCounted (object ∷ keys) refs objects.old.objects }
     ensures leaves { (keys refs : List ℕ) → AreCounted (object ∷ keys) refs objects.old.objects → AreNamed (object ∷ keys) names.old.names → Leaves names.old objects.old keys refs names.new objects.new }

@@ -11,7 +11,7 @@ use drm_share::{Names, Tokens};
 pub struct State {
     /// The open clients, with their flags and handles.
     pub files: Files,
-    /// How each of them stands to masters, the masters and magics.
+    /// How each of them belongs to masters, the masters and magics.
     pub masters: Masters,
     /// What lessees control, and the open tokens that open their clients.
     pub leases: Leases,
@@ -24,7 +24,7 @@ pub struct State {
     pub modes: Modes,
 }
 
-// Written out, so that it is proved once: a derived one is proved again in each crate that lets such a value go.
+// Written out, so that it is proved once: a derived one is proved again in each crate that drops such a value.
 impl Drop for State {
     fn drop(self) {
         let State {

@@ -43,7 +43,7 @@ others (w ∷ ws) = ws
 abbrev pub number_in : List ℕ → Option ℕ
 number_in w = option_and_then (of_bits 32) (number_of w)
 
--- the number that stands alone
+-- the number that is alone
 abbrev pub only_number : Words → Option ℕ
 only_number [] = None
 only_number (w ∷ []) = number_in w

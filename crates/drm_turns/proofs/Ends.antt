@@ -248,7 +248,7 @@ turn_is_out id v words xs next serving final at_next at_serving ne =
     let out : x.next ≢ x.serving = λ e. ne (sym next_is ∙ (e ∙ serving_is)) in
     (s, r, final.1.1, subst (IsHeld s.views) (sym (word_is s r).2) (r.held x.serving (omega arith) (omega arith)))
 
--- Where all that was split off the first participant is given back, all tickets were served, and the device is there.
+-- Where all that was split off the first participant is returned, all tickets were served, and the device is there.
 pub comes_home : (id : ℕ) (v : View) (words : List ℕ) (xs : List Slot) (next serving : ℕ) (slot : Slot) → v.stage ≡ Idle → v.number ≡ 1 → v.outstanding ≡ 0 → Final (Seen Orderly id v) words xs
     → get_elem? words 1 ≡ some next → get_elem? words 2 ≡ some serving → get_elem? xs 0 ≡ some slot
     → (next ≡ serving) × (d : DeviceValue) × (slot ≡ Some d)
@@ -270,7 +270,8 @@ comes_home id v words xs next serving slot idle first none_outstanding final at_
       some-injective slot (Some (device_at x.origin x.log)) (sym at ∙ found),
     )
 
--- where all that was split off the first participant is given back, the history has what was noted before and what the participant counts
+-- where all that was split off the first participant is returned, the history has what was recorded before and what the
+-- participant counts
 pub closes_counted : (id : ℕ) (v : View) (words : List ℕ) (xs : List Slot) (next serving : ℕ) (slot : Slot) → v.stage ≡ Idle → Final (Seen Orderly id v) words xs
     → get_elem? words 1 ≡ some next → get_elem? words 2 ≡ some serving → next ≡ serving → get_elem? xs 0 ≡ some slot → v.number ≡ 1 → v.outstanding ≡ 0
     → (log : List Entry) × (slot ≡ Some (device_at v.origin log)) × (length log ≡ length v.origin.journal + v.journaled)

@@ -69,7 +69,7 @@ turned v ticket seen w reads grows =
       ap (λ (u : View). u.drawn) is,
     )
 
--- ---- what a step of the device shows
+-- ---- what a step shows
 
 pub step_ok : (w : Rows) (event : Event) (answer : Answer) (v : Rows) → Step w event (Ok answer) v → (no_room w event ≡ false) × (answer ≡ reply w event)
 unfolding Step
@@ -94,7 +94,7 @@ answered device event (Err JournalFull) turn = turn
 answered device event (Err NoMemory) turn = turn
 answered device event (Err Worn) turn = tt
 
--- ---- what a call answers, where its participant had the view v, u in its turn, and w after it
+-- ---- what a call answers, where its participant had the view v, u one after the other, and w after it
 
 excused : (s t : ParticipantView) (event : Event) (apart : Apart) → t.mine ≡ s.mine → t.found < 2 ^ 64 - 1 → Step (rows_after t.origin t.seen) event (Err apart) (rows_after t.origin t.seen) → Aborts s event apart t
 unfolding Step

@@ -53,7 +53,7 @@ unfolding FoundRoom
 replayed-legal w [] f = tt
 replayed-legal w (e ∷ es) f = (f.0, refl, replayed-legal (after w e) es f.1)
 
--- nobody made what the device had noted before
+-- no client made what the device had recorded before
 pub replayed-calls : (n : ℕ) (w : Rows) (es : List Event) → calls_by (suc n) (replayed w es) ≡ []
 replayed-calls n w [] = refl
 replayed-calls n w (e ∷ es) = ap (λ (b : Bool). cond b (entry 0 e (reply w e) ∷ calls_by (suc n) (replayed (after w e) es)) (calls_by (suc n) (replayed (after w e) es))) (ne_eqb 0 (suc n) (λ h. omega arith)) ∙ replayed-calls n (after w e) es

@@ -1,4 +1,4 @@
--- What is split off and given back.
+-- What is split off and returned.
 use Rattle.std.proofs.Common.{◌≡◌, ◌≢◌, ◌⊎◌, ⊎_elim, inl, inr, ℕ, zero, suc, ◌+◌, ◌-◌, ◌<◌, ◌≤◌, ◌==◌, Bool, true, false, cond, List, [], ◌∷◌, ◌++◌, length, set, sym, refl, ap, ◌∙◌, subst, arith, length-set, length-append, eq-eqb, ne_eqb}
 use Rattle.std.specs.Prelude.{◌&&◌}
 use mathlib.Core.Option.{some, some-injective, some-ne-none}
@@ -74,7 +74,7 @@ put_else id xs away p ne = ap (λ (b : Bool). cond b xs (away p)) (ne_eqb p id n
 
 -- ---- the count of those that are out
 
--- one that is given back counts, or it doesn't
+-- one that is returned counts, or it doesn't
 pub out_cases : (number outstanding parent theirs : ℕ) → ((parent ≡ number) × (theirs ≡ 0) × (outstanding_after number outstanding parent theirs ≡ outstanding - 1)) ⊎ (outstanding_after number outstanding parent theirs ≡ outstanding)
 out_cases number outstanding parent theirs = dite (ℕ_discrete parent number)
     (λ p. dite (ℕ_discrete theirs 0)
@@ -218,7 +218,7 @@ module _ (views : List View) (id : ℕ) (v : View) (t : Lent views) (at : get_el
     count = count_then;
   }
 
--- a participant or a note is given back, and counts
+-- a participant or a note is returned, and counts
 module _ (views : List View) (id : ℕ) (v : View) (other : ℕ) (w both : View) (t : Lent views) (at : get_elem? views id ≡ some v) (at_other : get_elem? views other ≡ some w) (apart : ¬ (other ≡ id))
     (idle : v.stage ≡ Idle) (idle_other : w.stage ≡ Idle) (number : v.number ≡ suc id) (child_is : w.parent ≡ v.number) (whole : w.outstanding ≡ 0) (parent : both.parent ≡ v.parent) (fewer : both.outstanding ≡ v.outstanding - 1) where
   abbrev merged : List View

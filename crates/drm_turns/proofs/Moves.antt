@@ -61,7 +61,7 @@ placed_drawn : (b : Bool) (x : World) (old : ℕ) (homes : List (maybe Slot)) (v
 placed_drawn false x old homes views id v w at still p = p
 placed_drawn true x old homes views id v w at still p = placed_set true x homes views id v w at still p
 
--- the ticket that is drawn is held beside those that were
+-- the ticket that is drawn is held next to those that were
 held_drawn : (x : World) (views : List View) (id : ℕ) (v : View) (old : ℕ) → get_elem? views id ≡ some v → v.stage ≡ Idle → x.next ≡ old → AllHeld x views → AllHeld (record x { next = old + 1 }) (set views id (waiting v old))
 held_drawn x views id v old at idle is held t from to = let below : t < old + 1 = to in dite (ℕ_discrete old t)
     (λ e. (id, waiting v old, set_here views id (waiting v old) (at_below views id v at), refl, e))

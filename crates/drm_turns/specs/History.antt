@@ -20,12 +20,12 @@ abbrev pub events_of : List Entry → List Event
 events_of [] = []
 events_of (e ∷ es) = e.event ∷ events_of es
 
--- the events, each with the answer that the device of one thread gives, by nobody
+-- the events, each with the answer that the device of one thread returns, by no client
 abbrev pub replayed : Rows → List Event → List Entry
 replayed w [] = []
 replayed w (e ∷ es) = entry 0 e (reply w e) ∷ replayed (after w e) es
 
--- what the device had noted before it was shared
+-- what the device had recorded before it was shared
 abbrev pub journaled_before : DeviceValue → List Entry
 journaled_before origin = replayed (start_of origin) origin.journal
 

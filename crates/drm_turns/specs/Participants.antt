@@ -15,11 +15,11 @@ use Rattle.drm_turns.specs.declared.history.Stage.TheVariants.{Idle}
 use Rattle.drm_turns.specs.History.{AllDiffer, IsLegal, StartsWith, calls_by, device_at, entry, rows_after}
 use Rattle.drm_turns.specs.Rule.{Table, IsHeld, Orderly}
 
--- A participant: the shared device that it is of and its own number; the number of the participant that it was split off, 0 for the first
--- participant; how many participants and notes that were split off it are not given back to it; the device as it was shared; the history
--- that it has seen, and of it the entries that it made; the numbers that were merged into it; how many tickets it drew and
--- how many entries it made, each with those of the participants that were merged into it; and the number that it last found in
--- TICKET.
+-- A participant: the shared device that it is of and its own number; the number of the participant that it was split
+-- off, 0 for the first participant; how many participants and notes that were split off it are not returned to it; the
+-- device as it was when it was shared; the history that it has seen, and of it the entries that it made; the numbers
+-- that were merged into it; how many tickets it drew and how many entries it made, each with those of the participants
+-- that were merged into it; and the number that it last found in TICKET.
 pub record ParticipantView : Type 0 where
   pub table : TableId
   pub number : ℕ
@@ -47,7 +47,7 @@ Same s t = (t.table ≡ s.table) × (t.number ≡ s.number) × (t.origin ≡ s.o
 abbrev pub Unchanged : ParticipantView → ParticipantView → Type 0
 Unchanged s t = (t.parent ≡ s.parent) × (t.outstanding ≡ s.outstanding)
 
--- the participant, of which so many are out
+-- the participant, of which this many are out
 abbrev pub with_outstanding : ParticipantView → ℕ → ParticipantView
 with_outstanding participant outstanding = record participant { outstanding = outstanding }
 
@@ -55,14 +55,15 @@ with_outstanding participant outstanding = record participant { outstanding = ou
 abbrev pub Extends : ParticipantView → ParticipantView → Type 0
 Extends s t = Same s t × StartsWith t.seen s.seen × IsLegal t.origin t.seen × (calls_by t.number t.seen ≡ t.mine)
 
--- The entry ends the new history, behind what others did while the participant waited, and is one more of the participant's.
+-- The entry ends the new history, after what others did while the participant waited, and is one more of the
+-- participant's.
 abbrev pub Commits : ParticipantView → Event → Answer → ParticipantView → Type 0
 Commits s event answer t = (between : List Entry)
     × (t.seen ≡ (s.seen ++ between) ++ entry s.number event answer ∷ [])
     × (t.mine ≡ s.mine ++ entry s.number event answer ∷ [])
     × (t.found < 2 ^ 64 - 1)
 
--- Why the event was not carried out. No ticket is left exactly where the last number was found.
+-- Why the event was not carried out. No ticket is left exactly if the last number was found.
 abbrev pub Aborts : ParticipantView → Event → Apart → ParticipantView → Type 0
 Aborts s event JournalFull t = (t.mine ≡ s.mine) × (t.found < 2 ^ 64 - 1)
     × (no_room (rows_after t.origin t.seen) event ≡ true)

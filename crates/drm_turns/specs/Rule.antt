@@ -20,7 +20,8 @@ Table = State Slot View
 abbrev pub Sat : Type 0
 Sat = Me Slot View
 
--- the facts behind the words: the whole history, the next ticket, the ticket that is served, and whether the device is out of its slot
+-- the facts after the words: the whole history, the next ticket, the ticket that is served, and whether the device is
+-- out of its slot
 pub record World : Type 0 where
   pub origin : DeviceValue
   pub log : List Entry
@@ -89,12 +90,12 @@ pub record TakenIn (views : List View) : Type 0 where
   pub apart : (id : ℕ) (v : View) → get_elem? views id ≡ some v → AllDiffer v.kept
   pub once : (i j : ℕ) (v w : View) (k : ℕ) → get_elem? views i ≡ some v → get_elem? views j ≡ some w → Has k v.kept → Has k w.kept → i ≡ j
 
--- the view is spent, and all that was split off it is given back
+-- the view is spent, and all that was split off it is returned
 abbrev pub IsBack : List View → (ℕ → List ℕ) → ℕ → Type 0
 IsBack views away id = IsSpent views (suc id) × (away id ≡ [])
 
--- What was split off and isn't given back. `away` has for each view those of its children that count: each view but the first
--- is given back itself or away, and a view that isn't spent counts at least as many as are away.
+-- What was split off and isn't returned. `away` has for each view those of its children that count: each view but the
+-- first is returned itself or away, and a view that isn't spent counts at least as many as are away.
 pub record Lent (views : List View) : Type 0 where
   pub away : ℕ → List ℕ
   pub within : (p c : ℕ) → Has c (away p) → (p < c) × (c < length views)

@@ -1,4 +1,4 @@
--- What one call does to the device in its turn.
+-- What one call does to the device in its rotation.
 use Rattle.std.specs.Prelude.{◌≡◌, true, Result, Ok, Err, ⊤}
 use Rattle.drm_table.specs.declared.answers.Answer.{Answer}
 use Rattle.drm_table.specs.declared.apart.Apart.{Apart}
@@ -7,7 +7,7 @@ use Rattle.drm_table.specs.declared.events.Event.{Event}
 use Rattle.drm_table.specs.Limits.{are_in_range}
 use Rattle.drm_model.specs.Run.{DeviceValue, FoundRoom, Step, journaled_in, rows_of, start_of}
 
--- what is answered is noted, and what stands apart leaves the device as it was
+-- what is answered is recorded, and a fault leaves the device unchanged
 abbrev pub history_after : DeviceValue → Event → Result Answer Apart → DeviceValue
 history_after old event (Ok answer) = journaled_in old event
 history_after old event (Err apart) = old
@@ -25,7 +25,7 @@ pub record Turn (after : DeviceValue) (event : Event) (result : Result Answer Ap
   pub in_range : are_in_range after.limits ≡ true
   pub found_room : FoundRoom (start_of after) after.journal
 
--- What a call answers: what the device gave in a turn that left it so, or that there is no ticket for a turn.
+-- What a call answers: what the device returned in a turn that left it so, or that there is no ticket for a turn.
 abbrev pub Answered : DeviceValue → Event → Result Answer Apart → Type 0
 Answered after event (Err Worn) = ⊤
 Answered after event (Err JournalFull) = Turn after event (Err JournalFull)

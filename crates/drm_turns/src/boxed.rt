@@ -6,13 +6,13 @@ use drm_device::Device;
 use std::alloc::{AllocFailed, Global};
 use std::marker::Model;
 
-/// A device behind a pointer: where it is taken out of a slot and put back, the pointer moves and nothing of the device. Contracts
-/// see the device.
+/// A device on the heap: where it is taken out of a slot and put back, the pointer moves and nothing of the device.
+/// Contracts see the device.
 pub(crate) struct BoxedDevice {
     pub(crate) device: Box<Device>,
 }
 
-// Written out, so that it is proved once: a derived one is proved again in each crate that lets such a value go.
+// Written out, so that it is proved once: a derived one is proved again in each crate that drops such a value.
 impl Drop for BoxedDevice {
     fn drop(self) {
         let BoxedDevice { device } = self;
@@ -29,7 +29,7 @@ impl Model for BoxedDevice {
 }
 
 impl BoxedDevice {
-    /// Moves the device to the heap. Without memory it is given back.
+    /// Moves the device to the heap. Without memory it is returned.
     pub(crate) fn new(alloc: Global, device: Device) -> Result<BoxedDevice, Device>
         ensures ok { IfOk result (λ boxed. boxed ≡ device) }
         ensures err { IfErr result (λ refused. refused ≡ device) }
@@ -40,7 +40,7 @@ impl BoxedDevice {
         }
     }
 
-    /// The pointer, to step the device where it lies.
+    /// Returns the pointer, to step the device where it lies.
     pub(crate) fn into_box(self) -> Box<Device>
         ensures { result.value ≡ self }
     {
@@ -48,7 +48,7 @@ impl BoxedDevice {
         device
     }
 
-    /// The device.
+    /// Returns the device.
     pub(crate) fn into_device(self) -> Device
         ensures { result ≡ self }
     {

@@ -7,7 +7,7 @@ use std::collections::LinkedList;
 /// One event of a history, as contracts speak of it.
 #[derive(Drop)]
 pub struct Entry {
-    /// The number of the participant that made it, or 0 where the device had noted it before it was shared (own).
+    /// The number of the participant that made it, or 0 where the device had recorded it before it was shared (own).
     pub by: u64,
     /// What was asked.
     pub event: Event,
@@ -15,7 +15,7 @@ pub struct Entry {
     pub answer: Answer,
 }
 
-/// Where a participant stands in its turn, as contracts speak of it.
+/// The place of a participant in its rotation, as contracts speak of it.
 pub enum Stage {
     /// Between two turns.
     Idle,
@@ -29,13 +29,13 @@ pub enum Stage {
 
 /// What a participant at the table knows. No value of it is made.
 pub struct View {
-    /// The device as it was when it was shared.
+    /// The device when it was shared.
     pub origin: Device,
     /// The participant's number, 0 until it is known.
     pub number: u64,
     /// The number of the participant that this one was split from.
     pub parent: u64,
-    /// How many participants and notes that were split off it are not given back to it.
+    /// How many participants and notes that were split off it are not returned to it.
     pub outstanding: u64,
     /// The history, as far as it knows it.
     pub seen: LinkedList<Entry>,
@@ -51,6 +51,6 @@ pub struct View {
     pub journaled: u64,
     /// The number last found in the word of the next ticket.
     pub ticket: u64,
-    /// Where it stands in its turn.
+    /// Its place in its rotation.
     pub stage: Stage,
 }

@@ -1,4 +1,4 @@
-//! A device that threads share. Each call is one turn, and the calls of all threads stand in one legal history.
+//! A device that threads share. Each call is one turn, and the calls of all threads are in one legal history.
 #![tactic(auto)]
 
 mod boxed;

@@ -1,11 +1,11 @@
-//! What gives the right to call a shared device.
+//! What returns the right to call a shared device.
 
 use crate::history::View;
 use crate::turn::Slot;
 use atomic_table::Seat as Place;
 use std::marker::Model;
 
-/// The right of one thread to call a shared device, with what it has seen and made. It takes no memory.
+/// The right of one thread to call a shared device, with what it has seen and made. Does not allocate.
 ///
 /// ```rust
 /// let Some(topology) = Topology::new(2, &[1, 2], &[3, 2], &[5, 6]) else { return };
@@ -30,7 +30,7 @@ impl Model for Seat {
     ghost invariant = { IsSeated };
 }
 
-/// What a participant had seen, for another participant. It takes no memory.
+/// What a participant had seen, for another participant. Does not allocate.
 ///
 /// ```rust
 /// let note = shared.note(&mut participant);

@@ -83,7 +83,7 @@ pub struct SharedDevice {
     sleepers: AtomicU64,
 }
 
-// Written out, so that it is proved once: a derived one is proved again in each crate that lets such a value go.
+// Written out, so that it is proved once: a derived one is proved again in each crate that drops such a value.
 impl Drop for SharedDevice {
     fn drop(self) {
         let SharedDevice { table, sleepers } = self;
@@ -106,7 +106,7 @@ impl Model for SharedDevice {
 }
 
 /// What threads share a device by. A function that starts threads takes it as a type parameter, so that what crosses to
-/// a thread is told by a bound (`Sync`).
+/// a thread is shown by a bound (`Sync`).
 ///
 /// ```rust
 /// assert!(shared.device().peek_count() == 1);
@@ -117,7 +117,7 @@ pub trait Sharing {
     /// The name of the device.
     ghost table: { Self → TableId };
 
-    /// The device.
+    /// Returns the device.
     fn device(&self) -> &SharedDevice
         ensures device { result.now ≡ table self.now };
 }
@@ -154,9 +154,9 @@ impl SharedDevice {
         self.sleep(rt, served);
     }
 
-    /// Scheduling before the turn: waits until no ticket is out, so that the one that is drawn then is served at once, or for so many
-    /// turns of others. It looks at the served ticket before the next one: the other way round it could sleep on a device that is
-    /// free. No contract speaks of it, and a turn needs none of it.
+    /// Scheduling before the turn: waits until no ticket is out, so that the one that is drawn then is served at once,
+    /// or for this many turns of others. It looks at the served ticket before the next one: the other way round it
+    /// could sleep on a device that is free. No contract speaks of it, and a turn needs none of it.
     fn schedule_before_turn<R: Wait>(&self, rt: &R) {
         let shared = &self.table.shared;
         for _ in 0..PATIENCE {
@@ -237,8 +237,8 @@ impl SharedDevice {
         self.table.shared.fetch_add::<Count<E>>(place, COUNT, 1);
     }
 
-    /// Takes the device out of the slot, steps it, counts the step if it is journaled, and puts the device back. What came of the step
-    /// is written to its place, so that it moves less.
+    /// Takes the device out of the slot, steps it, counts the step if it is journaled, and puts the device back. What
+    /// resulted from the step is written to its place, so that it moves less.
     fn step_in_turn(
         &self,
         place: &mut Place<Slot, View>,
@@ -299,8 +299,8 @@ impl SharedDevice {
         self.table.shared.load::<Learn>(place, COUNT);
     }
 
-    /// Shares the device, and gives the first participant, which has number 1 and has seen what the device had noted. Without
-    /// memory there is no shared device, and the device is given back.
+    /// Shares the device, and returns the first participant, which has number 1 and has seen what the device had
+    /// recorded. Without memory there is no shared device, and the device is returned.
     ///
     /// ```rust
     /// assert!(shared.peek_count() == 0);
@@ -338,11 +338,12 @@ impl SharedDevice {
 
     /// Answers one event, in the participant's turn. It may wait for the turns before it.
     ///
-    /// The device answers from its rows, those of its journal, and notes what it answers: its journal is then the history that the
-    /// participant has seen. Its limits are in their ranges, and each event of its journal found room. What is answered ends the history that the participant has seen then; resources
-    /// have 251 ids at most together. What stands apart, a full journal (own) and want of memory, leaves the device as it was
-    /// and adds no entry. Without a ticket for the turn the device isn't asked; the first participant, where none is out of it, lacks one
-    /// only where it drew all 2^64 - 1, with those that it took in.
+    /// The device answers from its rows, those of its journal, and notes what it answers: its journal is then the
+    /// history that the participant has seen. Its limits are in their ranges, and each event of its journal found room.
+    /// What is answered ends the history that the participant has seen then; resources have 251 ids at most together. A
+    /// fault, for a full journal (own) or refused memory, leaves the device unchanged and adds no entry. Without a
+    /// ticket for the turn the device isn't asked; the first participant, where none is out of it, does not have one
+    /// only if it drew all 2^64 - 1, with those that it took in.
     ///
     /// ```rust
     /// let opening = Event::Open(Opening::Render);
@@ -371,8 +372,8 @@ impl SharedDevice {
         outcome
     }
 
-    /// Answers one event as [`call`](SharedDevice::call) does, and writes what came of it to a place of the caller's, so that an answer
-    /// is moved less.
+    /// Answers one event as [`call`](SharedDevice::call) does, and writes what resulted from it to a place of the
+    /// caller's, so that an answer is moved less.
     ///
     /// ```rust
     /// let mut outcome = Err(Apart::Worn);
@@ -409,8 +410,8 @@ impl SharedDevice {
         self.pass(place);
     }
 
-    /// A further participant, of a number of its own, which has seen as much. The participant that it is split off counts one more that
-    /// is out, and else stays as it is.
+    /// Returns a further participant, of its own number, which has seen as much. The participant that it is split off
+    /// counts one more that is out, and else stays as it is.
     ///
     /// ```rust
     /// let mut other = shared.split(&mut participant);
@@ -479,7 +480,7 @@ impl SharedDevice {
         Note { place }
     }
 
-    /// Takes in what a note tells. Where it was the participant's own, one fewer is out.
+    /// Takes in what a note says. Where it was the participant's own, one fewer is out.
     ///
     /// ```rust
     /// shared.meet(&mut participant, note);
@@ -501,11 +502,11 @@ impl SharedDevice {
         self.learn(place);
     }
 
-    /// The device, once nobody shares it. Where a ticket was drawn that was not passed on, the turn is out with a call: then the
-    /// device is lost with the participant that has the ticket. Where all were passed on, it is in its slot, and is given back. No
-    /// turn is out where the participant is the first, and each participant and note that was split off it is given back to it with
-    /// all of its own: then the device has noted what it had before, and the entries of the participant and of those that it took
-    /// in, and nothing else.
+    /// Returns the device, once no client shares it. Where a ticket was drawn that was not passed on, the turn is out
+    /// with a call: then the device is lost with the participant that has the ticket. Where all were passed on, it is
+    /// in its slot, and is returned. No turn is out where the participant is the first, and each participant and note
+    /// that was split off it is returned to it with all of its own: then the device has recorded what it had before,
+    /// and the entries of the participant and of those that it took in, and nothing else.
     ///
     /// ```rust
     /// let Ok(device) = shared.close(participant) else { return };
@@ -535,7 +536,7 @@ impl SharedDevice {
         }
     }
 
-    /// The length of the history at some moment. It waits for nobody.
+    /// Returns the length of the history at some moment. It waits for no client.
     ///
     /// ```rust
     /// assert!(shared.peek_count() == 3);

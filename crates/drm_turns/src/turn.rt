@@ -15,7 +15,7 @@ use std::snapshot::Snapshot;
 /// The slot has the device, unless the participant that is served has taken it.
 pub(crate) type Slot = Option<BoxedDevice>;
 
-/// The rule of the turn. What the table is told is the device as it was shared.
+/// The rule of the turn. What the table receives is the device as it was when it was shared.
 pub struct InTurn;
 
 impl TableRule<Slot, View, Snapshot<Device>> for InTurn {
@@ -90,7 +90,7 @@ impl Play<Slot, View> for Learn {
     ghost then = { learns };
 }
 
-/// A participant or a note beside a participant, which has seen as much, and which the participant counts.
+/// A participant or a note next to a participant, which has seen as much, and which the participant counts.
 pub(crate) struct Another;
 
 impl Split<View> for Another {
@@ -99,7 +99,7 @@ impl Split<View> for Another {
     ghost right = { child };
 }
 
-/// A participant is merged: what it had seen is told, its number is kept, and it is counted as given back.
+/// A participant is merged: what it had seen is reported, its number is kept, and it is counted as returned.
 pub(crate) struct Told;
 
 impl Join<View> for Told {
@@ -108,7 +108,7 @@ impl Join<View> for Told {
     ghost spent = { spent_view };
 }
 
-/// A note is met: what it tells is told, and it is counted as given back.
+/// A note is met: what it says is reported, and it is counted as returned.
 pub(crate) struct Met;
 
 impl Join<View> for Met {

@@ -25,7 +25,7 @@ parted old new c names objects refs e named invariants =
     (leaves_all names objects all refs (same_invariants (keys_of old.holds) all refs objects.objects same invariants)
     (all_weaker (λ (x : SharedName). is_among (keys_of old.holds) x.object ≡ true) (λ (x : SharedName). is_among all x.object ≡ true) (λ x a. sym (same-any (λ k. k == x.object) (keys_of old.holds) all same) ∙ a) names.names named))
 
--- the first of the rest stands before all others
+-- the first of the rest is before all others
 first : (names middle : NameList) (objects set : ObjectSet) (refs held : List ℕ) (rest next : List (ℕ × ℕ)) (k : ℕ) → rest_keys rest ≡ k ∷ rest_keys next → Leaves names objects (rest_keys rest ++ held) refs middle set → Leaves names objects (k ∷ (rest_keys next ++ held)) refs middle set
 first names middle objects set refs held rest next k e h = subst (λ keys. Leaves names objects (keys ++ held) refs middle set) e h
 

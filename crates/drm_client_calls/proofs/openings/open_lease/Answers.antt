@@ -135,7 +135,7 @@ on_redeem-requires-clause-unredeemed c =
 pub close-rest-requires : goal.close-rest-requires
 close-rest-requires c = record { open_client = subst (λ fs. is_open_client fs c.args.step_number ≡ true) (sym c.in_ok-open_file.ensures.ok) (found_last (record { client = c.args.step_number; flags = lease_flags c.args.root c.args.universal }) c.args.state.now.files.clients) }
 
--- the client's file is gone again
+-- the client's file is removed again
 closed_file : (old opened closed : FileLists) (c : ℕ) (root universal : Bool) → closed ≡ without_client opened c → opened ≡ with_file old c (lease_flags root universal) → AreFiles old → AllByRecursion (λ (f : FileClient). f.client < c) old.clients → closed ≡ old
 closed_file old opened closed c root universal is e are newest = is ∙ ap (λ (l : FileLists). without_client l c) e ∙ closed_again old c (lease_flags root universal) are newest
 
@@ -153,7 +153,7 @@ returns-in-Err-clause-refines c = λ w s.
 
 -- ---- the client is there
 
--- told by the parts as they were
+-- told by the parts unchanged
 told : (P : State → Type 0) (s : State) (b t m key : ℕ) (root universal : Bool) (fs : FileLists) (set : MasterSet) (l : LeaseSet) → IsNewClient s.masters b → IsKeyOf s.masters.masters m key → fs ≡ with_file s.files b (lease_flags root universal) → set ≡ redeemed b (step_number_at s.masters.masters key) s.masters → l ≡ without_token t s.leases →
     P (with_lease_client s b t m root universal) → P (record s { files = fs; masters = set; leases = l })
 told P s b t m key root universal fs set l newest is e f g h =

@@ -110,7 +110,7 @@ returns-clause-invariants c =
     subst (λ fs. MeetsInvariants (record s { files = fs; masters = c.on_open.new.self })) (sym c.in_ok-open_file.ensures.ok)
     (invariants_by s c.args.step_number g c.on_open.new.self s.masters.device_master c.requires.invariants c.requires.later c.laws.ensures c.in_default.ensures.ok)
 
--- and it stands for the rows of an opening
+-- and it represents the rows of an opening
 rows_by : (s : State) (w : Rows) (b : ℕ) (root universal opener : Bool) (new : MasterSet) (d : Option ℕ) → MeetsInvariants s → IsLater s b → w.steps + 1 ≡ b → opener ≡ is_none d → masters.Opened s.masters b b d new → Represents s w → Represents (joined s b (flags root universal opener) new s.leases) (opened_primary w root universal d)
 rows_by s w b root universal opener new None t later is f h r =
     let row : ClientRow = record { client = step_number w; render = false; root = root; authenticated = true; once_master = true; is_master = true; master = Some (step_number w); universal = universal } in

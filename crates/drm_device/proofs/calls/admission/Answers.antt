@@ -34,7 +34,7 @@ returns-in_default-clause-err c = λ w h.
     let laid : is_laid_out c.args.call.now ≡ true = sym c.is_laid_out.ensures ∙ c.if-not-is_laid_out.false in
     rw (known, laid, is_open_is c.args.state.now w h c.args.client ∙ c.in_default.ensures.none) refl
 
--- what the permits of a known call that is laid out come to, for a caller
+-- what the permits of a known call that is laid out are, for a caller
 permitted : (s : State) (k : Caller) (call : Call) (rule : Option Rule) → IsCaller s k → is_known call ≡ true → is_laid_out call ≡ true →
     rule ≡ first_failing (permit_checks (flags_of call) (record { root = k.flags.root; render = k.flags.render; authenticated = k.flags.authenticated; current = k.current })) → IsAdmission s k.client call rule
 unfolding IsAdmission

@@ -13,7 +13,7 @@ decreases-end_leases_below l = 4294967296 - l.top
 abbrev is_looked : (ms : List Master) (top position n : ℕ) → Bool
 is_looked ms top position n = list_any (λ y. is_under (lessor_of ms) y n) (take position (lessees_of ms top))
 
--- their leases are gone
+-- their leases are removed
 abbrev pub invariant-loop-lessee : goal.invariant-loop-lessee
 invariant-loop-lessee l = l.granted.rows ≡ filter (λ (x : Lease). not (is_looked l.masters.masters l.top l.position x.lessee)) l.fn.granted.rows
 

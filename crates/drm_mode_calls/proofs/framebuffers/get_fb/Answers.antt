@@ -24,7 +24,7 @@ use Rattle.drm_state.proofs.Framing.{framebuffer_is, framebuffer_told, framebuff
 use Rattle.drm_state.proofs.Added.{added_none, added_some, longer}
 use Rattle.drm_mode_calls.proofs.framebuffers.get_fb.Goals as goal
 
--- whether a caller is told with a handle
+-- whether a caller is reported with a handle
 given : (s : State) (w : Rows) (k : PrimaryCaller) → IsPrimaryCaller s k → Represents s w → gives_handle w k.client ≡ (k.current || k.flags.root)
 given s w k is h =
     ap (λ (t : Standing). t.current || t.root) (ap (credentials_in w) (client_row_is s w h k.client k.flags is.flags) ∙ credentials_is s w h k.client k.flags)

@@ -2,7 +2,7 @@ use Rattle.std.proofs.Common.{◌≡◌, ◌+◌, drop, slice_get}
 use Rattle.drm_modes.specs.Modes.{lit_rows}
 use Rattle.drm_modes.proofs.scanouts.nth_lit.Given as goal
 
--- the one that is sought stands among the rest
+-- the one that is sought is among the rest
 abbrev pub invariant-loop-scanout : goal.invariant-loop-scanout
 invariant-loop-scanout l =
     record {

@@ -62,7 +62,7 @@ returns-clause-given c =
     let free = free_is inside.open_limit inside.last_handle inside.clients.items c.args.client c.in-Some.record.now found (c.self.invariant.tables c.args.client c.in-Some.record.now found) in
     rw (← c.self.view_is) (free ∙ c.in-Ok.ensures.given)
 
--- the handle that was given is taken back
+-- the handle that was assigned is taken back
 
 pub invariant_of-self-in-Err : goal.invariant_of-self-in-Err
 invariant_of-self-in-Err c =
@@ -87,7 +87,7 @@ returns-in-Err-clause-full c =
     let free = free_is inside.open_limit inside.last_handle inside.clients.items c.args.client c.in-Some.record.now found (c.self.invariant.tables c.args.client c.in-Some.record.now found) in
     rw (← c.self.view_is) ((λ none. absurd none), λ none. none-some c.in-Ok.handle (sym none ∙ free ∙ c.in-Ok.ensures.given))
 
--- it has room, and its place where it is given an export order
+-- it has room, and its place where it is assigned an export order
 
 pub give_order-requires-clause-in_order : goal.give_order-requires-clause-in_order
 give_order-requires-clause-in_order c =

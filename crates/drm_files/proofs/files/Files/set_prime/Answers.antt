@@ -42,7 +42,7 @@ returns-then-is_some c =
     given inside.open_limit inside.last_handle inside.clients.items c.args.client old old c.args.handle held c.args.export_order (sym c.in-Some.ensures.value) (sym c.in-Some-get.ensures.value) refl slots
     ∙ ap (λ (l : FileLists). with_export_order l c.args.client c.args.handle c.args.export_order) c.self.view_is
 
--- it is given one
+-- it is assigned one
 
 pub invariant_of-self-2 : goal.invariant_of-self-2
 invariant_of-self-2 c =

@@ -14,7 +14,7 @@ use Rattle.drm_turns.proofs.shared.SharedDevice.call_at.Given.{Over}
 use Rattle.drm_turns.proofs.shared.SharedDevice.call_at.Goals as goal
 use Rattle.drm_turns.proofs.shared.SharedDevice.call_at.Goals.{After-pass}
 
--- the participant's view in its turn
+-- the participant's view one after the other
 its_turn : (g : Over) (c : After-pass g) → let v = c.participant.inside.place.me.0 in
     (seen : List Entry) × Reads v seen × (c.wait_turn.new.place.me.0 ≡ serving (waiting v c.in-Some.ticket) seen)
 its_turn g c =
