@@ -1,4 +1,4 @@
--- What a step of a history means for masters, leases, authentication and capabilities, by its event and its answer alone (drm(7),
+-- The effect of a step on masters, leases, authentication and capabilities, by its event and its answer alone (drm(7),
 -- masters and magics; drm-uapi, leases, render nodes and client capabilities).
 use Rattle.std.specs.Prelude.{ℕ, ◌==◌, Bool, true, false, List, [], ◌∷◌}
 use Rattle.drm_table.specs.declared.answers.Answer.{Answer}
@@ -11,7 +11,7 @@ use Rattle.drm_table.specs.declared.events.Opening.{Opening}
 use Rattle.drm_table.specs.declared.events.Opening.TheVariants.{Primary, Render, Lease}
 use Rattle.drm_history.specs.History.{AnsweredEvent}
 
--- a denial, and each call that is not told here, is nothing
+-- a denial, and each call that has no case here, has no effect
 pub data Effect : Type 0 where
   Nothing : Effect
   OpensPrimary : (root universal : Bool) → Effect
@@ -57,7 +57,7 @@ abbrev pub is_accepted : Answer → Bool
 is_accepted (Denied rule) = false
 is_accepted _ = true
 
--- each step of a history is so, seen with all that came before it
+-- each step of a history is so, seen with all steps before it
 unfoldable pub AllSteps : (AnsweredEvent → List AnsweredEvent → Type 0) → List AnsweredEvent → Type 0
 AllSteps P [] = Unit {0}
 AllSteps P (step ∷ past) = P step past × AllSteps P past

@@ -1,5 +1,5 @@
--- Who lent to whom, what was lent, and what ended it, by the history alone (drm-uapi, leases; what comes along with a CRTC is own).
--- Chains of lessors may be of any length.
+-- Lessors and lessees, what was lent, and what ended it, by the history alone (drm-uapi, leases; the planes that are
+-- added for a CRTC are own). Chains of lessors may be of any length.
 use Rattle.std.specs.Prelude.{ℕ, ◌==◌, Bool, false, not, ◌&&◌, ◌||◌, List, [], ◌∷◌, Option, None, Some, if◌then◌else◌}
 use Rattle.std.specs.Option.{is_some, option_map_or}
 use Rattle.drm_lists.specs.Numbers.{is_among}
@@ -64,8 +64,8 @@ abbrev pub is_controlled : List AnsweredEvent → Option ℕ → (ℕ → Bool) 
 is_controlled past (Some m) has = not (is_some (lessor_in past m)) || has m
 is_controlled past None has = false
 
--- what a step lends: the ids that it lists and, where its client has universal planes off, of each listed CRTC the primary and the
--- cursor plane that the client's master controls, as that of a lease that has the plane does
+-- What a step lends: the ids that it lists. If its client has universal planes off, also the primary and the cursor
+-- plane of each listed CRTC that the client's master controls. So does a lease with the plane.
 abbrev pub is_lent : Topology → Effect → List AnsweredEvent → ℕ → (ℕ → Bool) → Bool
 is_lent t (Leases c ids lessee token) past x has =
     is_among ids x || (not (is_universal_in past c) && is_plane_of t ids x && is_controlled past (master_in past c) has)

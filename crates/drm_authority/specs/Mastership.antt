@@ -1,5 +1,5 @@
--- Mastership told step by step, with nothing carried along: how a client was opened, its first SET_MASTER, and what the last step leaves
--- the device's master (drm(7), masters; drm-uapi, primary nodes, leases).
+-- Mastership step by step, from the history alone: how a client was opened, its first SET_MASTER, and the device's
+-- master after the last step (drm(7), masters; drm-uapi, primary nodes, leases).
 use Rattle.std.specs.Prelude.{ℕ, ◌==◌, Bool, true, false, ◌&&◌, ◌||◌, List, [], ◌∷◌, Option, None, Some, if◌then◌else◌}
 use Rattle.std.specs.Option.{is_some, option_map_or, option_or}
 use Rattle.drm_model.specs.Rows.{is_option}
@@ -51,8 +51,9 @@ abbrev pub master_since : List AnsweredEvent → ℕ → Option ℕ
 master_since history c =
     if (opened_in history c).is_master then (opened_in history c).master else option_or (first_set history c) (opened_in history c).master
 
--- the device's master that the last step leaves: an opening of a primary node and SET_MASTER keep the one that there is, and where
--- there is none the client's is; DROP_MASTER leaves none, as does the closing of a master whose own is the device's
+-- The device's master after the last step. An opening of a primary node and SET_MASTER keep the one that exists;
+-- without one, the client's becomes the device's. DROP_MASTER leaves none, as does the closing of a client whose own
+-- master is the device's.
 abbrev pub owner_after : Effect → AnsweredEvent → List AnsweredEvent → Option ℕ
 owner_after (OpensPrimary root universal) step past = option_or (owner_in past) (master_in (step ∷ past) (next_number past))
 owner_after (SetsMaster c) step past = option_or (owner_in past) (master_in (step ∷ past) c)

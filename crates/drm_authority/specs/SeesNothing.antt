@@ -12,8 +12,8 @@ use Rattle.drm_authority.specs.Effects.{is_accepted}
 use Rattle.drm_authority.specs.MasterState.{master_in}
 use Rattle.drm_authority.specs.Lessees.{lessor_in, has_ended}
 
--- a call that is carried out names no CRTC, connector or plane, so that it is none of those that look one up; its lists have
--- none, and a mask is 0
+-- A call that is carried out names no CRTC, connector or plane, so it is none of those that look one up. Its lists have
+-- none, and a mask is 0.
 abbrev pub SeesNothing : Call → Answer → Type 0
 SeesNothing (GetCrtc crtc) answer = ⊥
 SeesNothing (SetCrtc crtc framebuffer connector) answer = ⊥

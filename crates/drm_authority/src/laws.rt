@@ -19,7 +19,7 @@ pub fn closings_are_for_good()
     ensures { (h : DeviceValue) → ClosingsAreForGood (history_of h) }
 {}
 
-/// Masters follow from the history: the device's master is the owner that it describes, and an open client is a master
+/// Masters follow from the history. The device's master is the owner that it describes. An open client is a master
 /// exactly if it says so, and has the master that it says.
 pub fn masters_follow_from_history()
     ensures owner { (h : DeviceValue) → OwnerFollows (rows_of h) (history_of h) }
@@ -35,9 +35,9 @@ pub fn masters_become_so_by_their_steps()
     ensures owner { (step : AnsweredEvent) (past : List AnsweredEvent) → owner_in (step ∷ past) ≡ owner_after (effect step) step past }
 {}
 
-/// Lessees follow from the history: an open lease token, and a lessee's id under its owner, are those of the last
-/// MODE_CREATE_LEASE that answered them, however often the number was assigned before; a lessor is the master of the
-/// caller then, and an owner the top of the lessors.
+/// Lessees follow from the history. An open lease token, and a lessee's id under its owner, are those of the last
+/// MODE_CREATE_LEASE that answered them, however often the number was reused. A lessor is the caller's master at that
+/// step, and an owner the top of the lessors.
 pub fn lessees_follow_from_history()
     ensures tokens { (h : DeviceValue) → LeaseTokensFollow (rows_of h) (history_of h) }
     ensures lessors { (h : DeviceValue) → LessorsFollow (rows_of h) (history_of h) }
@@ -52,8 +52,8 @@ pub fn grants_follow_from_history()
     ensures { (h : DeviceValue) → GrantsFollow h.topology (rows_of h) (history_of h) }
 {}
 
-/// A lessee that was ended sees nothing: no later call of a client of it that is carried out names a CRTC, a connector or a plane,
-/// its lists have none, and its masks are 0.
+/// A lessee that was ended sees nothing. No later call of a client of it that is carried out names a CRTC, a connector
+/// or a plane, its lists have none, and its masks are 0.
 pub fn ended_lessees_see_nothing()
     ensures { (h : DeviceValue) → EndedLesseesSeeNothing (history_of h) }
 {}
@@ -66,9 +66,8 @@ pub fn capabilities_follow_from_history()
     ensures overlays { (h : DeviceValue) → OverlaysAlone h.topology (history_of h) }
 {}
 
-/// Authentication follows from the history: each magic is that of the last GET_MAGIC that answered its number under its
-/// master, and an open client is authenticated exactly if it opened as root, is a master, or AUTH_MAGIC named its
-/// magic.
+/// Authentication follows from the history. Each magic is that of the last GET_MAGIC that answered its number under its
+/// master. An open client is authenticated exactly if it opened as root, is a master, or AUTH_MAGIC named its magic.
 pub fn authentication_follows_from_history()
     ensures magics { (h : DeviceValue) → MagicsFollow (rows_of h) (history_of h) }
     ensures clients { (h : DeviceValue) → AuthenticationFollows (rows_of h) (history_of h) }
@@ -80,8 +79,8 @@ pub fn authority_follows_from_answers()
         → Answers (empty_rows topology limits) events results v → AuthorityFollows topology v (with_journaled [] events results) }
 {}
 
-/// Masters differ: after any events no two of them have the same open lease token, no two lessees below one owner have the same id,
-/// and no two magics of a master have the same number.
+/// Masters differ. After any events no two of them have the same open lease token. No two lessees below one owner have
+/// the same id, and no two magics of a master the same number.
 pub fn masters_differ()
     ensures { (h : DeviceValue) → MastersDiffer (rows_of h) }
 {}

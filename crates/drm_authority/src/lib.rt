@@ -1,5 +1,5 @@
-//! Which masters, leases and authenticated clients the history of a device describes, from its events and answers
-//! alone, and that a device's rows are those: definitions in `specs/`, and laws of them.
+//! The masters, leases and authenticated clients that the history of a device describes, from its events and answers
+//! alone. Laws say that a device's rows are those. The definitions are in `specs/`.
 #![tactic(auto)]
 
 mod laws;

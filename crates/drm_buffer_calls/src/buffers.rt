@@ -82,8 +82,8 @@ pub fn buf_create(
     Ok(())
 }
 
-/// Makes an object of this many bytes and a handle of it, and answers the handle; none where the client has every
-/// handle or as many objects are there as may be. Where memory is refused nothing changes.
+/// Creates an object of this many bytes and a handle of it, and returns the handle. Returns `None` if the client has
+/// every handle or the limit of objects is reached. If memory is refused, nothing changes.
 fn new_buffer(
     state: &mut State,
     step_number: u32,
@@ -104,7 +104,7 @@ fn new_buffer(
         Err(CreateFault::NoMemory) => return Err(AllocError),
     };
     let Ok(handle) = state.files.add_handle(client, made, None) else {
-        // the object goes again, since nothing names it
+        // the object is freed again, since nothing names it
         let _dead = state.objects.unhold(made);
         return Err(AllocError);
     };
@@ -145,8 +145,8 @@ fn buffer_size(size: u64) -> u64
     (size + 4095) / 4096 * 4096
 }
 
-/// GEM_CLOSE and MODE_DESTROY_DUMB: the handle goes, the object's name with its last handle, and the object with the
-/// last that refers to it. Does not allocate and needs no limit.
+/// Closes a handle (GEM_CLOSE, MODE_DESTROY_DUMB; drm-gem(7), drm-uapi). The object's name is removed with its last
+/// handle. The object is freed with its last reference. Does not allocate and needs no limit.
 pub fn gem_close(state: &mut State, client: u32, handle: u32, answer: &mut Answer)
     requires invariants { MeetsInvariants state.old }
     requires open_client { is_open_client state.old.files client ≡ true }

@@ -1,4 +1,4 @@
-//! How a client goes.
+//! The closing of a client.
 
 ghost use Rattle.std.specs.Prelude.{◌≡◌, ℕ, List, true, false, ◌++◌};
 ghost use Rattle.drm_masters.specs.Masters.{AreMasters};
@@ -18,11 +18,13 @@ use drm_share::{Names, Tokens};
 use drm_state::{State, release};
 use drm_table::{Answer, Rule};
 
-/// Closes a client: its framebuffers go, and the CRTCs and planes that show them go dark; its tokens, its magic and its
-/// handles go, the names of objects that no handle names any more, and the objects that nothing else refers to; its
-/// master goes where no client else names it, and the device's master where that was the client's own; the leases of
-/// its own master end, with those of all below it and their open tokens. A client that isn't open is denied, and
-/// nothing changes. Does not allocate and needs no limit.
+/// Closes a client. A client that is not open is denied, and nothing changes. Does not allocate and needs no limit.
+///
+/// - Its framebuffers are removed, and the CRTCs and planes that show them are dark.
+/// - Its tokens, its magic and its handles are removed, the names of objects without a handle, and the objects without
+///   a reference.
+/// - Its master is freed if no other client names it. If the client's own master was the device's, the device has none.
+/// - If it has its own master, the leases of that and of all masters below it end, and their open tokens are removed.
 pub fn close(state: &mut State, client: u32, answer: &mut Answer)
     requires { MeetsInvariants state.old }
     ensures invariants { MeetsInvariants state.new }
@@ -47,7 +49,7 @@ pub fn close(state: &mut State, client: u32, answer: &mut Answer)
     *answer = Answer::Closed;
 }
 
-/// A client no more belongs to masters. The leases of its own master end, and of all below it.
+/// Removes a client from its master. The leases of the client's own master end, and those of all masters below it.
 fn close_master(masters: &mut Masters, leases: &mut Leases, client: u32)
     requires are { AreMasters masters.old }
     requires agreed { AreAgreed leases.old masters.old }

@@ -31,7 +31,7 @@ pub fn open(state: &mut State, step_number: u32, opening: Opening) -> Result<Ans
     }
 }
 
-/// Returns a primary client: of its own master where the device has none, and else of the device's.
+/// Opens a primary client. It has its own master if the device has none, and else the device's.
 fn open_primary(
     state: &mut State,
     step_number: u32,

@@ -26,9 +26,9 @@ struct Bytes {
 
 /// The bytes of a connection that were read while an answer waited to be taken.
 ///
-/// A client that takes no answers may have passed the server its own descriptor connection, which then stays open for
-/// as long as that is unread, though the client's process has exited. So what it sends is read also then: a read
-/// without room for descriptors drops them.
+/// A client that takes no answers may have passed the server a descriptor of this connection. The connection then stays
+/// open as long as that is unread, even after the client's process has exited. So what it sends is read also then: a
+/// read without room for descriptors drops them.
 #[derive(Drop)]
 pub struct Ahead {
     read: RefCell<Bytes>,

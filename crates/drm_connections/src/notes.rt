@@ -191,12 +191,12 @@ impl Notes {
         self.more.notify_one();
     }
 
-    /// Tells that there will be notes, before the thread that logs them is started.
+    /// Announces notes, before the thread that logs them is started.
     pub fn begin<R: Wait>(&self, rt: &R) {
         self.waiting.lock(rt).has_ended = false;
     }
 
-    /// Tells the thread that logs that there will be no more notes.
+    /// Announces to the thread that logs that no more notes follow.
     pub fn end<R: Wait>(&self, rt: &R) {
         self.waiting.lock(rt).has_ended = true;
         self.more.notify_one();

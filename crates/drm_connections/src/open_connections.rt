@@ -174,14 +174,13 @@ impl Places {
     }
 }
 
-/// The connections that threads serve at once, and the listeners that they came by.
+/// The connections that threads serve at once, and their listeners.
 ///
-/// Who asks for an opening is served once the closing of each client is made whose connection had been closed at the
-/// other end by then. So who waits for the end of a process, and then opens a client, finds nothing that was that
-/// process's.
+/// An opening waits until each client is closed whose connection was already closed at the other end. So after you have
+/// waited for a process to exit, a client that you open finds nothing of that process.
 ///
-/// They can be asked to end: then each connection is ended as if its client had, and so are those that are still to
-/// come.
+/// All connections can be asked to end. Then each connection is ended as if its client had ended it, and so is each
+/// later one.
 #[derive(Drop)]
 pub struct OpenConnections {
     places: Mutex<Places>,
@@ -191,10 +190,10 @@ pub struct OpenConnections {
 }
 
 impl OpenConnections {
-    /// None is open yet. There is room for this many, and for their listeners.
+    /// Creates a table without open connections. There is room for this many, and for their listeners.
     ///
-    /// A connection that was closed at the other end represents those that were still to come when they are asked to
-    /// end; they are never told where it is missing.
+    /// During shutdown a connection that was closed at the other end takes the place of those that did not arrive yet.
+    /// If there is none, their threads are not woken.
     pub fn new(
         alloc: Global,
         counts: Counts,
@@ -232,7 +231,7 @@ impl OpenConnections {
         })
     }
 
-    /// Tells all connections to end. Who still waits for one gets one that has ended.
+    /// Asks all connections to end. A thread that still waits for one gets one that has ended.
     pub fn end<R: Wait>(&self, rt: &R) {
         let mut places = self.places.lock(rt);
         places.has_ended = true;

@@ -10,8 +10,8 @@ use Rattle.drm_state.specs.Refinement.{Represents}
 abbrev pub value_of : Inside → DeviceValue
 value_of d = record { topology = d.state.modes.topology; limits = d.limits; journal = d.journal.items }
 
--- the state represents the rows of the journal; each of its events found room, and it has places for the closings of
--- the open clients; its storage is there, and the limits are in their ranges, small enough to count with
+-- The state represents the rows of the journal. Each of its events found room, and it has places for the closings of
+-- the open clients. Its storage exists, and the limits are in their ranges, small enough to count with.
 pub record IsDevice (d : Inside) : Type 0 where
   pub rows : Represents d.state (rows_of (value_of d))
   pub invariants : MeetsInvariants d.state

@@ -38,7 +38,7 @@ pub fn ask(
     }
 }
 
-/// Who asks, or the first rule that fails, of those that every call is tested for.
+/// Returns the caller, or the first rule that fails of those that apply to every call.
 fn admission(state: &State, client: u32, call: &Call) -> Result<Caller, Rule>
     ensures ok { OnOk result (IsAdmission state.now client call.now None) }
     ensures err { IfErr result (λ rule. IsAdmission state.now client call.now (Some rule)) }

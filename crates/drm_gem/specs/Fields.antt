@@ -6,7 +6,7 @@ use Rattle.drm_gem.specs.declared.object.Object.{Object}
 use Rattle.drm_gem.specs.declared.objects.Objects.TheInside.{Inside}
 use Rattle.drm_gem.specs.Objects.{ObjectSet}
 
--- what stands where no object is kept
+-- the value where no object is kept
 abbrev pub nothing : Object
 nothing = record { key = 0; step_number = 0; size = 0; stamp = 0; holds = 0; refs = 0 }
 

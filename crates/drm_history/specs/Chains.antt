@@ -1,4 +1,4 @@
--- How an object came to a client: by transfers, each of which some step granted, from the step that made it (own).
+-- The way of an object to a client: transfers, each granted by a step, from the step that created it (own).
 use Rattle.std.specs.Prelude.{◌≡◌, ℕ, ◌<◌, List, [], ◌∷◌}
 use Rattle.drm_history.specs.History.{AnsweredEvent, next_number}
 use Rattle.drm_history.specs.Steps.{Key, Creation, Transfer}
@@ -10,8 +10,8 @@ pub record Link : Type 0 where
   pub client : ℕ
   pub handle : ℕ
 
--- The last link is first. The first of all made the object, which is named by its number. Before each other link, and
--- after the one before it, stands the step that published the object for it: that was the client of the link before,
+-- The last link is first. The first of all created the object, which is named by its number. Before each other link,
+-- and after the one before it, is the step that published the object for it. Its client was that of the link before,
 -- with the handle that it was assigned there and that no step between took.
 unfoldable pub IsChain : List AnsweredEvent → ℕ → List Link → Type 0
 IsChain history o [] = ⊥

@@ -1,6 +1,5 @@
--- The history of a device: each step that was recorded, with what it was of and what it was answered (own). The newest
--- step is first, so that what follows a step is all that came before it, and the number of a step is how many are there
--- and one.
+-- The history of a device: each step that was recorded, with its event and its answer (own). The newest step is first,
+-- so what follows a step is all that happened before it. The number of a step is one more than the number of those.
 use Rattle.std.specs.Prelude.{ℕ, ◌+◌, List, [], ◌∷◌, ◌++◌, length, Result, Ok, Err}
 use Rattle.drm_table.specs.declared.answers.Answer.{Answer}
 use Rattle.drm_table.specs.declared.apart.Apart.{Apart}
@@ -19,7 +18,7 @@ pub record AnsweredEvent : Type 0 where
 abbrev pub next_number : List AnsweredEvent → ℕ
 next_number past = length past + 1
 
--- what came before, with the steps of these events, from these rows on
+-- the steps before, with the steps of these events, from these rows on
 unfoldable pub recorded : Rows → List AnsweredEvent → List Event → List AnsweredEvent
 recorded w past [] = past
 recorded w past (event ∷ events) = recorded (after w event) (record { event = event; answer = reply w event } ∷ past) events
@@ -28,12 +27,12 @@ recorded w past (event ∷ events) = recorded (after w event) (record { event = 
 unfoldable pub history_of : DeviceValue → List AnsweredEvent
 history_of h = recorded (start_of h) [] h.journal
 
--- the events of a history, in the order in which they came
+-- the events of a history, in their order
 unfoldable pub events_in : List AnsweredEvent → List Event
 events_in [] = []
 events_in (step ∷ past) = events_in past ++ step.event ∷ []
 
--- what came before, with the steps of these events and results: those without a fault as result
+-- the steps before, with the steps of these events and results: those without a fault as result
 unfoldable pub with_journaled : List AnsweredEvent → List Event → List (Result Answer Apart) → List AnsweredEvent
 with_journaled past [] results = past
 with_journaled past (event ∷ events) [] = past

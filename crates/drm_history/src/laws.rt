@@ -29,9 +29,9 @@ pub fn numbers_differ()
     ensures { (h : DeviceValue) → NumbersDiffer (rows_of h) }
 {}
 
-/// Names, PRIME tokens and framebuffers follow from the history: each is that of the last GEM_FLINK, export or
-/// MODE_ADDFB that answered its number, and is of the object that its caller's handle was of then, however often a
-/// number was assigned before.
+/// Names, PRIME tokens and framebuffers follow from the history. Each is that of the last GEM_FLINK, export or
+/// MODE_ADDFB that answered its number. It is of the object that its caller's handle was of at that step, however often
+/// a number was reused.
 pub fn numbers_follow_from_history()
     ensures { (h : DeviceValue) → NumbersFollow h }
 {}

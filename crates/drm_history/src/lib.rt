@@ -1,5 +1,5 @@
-//! Which rights the history of a device grants, told from its events and answers alone, and that a device's rows are
-//! those: definitions in `specs/`, and laws of them.
+//! The rights that the history of a device grants, from its events and answers alone. Laws say that a device's rows are
+//! those. The definitions are in `specs/`.
 #![tactic(auto)]
 
 mod laws;

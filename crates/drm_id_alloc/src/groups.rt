@@ -12,11 +12,12 @@ use drm_index_array::IndexArray;
 use std::alloc::Global;
 use std::marker::Model;
 
-/// Which numbers are in which group: those of one group are found without the others. Groups and numbers are any
-/// numbers. A group costs its place in an array of the groups: some 50 bytes where their numbers are close, and up to
-/// six nodes of 64 places where they are far from one another. One number of a group takes no more than that; from the
-/// second on, the group has an array of its own. A group that has no number takes no memory. Contracts see a map from
-/// each group to what has its numbers.
+/// The numbers of each group. Those of one group are found without the others. Groups and numbers are any numbers of 32
+/// bits. Contracts see a map from each group to its numbers.
+///
+/// A group costs its place in an array of the groups. That is some 50 bytes if their numbers are close, and up to six
+/// nodes of 64 places if they are not. One number of a group costs no more than that. From the second on, the group has
+/// an array. A group without numbers costs nothing.
 ///
 /// ```rust
 /// let mut groups = Groups::new(alloc);

@@ -11,7 +11,7 @@ use drm_index_array::{IndexArray, InsertFault};
 use std::alloc::Global;
 use std::marker::Model;
 
-/// The numbers of a group: one alone, which takes no memory of its own, or an array of them. Contracts see the array.
+/// The numbers of a group: a single one, which needs no further memory, or an array of them. Contracts see the array.
 #[derive(Drop)]
 pub struct Numbers {
     kept: Kept,

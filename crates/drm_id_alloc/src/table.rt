@@ -64,8 +64,11 @@ impl<T: Drop> IdTable<T> {
         }
     }
 
-    /// Adds the value at the lowest free number. Where no number is free, or memory is refused, the table stays as it
-    /// is and the value comes back.
+    /// Adds the value at the lowest free number, and returns the number.
+    ///
+    /// # Errors
+    ///
+    /// If no number is free or memory is refused, the table is unchanged, and the error has the value.
     ///
     /// ```rust
     /// assert!(id == 1);
@@ -89,9 +92,12 @@ impl<T: Drop> IdTable<T> {
         Ok(id)
     }
 
-    /// Adds the value at the next number in rotation: the lowest free one above the last one that this call returned
-    /// or, where there is none, the lowest free one. Where no number is free, or memory is refused, the table stays as
-    /// it is and the value comes back.
+    /// Adds the value at the next number in rotation, and returns the number. It is the lowest free one above the last
+    /// one that this call returned. If there is none, it is the lowest free one.
+    ///
+    /// # Errors
+    ///
+    /// If no number is free or memory is refused, the table is unchanged, and the error has the value.
     ///
     /// ```rust
     /// let Ok(other) = table.add_cyclic(8) else { return };
@@ -186,8 +192,11 @@ impl<T: Drop> IdTable<T> {
         self.entries.get(id)
     }
 
-    /// Puts the value at a number that has one, and returns the old one. Where the number has none, the table stays as
-    /// it is and the new value comes back.
+    /// Replaces the value of a number, and returns the old one.
+    ///
+    /// # Errors
+    ///
+    /// If the number has no value, the table is unchanged, and the error is the new value.
     ///
     /// ```rust
     /// assert!(table.replace(id, 5) == Ok(7));

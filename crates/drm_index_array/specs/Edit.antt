@@ -14,7 +14,7 @@ module _ {T : Type 0} where
   taken_by Remove o = option_map (λ s. s.value) o
   taken_by (Write m b) o = None
 
-  -- the entry at the index of an insertion, as it went
+  -- the entry at the index of an insertion, by its result
   abbrev pub filled_by : {E : Type 0} → Result (Unit {0}) E → T → Option (Marked T) → Option (Marked T)
   filled_by (Ok _) v o = Some (unmarked v)
   filled_by (Err _) v o = o

@@ -81,8 +81,11 @@ impl<T: Drop> IndexArray<T> {
         self.count
     }
 
-    /// Adds an entry with no mark. Where the index has an entry, or memory is refused, the array stays as it is and the
-    /// value comes back.
+    /// Adds an entry with no mark.
+    ///
+    /// # Errors
+    ///
+    /// If the index has an entry or memory is refused, the array is unchanged, and the error has the value.
     ///
     /// ```rust
     /// assert!(array.insert(300, 8) == Err(InsertFault::Taken(8)));

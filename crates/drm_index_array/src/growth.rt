@@ -36,7 +36,7 @@ fn height_for(index: u64) -> u32
     5
 }
 
-/// Returns the lowest tree with this one entry. Where memory is refused, the value comes back.
+/// Returns the lowest tree with this one entry. If memory is refused, it returns the value.
 fn sole<T: Drop>(alloc: Global, index: u64, value: T) -> Result<Box<Node<T>>, T>
     requires { index < 2 ^ 36 }
     ensures height { IfOk result (λ root. root.value.height ≤ 5) }
@@ -57,8 +57,8 @@ fn sole<T: Drop>(alloc: Global, index: u64, value: T) -> Result<Box<Node<T>>, T>
     Ok(root)
 }
 
-/// Returns a tree of this height with the same entries. All its nodes are made before the first is linked. Where memory
-/// is refused, the tree comes back unchanged.
+/// Returns a tree of this height with the same entries. All its nodes are created before the first is linked. If memory
+/// is refused, it returns the unchanged tree.
 fn raised<T: Drop>(
     alloc: Global,
     root: Box<Node<T>>,
@@ -86,8 +86,8 @@ fn raised<T: Drop>(
     Ok(above)
 }
 
-/// Returns a tree with one more entry, at an index that the root does not cover. Where memory is refused, the tree
-/// comes back unchanged, with the value.
+/// Returns a tree with one more entry, at an index that the root does not cover. If memory is refused, it returns the
+/// unchanged tree and the value.
 fn grown<T: Drop>(
     alloc: Global,
     root: Box<Node<T>>,
@@ -118,8 +118,8 @@ fn grown<T: Drop>(
     }
 }
 
-/// Returns the tree with one more entry, with no mark, and how that went. Where the index has an entry, or memory is
-/// refused, the tree stays as it is and the value comes back.
+/// Returns the tree with one more entry, with no mark, and the result. If the index has an entry or memory is refused,
+/// the tree is unchanged, and the result has the value.
 pub fn inserted<T: Drop>(
     alloc: Global,
     root: Option<Box<Node<T>>>,

@@ -447,8 +447,8 @@ impl<T: Drop> Node<T> {
     }
 }
 
-/// The slot, once an entry was added at an index below it, and how that went. All nodes that the entry needs are made
-/// before the first is linked.
+/// Returns the slot with an entry added at an index below it, and the result. All nodes that the entry needs are
+/// created before the first is linked.
 #[cycle(fill)]
 fn filled<T: Drop>(
     alloc: Global,

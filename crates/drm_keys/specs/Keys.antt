@@ -4,7 +4,7 @@ use Rattle.std.specs.Ordering.{nat_cmp}
 use Rattle.std.specs.FinMap as map
 use Rattle.slab.specs.Slab.{Slab, get}
 
--- the records of these step numbers and keys; `nothing` stands where none is kept
+-- the records of these step numbers and keys; `nothing` is used if none is kept
 abbrev pub rows_in : {X : Type 0} → X → Slab X → List (ℕ × ℕ) → List X
 rows_in nothing slab entries = list_map (λ entry. unwrap_or (get slab entry.1) nothing) entries
 

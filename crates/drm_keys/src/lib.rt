@@ -1,3 +1,3 @@
-//! Records in a slab, under keys that are reused, told in the order of their step numbers: definitions in `specs/`, and
-//! the lemmas that the crates cite which keep their records so.
+//! Records in a slab under reused keys, enumerated in the order of their step numbers. Definitions are in `specs/`, and
+//! lemmas for the crates that keep their records so.
 #![tactic(auto)]

@@ -13,10 +13,11 @@ use drm_state::{PrimaryCaller, State};
 use drm_table::{Answer, IdList, Rule};
 use std::alloc::AllocError;
 
-/// MODE_CREATE_LEASE (drm-uapi, leases; the order of the rules and the token are own): a new lessee of the caller's master, by
-/// the step of this number, with a lease of these mode objects, and the token that opens it. With universal planes off, each
-/// listed CRTC brings along its primary and its cursor plane, where the caller controls it (own). Where memory is refused nothing
-/// changes.
+/// Creates a lessee of the caller's master, by the step of this number, with a lease of these mode objects, and the
+/// token that opens it (MODE_CREATE_LEASE; drm-uapi, leases). The order of the rules and the token are own.
+///
+/// With universal planes off, the lease also has the primary and the cursor plane of each listed CRTC that the caller
+/// controls (own). If memory is refused, nothing changes.
 pub fn create_lease(
     state: &mut State,
     step_number: u32,
@@ -54,8 +55,8 @@ pub fn create_lease(
     }
 }
 
-/// MODE_REVOKE_LEASE (drm-uapi, leases; that a lessee which no client redeemed goes is own): the lease of a direct
-/// lessee of the caller's master ends, and all that was lent from it. Does not allocate.
+/// Ends the lease of a direct lessee of the caller's master, and all that was lent from it (MODE_REVOKE_LEASE;
+/// drm-uapi, leases). That a lessee which no client redeemed is freed is own. Does not allocate.
 pub fn revoke_lease(state: &mut State, caller: PrimaryCaller, lessee: u32, answer: &mut Answer)
     requires invariants { MeetsInvariants state.old }
     requires caller { IsPrimaryCaller state.old caller }

@@ -26,8 +26,8 @@ pub fn list_lessees(state: &State, caller: PrimaryCaller, answer: &mut Answer)
     };
 }
 
-/// MODE_GET_LEASE (drm-uapi, leases; that an owner has a lease of all is own): the mode objects in the lease of the
-/// caller's master, rising; all CRTCs, planes and connectors where it is no lessee. Does not allocate.
+/// Returns the mode objects in the lease of the caller's master, in rising order (MODE_GET_LEASE; drm-uapi, leases). If
+/// the master is no lessee, these are all CRTCs, planes and connectors (own). Does not allocate.
 pub fn get_lease(state: &State, caller: PrimaryCaller, answer: &mut Answer)
     requires invariants { MeetsInvariants state.now }
     requires caller { IsPrimaryCaller state.now caller }

@@ -121,8 +121,8 @@ next_token l = next_of l.tokens l.last_given l.last
 abbrev pub grant_before : Grant → Grant → Type 0
 grant_before g h = (g.master < h.master) ⊎ ((g.master ≡ h.master) × (g.mode_object < h.mode_object))
 
--- no token is open twice, and no lessee has two; no mode object occurs twice in a lease, which has 64 at most; each
--- token and each grant is of a lessee that has a lease
+-- No token is open twice, and no lessee has two. No mode object occurs twice in a lease, which has 64 at most. Each
+-- token and each grant is of a lessee that has a lease.
 pub record AreLeases (l : LeaseSet) : Type 0 where
   pub last_high : l.last ≤ 4294967295
   pub given_high : IfSome l.last_given (λ t. t ≤ l.last)

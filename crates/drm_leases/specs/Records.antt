@@ -11,8 +11,8 @@ use Rattle.drm_leases.specs.Masks.{LeaseRows, has_object, leases_in, IsFull, is_
 abbrev pub rows_of : Inside → LeaseRows
 rows_of a = record { rows = leases_in a.leases.items }
 
--- each lease has a mode object, no lessor lends one twice, the mask of each is that of what its leases have, and by a key exactly the
--- lessee is found whose lease has it
+-- Each lease has a mode object, and no lessor lends one twice. The mask of each is that of what its leases have. A key
+-- leads to exactly the lessee whose lease has it.
 pub record IsGranted (a : Inside) : Type 0 where
   pub full : AllByRecursion IsFull (leases_in a.leases.items)
   pub apart : InOrder AreApart (leases_in a.leases.items)

@@ -41,8 +41,8 @@ brought_along grants masters t m universal ids = rules.brought_along t universal
 abbrev pub leased : LeaseSet → MasterSet → ModeSet → ℕ → Bool → List ℕ → List ℕ
 leased l v s m universal ids = ids ++ brought_along l.grants v.masters s.topology m universal ids
 
--- what is asked of a master that leases these for a client with universal planes on or off, each rule over all ids; where there is no
--- room, the last
+-- the rules for a master that leases these for a client with universal planes on or off, each rule over all ids; if
+-- there is no room, the last
 abbrev pub lease_rules : LeaseSet → MasterSet → ModeSet → ℕ → Bool → List ℕ → Bool → List Check
 lease_rules l v s m universal ids room =
     rules.rules_in_order

@@ -18,8 +18,8 @@ use Rattle.drm_listeners.specs.declared.serve_faults.ServeFault.TheVariants as f
 abbrev pub connection_turns : ℕ
 connection_turns = 1000000
 
--- A session of a connection on a listener of this class, from a source and into a sink that no client had asked before:
--- through a participant of the shared device that had made nothing, and is left as `participant`.
+-- A session of a connection on a listener of this class, from a source and into a sink that were not used before. Its
+-- participant of the shared device had made nothing, and is left as `participant`.
 pub record IsSessionBy (class : Class) (participant : ParticipantView) (session : Session) : Type 0 where
   pub in0 : SourceTrace
   pub in1 : SourceTrace

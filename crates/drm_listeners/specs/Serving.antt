@@ -38,7 +38,7 @@ pub record AreSessionsOf (counts : Counts) (sessions : List Session) : Type 0 wh
 abbrev pub IsBy : Class → SessionState → Type 0
 IsBy class sitting = IsSessionBy class sitting.participant sitting.session
 
--- Each session was of its class, through a participant of its own number, and this participant has seen what that had
+-- Each session was of its class, through a participant with its own number, and this participant has seen what that had
 -- seen.
 pub record HaveSat (counts : Counts) (participant : ParticipantView) (sessions : List Session) : Type 0 where
   pub sittings : List SessionState
@@ -56,7 +56,7 @@ pub record IsTold (log : List Entry) (class : Class) (sitting : SessionState) : 
   pub own : calls_by sitting.participant.number sitting.participant.seen ≡ sitting.participant.mine
   pub steps : length (calls_by sitting.participant.number sitting.participant.seen) ≡ sitting.session.steps
 
--- One legal history, of which the device has the events: it begins with what the device had recorded before, and has
+-- One legal history, of which the device has the events. It begins with what the device had recorded before. It has
 -- each session, as one of its class, under numbers that differ.
 pub record IsHistoryOf (counts : Counts) (before after : DeviceValue) (sessions : List Session) : Type 0 where
   pub log : List Entry

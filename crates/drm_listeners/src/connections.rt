@@ -80,8 +80,8 @@ pub(crate) struct Visitor {
     pub(crate) place: usize,
 }
 
-/// The threads of a listener's connections. They lie in the stack of the listener's own thread, and so take no memory: a list that is
-/// reserved before can't go to that thread, since handles don't cross threads.
+/// The threads of a listener's connections. They are on the stack of the listener's own thread, and so need no memory.
+/// A list that is reserved before can't move to that thread, since handles don't cross threads.
 type ConnectionHandles = ArrayVec<Option<ConnectionHandle>, MOST>;
 
 // Serves a connection over its two sides, which no client had asked before.

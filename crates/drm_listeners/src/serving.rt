@@ -223,32 +223,32 @@ pub fn serve_keeping<R: Wait + Threads + Log + Sync>(
 }
 
 /// Accepts this many connections on the three listeners and serves each in its own thread, on one device that they
-/// share, until all have ended (own). It may wait.
+/// share (own). Returns when all have ended, for which it may wait.
 ///
-/// The device and the sessions are returned: first those of `card`, then those of `render`, then those of `root`, each
+/// Returns the device and the sessions: first those of `card`, then those of `render`, then those of `root`, each
 /// listener's in the order in which they were accepted. A session makes at most 1,000,000 reads and writes, and its
-/// connection is closed as it ends. However a session ends, the others go on.
+/// connection is closed as it ends. However a session ends, the others continue.
 ///
 /// The device has the events of one legal history, which begins with what it had recorded before. Each session's steps
 /// are there as the entries of its participant, whose number no other session's has, and nothing else was recorded.
 ///
-/// A listener is closed once it has accepted its last connection, or couldn't accept one, while sessions go on: whoever
-/// connects later is refused. One that accepts none is closed at once. Where the system does not have descriptors or
-/// memory for a connection, or its client has exited, the listener asks again while a connection is open, and then for
-/// five seconds before that is a fault.
+/// A listener is closed once it has accepted its last connection, or couldn't accept one, while sessions continue.
+/// Later connection attempts fail. A listener for no connection is closed at once. If the system has no descriptors or
+/// memory for a connection, or its client has exited, the listener retries while a connection is open. After that it
+/// retries for five seconds before it reports a fault.
 ///
-/// The connections are in `open` for as long as they are served, which needs room for all of them. Where that is asked
-/// to end, each connection ends as if its client had ended it. Those that were still to come count as accepted: each is
-/// one whose client had ended before its first frame, so that it made no step. What ends so is not logged.
+/// The connections are in `open` for as long as they are served, which needs room for all of them. If `open` is asked
+/// to end, each connection ends as if its client had ended it. Those that did not arrive yet count as accepted: each is
+/// one whose client had ended before its first frame, so that it made no step. Such an end is not logged.
 ///
-/// On a fault the threads that were started are waited for, and then the device is dropped. [`serve_keeping`] returns
-/// it. `NoThread` comes where a thread can't be started, for whatever cause. `NoMemory` comes only before the first
-/// connection is accepted: room for the sessions of all listeners is reserved before the first thread is started, so
-/// that nothing that was served is lost for lack of it.
+/// On a fault the function waits for the threads that were started, and then drops the device. [`serve_keeping`]
+/// returns it. `NoThread` means that a thread can't be started, for whatever cause. `NoMemory` is only returned before
+/// the first connection is accepted. Room for the sessions of all listeners is reserved before the first thread is
+/// started, so nothing that was served is lost for lack of memory.
 ///
-/// A session that ends in another way than `Ended` is logged as it ends, with its listener and its client; so is the
-/// system's reason where a connection can't be accepted, at the first try and at the last, and a connection that waits
-/// after a listener's last one.
+/// A session that does not end with `Ended` is logged as it ends, with its listener and its client. If a connection
+/// can't be accepted, the system's reason is logged at the first try and at the last. A connection that waits after a
+/// listener's last one is logged too.
 pub fn serve_until_told<R: Wait + Threads + Log + Sync>(
     rt: &R,
     alloc: Global,

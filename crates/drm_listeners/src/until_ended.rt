@@ -49,8 +49,8 @@ fn keep_shared<R: Wait + Threads + Log + Sync>(
     kept.fault
 }
 
-/// Accepts connections on the three listeners and serves each in its own thread, on one device that they share, until
-/// `open` is asked to end and all sessions have ended (own). It may wait.
+/// Accepts connections on the three listeners and serves each in its own thread, on one device that they share (own).
+/// Returns when `open` is asked to end and all sessions have ended, for which it may wait.
 ///
 /// At most 64 connections of each listener are served at once. A connection beyond them is closed, and so is one for
 /// which no thread can be started; each is logged once. Each session is one as [`serve_all`](crate::serve_all)
@@ -58,7 +58,7 @@ fn keep_shared<R: Wait + Threads + Log + Sync>(
 /// it had recorded before and has the steps of each session.
 ///
 /// If the system is out of descriptors or memory for a connection, the listener waits. `open` has room for the
-/// connections if it was made by [`OpenConnections::until_ended`]. Does not allocate for a connection.
+/// connections if it was created by [`OpenConnections::until_ended`]. Does not allocate for a connection.
 ///
 /// # Errors
 ///

@@ -37,7 +37,7 @@ founded_master key step_number = record { key = key; step_number = step_number; 
 abbrev pub lessee : ℕ → ℕ → ℕ → ℕ → Master
 lessee key step_number lessor id = record { key = key; step_number = step_number; lessor = Some lessor; lessee_id = id; kept = true }
 
--- a client of its own master
+-- a client with its own master
 abbrev pub owner : ℕ → ℕ → Member
 owner c m = record { client = c; once_master = true; is_master = true; master = m; magic = None }
 
@@ -68,7 +68,7 @@ with_device m v = record v { device_master = m }
 abbrev pub without_member : ℕ → MasterSet → MasterSet
 without_member c v = record v { members = filter (λ (x : Member). not (is_client c x)) v.members }
 
--- the client belongs to masters as told now
+-- the clients, with this row for its client
 abbrev pub changed_member : Member → MasterSet → MasterSet
 changed_member y v = record v { members = map (λ (x : Member). if is_client y.client x then y else x) v.members }
 
@@ -88,7 +88,7 @@ with_magic n spent x = record x { magic = Some (record { number = n; spent = spe
 
 -- openings
 
--- without a device's master the client founds one, else it stands to the device's and is no master
+-- without a device's master the client founds one, else it belongs to the device's and is no master
 abbrev pub Opened : MasterSet → ℕ → ℕ → Option ℕ → MasterSet → Type 0
 Opened v c step_number None new = (key : ℕ) × IsFreeKey v key × (new ≡ with_device (Some step_number) (with_member (owner c step_number) (with_master (founded_master key step_number) v)))
 Opened v c step_number (Some m) new = new ≡ with_member (non_master c m) v
@@ -113,7 +113,7 @@ drop_checks v x root =
     ∷ check IsLessee (not (is_lessee v.masters x.master))
     ∷ []
 
--- a new master of a client, which becomes the device's; a master that no client holds any more goes
+-- a new master of a client, which becomes the device's; a master that no client holds any more is freed
 abbrev pub remade : ℕ → ℕ → ℕ → MasterSet → MasterSet
 remade c key step_number v = swept (with_device (Some step_number) (changed_member (owner c step_number) (with_master (founded_master key step_number) v)))
 

@@ -1,4 +1,5 @@
--- Who stands to which master, and the masters, as flat lists in the order of step numbers (drm(7), masters; drm-uapi, leases).
+-- The masters and the clients that belong to them, as flat lists in the order of step numbers (drm(7), masters;
+-- drm-uapi, leases).
 use Rattle.std.specs.Prelude.{◌≡◌, ℕ, ◌==◌, ◌<◌, ◌≤◌, nat_lt, Bool, true, false, not, ◌&&◌, ◌||◌, List, length, Option, None, Some, find, filter, map, slice_get, if◌then◌else◌}
 use Rattle.std.specs.List.{list_any, AllByRecursion}
 use Rattle.std.specs.Option.{is_some, option_map, option_map_or, option_and_then}
@@ -159,13 +160,13 @@ free_lessee v m = least (λ id. not (list_any (is_lessee_of v.masters (owner_of 
 abbrev pub HasOlderLessor : List Master → Master → Type 0
 HasOlderLessor masters x = (l : ℕ) → x.lessor ≡ Some l → (is_some (master_at masters l) ≡ true) × (l < x.step_number)
 
--- one of the two has no number, or they have two, or they stand to two masters
+-- one of the two has no number, or they have two, or they belong to two masters
 abbrev pub HaveOtherMagics : Member → Member → Type 0
 HaveOtherMagics x y = (n : ℕ) → has_magic x.master n x ≡ true → has_magic x.master n y ≡ false
 
--- the lists are in the order of step numbers; all that is named is there; the device's master is some client's own;
--- neither it nor the master of a client that is no master has a lessor; each master is held, or one below it; no two
--- clients of a master have one number, and there are no more clients than numbers; ids of lessees run to 64 at most
+-- The lists are in the order of step numbers, and all that is named exists. The device's master is some client's own.
+-- Neither it nor the master of a client that is no master has a lessor. Each master is held, or one below it. No two
+-- clients of a master have one number, and there are no more clients than numbers. Ids of lessees are at most 64.
 pub record AreMasters (v : MasterSet) : Type 0 where
   pub members_rise : InOrder (λ (x y : Member). x.client < y.client) v.members
   pub masters_rise : InOrder (λ (x y : Master). x.step_number < y.step_number) v.masters

@@ -15,7 +15,8 @@ items_of a = rows_in nothing a.kept (map.entries a.keys.items)
 abbrev pub rows_of : Inside → MasterRows
 rows_of a = record { items = items_of a }
 
--- the records are found by their step numbers and keys, the step numbers are numbers of 32 bits, and the lessees are found by their lessors, and by their owners and ids
+-- The records are found by their step numbers and keys. The step numbers are numbers of 32 bits. The lessees are found
+-- by their lessors, and by their owners and ids.
 pub record IsTable (a : Inside) : Type 0 where
   pub keyed : IsKeyed (λ (x : Master). x.key) (λ (x : Master). x.step_number) a.keys.items a.kept
   pub fits : AllByRecursion (λ (x : Master). x.step_number ≤ 4294967295) (items_of a)

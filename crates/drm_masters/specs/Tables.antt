@@ -20,7 +20,7 @@ members_in clients = list_map member_row (map.entries clients)
 pub record MemberRows : Type 0 where
   pub items : List Member
 
--- what stands where no master is kept
+-- the value where no master is kept
 abbrev pub nothing : Master
 nothing = record { key = 0; step_number = 0; lessor = None; lessee_id = 0; kept = false }
 

@@ -47,9 +47,11 @@ pub fn get_fb(
     Ok(())
 }
 
-/// MODE_ADDFB: makes a framebuffer of the caller over the object of its handle, and answers its id, the lowest that is
-/// free (drm-uapi, mode setting; the kernel's IDR returns the lowest). Where the caller has no such handle, the shape
-/// does not fit the object, no id is free or memory is refused, nothing changes.
+/// Creates a framebuffer of the caller over the object of its handle, and returns its id, the lowest free one
+/// (MODE_ADDFB; drm-uapi, mode setting; so does the kernel's IDR).
+///
+/// If the caller has no such handle, the shape does not fit the object, no id is free or memory is refused, nothing
+/// changes.
 pub fn add_fb(
     state: &mut State,
     step_number: u32,
@@ -85,8 +87,8 @@ pub fn add_fb(
     Ok(())
 }
 
-/// MODE_RMFB: the caller's framebuffer goes, what shows it becomes dark, and its object is freed with the last that
-/// refers to it (drm-uapi, mode setting). Where the caller made no such framebuffer, nothing changes. Does not
+/// Removes the caller's framebuffer (MODE_RMFB; drm-uapi, mode setting). What shows it is dark afterwards, and its
+/// object is freed with the last reference. If the caller created no such framebuffer, nothing changes. Does not
 /// allocate.
 pub fn rm_fb(state: &mut State, client: u32, framebuffer: u32, answer: &mut Answer)
     requires invariants { MeetsInvariants state.old }

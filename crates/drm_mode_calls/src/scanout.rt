@@ -13,11 +13,14 @@ use drm_modes::Kind;
 use drm_state::{PrimaryCaller, State};
 use drm_table::{Answer, Rule};
 
-/// MODE_SETCRTC (drm-uapi, mode setting; that one connector is named at most is own): a CRTC shows a framebuffer of any
-/// client, or becomes dark where that is 0. The connector is checked and not kept. It is denied where the caller
-/// doesn't see the CRTC or the connector (0 for none), where there is no such framebuffer, and where a framebuffer
-/// comes without a connector that the CRTC reaches, or a connector without a framebuffer. Then nothing changes. Does
-/// not allocate.
+/// Sets the framebuffer that a CRTC shows, of any client, or makes the CRTC dark if it is 0 (MODE_SETCRTC; drm-uapi,
+/// mode setting). The connector is checked and not kept. That at most one connector is named is own. Does not allocate.
+///
+/// A denial changes nothing. The call is denied in these cases:
+///
+/// - The caller does not see the CRTC or the connector (0 for none).
+/// - The framebuffer does not exist.
+/// - There is a framebuffer without a connector that the CRTC reaches, or a connector without a framebuffer.
 pub fn set_crtc(
     state: &mut State,
     caller: PrimaryCaller,
@@ -40,10 +43,14 @@ pub fn set_crtc(
     answer.set_done();
 }
 
-/// MODE_SETPLANE (drm-uapi, mode setting): a plane shows a framebuffer of any client on a CRTC, or becomes dark where
-/// that is 0, whichever CRTC is named then. It is denied where the caller doesn't see the plane, or the CRTC that is to
-/// show it, where there is no such framebuffer, and where the plane can't be shown on the CRTC. Then nothing changes.
-/// Does not allocate.
+/// Sets the framebuffer that a plane shows on a CRTC, of any client, or makes the plane dark if it is 0 (MODE_SETPLANE;
+/// drm-uapi, mode setting). The CRTC is then not used. Does not allocate.
+///
+/// A denial changes nothing. The call is denied in these cases:
+///
+/// - The caller does not see the plane, or the CRTC that is to show it.
+/// - The framebuffer does not exist.
+/// - The plane can't be shown on the CRTC.
 pub fn set_plane(
     state: &mut State,
     caller: PrimaryCaller,
@@ -118,7 +125,7 @@ fn sees_route(state: &State, caller: PrimaryCaller, crtc: u32, connector: u32) -
         && (connector == 0 || sees_object(state, caller, Kind::Connector, connector))
 }
 
-/// Returns whether a framebuffer comes with a connector that a CRTC reaches, or neither is named.
+/// Returns whether there is a framebuffer with a connector that a CRTC reaches, or neither.
 fn is_route(state: &State, crtc: u32, framebuffer: u32, connector: u32) -> bool
     ensures { result ≡ scanned.is_route state.now crtc framebuffer connector }
 {

@@ -9,9 +9,9 @@ use drm_modes::Kind;
 use drm_state::{PrimaryCaller, State};
 use drm_table::ShownList;
 
-/// Returns whether a caller sees a fixed mode object (drm-uapi, leases and universal planes): all see an encoder, and
-/// of the rest a caller sees what it controls, but primary and cursor planes with universal planes on alone. Does not
-/// allocate.
+/// Returns whether a caller sees a fixed mode object (drm-uapi, leases and universal planes). All callers see an
+/// encoder. Of the rest a caller sees what it controls, but primary and cursor planes only with universal planes on.
+/// Does not allocate.
 pub(crate) fn sees(state: &State, caller: PrimaryCaller, id: u32) -> bool
     ensures { result ≡ views.sees state.now caller id }
 {
@@ -55,8 +55,8 @@ pub(crate) fn visible(state: &State, caller: PrimaryCaller, kind: Kind) -> Shown
     seen
 }
 
-/// Returns the possible CRTCs of a plane or an encoder, as a mask over those that the caller sees: bit i is the i-th of
-/// them (drm-uapi, leases; for planes own). It is 0 of anything else, and takes no memory.
+/// Returns the possible CRTCs of a plane or an encoder among those that the caller sees, as a mask. Bit i is the i-th
+/// of them (drm-uapi, leases; for planes own). Returns 0 for any other id. Does not allocate.
 #[tactic(auto, using(drm_modes::proofs::Fixed::picked_crtcs))]
 pub(crate) fn visible_mask(state: &State, caller: PrimaryCaller, id: u32) -> u32
     ensures { result ≡ mask_over state.now.modes.topology id (views.visible state.now caller Crtc) }

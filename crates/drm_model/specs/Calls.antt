@@ -1,4 +1,4 @@
--- What each call means. Its meaning stands with its family.
+-- The meaning of each call. It is defined with its family (drm-uapi, drm-mm, drm(7), drm-gem(7)).
 use Rattle.std.specs.Prelude.{ℕ}
 use Rattle.drm_table.specs.declared.calls.Call.{Call}
 use Rattle.drm_table.specs.declared.calls.Call.TheVariants.{Unknown, BadLayout, Version, GetMagic, GemClose, GemFlink, GemOpen, GetCap, SetClientCap, AuthMagic, SetMaster, DropMaster, PrimeHandleToFd, PrimeFdToHandle, BufCreate, StampWrite, StampRead, TokenClose, ListHandles, Audit, GetResources, GetCrtc, SetCrtc, GetEncoder, GetConnector, GetFb, AddFb, RmFb, CreateDumb, DestroyDumb, GetPlaneResources, GetPlane, SetPlane, CreateLease, ListLessees, GetLease, RevokeLease}

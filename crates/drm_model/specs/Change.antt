@@ -30,8 +30,8 @@ is_held w row = is_some row.lease_token || list_any (λ client. is_option row.ma
 abbrev pub is_living : Rows → ℕ → Bool
 is_living w m = list_any (λ row. is_held w row && is_under w.masters m row.master) w.masters
 
--- a name is freed with the last handle of its object, a shown row with its framebuffer, an object with the last that
--- refers to it, a master with the last that is held below it (drm-gem(7), drm-uapi, drm(7))
+-- A name is removed with the last handle of its object, a shown row with its framebuffer (drm-gem(7), drm-uapi). An
+-- object is freed with its last reference, a master with the last one that is held below it (drm(7)).
 unfoldable pub swept : Rows → Rows
 swept w = record w {
   shown = filter (λ row. is_framebuffer w row.framebuffer) w.shown;

@@ -54,7 +54,7 @@ opened w (Primary root universal) = opened_primary w root universal w.device_mas
 opened w Render = opened_render w
 opened w (Lease token root universal) = opened_lease w token root universal
 
--- a closing client that is a master: what its master returned goes, and the device's master if it was that one
+-- a closing client that is a master: what its master lent is removed, and the device's master if it was that one
 abbrev pub ended_if : Rows → Bool → Option ℕ → Rows
 ended_if w true (Some m) = record (ended w m) { device_master = if is_option m w.device_master then None else w.device_master }
 ended_if w true None = w

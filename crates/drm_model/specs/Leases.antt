@@ -1,6 +1,6 @@
--- MODE_CREATE_LEASE, MODE_LIST_LESSEES, MODE_GET_LEASE and MODE_REVOKE_LEASE (drm-uapi, leases). Lease tokens, the limits, how
--- deep lessees may lease, that each rule is tested of all ids before the next, which planes come along with a CRTC, and that an
--- owner has a lease of all, are this project's own.
+-- MODE_CREATE_LEASE, MODE_LIST_LESSEES, MODE_GET_LEASE and MODE_REVOKE_LEASE (drm-uapi, leases). These parts are own:
+-- lease tokens, the limits, how deep lessees may lease, and that each rule is tested of all ids before the next. So are
+-- the planes that are added for a CRTC, and that an owner has a lease of all.
 use Rattle.std.specs.Prelude.{ℕ, ◌==◌, Bool, false, not, ◌&&◌, List, [], ◌∷◌, ◌++◌, Option, None, Some, unwrap_or, find, map, filter, if◌then◌else◌}
 use Rattle.std.specs.List.{list_any}
 use Rattle.std.specs.Option.{is_some, option_map, option_map_or}
@@ -31,7 +31,7 @@ ended w top = record w {
   masters = map (λ (row : MasterRow). if is_under w.masters top row.master then record row { lease_token = None } else row) w.masters;
 }
 
--- ---- what is asked of who leases, and of the ids
+-- ---- the rules for the caller that leases, and for the ids
 
 -- whether the master may lease: an owner, or a lessee that isn't so deep
 abbrev pub may_lease : List MasterRow → ℕ → Bool
@@ -44,7 +44,8 @@ is_seen w c x = rules.is_seen w.topology (sees w c x) (is_framebuffer w x) x
 abbrev pub is_leasable : Rows → ℕ → Bool
 is_leasable w x = rules.is_leasable w.topology (is_framebuffer w x) x
 
--- what comes along: with universal planes off, of each listed CRTC the primary and the cursor plane that the client controls
+-- the added planes: with universal planes off, of each listed CRTC the primary and the cursor plane that the client
+-- controls
 abbrev pub brought_along : Rows → ℕ → List ℕ → List ℕ
 brought_along w c ids = rules.brought_along w.topology (has_universal w c) (controls w c) ids
 
@@ -104,7 +105,7 @@ create_lease_of w c m ids = record {
   answer = Lease (new_lessee_id w m) (new_lease_token w);
 }
 
--- MODE_CREATE_LEASE: a new lessee of the caller's master, which has these mode objects and what comes along
+-- MODE_CREATE_LEASE: a new lessee of the caller's master, which has these mode objects and the added planes
 abbrev pub create_lease : Rows → ℕ → List ℕ → Meaning
 create_lease w c ids = create_lease_of w c (caller_master w c) ids
 

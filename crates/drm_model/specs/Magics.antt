@@ -87,7 +87,7 @@ may_be_master w c = client_has (λ row. row.once_master) w c || (credentials_of 
 unfoldable pub with_master : ℕ → ℕ → List ClientRow → List ClientRow
 with_master c m clients = map (λ (row : ClientRow). if is_client c row then record row { authenticated = true; once_master = true; is_master = true; master = Some m } else row) clients
 
--- a new master for the client, which is the device's; its magic of the master before goes
+-- a new master for the client, which is the device's; its magic of the master before is removed
 abbrev pub with_new_master : Rows → ℕ → Rows
 with_new_master w c = record w {
   clients = with_master c (step_number w) w.clients;

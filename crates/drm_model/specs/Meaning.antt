@@ -1,4 +1,4 @@
--- What a call means: the rules that it has of its own, in order, and the rows after it and its answer where none fails.
+-- The meaning of a call: its own rules, in order, and the rows after it and its answer if none fails (drm-uapi).
 use Rattle.std.specs.Prelude.{List, []}
 use Rattle.drm_table.specs.declared.answers.Answer.{Answer}
 use Rattle.drm_table.specs.declared.answers.Answer.TheVariants.{Done}

@@ -8,7 +8,7 @@ use Rattle.drm_index_array.specs.Least.{least}
 abbrev pub rising : List ℕ → List ℕ
 rising numbers = sorted_by nat_le numbers
 
--- the next number in rotation, of those up to the last: the lowest free one above the one that was assigned last or,
--- where there is none, the lowest free one (the kernel's cyclic IDR)
+-- The next number in rotation, of those up to the last. It is the lowest free one above the one that was assigned last
+-- or, if there is none, the lowest free one (the kernel's cyclic IDR).
 abbrev pub next_in_turn : (ℕ → Bool) → ℕ → ℕ → Option ℕ
 next_in_turn is_free given last = option_or (least is_free (given + 1) last) (least is_free 1 last)

@@ -1,6 +1,5 @@
--- The rows of a device: flat lists, in which a client, a master or an object is named by its step number, the number of
--- the step that made it (step numbers are this project's own; what a row represents is in drm-uapi, drm-mm, drm(7) and
--- drm-gem(7)).
+-- The rows of a device (drm-uapi, drm-mm, drm(7) and drm-gem(7)). They are flat lists, in which a client, a master or
+-- an object is named by its step number, the number of the step that created it (own).
 use Rattle.std.specs.Prelude.{ℕ, ◌+◌, ◌==◌, Bool, false, not, ◌&&◌, nat_lt, List, [], ◌∷◌, ◌++◌, length, Option, None, Some, unwrap_or, find, map, filter}
 use Rattle.std.specs.Option.{is_some, option_map, option_map_or}
 use Rattle.drm_lists.specs.Numbers.{is_among}

@@ -54,29 +54,29 @@ pub fn rows_follow_the_journal()
     ensures { (h : DeviceValue) (event : Event) → rows_of (journaled_in h event) ≡ after (rows_of h) event }
 {}
 
-/// Lessors are older: after any events clients, masters and objects are those of steps that were made, and what is above a
-/// master was made before it, so that its chain of lessors ends.
+/// Lessors are older. After any events clients, masters and objects are those of steps that were made. What is above a
+/// master was created before it, so its chain of lessors ends.
 pub fn lessors_are_older()
     ensures made { (h : DeviceValue) → WereMade (rows_of h).steps (rows_of h) }
     ensures older { (h : DeviceValue) (n m : ℕ) → lessor_of (rows_of h).masters n ≡ Some m → m < n }
 {}
 
-/// A closing leaves no right: no row names its client, and where the client was a master, neither its own master nor any below
+/// A closing leaves no right. No row names its client. If the client was a master, neither its own master nor any below
 /// has a grant or an open lease token.
 pub fn closings_leave_no_right()
     ensures forgotten { (w : Rows) (c : ℕ) → is_open w c ≡ true → IsForgotten (after w (Close c)) c }
     ensures ended { (w : Rows) (c own m : ℕ) → is_open w c ≡ true → is_master w c ≡ true → master_of w c ≡ Some own → is_under w.masters own m ≡ true → HasEnded (after w (Close c)) m }
 {}
 
-/// A lease ends for good: after its revocation neither the lessee nor any below has a grant or an open lease token, and none of
-/// them gets one by any later event; nor does a master whose client's closing ended what it lent.
+/// A lease ends for good. After its revocation neither the lessee nor any below has a grant or an open lease token, and
+/// none of them gets one by any later event. The same holds for a master whose client's closing ended what it lent.
 pub fn leases_end_for_good()
     ensures revoked { (w : Rows) (c lessee m : ℕ) → verdict w (Ask c (RevokeLease lessee)) ≡ None → is_under w.masters (lessee_master w (caller_master w c) lessee) m ≡ true → HasEnded (after w (Ask c (RevokeLease lessee))) m }
     ensures stays { (w : Rows) (events : List Event) (m : ℕ) → m ≤ w.steps → HasEnded w m → HasEnded (run w events) m }
 {}
 
-/// Leases nest: after any events no master is deeper than the last depth, and what the lease of a lessee has, that of its
-/// lessor has too, where that is a lessee.
+/// Leases nest. After any events no master is deeper than the last depth. What the lease of a lessee has, that of its
+/// lessor has too, if that is a lessee.
 pub fn leases_nest()
     ensures { (h : DeviceValue) → LeasesNest (rows_of h) }
 {}

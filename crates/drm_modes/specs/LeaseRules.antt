@@ -1,6 +1,6 @@
--- The rules of CREATE_LEASE, and what a client sees, over what is known of the lessor and of the ids (drm-uapi, leases;
--- the order, how deep lessees may lease, the rule of ids that occur twice, what an empty list is, and what comes along
--- with a CRTC are own). The leases and the model both read them here.
+-- The rules of CREATE_LEASE, and what a client sees, by the properties of the lessor and of the ids (drm-uapi, leases).
+-- Their order, how deep lessees may lease, and the rule of ids that occur twice are own. So is what an empty list is,
+-- and the planes that are added for a CRTC. The leases and the model both read them here.
 use Rattle.std.specs.Prelude.{ℕ, ◌==◌, nat_lt, Bool, not, ◌&&◌, ◌||◌, if◌then◌else◌, List, [], ◌∷◌, filter}
 use Rattle.std.specs.List.{list_any, list_all}
 use Rattle.std.specs.Option.{is_some}
@@ -39,7 +39,7 @@ stands_once ids x = count ids x == 1
 abbrev pub is_lease : Topology → Bool → List ℕ → Bool
 is_lease t universal ids = list_any (is_crtc t) ids && list_any (is_connector t) ids && (not universal || list_any (is_plane t) ids)
 
--- what comes along: with universal planes off, of each listed CRTC the primary and the cursor plane that is controlled
+-- the added planes: with universal planes off, of each listed CRTC the primary and the cursor plane that is controlled
 abbrev pub brought_along : Topology → Bool → (ℕ → Bool) → List ℕ → List ℕ
 brought_along t universal controls ids = if universal then [] else filter controls (planes_of t ids)
 
@@ -55,9 +55,9 @@ rules_in_order may_lease seen leasable once shaped free room =
     ∷ check Full room
     ∷ []
 
--- what is asked, each rule over all ids, once the flags of the call's row have passed. `seen` is `sees` of each id and
--- `framebuffer` whether it is a framebuffer's; `leased_out`: a direct lessee of the lessor has one of the ids, or of what comes along;
--- `has_room`: a lessee id and a lease token are free
+-- The rules, each over all ids, once the flags of the call's row have passed. `seen` is `sees` of each id and
+-- `framebuffer` whether it is a framebuffer's. `leased_out`: a direct lessee of the lessor has one of the ids or of the
+-- added planes. `has_room`: a lessee id and a lease token are free.
 abbrev pub lease_checks : Topology → ℕ → (ℕ → Bool) → (ℕ → Bool) → Bool → Bool → Bool → List ℕ → List Check
 lease_checks t depth seen framebuffer universal leased_out has_room ids =
     rules_in_order

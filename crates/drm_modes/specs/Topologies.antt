@@ -1,4 +1,4 @@
--- What is asked of a topology, as one value.
+-- The functions of a topology, over its value (drm-uapi, mode setting).
 use Rattle.std.specs.Prelude.{ℕ, List, length, replicate}
 use Rattle.drm_modes.specs.declared.kinds.PlaneKind.{PlaneKind}
 use Rattle.drm_modes.specs.declared.kinds.PlaneKind.TheVariants.{Overlay}

@@ -10,8 +10,8 @@ use Rattle.drm_modes.specs.declared.kinds.Kind.TheVariants.{Crtc, Plane, Encoder
 use Rattle.drm_modes.specs.declared.kinds.PlaneKind.{PlaneKind}
 use Rattle.drm_modes.specs.PlaneKinds.{is_possible, crtc_of_kind, are_kinds}
 
--- this many CRTCs; of each plane and encoder the mask of possible CRTCs, whose bit i is CRTC i + 1; of each plane what
--- it is for; of each connector its encoder
+-- The number of CRTCs. For each plane and encoder, the mask of possible CRTCs, whose bit i is CRTC i + 1. For each
+-- plane, its kind. For each connector, its encoder.
 pub record Topology : Type 0 where
   pub crtcs : ℕ
   pub planes : List ℕ

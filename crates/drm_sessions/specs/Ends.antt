@@ -47,7 +47,7 @@ Shows ends.WriteFault in0 in1 out0 out1 unused = out0.counts.faults < out1.count
 Shows ends.TurnsUsed in0 in1 out0 out1 unused = unused ≡ 0
 Shows _ in0 in1 out0 out1 unused = ⊤
 
--- What source and sink told at an end: one end or one fault, which is what the calls stop by, or neither.
+-- What source and sink reported at an end: one end or one fault, which is why the calls stop, or neither.
 pub record Tells (end : SessionEnd) (in0 in1 out0 out1 : Counts) : Type 0 where
   pub source : SourceTells end in0 in1
   pub sink : SinkTells end out0 out1
@@ -71,12 +71,13 @@ abbrev pub Refuses : SessionEnd → SessionEnd → SinkTrace → SinkTrace → L
 Refuses meant end from to text had has = ((end ≡ meant) × WriteCost from to text had has × Untold from.counts to.counts)
     ⊎ ((part : PartialWriteCost from to text had has) × WriteShows end from to has × HandsLater end to part.rest × SinkTells end from.counts to.counts)
 
--- A closing that finds the turn worn is the end.
+-- A closing that finds the ticket counter exhausted is the end.
 abbrev pub EndsClosed : SessionEnd → CallResult → SessionEnd → Type 0
 EndsClosed stopped (Err aparts.Worn) end = end ≡ ends.Apart aparts.Worn
 EndsClosed stopped _ end = end ≡ stopped
 
--- What source and sink told at the end of a session, which is how its calls stopped, or that its closing found the turn worn.
+-- What source and sink reported at the end of a session, which is how its calls stopped, or that its closing found the
+-- ticket counter exhausted.
 pub record TellsStop (end : SessionEnd) (in0 in1 out0 out1 : Counts) : Type 0 where
   pub stopped : SessionEnd
   pub same : (end ≡ stopped) ⊎ (end ≡ ends.Apart aparts.Worn)

@@ -12,7 +12,7 @@ use Rattle.drm_frames.specs.Answers.{CallResult}
 use Rattle.drm_sessions.specs.declared.class.Class.{Class}
 use Rattle.drm_sessions.specs.declared.class.Class.TheVariants.{Card, Render, Root}
 
--- An opening is answered by a client, a denial, or what stands apart.
+-- An opening is answered by a client, a denial or a fault.
 abbrev pub IsOpeningAnswer : CallResult → Type 0
 IsOpeningAnswer (Ok (Opened client)) = ⊤
 IsOpeningAnswer (Ok (Denied rule)) = ⊤

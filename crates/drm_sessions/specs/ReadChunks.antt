@@ -25,7 +25,7 @@ frames_used [] = []
 frames_used (Chunk bytes ∷ more) = frames_used more
 frames_used (Used frame ∷ more) = frame ∷ frames_used more
 
--- how many bytes the last chunk has; where there is none, as many as came last before
+-- the number of bytes of the last chunk; if there is none, of the last one before
 abbrev pub last_chunk : List ReadChunk → ℕ → ℕ
 last_chunk [] gave = gave
 last_chunk (Chunk bytes ∷ more) gave = last_chunk more (length bytes)

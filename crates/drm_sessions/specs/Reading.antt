@@ -26,14 +26,14 @@ pub record FaultTold (old new : Counts) : Type 0 where
   pub ends : new.ends ≡ old.ends
   pub fault : (new.failures ≡ old.failures + 1) ⊎ ((new.failures ≡ old.failures) × (old.faults + 1000 ≤ new.faults))
 
--- what a source told by which a session ends
+-- the report of a source by which a session ends
 abbrev pub SourceTells : SessionEnd → Counts → Counts → Type 0
 SourceTells ends.Ended old new = EndTold old new
 SourceTells ends.Truncated old new = EndTold old new
 SourceTells ends.ReadFault old new = FaultTold old new
 SourceTells _ old new = Untold old new
 
--- what a sink told by which a session ends
+-- the report of a sink by which a session ends
 abbrev pub SinkTells : SessionEnd → Counts → Counts → Type 0
 SinkTells ends.WriteFault old new = FaultTold old new
 SinkTells _ old new = Untold old new
@@ -52,7 +52,8 @@ pub record Gives (from to : SourceTrace) (waited waits : List ℕ) (had has : �
   pub gave : to.gave ≡ length more
   pub untold : Untold from.counts to.counts
 
--- Bytes came from the source one after the other, each call at the cost of a turn, and wait after those that waited.
+-- Bytes were read from the source one after the other, each call at the cost of a turn, and wait after those that
+-- waited.
 pub record Comes (from to : SourceTrace) (waited waits : List ℕ) (had has : ℕ) : Type 0 where
   pub more : List ℕ
   pub spends : ReadCost from to more had has
@@ -60,7 +61,7 @@ pub record Comes (from to : SourceTrace) (waited waits : List ℕ) (had has : �
   pub chunks : List ReadChunk
   pub takes : Takes from to waited waits chunks more []
 
--- Bytes came from the source one after the other, and this frame stood at the front of all that waited.
+-- Bytes were read from the source one after the other, and this frame was at the front of all that waited.
 pub record Uses (from to : SourceTrace) (waited waits : List ℕ) (had has : ℕ) (frame : FrameValue) : Type 0 where
   pub more : List ℕ
   pub spends : ReadCost from to more had has

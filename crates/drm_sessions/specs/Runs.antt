@@ -46,9 +46,9 @@ abbrev pub journaled : List CallResult → ℕ
 journaled [] = 0
 journaled (result ∷ results) = one_if_journaled result + journaled results
 
--- A client's requests: of the bytes that waited and those that were read, these frames were used, each for the call
--- that it asks, and `results` is what the calls were answered. `behind` says whether bytes were taken after the last of
--- the frames.
+-- A client's requests. Of the bytes that waited and those that were read, these frames were used, each for the call
+-- that it asks. `results` are the answers of the calls. `behind` says whether bytes were taken after the last of the
+-- frames.
 pub record Requests {A : Type 0} (answers : A → Event → CallResult → A → Type 0) (client : ℕ) (old new : A) (from to : SourceTrace) (waited waits : List ℕ) (results : List CallResult) (steps : ℕ) (behind : Bool) : Type 0 where
   pub read : List ℕ
   pub frames : List FrameValue

@@ -51,8 +51,9 @@ EndCondition (ends.Apart apart) class rest answered closing later =
 EndCondition ends.WriteFault class rest answered closing later = TruncatesLastAnswer (outcomes answered) later
 EndCondition ends.TurnsUsed class rest answered closing later = (StopsAt ends.TurnsUsed rest × (later ≡ [])) ⊎ TruncatesLastAnswer (outcomes answered) later
 
--- How the opening was answered says how the session ends: an accepted one as the requests did, or worn where the closing
--- was; a denied one refused by its rule, and one answered by what stands apart by that, unless the answer wasn't written whole.
+-- The answer to the opening decides how the session ends. An accepted one ends as the requests did, or with an
+-- exhausted ticket counter if the closing found it so. A denied one ends as refused by its rule, and one with a fault
+-- by that, unless the answer wasn't written whole.
 abbrev pub EndsAfter : CallResult → List RequestReply → List ℕ → SessionEnd → Type 0
 EndsAfter (Ok (Opened c)) closing later end =
     (result : CallResult) × (stopped : SessionEnd) × (closing ≡ request_reply (Close c) result ∷ []) × EndsRequests stopped × EndsClosed stopped result end
@@ -73,8 +74,8 @@ abbrev pub MayRead : List RequestReply → List ℕ → Type 0
 MayRead [] later = ⊤
 MayRead (first ∷ asks) later = IsAccepted first.outcome × (later ≡ [])
 
--- A session: of the bytes that it read, which it took one after the other, these whole frames were used, and the rest
--- was not; its calls follow from the frames; what it wrote is a front of the text of their results.
+-- A session. Of the bytes that it read, one after the other, these whole frames were used, and the rest was not. Its
+-- calls follow from the frames. What it wrote is a front of the text of their results.
 pub record Serves {A : Type 0} (answers : A → Event → CallResult → A → Type 0) (class : Class) (old new : A) (in0 in1 : SourceTrace) (out0 out1 : SinkTrace) (session : Session) : Type 0 where
   pub read : List ℕ
   pub frames : List FrameValue
@@ -131,8 +132,8 @@ abbrev pub all_steps : List Session → ℕ
 all_steps [] = 0
 all_steps (session ∷ sessions) = session.steps + all_steps sessions
 
--- At most `turns` calls were made of the source and the sink, and the traces show the end's cause: where one of them told an end
--- or a fault, that was the last call, and no other was asked of either.
+-- At most `turns` calls were made of the source and the sink, and the traces show the end's cause. If one of them
+-- reported an end or a fault, that was the last call, and no other was made of either.
 pub record Costs (in0 in1 : SourceTrace) (out0 out1 : SinkTrace) (turns : ℕ) (end : SessionEnd) : Type 0 where
   pub unused : ℕ
   pub moves : IoCost in0 in1 out0 out1 turns unused

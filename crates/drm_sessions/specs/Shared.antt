@@ -14,8 +14,8 @@ use Rattle.drm_sessions.specs.declared.end.Session.{Session}
 use Rattle.drm_sessions.specs.Runs.{RequestReply}
 use Rattle.drm_sessions.specs.Serving.{Serves}
 
--- The event had its turn of the device, or there was no ticket for one. What is answered ends the history that the participant has
--- then seen, as an entry of its own; else no entry is its own that wasn't before.
+-- The event had its turn of the device, or there was no ticket for one. The answer ends the history that the
+-- participant has then seen, as one of its entries. Otherwise no entry is the participant's that wasn't before.
 pub record TakesTurn (old : ParticipantView) (event : Event) (result : CallResult) (new : ParticipantView) : Type 0 where
   pub extends : Extends old new
   pub merged : new.merged ≡ old.merged
@@ -34,8 +34,8 @@ journaled_by number event (Err apart) = []
 abbrev pub entries_by : ℕ → List RequestReply → List Entry
 entries_by number log = flat_map (λ call. journaled_by number call.event call.outcome) log
 
--- A session through a participant of a shared device: each of its results is what the device answered in a turn, and the participant's own
--- entries are those that it had and those of the session, one for each of its steps.
+-- A session through a participant of a shared device. Each of its results is what the device answered in a turn. The
+-- participant's own entries are those that it had and those of the session, one for each of its steps.
 pub record ServesShared (class : Class) (old new : ParticipantView) (in0 in1 : SourceTrace) (out0 out1 : SinkTrace) (session : Session) : Type 0 where
   pub serves : Serves TakesTurn class old new in0 in1 out0 out1 session
   pub turns : AllByRecursion (λ call. (device : DeviceValue) × Answered device call.event call.outcome) (serves.answered ++ serves.closing)

@@ -20,8 +20,8 @@ pub trait Access {
     /// The values before and after a call with this event that returned this result.
     ghost answers: { Self → AnEvent → CallResult → Self → Type 0 };
 
-    /// Answers one event. An opening is answered by a client, a denial, or what stands apart. Resources are few enough for
-    /// one frame.
+    /// Answers one event. An opening is answered by a client, a denial or a fault. Resources are few enough for one
+    /// frame.
     fn call(&mut self, event: Event) -> Result<Answer, Apart>
         ensures answers { answers self.old event result self.new }
         ensures opening { AnswersOpening event result }

@@ -17,7 +17,7 @@ pub enum SessionEnd {
     Ended,
     /// The input ended inside a frame, which was not carried out.
     Truncated,
-    /// A length came that no frame has.
+    /// The client sent a length that no frame has.
     TooLong,
     /// The first frame is no hello, or one that the class doesn't allow.
     BadHello,
@@ -29,8 +29,7 @@ pub enum SessionEnd {
     WriteFault,
     /// A byte was to be taken or put, and no turn was left for it.
     TurnsUsed,
-    /// The opening was answered by what stands apart from the rules, or the closing found the
-    /// turn worn.
+    /// The opening was answered by a fault, or the closing found the ticket counter exhausted.
     Apart(Apart),
 }
 

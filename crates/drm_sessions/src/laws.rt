@@ -16,9 +16,9 @@ pub fn results_follow_from_the_frames()
         → outcomes one.did.answered ≡ session_results (rows_of one.before) class one.did.frames }
 {}
 
-/// Where no memory is wanting, the bytes written follow from the device's rows, the class and the
-/// bytes read: of two sessions with the same ones, what one wrote begins what the other wrote, and
-/// they wrote the same where both used all whole frames.
+/// If no memory is refused, the bytes written follow from the device's rows, the class and the bytes read. Of two
+/// sessions with the same ones, what one wrote begins what the other wrote. They wrote the same if both used all whole
+/// frames.
 pub fn bytes_written_follow_from_bytes_read()
     ensures begins { (class : AClass) (one other : DeviceSession class) → HaveSameInput one other
         → OneBegins one.did.front other.did.front }

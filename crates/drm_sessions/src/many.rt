@@ -154,13 +154,14 @@ fn serve_in_scope<
 
 /// Serves each job in its own thread, and returns their sessions in the order of the jobs. It may wait.
 ///
-/// Each job is served as `serve_through` says, through a participant that is split off and merged again: what that
-/// participant had seen is reported, and the entries of its number there are those of its session. The numbers of the
-/// jobs' participants differ, and follow the number of one that took them in. On a fault the threads that were started
-/// are waited for, and their steps stand. What the lent participant made itself is unchanged, and without a fault no
-/// more are out of it. Where memory was wanting no job was started: no job's participant was taken in, and none is out.
-/// Where a thread couldn't be made, one more is out. The participant and those that it took in made as many entries
-/// more as the jobs' sessions have steps, and without sessions none.
+/// Each job is served as `serve_through` describes, through a participant that is split off and merged again. What that
+/// participant had seen is taken over, and the entries of its number there are those of its session. The numbers of the
+/// jobs' participants differ, and follow the number of one that took them in. The participant and those that it took in
+/// made as many entries more as the jobs' sessions have steps, and without sessions none.
+///
+/// On a fault the function waits for the threads that were started, and their steps remain. What the lent participant
+/// made itself is unchanged, and without a fault no more are out of it. If memory was refused, no job was started: no
+/// job's participant was taken in, and none is out. If a thread couldn't be started, one more is out.
 ///
 /// ```rust
 /// let jobs: Vec<Job<NoGate, FromRead<&[u8]>, ToWrite<Vec<u8>>>> = Vec::new(alloc);

@@ -78,8 +78,8 @@ pub fn prime_import(
     Ok(())
 }
 
-/// TOKEN_CLOSE: the token goes, if the caller exported it, and the object with the last that refers to it (own). Does
-/// not allocate and needs no limit.
+/// Closes a token, if the caller exported it (TOKEN_CLOSE, own). The object is freed with its last reference. Does not
+/// allocate and needs no limit.
 pub fn token_close(state: &mut State, client: u32, token: u32, answer: &mut Answer)
     requires invariants { MeetsInvariants state.old }
     requires open_client { is_open_client state.old.files client ≡ true }

@@ -27,8 +27,8 @@ use Rattle.drm_state.specs.Parts.{keys_of, referring_keys}
 abbrev pub Counts : List ℕ → List ℕ → Object → Type 0
 Counts keys refs x = (x.holds ≡ count keys x.key) × (x.refs ≡ count refs x.key)
 
--- handles name `keys`, and what else refers to objects `refs`: each of them is there, each object is among them and counts
--- them, and no two objects have one key or one number
+-- Handles name `keys`, and what else refers to objects names `refs`. Each of them exists, each object is among them and
+-- counts them, and no two objects have one key or one number.
 pub record AreCounted (keys refs : List ℕ) (objects : List Object) : Type 0 where
   pub there : (key : ℕ) → is_among (keys ++ refs) key ≡ true → is_some (find (is_key key) objects) ≡ true
   pub counted : AllByRecursion (Counts keys refs) objects
@@ -72,11 +72,15 @@ AreOfLessees tokens ms = AllByRecursion (λ (row : LeaseToken). is_lessee ms row
 abbrev pub AreKeptBy : List LeaseToken → List Master → Type 0
 AreKeptBy tokens ms = AllByRecursion (λ (x : Master). x.kept ≡ is_some (token_of tokens x.step_number)) ms
 
--- the invariants of the parts: who belongs to masters is open, and of the clients all but those of render nodes do;
--- what is so of masters at all times, and there are as many magics as clients may be; what is so of leases at all
--- times, whose open tokens are of lessees, and of masters those are kept that have one; leases agree with masters; what
--- is so of mode objects at all times; handles are in the order of their clients and numbers; objects are those that
--- handles, tokens and framebuffers name, which they count; names are of objects that handles name
+-- The invariants of the parts:
+--
+-- - Clients that belong to masters are open, and all open clients but those of render nodes do.
+-- - The facts of masters hold, and there are as many magics as clients may be open.
+-- - The facts of leases hold. Their open tokens are of lessees, and of masters exactly those are kept that have one.
+-- - Leases agree with masters, and the facts of mode objects hold.
+-- - Handles are in the order of their clients and numbers.
+-- - Objects are those that handles, tokens and framebuffers name, which they count. Names are of objects that handles
+--   name.
 pub data Invariant : Type 0 where
   MembersOpen : Invariant
   ClientsHave : Invariant

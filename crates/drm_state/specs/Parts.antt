@@ -193,8 +193,8 @@ ended below l = record l {
 abbrev pub ends_with : MasterSet → ℕ → ℕ → Bool
 ends_with v c m = is_below (own_master (member_of v.members c)) v.masters m
 
--- the masters without a client: its magic is freed with it, those that end with it are kept no more, and those go that
--- no client names any more and that are not kept
+-- The masters without a client. Its magic is removed with it, and those that end with it are kept no more. Those are
+-- freed that no client names any more and that are not kept.
 abbrev pub without_its_master : ℕ → MasterSet → MasterSet
 without_its_master c v = swept (record v {
   members = filter (λ (x : Member). not (is_client c x)) v.members;

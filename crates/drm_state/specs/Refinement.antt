@@ -86,8 +86,8 @@ unfoldable pub RefinesReply : State → ℕ → Call → Answer → State → Ty
 RefinesReply old c call answer new =
     (w : Rows) → Represents old w → first_failing (admission_checks w c call) ≡ None → IsRefined w (Ask c call) (Ok answer) new
 
--- what making a buffer is: none where the client may have no more handles or no more objects may be there, or its new
--- handle; or memory was refused, and the state represents the rows before
+-- The result of creating a buffer: its new handle, or none if the client may have no more handles or the limit of
+-- objects is reached. Or memory was refused, and the state represents the rows before.
 abbrev pub MadeBuffer : Rows → ℕ → ℕ → Result (Option ℕ) AllocError → State → Type 0
 MadeBuffer w c size (Ok None) s = (has_buffer_room w c ≡ false) × Represents s w
 MadeBuffer w c size (Ok (Some handle)) s = (has_buffer_room w c ≡ true) × (handle ≡ new_handle w c) × Represents s (swept (with_object w c size))
@@ -96,8 +96,8 @@ MadeBuffer w c size (Err e) s = (has_buffer_room w c ≡ true) × Represents s w
 unfoldable pub MakesBuffer : State → ℕ → ℕ → ℕ → Result (Option ℕ) AllocError → State → Type 0
 MakesBuffer old step_number c size result new = (w : Rows) → RepresentsAt old step_number w → MadeBuffer w c size result new
 
--- what a fresh handle of an object that exists is: none where the client has every handle, or the handle; or memory was
--- refused, and the state represents the rows before
+-- The result of a new handle of an object that exists: the handle, or none if the client has every handle. Or memory
+-- was refused, and the state represents the rows before.
 abbrev pub AddedHandle : Rows → ℕ → ℕ → Option ℕ → Result (Option ℕ) AllocError → State → Type 0
 AddedHandle w c o export_order (Ok None) s = (free_handle w c ≡ None) × Represents s w
 AddedHandle w c o export_order (Ok (Some handle)) s = (free_handle w c ≡ Some handle) × Represents s (swept (record w { holds = with_handle_row w c o export_order }))

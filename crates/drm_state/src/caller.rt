@@ -1,4 +1,4 @@
-//! Who asks.
+//! The caller.
 
 ghost use Rattle.std.specs.Prelude.{◌≡◌, false, true, IfSome, IfNone};
 ghost use Rattle.std.specs.Option.{is_some};
@@ -17,7 +17,7 @@ pub struct Caller {
     pub client: u32,
     /// What its file says of it.
     pub flags: FileFlags,
-    /// How it belongs to masters; a render client stands to none.
+    /// Its relation to its master. A render client has none.
     pub member: Option<Member>,
     /// Whether it is current (`drm_is_current_master`).
     pub current: bool,

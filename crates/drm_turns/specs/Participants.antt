@@ -15,11 +15,16 @@ use Rattle.drm_turns.specs.declared.history.Stage.TheVariants.{Idle}
 use Rattle.drm_turns.specs.History.{AllDiffer, IsLegal, StartsWith, calls_by, device_at, entry, rows_after}
 use Rattle.drm_turns.specs.Rule.{Table, IsHeld, Orderly}
 
--- A participant: the shared device that it is of and its own number; the number of the participant that it was split
--- off, 0 for the first participant; how many participants and notes that were split off it are not returned to it; the
--- device as it was when it was shared; the history that it has seen, and of it the entries that it made; the numbers
--- that were merged into it; how many tickets it drew and how many entries it made, each with those of the participants
--- that were merged into it; and the number that it last found in TICKET.
+-- A participant:
+--
+-- - the shared device that it is of, and the device's value when it was shared
+-- - its own number, and the number of the participant that it was split off, 0 for the first participant
+-- - the number of participants and notes that were split off it and are not returned to it
+-- - the history that it has seen, and of it the entries that it made
+-- - the numbers that were merged into it
+-- - the number of tickets that it drew and of entries that it made, each with those of the participants that were
+--   merged into it
+-- - the number that it last found in TICKET
 pub record ParticipantView : Type 0 where
   pub table : TableId
   pub number : ℕ
@@ -87,8 +92,8 @@ abbrev pub Closes : ParticipantView → DeviceValue → Type 0
 Closes s device = (log : List Entry) × (device ≡ device_at s.origin log) × IsLegal s.origin log × StartsWith log s.seen
     × (calls_by s.number log ≡ s.mine)
 
--- A ticket was drawn that was not passed on: in a state that the rule of the turn allows, where this participant is, some
--- participant has the ticket that is served.
+-- A ticket was drawn that was not passed on. In a state that the rule of the turn allows, where this participant is,
+-- some participant has the ticket that is served.
 abbrev pub IsTurnOut : ParticipantView → Type 0
 IsTurnOut s = (state : Table) × Orderly state
     × ((id : ℕ) × (v : View) × (get_elem? state.views id ≡ some v) × (v.stage ≡ Idle) × (v.number ≡ s.number) × (v.outstanding ≡ s.outstanding) × (v.seen ≡ s.seen))

@@ -10,7 +10,8 @@ use Rattle.drm_turns.specs.Rule.{Slot, Sat}
 abbrev pub Play : Type 1
 Play = Step Slot → Sat → ℕ → Sat → Type 0
 
--- the history so far, which begins with all that was seen and told, and in which the participant's own entries are those that it made
+-- the history so far, which begins with all that was seen and reported, and in which the participant's own entries are
+-- those that it made
 abbrev pub Reads : View → List Entry → Type 0
 Reads v seen = StartsWith seen v.seen × StartsWith seen v.told × IsLegal v.origin seen × (v.number ≢ 0 → calls_by v.number seen ≡ v.mine)
 

@@ -94,8 +94,8 @@ pub record TakenIn (views : List View) : Type 0 where
 abbrev pub IsBack : List View → (ℕ → List ℕ) → ℕ → Type 0
 IsBack views away id = IsSpent views (suc id) × (away id ≡ [])
 
--- What was split off and isn't returned. `away` has for each view those of its children that count: each view but the
--- first is returned itself or away, and a view that isn't spent counts at least as many as are away.
+-- What was split off and isn't returned. `away` has for each view those of its children that count. Each view but the
+-- first is returned itself or away. A view that isn't spent counts at least as many as are away.
 pub record Lent (views : List View) : Type 0 where
   pub away : ℕ → List ℕ
   pub within : (p c : ℕ) → Has c (away p) → (p < c) × (c < length views)

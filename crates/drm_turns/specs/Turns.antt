@@ -1,4 +1,4 @@
--- What one call does to the device in its rotation.
+-- The effect of one call on the device when its ticket is served (own).
 use Rattle.std.specs.Prelude.{◌≡◌, true, Result, Ok, Err, ⊤}
 use Rattle.drm_table.specs.declared.answers.Answer.{Answer}
 use Rattle.drm_table.specs.declared.apart.Apart.{Apart}

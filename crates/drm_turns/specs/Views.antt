@@ -63,7 +63,7 @@ abbrev pub numbered : View → ℕ → View
 numbered v number = record v { number = number }
 
 -- How many are out of a participant of this number, once one with this parent is returned, of which this many are out
--- itself. It counts where it was split off this participant and all of its own are returned.
+-- itself. It counts if it was split off this participant and all that were split off it are returned.
 abbrev pub outstanding_after : ℕ → ℕ → ℕ → ℕ → ℕ
 outstanding_after number outstanding parent theirs = cond ((parent == number) && (theirs == 0)) (outstanding - 1) outstanding
 

@@ -15,7 +15,7 @@ pub struct Entry {
     pub answer: Answer,
 }
 
-/// The place of a participant in its rotation, as contracts speak of it.
+/// The place of a participant's turn, as contracts express it.
 pub enum Stage {
     /// Between two turns.
     Idle,
@@ -51,6 +51,6 @@ pub struct View {
     pub journaled: u64,
     /// The number last found in the word of the next ticket.
     pub ticket: u64,
-    /// Its place in its rotation.
+    /// The place of its turn.
     pub stage: Stage,
 }

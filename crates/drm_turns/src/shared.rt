@@ -38,8 +38,8 @@ const TICKET: usize = 1;
 /// The word of the ticket that is served.
 const SERVING: usize = 2;
 
-/// How often a call looks whether it is served, or whether the device is free, before it sleeps until it is woken (own): all
-/// looks take about as long as a sleep and a wake, or as a few turns of others.
+/// The number of times that a call looks whether it is served, or whether the device is free, before it sleeps until it
+/// is woken (own). All looks take about as long as a sleep and a wake, or as a few turns of others.
 const LOOKS: u32 = 500;
 
 /// How many turns of others a call waits for at most, before it draws a ticket though the device isn't free (own).
@@ -336,14 +336,15 @@ impl SharedDevice {
         }
     }
 
-    /// Answers one event, in the participant's turn. It may wait for the turns before it.
+    /// Answers one event, when the participant's ticket is served. It may wait for the turns before it.
     ///
-    /// The device answers from its rows, those of its journal, and notes what it answers: its journal is then the
+    /// The device answers from its rows, those of its journal, and records what it answers. So its journal is then the
     /// history that the participant has seen. Its limits are in their ranges, and each event of its journal found room.
-    /// What is answered ends the history that the participant has seen then; resources have 251 ids at most together. A
-    /// fault, for a full journal (own) or refused memory, leaves the device unchanged and adds no entry. Without a
-    /// ticket for the turn the device isn't asked; the first participant, where none is out of it, does not have one
-    /// only if it drew all 2^64 - 1, with those that it took in.
+    /// The answer ends the history that the participant has seen then. Resources have 251 ids at most together.
+    ///
+    /// A fault, for a full journal (own) or refused memory, leaves the device unchanged and adds no entry. Without a
+    /// ticket for the turn the device isn't called. The first participant, if none is out of it, has no ticket only if
+    /// it and those that it took in drew all 2^64 - 1.
     ///
     /// ```rust
     /// let opening = Event::Open(Opening::Render);
@@ -410,8 +411,8 @@ impl SharedDevice {
         self.pass(place);
     }
 
-    /// Returns a further participant, of its own number, which has seen as much. The participant that it is split off
-    /// counts one more that is out, and else stays as it is.
+    /// Returns a further participant with a new number, which has seen as much. The participant that it is split off
+    /// counts one more that is out, and is unchanged otherwise.
     ///
     /// ```rust
     /// let mut other = shared.split(&mut participant);
@@ -502,11 +503,13 @@ impl SharedDevice {
         self.learn(place);
     }
 
-    /// Returns the device, once no client shares it. Where a ticket was drawn that was not passed on, the turn is out
-    /// with a call: then the device is lost with the participant that has the ticket. Where all were passed on, it is
-    /// in its slot, and is returned. No turn is out where the participant is the first, and each participant and note
-    /// that was split off it is returned to it with all of its own: then the device has recorded what it had before,
-    /// and the entries of the participant and of those that it took in, and nothing else.
+    /// Returns the device, once no other thread shares it. If a ticket was drawn that was not passed on, the turn is
+    /// out with a call. Then the device is lost with the participant that has the ticket. If all were passed on, it is
+    /// in its slot, and is returned.
+    ///
+    /// No turn is out if the participant is the first one and has back all participants and notes that were split off
+    /// it or off them. Then the device has recorded what it had before, and the entries of the participant and of those
+    /// that it took in, and nothing else.
     ///
     /// ```rust
     /// let Ok(device) = shared.close(participant) else { return };

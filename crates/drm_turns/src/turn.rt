@@ -15,7 +15,7 @@ use std::snapshot::Snapshot;
 /// The slot has the device, unless the participant that is served has taken it.
 pub(crate) type Slot = Option<BoxedDevice>;
 
-/// The rule of the turn. What the table receives is the device as it was when it was shared.
+/// The rule of the turn. The table receives the device in its value when it was shared.
 pub struct InTurn;
 
 impl TableRule<Slot, View, Snapshot<Device>> for InTurn {
@@ -76,14 +76,14 @@ impl Play<Slot, View> for Pass {
     ghost then = { passes };
 }
 
-/// Tells a new participant its number.
+/// Sets the number of a new participant.
 pub(crate) struct Settle;
 
 impl Play<Slot, View> for Settle {
     ghost then = { settles };
 }
 
-/// Tells a participant the history so far.
+/// Updates the participant's observed history to the current one.
 pub(crate) struct Learn;
 
 impl Play<Slot, View> for Learn {
