@@ -3,7 +3,7 @@ ghost use Rattle.std.specs.Prelude.{◌≡◌, ◌+◌, ◌*◌, ◌≤◌, [], 
 ghost use Rattle.std.specs.List.{flat_map};
 ghost use Rattle.std.specs.Option.{option_map};
 ghost use Rattle.drm_frames.specs.Fields.{field_in, field_text, fields_in, fields_text, if_read, numbers_in};
-ghost use Rattle.drm_table.specs.Fields.{FitsField, IsShort, layout_of};
+ghost use Rattle.drm_table.specs.Fields.{FitsField, layout_of};
 ghost use Rattle.drm_table.specs.Fields.Layout.{ids};
 
 use crate::number::{u32_in, u64_in};
@@ -35,9 +35,13 @@ fn field_in(width: Width, bytes: &[u8]) -> Option<(Field, &[u8])>
 
 /// Reads the fields of these widths, if the bytes are exactly these fields.
 #[tactic(auto, unfolding(crate::specs::Fields::numbers_in))]
-pub(crate) fn read_numbers(fields: &mut Fields, widths: &[Width], bytes: &[u8]) -> bool
+pub(crate) fn read_numbers<const N: usize>(
+    fields: &mut Fields<N>,
+    widths: &[Width],
+    bytes: &[u8],
+) -> bool
     requires empty { fields.old ≡ [] }
-    requires few { length widths.now ≤ 32 }
+    requires few { length widths.now ≤ N }
     ensures { if_read result fields.new ≡ numbers_in widths.now bytes.now }
 {
     let mut rest = bytes;
@@ -53,7 +57,7 @@ pub(crate) fn read_numbers(fields: &mut Fields, widths: &[Width], bytes: &[u8]) 
 
 /// Reads ids, if the bytes are a count and as many ids.
 #[tactic(auto, unfolding(crate::specs::Fields::fields_in))]
-fn read_ids(fields: &mut Fields, bytes: &[u8]) -> bool
+pub(crate) fn read_ids(fields: &mut Fields<32>, bytes: &[u8]) -> bool
     requires { fields.old ≡ [] }
     ensures { if_read result fields.new ≡ fields_in ids bytes.now }
 {
@@ -66,19 +70,6 @@ fn read_ids(fields: &mut Fields, bytes: &[u8]) -> bool
     }
     let (_, behind) = bytes.split_at(4);
     read_numbers(fields, Width::of_ids(count), behind)
-}
-
-/// Reads the fields of a layout, if the bytes are exactly these fields.
-#[tactic(auto, unfolding(crate::specs::Fields::fields_in))]
-pub(crate) fn read_fields(fields: &mut Fields, layout: Layout, bytes: &[u8]) -> bool
-    requires empty { fields.old ≡ [] }
-    requires short { IsShort (layout_of layout) }
-    ensures { if_read result fields.new ≡ fields_in (layout_of layout) bytes.now }
-{
-    match layout {
-        Layout::Numbers(widths) => read_numbers(fields, widths, bytes),
-        Layout::Ids => read_ids(fields, bytes),
-    }
 }
 
 fn push_field(text: &mut FrameBytes, field: Field)

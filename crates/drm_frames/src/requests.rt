@@ -1,11 +1,38 @@
 //! The call of a frame.
 ghost use Rattle.std.specs.Prelude.{◌≡◌, ◌<◌, ◌≤◌, length};
+ghost use Rattle.std.specs.Option.{option_and_then};
+ghost use Rattle.drm_table.specs.Fields.Layout.{ids};
+ghost use Rattle.drm_table.specs.Table.{call_with};
+ghost use Rattle.drm_frames.specs.Fields.{fields_in, numbers_in};
 ghost use Rattle.drm_frames.specs.Requests.{IsOfRow, WritesCall, request_of};
 
-use crate::fields::{push_fields, read_fields};
+use crate::fields::{push_fields, read_ids, read_numbers};
 use crate::frame::Frame;
 use crate::text::{FrameBytes, framed};
-use drm_table::{Call, CallKind, Fields};
+use drm_table::{Call, CallKind, Fields, Layout, Width};
+
+/// Returns the call of a kind, if the bytes are exactly numbers of these widths.
+fn numbers_call(kind: CallKind, widths: &[Width], bytes: &[u8]) -> Option<Call>
+    requires { length widths.now ≤ 5 }
+    ensures { result ≡ option_and_then (call_with kind) (numbers_in widths.now bytes.now) }
+{
+    let mut fields: Fields<5> = Fields::new();
+    if !read_numbers(&mut fields, widths, bytes) {
+        return None;
+    }
+    kind.call(fields.as_slice())
+}
+
+/// Returns the call of a kind, if the bytes are exactly a count and as many ids.
+fn ids_call(kind: CallKind, bytes: &[u8]) -> Option<Call>
+    ensures { result ≡ option_and_then (call_with kind) (fields_in ids bytes.now) }
+{
+    let mut fields: Fields<32> = Fields::new();
+    if !read_ids(&mut fields, bytes) {
+        return None;
+    }
+    kind.call(fields.as_slice())
+}
 
 /// Returns the call of a frame (drm-uapi for the rows; the layout is own). Does not allocate.
 ///
@@ -22,7 +49,7 @@ use drm_table::{Call, CallKind, Fields};
 /// assert!(rt; call_of(&Frame::new(0x09, &[])) == Call::BadLayout(0x09));
 /// assert!(rt; call_of(&Frame::new(0x7F, &[])) == Call::Unknown(0x7F));
 /// ```
-#[tactic(auto, unfolding(crate::specs::Requests::request_of))]
+#[tactic(auto, unfolding(crate::specs::Requests::request_of, crate::specs::Fields::fields_in))]
 pub fn call_of(frame: &Frame<'_>) -> Call
     ensures { result ≡ request_of frame.now }
 {
@@ -30,11 +57,11 @@ pub fn call_of(frame: &Frame<'_>) -> Call
     let Some(kind) = CallKind::of_number(number) else {
         return Call::Unknown(number);
     };
-    let mut fields = Fields::new();
-    if !read_fields(&mut fields, kind.layout(), frame.fields()) {
-        return Call::BadLayout(number);
-    }
-    match kind.call(fields.as_slice()) {
+    let call = match kind.layout() {
+        Layout::Numbers(widths) => numbers_call(kind, widths, frame.fields()),
+        Layout::Ids => ids_call(kind, frame.fields()),
+    };
+    match call {
         Some(call) => call,
         None => Call::BadLayout(number),
     }

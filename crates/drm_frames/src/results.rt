@@ -17,7 +17,7 @@ const MOST_ROWS: usize = 16;
 fn row(kind: AnswerKind, bytes: &[u8]) -> Option<Result<Answer, Apart>>
     ensures { result ≡ row_in kind bytes.now }
 {
-    let mut fields = Fields::new();
+    let mut fields: Fields<5> = Fields::new();
     if !read_numbers(&mut fields, kind.widths(), bytes) {
         return None;
     }

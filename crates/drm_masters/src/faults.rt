@@ -2,16 +2,6 @@
 
 use drm_table::Rule;
 
-/// The error that memory was refused. The state is unchanged.
-///
-/// ```rust
-/// let mut masters = Masters::new(alloc, 4, 0);
-/// let Ok(_first) = masters.on_open(1, 1) else { return };
-/// assert!(masters.member(1).is_none() || masters.magic(1) != Err(NoMemory));
-/// ```
-#[derive(Clone, Copy, PartialEq, Eq, Debug)]
-pub struct NoMemory;
-
 /// The way in which a client became current (drm-uapi, SET_MASTER).
 ///
 /// ```rust

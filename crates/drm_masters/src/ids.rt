@@ -7,7 +7,7 @@ ghost use Rattle.drm_index_array.specs.Indexed.{with_item, without_item};
 ghost use Rattle.drm_index_array.specs.Least.{least};
 ghost use Rattle.drm_masters.specs.Ids.{IsSet, id_at};
 
-use crate::faults::NoMemory;
+use drm_id_alloc::NoMemory;
 use drm_index_array::{IndexArray, InsertFault};
 use std::alloc::Global;
 use std::marker::Model;

@@ -13,6 +13,7 @@ mod sweeps;
 mod table;
 mod writes;
 
-pub use faults::{LesseeFault, NoMemory, SetDone, SetFault};
+pub use drm_id_alloc::NoMemory;
+pub use faults::{LesseeFault, SetDone, SetFault};
 pub use masters::Masters;
 pub use rows::{Magic, Master, MasterKey, MasterRow, Member};

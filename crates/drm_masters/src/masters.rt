@@ -5,7 +5,7 @@ ghost use Rattle.std.specs.Option.{is_some, option_map, option_map_or, option_an
 ghost use Rattle.drm_masters.specs.Masters as sets;
 ghost use Rattle.drm_masters.specs.Calls as calls;
 
-use crate::faults::{LesseeFault, NoMemory, SetDone, SetFault};
+use crate::faults::{LesseeFault, SetDone, SetFault};
 use crate::members::Members;
 use crate::rows::{Master, MasterKey, MasterRow, Member};
 use crate::searches::{
@@ -16,6 +16,7 @@ use crate::table::MasterTable;
 use crate::writes::{
     device_without, founded_master, lease_client, lessee, non_master, owner, with_magic,
 };
+use drm_id_alloc::NoMemory;
 use drm_table::Rule;
 use std::alloc::Global;
 use std::marker::Model;

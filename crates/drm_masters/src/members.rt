@@ -10,9 +10,8 @@ ghost use Rattle.drm_index_array.specs.Rows.{placed};
 ghost use Rattle.drm_id_alloc.specs.Groups.{IsAdded, has};
 ghost use Rattle.drm_masters.specs.Tables.{member_row};
 
-use crate::faults::NoMemory;
 use crate::rows::{Magic, Member};
-use drm_id_alloc::Groups;
+use drm_id_alloc::{Groups, NoMemory};
 use drm_index_array::{IndexArray, InsertFault};
 use std::alloc::Global;
 use std::marker::Model;
@@ -151,10 +150,7 @@ fn note(named: &mut Groups, master: u32, client: u32) -> Result<(), NoMemory>
     ensures ok { OnOk result (IsAdded (has named.old) master client (has named.new)) }
     ensures err { OnErr result (named.new ≡ named.old) }
 {
-    match named.note(master, client) {
-        Ok(()) => Ok(()),
-        Err(_fault) => Err(NoMemory),
-    }
+    named.note(master, client)
 }
 
 /// Adds the data of a client that has none. If memory is refused, nothing changes.

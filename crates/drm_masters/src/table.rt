@@ -13,11 +13,10 @@ ghost use Rattle.drm_masters.specs.Calls as calls;
 ghost use Rattle.drm_masters.specs.Ids.{IsNamed, IsUnnamed, id_at};
 ghost use Rattle.drm_masters.specs.Tables.{IsListed, IsUnlisted};
 
-use crate::faults::NoMemory;
 use crate::ids::{OwnerIds, put_new};
 use crate::rows::{Master, MasterKey};
 use crate::searches::owner_of;
-use drm_id_alloc::Groups;
+use drm_id_alloc::{Groups, NoMemory};
 use drm_index_array::IndexArray;
 use slab::Slab;
 use std::alloc::Global;
@@ -240,10 +239,7 @@ fn list(lessees: &mut Groups, lessor: Option<u32>, step_number: u32) -> Result<(
     let Some(lessor) = lessor else {
         return Ok(());
     };
-    match lessees.note(lessor, step_number) {
-        Ok(()) => Ok(()),
-        Err(_fault) => Err(NoMemory),
-    }
+    lessees.note(lessor, step_number)
 }
 
 /// Removes a master from its lessor's lessees.

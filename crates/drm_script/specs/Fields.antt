@@ -1,5 +1,5 @@
 -- The fields of a line, read one after another from its words. Each reader has what it read, and the words that are left.
-use Rattle.std.specs.Prelude.{ℕ, ◌-◌, ◌^◌, List, [], ◌∷◌, ◌&&◌, min, nat_lt, nat_le, if◌then◌else◌, Option, Some, None, option_and_then, length, replicate}
+use Rattle.std.specs.Prelude.{◌≤◌, ℕ, ◌-◌, ◌^◌, List, [], ◌∷◌, ◌&&◌, min, nat_lt, nat_le, if◌then◌else◌, Option, Some, None, option_and_then, length, replicate}
 use Rattle.drm_table.specs.declared.fields.Width.{Width}
 use Rattle.drm_table.specs.declared.fields.Width.TheVariants as widths
 use Rattle.drm_table.specs.declared.fields.Field.{Field}
@@ -67,6 +67,11 @@ id_count ws = min (length ws) 32
 unfoldable pub fields_at : Layout → Words → Option (List Field)
 fields_at (numbers ws) words = numbers_at ws words
 fields_at ids words = numbers_at (replicate (id_count words) widths.U32) words
+
+-- So many fields are room for those of a layout.
+abbrev pub IsRoomFor : Layout → ℕ → Type 0
+IsRoomFor (numbers ws) room = length ws ≤ room
+IsRoomFor ids room = 32 ≤ room
 
 -- the place in the alphabet of a letter from a to z, from 0
 unfoldable pub place_of : ℕ → Option ℕ

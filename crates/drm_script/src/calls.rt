@@ -1,12 +1,12 @@
 //! The words and fields of a call.
 
-ghost use Rattle.std.specs.Prelude.{◌≡◌, [], ◌∷◌, IfErr, IfOk, None, Some, codes, false, option_and_then};
+ghost use Rattle.std.specs.Prelude.{◌≡◌, ◌≤◌, [], ◌∷◌, IfErr, IfOk, None, Some, codes, false, option_and_then};
 ghost use Rattle.std.specs.Str.{bytes_eq};
 ghost use Rattle.std.specs.Result.{result_ok};
 ghost use Rattle.drm_script.specs.Calls.{call_at, raw_at, raw_call, row_call_at};
 ghost use Rattle.drm_script.specs.Faults as faults;
 ghost use Rattle.drm_script.specs.Faults.{IsFirstMisfit, KindFits, call_fields, call_places};
-ghost use Rattle.drm_script.specs.Fields.{fields_at};
+ghost use Rattle.drm_script.specs.Fields.{IsRoomFor, fields_at};
 ghost use Rattle.drm_table.specs.Table.{call_with, kind_layout};
 ghost use Rattle.drm_script.specs.Words.{words_of};
 
@@ -14,7 +14,7 @@ use crate::fields::fields_of;
 use crate::malformations::{Fault, Wanted};
 use crate::numbers::{u16_word, u32_word};
 use crate::words::{end_of, word_of};
-use drm_table::{AuditKind, Call, CallKind, row};
+use drm_table::{AuditKind, Call, CallKind, Fields, Layout, row};
 
 /// The word of a call by its bare number.
 const RAW: &[u8] = b"raw";
@@ -59,18 +59,32 @@ fn known_kind(kind: CallKind, text: &[u8]) -> Result<(), Fault<'_>>
     Err(Fault::unfit(text, Wanted::AuditKind))
 }
 
+/// Returns the call of a kind by its fields. `N` must be room for them.
+fn call_in<const N: usize>(kind: CallKind, text: &[u8]) -> Result<Call, Fault<'_>>
+    requires room { IsRoomFor (kind_layout kind) N }
+    requires few { N ≤ 32 }
+    ensures reading { result_ok result ≡ option_and_then (call_with kind) (fields_at (kind_layout kind) (words_of text.now)) }
+    ensures fault { IfErr result (λ fault.
+        IsFirstMisfit (call_fields (Some kind) (words_of text.now)) (words_of text.now) fault.cause (words_of fault.at.now)) }
+{
+    known_kind(kind, text)?;
+    let fields: Fields<N> = fields_of(kind.layout(), text)?;
+    let Some(call) = kind.call(fields.as_slice()) else {
+        unreachable!()
+    };
+    Ok(call)
+}
+
 /// Returns the call of a kind by its fields.
 fn fields_call(kind: CallKind, text: &[u8]) -> Result<Call, Fault<'_>>
     ensures reading { result_ok result ≡ option_and_then (call_with kind) (fields_at (kind_layout kind) (words_of text.now)) }
     ensures fault { IfErr result (λ fault.
         IsFirstMisfit (call_fields (Some kind) (words_of text.now)) (words_of text.now) fault.cause (words_of fault.at.now)) }
 {
-    known_kind(kind, text)?;
-    let fields = fields_of(kind.layout(), text)?;
-    let Some(call) = kind.call(fields.as_slice()) else {
-        unreachable!()
-    };
-    Ok(call)
+    match kind.layout() {
+        Layout::Numbers(_) => call_in::<5>(kind, text),
+        Layout::Ids => call_in::<32>(kind, text),
+    }
 }
 
 /// `WORD FIELDS` from the word on, and the word and the fields separately.

@@ -3,9 +3,9 @@
 ghost use Rattle.std.specs.Prelude.{◌≡◌, ◌≤◌, IfErr, IfOk, length, map};
 ghost use Rattle.std.specs.Option.{option_map};
 ghost use Rattle.std.specs.Result.{result_ok};
-ghost use Rattle.drm_table.specs.Fields.{IsShort, layout_of};
+ghost use Rattle.drm_table.specs.Fields.{layout_of};
 ghost use Rattle.drm_script.specs.Faults.{IsFault, IsFirstMisfit, IsPassed, layout_places, width_place};
-ghost use Rattle.drm_script.specs.Fields.{field_at, fields_at, id_count, numbers_at};
+ghost use Rattle.drm_script.specs.Fields.{IsRoomFor, field_at, fields_at, id_count, numbers_at};
 ghost use Rattle.drm_script.specs.Words.{words_of};
 
 use crate::malformations::Fault;
@@ -34,8 +34,8 @@ fn field_of(width: Width, text: &[u8]) -> Result<(Field, &[u8]), Fault<'_>>
 
 /// Returns the fields of these widths that the words spell, if no word follows.
 #[tactic(auto, unfolding(crate::specs::Fields::numbers_at))]
-fn numbers_of<'a>(widths: &[Width], text: &'a [u8]) -> Result<Fields, Fault<'a>>
-    requires { length widths.now ≤ 32 }
+fn numbers_of<'a, const N: usize>(widths: &[Width], text: &'a [u8]) -> Result<Fields<N>, Fault<'a>>
+    requires { length widths.now ≤ N }
     ensures reading { result_ok result ≡ numbers_at widths.now (words_of text.now) }
     ensures fault { IfErr result (λ fault.
         IsFirstMisfit (map width_place widths.now) (words_of text.now) fault.cause (words_of fault.at.now)) }
@@ -58,10 +58,10 @@ fn id_count(text: &[u8]) -> usize
     word_count(text).min(Layout::MOST_IDS)
 }
 
-/// Returns the fields of a layout that the words spell, if no word follows.
+/// Returns the fields of a layout that the words spell, if no word follows. `N` must be room for the fields of the layout.
 #[tactic(auto, unfolding(crate::specs::Fields::fields_at))]
-pub(crate) fn fields_of(layout: Layout, text: &[u8]) -> Result<Fields, Fault<'_>>
-    requires { IsShort (layout_of layout) }
+pub(crate) fn fields_of<const N: usize>(layout: Layout, text: &[u8]) -> Result<Fields<N>, Fault<'_>>
+    requires { IsRoomFor (layout_of layout) N }
     ensures reading { result_ok result ≡ fields_at (layout_of layout) (words_of text.now) }
     ensures fault { IfErr result (λ fault.
         IsFirstMisfit (layout_places (layout_of layout) (words_of text.now)) (words_of text.now) fault.cause (words_of fault.at.now)) }

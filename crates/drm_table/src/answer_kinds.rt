@@ -7,7 +7,7 @@ ghost use Rattle.drm_table.specs.Answers.{answer_kind_of, answer_number, answer_
 use crate::answers::Answer;
 use crate::audits::AuditPage;
 use crate::fields::Field::{self, U32, U64};
-use crate::fields::{AnswerFields, Width};
+use crate::fields::{Fields, Width};
 use crate::lists::ShownList;
 use crate::rules::Rule;
 
@@ -47,7 +47,7 @@ pub enum AnswerKind {
 #[derive(Drop)]
 pub enum Told<'a> {
     /// A fixed number of fields.
-    Fields(AnswerKind, AnswerFields),
+    Fields(AnswerKind, Fields<5>),
     /// The ids of CRTCs, connectors, encoders and framebuffers, each list in rising order.
     Resources {
         crtcs: &'a ShownList,
@@ -265,7 +265,7 @@ fn row_told(kind: AnswerKind, fields: &[Field]) -> Told<'static>
     requires { length fields.now ≤ 5 }
     ensures { told_of result ≡ ToldFields kind fields.now }
 {
-    Told::Fields(kind, AnswerFields::of(fields))
+    Told::Fields(kind, Fields::of(fields))
 }
 
 impl Answer {

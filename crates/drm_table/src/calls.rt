@@ -373,7 +373,7 @@ impl Call {
     /// assert!(rt; kind == CallKind::BufCreate && fields.as_slice() == [Field::U64(4096)].as_slice());
     /// ```
     #[tactic(auto, unfolding(crate::specs::Table::call_row))]
-    pub fn row(&self) -> Option<(CallKind, Fields)>
+    pub fn row(&self) -> Option<(CallKind, Fields<32>)>
         ensures { result ≡ call_row self.now }
     {
         self.buffer_row()

@@ -10,7 +10,7 @@ use crate::fields::Fields;
 
 impl Call {
     /// Returns the row of a call of the device and its fields in order.
-    pub(crate) fn device_row(&self) -> Option<(CallKind, Fields)>
+    pub(crate) fn device_row(&self) -> Option<(CallKind, Fields<32>)>
         ensures { result ≡ device_row self.now }
     {
         Some(match self {

@@ -108,22 +108,22 @@ impl Width {
     }
 }
 
-/// A list of at most 32 fields. Contracts see the list of fields.
+/// A list of at most `N` fields. Contracts see the list of fields.
 ///
 /// # Examples
 ///
 /// ```rust
 /// use drm_table::{Field, Fields};
 ///
-/// let fields = Fields::of(&[Field::U32(1), Field::U64(2)]);
+/// let fields: Fields<5> = Fields::of(&[Field::U32(1), Field::U64(2)]);
 /// assert!(rt; fields.as_slice().len() == 2);
 /// ```
 #[derive(PartialEq, Eq, Debug, Drop)]
-pub struct Fields {
-    fields: ArrayVec<Field, 32>,
+pub struct Fields<const N: usize> {
+    fields: ArrayVec<Field, N>,
 }
 
-impl Model for Fields {
+impl<const N: usize> Model for Fields<N> {
     ghost use Rattle.std.specs.Prelude.{List};
     ghost use Rattle.drm_table.specs.declared.fields.Field.{Field};
 
@@ -134,7 +134,7 @@ impl Model for Fields {
     ghost inverse = { λ fields. record { fields = record { items = fields } } };
 }
 
-impl Fields {
+impl<const N: usize> Fields<N> {
     /// Creates an empty list.
     ///
     /// # Examples
@@ -142,9 +142,10 @@ impl Fields {
     /// ```rust
     /// use drm_table::Fields;
     ///
-    /// assert!(rt; Fields::new().as_slice().is_empty());
+    /// let fields: Fields<5> = Fields::new();
+    /// assert!(rt; fields.as_slice().is_empty());
     /// ```
-    pub fn new() -> Fields
+    pub fn new() -> Fields<N>
         ensures { result ≡ [] }
     {
         Fields {
@@ -152,17 +153,18 @@ impl Fields {
         }
     }
 
-    /// Creates a list of these fields, 32 at most.
+    /// Creates a list of these fields, `N` at most.
     ///
     /// # Examples
     ///
     /// ```rust
     /// use drm_table::{Field, Fields};
     ///
-    /// assert!(rt; Fields::of(&[Field::U32(1)]).as_slice() == [Field::U32(1)].as_slice());
+    /// let fields: Fields<5> = Fields::of(&[Field::U32(1)]);
+    /// assert!(rt; fields.as_slice() == [Field::U32(1)].as_slice());
     /// ```
-    pub fn of(fields: &[Field]) -> Fields
-        requires { length fields.now ≤ 32 }
+    pub fn of(fields: &[Field]) -> Fields<N>
+        requires { length fields.now ≤ N }
         ensures { result ≡ fields.now }
     {
         let mut copy = ArrayVec::new();
@@ -170,19 +172,19 @@ impl Fields {
         Fields { fields: copy }
     }
 
-    /// Appends a field. The list must have fewer than 32 fields.
+    /// Appends a field. The list must have fewer than `N` fields.
     ///
     /// # Examples
     ///
     /// ```rust
     /// use drm_table::{Field, Fields};
     ///
-    /// let mut fields = Fields::new();
+    /// let mut fields: Fields<5> = Fields::new();
     /// fields.push(Field::U64(4096));
     /// assert!(rt; fields == Fields::of(&[Field::U64(4096)]));
     /// ```
     pub fn push(&mut self, field: Field)
-        requires { length self.old < 32 }
+        requires { length self.old < N }
         ensures { self.new ≡ self.old ++ field ∷ [] }
     {
         self.fields.push(field);
@@ -195,69 +197,12 @@ impl Fields {
     /// ```rust
     /// use drm_table::{Field, Fields};
     ///
-    /// let fields = Fields::of(&[Field::U32(1)]);
+    /// let fields: Fields<5> = Fields::of(&[Field::U32(1)]);
     /// assert!(rt; fields.as_slice() == [Field::U32(1)].as_slice());
     /// ```
     pub fn as_slice(&self) -> &[Field]
         ensures fields { result.now ≡ self.now }
-        ensures within { length self.now ≤ 32 }
-    {
-        self.fields.as_slice()
-    }
-}
-
-/// A list of at most 5 fields of an answer. Contracts see the list of fields.
-///
-/// # Examples
-///
-/// ```rust
-/// use drm_table::{Answer, Told};
-///
-/// let answer = Answer::Number { value: 7 };
-/// let Told::Fields(_, fields) = answer.told() else { return };
-/// assert!(rt; fields.as_slice().len() == 1);
-/// ```
-#[derive(Drop)]
-pub struct AnswerFields {
-    fields: ArrayVec<Field, 5>,
-}
-
-impl Model for AnswerFields {
-    ghost use Rattle.std.specs.Prelude.{List};
-    ghost use Rattle.drm_table.specs.declared.fields.Field.{Field};
-
-    ghost Value = { List Field };
-
-    ghost view = { λ fields. fields.fields.items };
-
-    ghost inverse = { λ fields. record { fields = record { items = fields } } };
-}
-
-impl AnswerFields {
-    /// Creates a list of these fields, 5 at most.
-    pub(crate) fn of(fields: &[Field]) -> AnswerFields
-        requires { length fields.now ≤ 5 }
-        ensures { result ≡ fields.now }
-    {
-        let mut copy = ArrayVec::new();
-        let _ = copy.try_extend_from_slice(fields);
-        AnswerFields { fields: copy }
-    }
-
-    /// Returns the fields in order.
-    ///
-    /// # Examples
-    ///
-    /// ```rust
-    /// use drm_table::{Answer, Field, Told};
-    ///
-    /// let answer = Answer::Number { value: 7 };
-    /// let Told::Fields(_, fields) = answer.told() else { return };
-    /// assert!(rt; fields.as_slice() == [Field::U64(7)].as_slice());
-    /// ```
-    pub fn as_slice(&self) -> &[Field]
-        ensures fields { result.now ≡ self.now }
-        ensures within { length self.now ≤ 5 }
+        ensures within { length self.now ≤ N }
     {
         self.fields.as_slice()
     }

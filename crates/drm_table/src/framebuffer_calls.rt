@@ -9,7 +9,7 @@ use crate::fields::Fields;
 
 impl Call {
     /// Returns the row of a call of framebuffers and its fields in order.
-    pub(crate) fn framebuffer_row(&self) -> Option<(CallKind, Fields)>
+    pub(crate) fn framebuffer_row(&self) -> Option<(CallKind, Fields<32>)>
         ensures { result ≡ framebuffer_row self.now }
     {
         Some(match self {

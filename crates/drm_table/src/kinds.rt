@@ -99,14 +99,48 @@ impl CallKind {
     ///
     /// assert!(rt; CallKind::of_number(0x02) == Some(CallKind::GetMagic));
     /// ```
-    #[tactic(auto, unfolding(crate::specs::Table::call_kind_of))]
+    #[tactic(auto, unfolding(crate::specs::Table::call_kind_of, crate::specs::Table::kind_row))]
     pub fn of_number(number: u16) -> Option<CallKind>
         ensures { result ≡ call_kind_of number }
     {
-        CallKind::ALL
-            .iter()
-            .copied()
-            .find(|kind| kind.number() == number)
+        match number {
+            0x00 => Some(CallKind::Version),
+            0x02 => Some(CallKind::GetMagic),
+            0x09 => Some(CallKind::GemClose),
+            0x0A => Some(CallKind::GemFlink),
+            0x0B => Some(CallKind::GemOpen),
+            0x0C => Some(CallKind::GetCap),
+            0x0D => Some(CallKind::SetClientCap),
+            0x11 => Some(CallKind::AuthMagic),
+            0x1E => Some(CallKind::SetMaster),
+            0x1F => Some(CallKind::DropMaster),
+            0x2D => Some(CallKind::PrimeHandleToFd),
+            0x2E => Some(CallKind::PrimeFdToHandle),
+            0x40 => Some(CallKind::BufCreate),
+            0x41 => Some(CallKind::StampWrite),
+            0x42 => Some(CallKind::StampRead),
+            0x43 => Some(CallKind::TokenClose),
+            0x44 => Some(CallKind::ListHandles),
+            0x45 => Some(CallKind::Audit),
+            0xA0 => Some(CallKind::GetResources),
+            0xA1 => Some(CallKind::GetCrtc),
+            0xA2 => Some(CallKind::SetCrtc),
+            0xA6 => Some(CallKind::GetEncoder),
+            0xA7 => Some(CallKind::GetConnector),
+            0xAD => Some(CallKind::GetFb),
+            0xAE => Some(CallKind::AddFb),
+            0xAF => Some(CallKind::RmFb),
+            0xB2 => Some(CallKind::CreateDumb),
+            0xB4 => Some(CallKind::DestroyDumb),
+            0xB5 => Some(CallKind::GetPlaneResources),
+            0xB6 => Some(CallKind::GetPlane),
+            0xB7 => Some(CallKind::SetPlane),
+            0xC6 => Some(CallKind::CreateLease),
+            0xC7 => Some(CallKind::ListLessees),
+            0xC8 => Some(CallKind::GetLease),
+            0xC9 => Some(CallKind::RevokeLease),
+            _ => None,
+        }
     }
 
     /// Returns the kind with this word of a script, or `None` if no row has it (own).

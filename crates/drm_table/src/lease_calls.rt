@@ -10,7 +10,7 @@ use crate::lists::IdList;
 
 impl Call {
     /// Returns the row of a call of leases and its fields in order.
-    pub(crate) fn lease_row(&self) -> Option<(CallKind, Fields)>
+    pub(crate) fn lease_row(&self) -> Option<(CallKind, Fields<32>)>
         ensures { result ≡ lease_row self.now }
     {
         Some(match self {

@@ -35,7 +35,7 @@ pub use apart::Apart;
 pub use audits::{AuditKind, AuditPage, AuditRow};
 pub use calls::{Call, CallKind};
 pub use events::{Event, Opening};
-pub use fields::{AnswerFields, Field, Fields, Layout, Width};
+pub use fields::{Field, Fields, Layout, Width};
 pub use flags::RowFlags;
 pub use laws::{
     answers_by_their_fields, calls_by_their_fields, refusals_by_their_numbers,

@@ -170,7 +170,7 @@ impl IdList {
     }
 
     /// Returns the ids as fields.
-    pub(crate) fn fields(&self) -> Fields
+    pub(crate) fn fields(&self) -> Fields<32>
         ensures { result ≡ map fields.U32 self.now }
     {
         let mut fields = Fields::new();

@@ -9,7 +9,7 @@ use crate::fields::Fields;
 
 impl Call {
     /// Returns the row of a call of masters and magics and its fields in order.
-    pub(crate) fn master_row(&self) -> Option<(CallKind, Fields)>
+    pub(crate) fn master_row(&self) -> Option<(CallKind, Fields<32>)>
         ensures { result ≡ master_row self.now }
     {
         Some(match self {

@@ -9,7 +9,7 @@ use crate::fields::Fields;
 
 impl Call {
     /// Returns the row of a call that shares objects and its fields in order.
-    pub(crate) fn share_row(&self) -> Option<(CallKind, Fields)>
+    pub(crate) fn share_row(&self) -> Option<(CallKind, Fields<32>)>
         ensures { result ≡ share_row self.now }
     {
         Some(match self {

@@ -5,7 +5,7 @@ use Rattle.drm_frames.specs.Fields.{field_in}
 use Rattle.drm_frames.proofs.fields.read_numbers.Given as goal
 
 abbrev pub invariant-loop-width : goal.invariant-loop-width
-invariant-loop-width l = record {
+invariant-loop-width g l = record {
   read : ahead l.fields (read_each field_in (drop l.width-index l.widths) l.rest) ≡ read_each field_in l.widths l.bytes;
   few : length l.fields ≡ l.width-index;
 }

@@ -9,6 +9,6 @@ id_places zero = refl
 id_places (suc count) = ap (λ ps. Place.number 32 ∷ ps) (id_places count)
 
 pub returns-in-Ids-clause-fault : goal.returns-in-Ids-clause-fault
-returns-in-Ids-clause-fault c =
+returns-in-Ids-clause-fault g c =
     let places = sym (ap (map width_place) c.of_ids.ensures ∙ id_places _) in
     rw (c.in-Ids.is, ← c.id_count-count.ensures, places) c.numbers_of-in-Ids.ensures.fault

@@ -8,7 +8,7 @@ use Rattle.drm_script.specs.Words.{words_of}
 use Rattle.drm_script.proofs.fields.numbers_of.Given as goal
 
 abbrev pub invariant-loop-width : goal.invariant-loop-width
-invariant-loop-width l = record {
+invariant-loop-width g l = record {
   read : ahead l.fields (read_each field_at (drop l.width-index l.widths) (words_of l.rest)) ≡ read_each field_at l.widths (words_of l.text);
   misfit : first_misfit (map width_place l.widths) (words_of l.text) ≡ first_misfit (map width_place (drop l.width-index l.widths)) (words_of l.rest);
   few : length l.fields ≡ l.width-index;
