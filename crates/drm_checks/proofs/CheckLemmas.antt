@@ -1,27 +1,31 @@
 -- A check, line by line.
-use Rattle.std.proofs.Common.{◌≡◌, ℕ, ◌+◌, ◌≤◌, ◌<◌, List, [], ◌∷◌, ◌++◌, length, refl, sym, ap, subst, ◌∙◌, arith, Some, None, Option, Result, append_assoc, append-nil, length-append, inl, inr, Bool, true, false, if◌then◌else◌}
+use Rattle.std.proofs.Common.{◌≡◌, ℕ, ◌+◌, ◌≤◌, ◌<◌, List, [], ◌∷◌, ◌++◌, length, refl, sym, ap, subst, ◌∙◌, arith, Some, None, Option, Result, append-nil, length-append, inl, inr, Bool, true, false, if◌then◌else◌}
 use Rattle.std.proofs.lemmas.Grind.{flat_map-append}
 use Rattle.std.proofs.lemmas.List.{length_push}
 use Rattle.drm_table.specs.declared.answers.Answer.{Answer}
 use Rattle.drm_table.specs.declared.apart.Apart.{Apart}
 use Rattle.drm_streams.specs.Streams.{SourceTrace, SinkTrace}
-use Rattle.drm_streams.specs.Turns.{Took, ReadCost, WriteCost, PartialWriteCost}
-use Rattle.drm_streams.proofs.Traces.{Gave-none, Gave-then, Took-none, Took-then}
-use Rattle.drm_runs.specs.Lines.{IsBare, joined}
-use Rattle.drm_runs.specs.Runs.{Covers, EndsLine}
-use Rattle.drm_runs.specs.Reader.{IsTooLong}
-use Rattle.drm_runs.specs.Script.{Setting, Place, Uses, IsMisplaced, IsNowhere, WantsDevice, unbound}
-use Rattle.drm_runs.specs.Script.Place.{Planned}
+use Rattle.drm_streams.specs.Turns.{Took, WriteCost, PartialWriteCost}
+use Rattle.drm_streams.specs.Texts.{WritesOut}
+use Rattle.drm_streams.specs.declared.turns.Written.{Written}
+use Rattle.drm_streams.specs.declared.turns.Written.TheVariants as written
+use Rattle.drm_streams.proofs.Traces.{Took-then}
+use Rattle.drm_runs.specs.Runs.{Covers}
+use Rattle.drm_runs.specs.Script.{Setting}
+use Rattle.drm_runs.specs.LineSteps.{LinesState, IsGiven, HoldsNext, IsEndOfLines}
+use Rattle.drm_runs.specs.Writing.{end_of_writing}
 use Rattle.drm_runs.specs.declared.stops.ScriptEnd.{ScriptEnd}
 use Rattle.drm_runs.specs.declared.stops.ScriptEnd.TheVariants as ends
-use Rattle.drm_runs.proofs.RunLemmas.{joined-push}
-use Rattle.drm_checks.specs.Expectations.{script_part, expected_part, is_met}
+use Rattle.drm_runs.proofs.LineStepLemmas.{covers_lines}
+use Rattle.drm_checks.specs.Expectations.{expected_part, is_met}
 use Rattle.drm_checks.specs.Differences.{Difference, File, differences_text, text_of, met, unmet}
-use Rattle.drm_checks.specs.Checker.{results_of}
-use Rattle.drm_checks.specs.Checks.{Checked, ChecksOn, Ends, IsCutInLast, IsPart, IsUnusable}
-use Rattle.drm_checks.specs.Checks.Checked.{start, line}
+use Rattle.drm_checks.specs.Checker.{Stands, UsedLine, ChecksLine}
+use Rattle.drm_checks.specs.Checker.ChecksLine.{used, bad, unmade}
+use Rattle.drm_checks.specs.Checks.{Checked, ChecksOn, Ends, IsCutInLast}
+use Rattle.drm_checks.specs.Checks.Checked.{line}
 use Rattle.drm_checks.specs.Steps.{SoFar}
 use Rattle.drm_checks.specs.declared.check.Report.{Report}
+use Rattle.drm_checks.specs.declared.checker.Checker.{Checker}
 
 -- ---- a line has one expectation at most
 
@@ -47,196 +51,128 @@ cut-last file n ds None came sent unsent e more = absurd (let none = ap (λ (l :
 cut-last file n ds (Some expected) came sent unsent e more =
     cut-found file n ds (is_met expected came) (record { number = n; expected = expected; came = came }) refl sent unsent e more
 
--- ---- a check so far
+some_end : (a b : ScriptEnd) → Some a ≡ Some b → a ≡ b
+some_end a b e = cc
 
-pub so_far_none : (setting : Setting) (file : File) (source : SourceTrace) (sink : SinkTrace) (turns : ℕ) → SoFar setting file source source sink sink turns turns 0 0 0 [] (Planned setting) unbound
-so_far_none setting file source sink turns = record {
-  read = [];
-  lines = [];
-  differences = [];
-  gave = Gave-none source;
-  took = Took-none sink;
-  cost = refl;
-  checked = start;
-  counted = refl;
-  whole = refl;
-  number = refl;
-}
+-- ---- a check so far
 
 abbrev pub report_with : ScriptEnd → ℕ → ℕ → Report
 report_with end passed failed = record { end = end; passed = passed; failed = failed }
 
-module _ {setting : Setting} {file : File} {s0 s : SourceTrace} {k0 k : SinkTrace} {turns has n passed failed : ℕ} {rest : List ℕ} {device : Place} {labels : List ℕ} (so : SoFar setting file s0 s k0 k turns has n passed failed rest device labels) where
-  pub so_far_read : (s' : SourceTrace) (given : List ℕ) (has' : ℕ) (rest' : List ℕ) → ReadCost s s' given has has' → rest ++ given ≡ rest' → SoFar setting file s0 s' k0 k turns has' n passed failed rest' device labels
-  so_far_read s' given has' rest' p e = record {
-    read = so.read ++ given;
-    lines = so.lines;
-    differences = so.differences;
-    gave = Gave-then so.gave p.gave;
-    took = so.took;
-    cost = (let a = p.cost in let b = so.cost in omega arith);
-    checked = so.checked;
-    counted = so.counted;
-    whole = ap (λ z. z ++ given) so.whole ∙ append_assoc (joined so.lines) rest given ∙ ap (λ z. joined so.lines ++ z) e;
-    number = so.number;
-  }
-
-  module _ (next : List ℕ) (came : Option (Result Answer Apart)) (device' : Place) (labels' : List ℕ) (bare : IsBare next) (u : Uses device labels (script_part next) (results_of came) device' labels') where
-    found : List Difference
-    found = unmet (n + 1) (expected_part next) came
-
-    grown : Checked setting (so.lines ++ next ∷ []) (passed + met (expected_part next) came) (so.differences ++ found) device' labels'
-    unfolding found
-    grown = subst (λ m. Checked setting (so.lines ++ next ∷ []) (passed + met (expected_part next) came) (so.differences ++ unmet (m + 1) (expected_part next) came) device' labels') (sym so.number) (line next came so.checked bare u)
-
-    grown_text : differences_text file (so.differences ++ found) ≡ differences_text file so.differences ++ differences_text file found
-    grown_text = flat_map-append (text_of file) so.differences found
-
-    grown_count : failed + length found ≡ length (so.differences ++ found)
-    grown_count = let a = so.counted in let b = length-append so.differences found in omega (arith, a, b)
-
-    grown_number : length (so.lines ++ next ∷ []) ≡ n + 1
-    grown_number = let a = so.number in let b = length_push so.lines next in omega (arith, a, b)
-
-    pub so_far_line : (more : List ℕ) (k' : SinkTrace) (has' : ℕ) → rest ≡ next ++ 10 ∷ more → WriteCost k k' (differences_text file (unmet (n + 1) (expected_part next) came)) has has'
-        → SoFar setting file s0 s k0 k' turns has' (n + 1) (passed + met (expected_part next) came) (failed + length (unmet (n + 1) (expected_part next) came)) more device' labels'
-    unfolding found
-    so_far_line more k' has' e p = record {
-      read = so.read;
-      lines = so.lines ++ next ∷ [];
-      differences = so.differences ++ found;
-      gave = so.gave;
-      took = subst (Took k0 k') (sym grown_text) (Took-then so.took p.took);
-      cost = (let a = p.cost in let b = so.cost in omega (arith, a, b));
-      checked = grown;
-      counted = grown_count;
-      whole = so.whole ∙ ap (λ z. joined so.lines ++ z) e ∙ sym (joined-push so.lines next more);
-      number = sym grown_number;
-    }
-
-    -- the line covers what was read, up to what stands behind its end
-    covered : (more : List ℕ) → rest ≡ next ++ more → length more ≤ 256 → EndsLine (s0.counts.ends < s.counts.ends) more
-        → (behind : List ℕ) × Covers (s0.counts.ends < s.counts.ends) so.read (so.lines ++ next ∷ []) behind × (length behind ≤ 256)
-    covered more e short (inl (none, f)) =
-        let whole : so.read ≡ joined so.lines ++ next = so.whole ∙ ap (λ z. joined so.lines ++ z) (e ∙ ap (λ z. next ++ z) none ∙ append-nil next) in
-        ([], inr (so.lines, next, refl, whole, refl, f), omega arith)
-    covered more e short (inr (behind, f)) =
-        let whole : so.read ≡ joined (so.lines ++ next ∷ []) ++ behind =
-        so.whole ∙ ap (λ z. joined so.lines ++ z) (e ∙ ap (λ z. next ++ z) f) ∙ sym (joined-push so.lines next behind) in
-        (behind, inl whole, (let long = ap (λ (l : List ℕ). length l) f in omega (arith, long, short)))
-
-    -- a front of the difference was told
-    cut_front : (k' : SinkTrace) (has' : ℕ) (p : PartialWriteCost k k' (differences_text file found) has has')
-        → IsCutInLast file (length (so.lines ++ next ∷ [])) (so.differences ++ found) (differences_text file so.differences ++ p.front)
-    unfolding found
-    cut_front k' has' p =
-        subst (λ (m : ℕ). IsCutInLast file m (so.differences ++ found) (differences_text file so.differences ++ p.front)) (sym grown_number)
-        (cut-last file (n + 1) so.differences (expected_part next) came p.front p.rest p.parts p.more)
-
-    pub cut_by_fault : (more : List ℕ) (k' : SinkTrace) (has' : ℕ) → rest ≡ next ++ more → length more ≤ 256 → EndsLine (s0.counts.ends < s.counts.ends) more
-        → PartialWriteCost k k' (differences_text file (unmet (n + 1) (expected_part next) came)) has has' → k.counts.faults < k'.counts.faults
-        → ChecksOn setting file s0 s k0 k' turns (report_with ends.WriteFault (passed + met (expected_part next) came) (failed + length (unmet (n + 1) (expected_part next) came)))
-    unfolding found
-    cut_by_fault more k' has' e short until p f =
-        let over = covered more e short until in record {
-          read = so.read;
-          written = differences_text file so.differences ++ p.front;
-          lines = so.lines ++ next ∷ [];
-          rest = over.0;
-          differences = so.differences ++ found;
-          device = device';
-          labels = labels';
-          gave = so.gave;
-          took = Took-then so.took p.pays.took;
-          turns_at_most = (let a = p.pays.cost in let b = so.cost in omega (arith, a, b));
-          checked = grown;
-          failed = grown_count;
-          covers = over.1;
-          ends = ((let a = so.took.counts.faults in omega (arith, a, f)), cut_front k' has' p, over.2);
-        }
-
-    pub cut_by_turns : (more : List ℕ) (k' : SinkTrace) (has' : ℕ) → rest ≡ next ++ more → length more ≤ 256 → EndsLine (s0.counts.ends < s.counts.ends) more
-        → PartialWriteCost k k' (differences_text file (unmet (n + 1) (expected_part next) came)) has has' → has' ≡ 0
-        → ChecksOn setting file s0 s k0 k' turns (report_with ends.TurnsUsed (passed + met (expected_part next) came) (failed + length (unmet (n + 1) (expected_part next) came)))
-    unfolding found
-    cut_by_turns more k' has' e short until p none =
-        let over = covered more e short until in record {
-          read = so.read;
-          written = differences_text file so.differences ++ p.front;
-          lines = so.lines ++ next ∷ [];
-          rest = over.0;
-          differences = so.differences ++ found;
-          device = device';
-          labels = labels';
-          gave = so.gave;
-          took = Took-then so.took p.pays.took;
-          turns_at_most = (let a = p.pays.cost in let b = so.cost in omega (arith, a, b));
-          checked = grown;
-          failed = grown_count;
-          covers = over.1;
-          ends = ((let a = p.pays.cost in let b = so.cost in omega (arith, a, b, none)), inr (cut_front k' has' p, over.2));
-        }
-
-    -- the last line, behind which the input has ended
-    pub done_last : (k' : SinkTrace) (has' : ℕ) → rest ≡ next → s0.counts.ends < s.counts.ends → WriteCost k k' (differences_text file (unmet (n + 1) (expected_part next) came)) has has'
-        → ChecksOn setting file s0 s k0 k' turns (report_with ends.Done (passed + met (expected_part next) came) (failed + length (unmet (n + 1) (expected_part next) came)))
-    unfolding found
-    done_last k' has' e f p = record {
-      read = so.read;
-      written = differences_text file so.differences ++ differences_text file found;
-      lines = so.lines ++ next ∷ [];
-      rest = [];
-      differences = so.differences ++ found;
-      device = device';
-      labels = labels';
-      gave = so.gave;
-      took = Took-then so.took p.took;
-      turns_at_most = (let a = p.cost in let b = so.cost in omega (arith, a, b));
-      checked = grown;
-      failed = grown_count;
-      covers = inr (so.lines, next, refl, so.whole ∙ ap (λ z. joined so.lines ++ z) e, refl, f);
-      ends = (refl, f, sym grown_text);
-    }
-
+module _ {setting : Setting} {file : File} {s0 s : SourceTrace} {k0 k : SinkTrace} {turns : ℕ} {read : List ℕ} {lines : List (List ℕ)} {differences : List Difference} (old : Checker)
+    (given : IsGiven s0 s read) (took : Took k0 k (differences_text file differences)) (cost : s.counts.calls + k.counts.calls + old.turns ≡ s0.counts.calls + k0.counts.calls + turns)
+    (checked : Checked setting lines old.passed differences old.interpreter.device old.interpreter.labels) (counted : old.failed ≡ length differences) where
   -- a check that ends with no further line
-  ended : (end : ScriptEnd) → Ends end (s0.counts.ends < s.counts.ends) s0 s k0 k turns (length so.lines) device rest (differences_text file so.differences) file so.differences
-      → ChecksOn setting file s0 s k0 k turns (report_with end passed failed)
-  ended end h = record {
-    read = so.read;
-    written = differences_text file so.differences;
-    lines = so.lines;
+  ended : (end : ScriptEnd) (rest : List ℕ) → Covers (s0.counts.ends < s.counts.ends) read lines rest
+      → Ends end (s0.counts.ends < s.counts.ends) s0 s k0 k turns (length lines) old.interpreter.device rest (differences_text file differences) file differences
+      → ChecksOn setting file s0 s k0 k turns (report_with end old.passed old.failed)
+  ended end rest covers h = record {
+    read = read;
+    written = differences_text file differences;
+    lines = lines;
     rest = rest;
-    differences = so.differences;
-    device = device;
-    labels = labels;
-    gave = so.gave;
-    took = so.took;
-    turns_at_most = (let b = so.cost in omega (arith, b));
-    checked = so.checked;
-    failed = so.counted;
-    covers = inl so.whole;
+    differences = differences;
+    device = old.interpreter.device;
+    labels = old.interpreter.labels;
+    gave = given.gave;
+    took = took;
+    turns_at_most = omega (arith, cost);
+    checked = checked;
+    failed = counted;
+    covers = covers;
     ends = h;
   }
 
-  pub done_empty : rest ≡ [] → s0.counts.ends < s.counts.ends → ChecksOn setting file s0 s k0 k turns (report_with ends.Done passed failed)
-  done_empty e f = ended ends.Done (e, f, refl)
+  pub check_ends : (end : ScriptEnd) → IsEndOfLines end s0 s old.turns read lines → ChecksOn setting file s0 s k0 k turns (report_with end old.passed old.failed)
+  check_ends ends.Done h = ended ends.Done [] h.0 (refl, h.1, refl)
+  check_ends (ends.Malformed number) h =
+      let t = h.5 in
+      ended (ends.Malformed number) h.1 (inl h.2) (h.0, record { bad = h.3; behind = h.4; parts = t.whole; bare = t.bare; end_condition = inr t.long; short = omega (arith, t.behind) }, refl)
+  check_ends ends.ReadFault h = ended ends.ReadFault h.0 (inl h.1) (h.2, h.3, refl)
+  check_ends ends.TurnsUsed h = ended ends.TurnsUsed h.0 (inl h.1) (omega (arith, cost, h.3), inl (h.2, refl))
+  check_ends ends.WriteFault h = absurd h
+  check_ends ends.NoMemory h = absurd h
 
-  pub read_fault : IsPart rest → s0.counts.faults < s.counts.faults → ChecksOn setting file s0 s k0 k turns (report_with ends.ReadFault passed failed)
-  read_fault part f = ended ends.ReadFault (part, f, refl)
+  -- a line is held that was not checked
+  module _ {state : LinesState} (h : HoldsNext s0 s state read lines) (new : Checker) (k' : SinkTrace) where
+    numbered : state.number ≡ length lines + 1
+    numbered = h.so_far.number ∙ length_push lines state.held
 
-  pub turns_used : IsPart rest → has ≡ 0 → ChecksOn setting file s0 s k0 k turns (report_with ends.TurnsUsed passed failed)
-  turns_used part none = ended ends.TurnsUsed ((let b = so.cost in omega (arith, b, none)), inl (part, refl))
+    -- it can't be used
+    unused : (end : ScriptEnd) → Stands old new k k' → Ends end (s0.counts.ends < s.counts.ends) s0 s k0 k turns (length lines) old.interpreter.device (state.held ++ h.behind) (differences_text file differences) file differences
+        → ChecksOn setting file s0 s k0 k' turns (report_with end new.passed new.failed)
+    unused end st e =
+        subst (λ (x : SinkTrace). ChecksOn setting file s0 s k0 x turns (report_with end new.passed new.failed)) (sym st.unwritten)
+        (subst (λ (p : ℕ). ChecksOn setting file s0 s k0 k turns (report_with end p new.failed)) (sym st.passed)
+        (subst (λ (f : ℕ). ChecksOn setting file s0 s k0 k turns (report_with end old.passed f)) (sym st.failed) (ended end (state.held ++ h.behind) (inl h.whole) e)))
 
-  unusable : IsUnusable (s0.counts.ends < s.counts.ends) device rest → ChecksOn setting file s0 s k0 k turns (report_with (ends.Malformed (n + 1)) passed failed)
-  unusable h = ended (ends.Malformed (n + 1)) (ap (λ m. m + 1) so.number, h, refl)
+    module _ {line_end : Option ScriptEnd} (u : UsedLine old new file state k k' line_end) where
+      found : List Difference
+      found = unmet state.number (expected_part state.held) u.came
 
-  pub too_long : (front more : List ℕ) → IsTooLong rest front more → ChecksOn setting file s0 s k0 k turns (report_with (ends.Malformed (n + 1)) passed failed)
-  too_long front more t = unusable (record { bad = front; behind = more; parts = t.whole; bare = t.bare; end_condition = inr t.long; short = omega (arith, t.behind) })
+      grown : Checked setting (lines ++ state.held ∷ []) new.passed (differences ++ found) new.interpreter.device new.interpreter.labels
+      unfolding found
+      grown =
+          subst (λ (p : ℕ). Checked setting (lines ++ state.held ∷ []) p (differences ++ found) new.interpreter.device new.interpreter.labels) (sym u.passed)
+          (subst (λ (m : ℕ). Checked setting (lines ++ state.held ∷ []) (old.passed + met (expected_part state.held) u.came) (differences ++ unmet m (expected_part state.held) u.came) new.interpreter.device new.interpreter.labels) (sym numbered)
+          (line state.held u.came checked h.bare u.uses))
 
-  pub malformed : (next more : List ℕ) → rest ≡ next ++ more → length more ≤ 256 → EndsLine (s0.counts.ends < s.counts.ends) more → IsBare next → IsMisplaced device (script_part next)
-      → ChecksOn setting file s0 s k0 k turns (report_with (ends.Malformed (n + 1)) passed failed)
-  malformed next more e short until bare m = unusable (record { bad = next; behind = more; parts = e; bare = bare; end_condition = inl (m, until); short = short })
+      grown_count : new.failed ≡ length (differences ++ found)
+      unfolding found
+      grown_count = let a = u.failed in let b = length-append differences found in omega (arith, a, b, counted)
 
-  pub no_memory : (next more : List ℕ) → rest ≡ next ++ more → length more ≤ 256 → EndsLine (s0.counts.ends < s.counts.ends) more → IsBare next → IsNowhere device → WantsDevice (script_part next)
-      → ChecksOn setting file s0 s k0 k turns (report_with ends.NoMemory passed failed)
-  no_memory next more e short until bare none wants = ended ends.NoMemory (record { next = next; behind = more; parts = e; bare = bare; until = until; none = none; wants = wants; short = short }, refl)
+      -- a front of the difference was told
+      cut_front : (p : PartialWriteCost k k' (differences_text file found) old.turns new.turns) → IsCutInLast file (length (lines ++ state.held ∷ [])) (differences ++ found) (differences_text file differences ++ p.front)
+      unfolding found
+      cut_front p =
+          subst (λ (m : ℕ). IsCutInLast file m (differences ++ found) (differences_text file differences ++ p.front)) h.so_far.number
+          (cut-last file state.number differences (expected_part state.held) u.came p.front p.rest p.parts p.more)
+
+      cut_by : (end : ScriptEnd) (p : PartialWriteCost k k' (differences_text file found) old.turns new.turns)
+          → Ends end (s0.counts.ends < s.counts.ends) s0 s k0 k' turns (length (lines ++ state.held ∷ [])) new.interpreter.device state.pending (differences_text file differences ++ p.front) file (differences ++ found)
+          → ChecksOn setting file s0 s k0 k' turns (report_with end new.passed new.failed)
+      cut_by end p e = record {
+        read = read;
+        written = differences_text file differences ++ p.front;
+        lines = lines ++ state.held ∷ [];
+        rest = state.pending;
+        differences = differences ++ found;
+        device = new.interpreter.device;
+        labels = new.interpreter.labels;
+        gave = given.gave;
+        took = Took-then took p.pays.took;
+        turns_at_most = (let a = p.pays.cost in omega (arith, a, cost));
+        checked = grown;
+        failed = grown_count;
+        covers = covers_lines state.is_last h.so_far.are_lines;
+        ends = e;
+      }
+
+      stopped_used : (end : ScriptEnd) (w : Written) → WritesOut w k k' (differences_text file found) old.turns new.turns → Some end ≡ end_of_writing w
+          → ChecksOn setting file s0 s k0 k' turns (report_with end new.passed new.failed)
+      stopped_used end written.Whole w e = absurd (cc)
+      stopped_used end written.Fault w e =
+          subst (λ (x : ScriptEnd). ChecksOn setting file s0 s k0 k' turns (report_with x new.passed new.failed)) (sym (some_end end ends.WriteFault e))
+          (cut_by ends.WriteFault w.0 ((let a = took.counts.faults in let b = w.1 in omega (arith, a, b)), cut_front w.0, h.short_pending))
+      stopped_used end written.TurnsUsed w e =
+          subst (λ (x : ScriptEnd). ChecksOn setting file s0 s k0 k' turns (report_with x new.passed new.failed)) (sym (some_end end ends.TurnsUsed e))
+          (cut_by ends.TurnsUsed w.0 ((let a = w.0.pays.cost in let b = w.1 in omega (arith, a, b, cost)), inr (cut_front w.0, h.short_pending)))
+
+      pub so_far_used : WriteCost k k' (differences_text file found) old.turns new.turns → SoFar setting file s0 s k0 k' turns (record { lines = state; checker = new })
+      so_far_used p = record {
+        read = read;
+        lines = lines ++ state.held ∷ [];
+        differences = differences ++ found;
+        has_read = h.so_far;
+        took = subst (Took k0 k') (sym (flat_map-append (text_of file) differences found)) (Took-then took p.took);
+        cost = (let a = p.cost in omega (arith, a, cost));
+        checked = grown;
+        counted = grown_count;
+      }
+
+    pub stopped : (end : ScriptEnd) → ChecksLine old new file state k k' (Some end) → ChecksOn setting file s0 s k0 k' turns (report_with end new.passed new.failed)
+    stopped end (used u) = stopped_used u end u.written u.writes u.end_is
+    stopped (ends.Malformed number) (bad m st) =
+        unused (ends.Malformed state.number) st (numbered, record { bad = state.held; behind = h.behind; parts = refl; bare = h.bare; end_condition = inl (m, h.until); short = h.short_behind }, refl)
+    stopped ends.NoMemory (unmade none wants st) =
+        unused ends.NoMemory st (record { next = state.held; behind = h.behind; parts = refl; bare = h.bare; until = h.until; none = none; wants = wants; short = h.short_behind }, refl)

@@ -6,6 +6,7 @@ use Rattle.drm_streams.specs.Streams.{SinkTrace}
 use Rattle.drm_streams.specs.Texts.{WritesOut}
 use Rattle.drm_runs.specs.Script.{Uses, IsMisplaced, IsNowhere, WantsDevice}
 use Rattle.drm_runs.specs.Interpreter.{InterpreterState}
+use Rattle.drm_runs.specs.LineSteps.{LinesState}
 use Rattle.drm_runs.specs.declared.stops.ScriptEnd.{ScriptEnd}
 use Rattle.drm_runs.specs.declared.stops.ScriptEnd.TheVariants as ends
 use Rattle.drm_checks.specs.Expectations.{script_part, expected_part}
@@ -16,29 +17,28 @@ use Rattle.drm_checks.specs.declared.checker.Checker.{Checker}
 
 -- the checker once a line was interpreted, and before what it expects is noted
 abbrev pub interpreted : Checker → InterpreterState → Checker
-interpreted old interpreter = record { interpreter = interpreter; number = old.number + 1; passed = old.passed; failed = old.failed; turns = old.turns }
+interpreted old interpreter = record { interpreter = interpreter; passed = old.passed; failed = old.failed; turns = old.turns }
 
-pub used_line : (old new : Checker) (after : InterpreterState) (file : File) (line script : List ℕ) (expected : Option (List ℕ)) (came : Option (Result Answer Apart)) (sink sink' : SinkTrace) (end : Option ScriptEnd)
-    → script ≡ script_part line → expected ≡ expected_part line → Uses old.interpreter.device old.interpreter.labels script (results_of came) after.device after.labels
-    → Notes (interpreted old after) new file expected came sink sink' end → ChecksLine old new file line sink sink' end
-used_line old new after file line script expected came sink sink' end s e u n =
+pub used_line : (old new : Checker) (after : InterpreterState) (file : File) (lines : LinesState) (script : List ℕ) (expected : Option (List ℕ)) (came : Option (Result Answer Apart)) (sink sink' : SinkTrace) (end : Option ScriptEnd)
+    → script ≡ script_part lines.held → expected ≡ expected_part lines.held → Uses old.interpreter.device old.interpreter.labels script (results_of came) after.device after.labels
+    → Notes (interpreted old after) new file lines.number expected came sink sink' end → ChecksLine old new file lines sink sink' end
+used_line old new after file lines script expected came sink sink' end s e u n =
     used (record {
       came = came;
-      uses = subst (λ (i : InterpreterState). Uses old.interpreter.device old.interpreter.labels (script_part line) (results_of came) i.device i.labels) (sym n.interpreter)
+      uses = subst (λ (i : InterpreterState). Uses old.interpreter.device old.interpreter.labels (script_part lines.held) (results_of came) i.device i.labels) (sym n.interpreter)
           (subst (λ (l : List ℕ). Uses old.interpreter.device old.interpreter.labels l (results_of came) after.device after.labels) s u);
       written = n.written;
-      writes = subst (λ (x : Option (List ℕ)). WritesOut n.written sink sink' (differences_text file (unmet (old.number + 1) x came)) old.turns new.turns) e n.writes;
+      writes = subst (λ (x : Option (List ℕ)). WritesOut n.written sink sink' (differences_text file (unmet lines.number x came)) old.turns new.turns) e n.writes;
       end_is = n.end_is;
       passed = n.passed ∙ ap (λ (x : Option (List ℕ)). old.passed + met x came) e;
-      failed = n.failed ∙ ap (λ (x : Option (List ℕ)). old.failed + length (unmet (old.number + 1) x came)) e;
-      number = n.number;
+      failed = n.failed ∙ ap (λ (x : Option (List ℕ)). old.failed + length (unmet lines.number x came)) e;
     })
 
 -- a line that can't be used, and one that wants a device for which there was no memory
-pub bad_line : {old new : Checker} {file : File} {line : List ℕ} {sink sink' : SinkTrace} {end : ScriptEnd} → end ≡ ends.Malformed (old.number + 1) → IsMisplaced old.interpreter.device (script_part line)
-    → Stands old new sink sink' → ChecksLine old new file line sink sink' (Some end)
-bad_line {old} {new} {file} {line} {sink} {sink'} same m s = subst (λ (e : ScriptEnd). ChecksLine old new file line sink sink' (Some e)) (sym same) (bad m s)
+pub bad_line : {old new : Checker} {file : File} {lines : LinesState} {sink sink' : SinkTrace} {end : ScriptEnd} → end ≡ ends.Malformed lines.number → IsMisplaced old.interpreter.device (script_part lines.held)
+    → Stands old new sink sink' → ChecksLine old new file lines sink sink' (Some end)
+bad_line {old} {new} {file} {lines} {sink} {sink'} same m s = subst (λ (e : ScriptEnd). ChecksLine old new file lines sink sink' (Some e)) (sym same) (bad m s)
 
-pub unmade_line : {old new : Checker} {file : File} {line : List ℕ} {sink sink' : SinkTrace} {end : ScriptEnd} → end ≡ ends.NoMemory → IsNowhere old.interpreter.device → WantsDevice (script_part line)
-    → Stands old new sink sink' → ChecksLine old new file line sink sink' (Some end)
-unmade_line {old} {new} {file} {line} {sink} {sink'} same none wants s = subst (λ (e : ScriptEnd). ChecksLine old new file line sink sink' (Some e)) (sym same) (unmade none wants s)
+pub unmade_line : {old new : Checker} {file : File} {lines : LinesState} {sink sink' : SinkTrace} {end : ScriptEnd} → end ≡ ends.NoMemory → IsNowhere old.interpreter.device → WantsDevice (script_part lines.held)
+    → Stands old new sink sink' → ChecksLine old new file lines sink sink' (Some end)
+unmade_line {old} {new} {file} {lines} {sink} {sink'} same none wants s = subst (λ (e : ScriptEnd). ChecksLine old new file lines sink sink' (Some e)) (sym same) (unmade none wants s)

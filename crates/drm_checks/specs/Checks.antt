@@ -7,6 +7,7 @@ use Rattle.drm_streams.specs.Turns.{Gave, Took}
 use Rattle.drm_runs.specs.Lines.{IsBare}
 use Rattle.drm_runs.specs.Script.{Setting, Place, Script, Uses, IsMisplaced, IsNowhere, WantsDevice, unbound, usual}
 use Rattle.drm_runs.specs.Script.Place.{Planned}
+use Rattle.drm_runs.specs.LineSteps.{IsPart}
 use Rattle.drm_runs.specs.Runs.{Covers, EndsLine}
 use Rattle.drm_runs.specs.declared.stops.ScriptEnd.{ScriptEnd}
 use Rattle.drm_runs.specs.declared.stops.ScriptEnd.TheVariants as ends
@@ -56,10 +57,6 @@ pub record IsCutInLast (file : File) (n : ℕ) (differences : List Difference) (
   pub parts : text_of file last ≡ sent ++ unsent
   pub more : 0 < length unsent
   pub text : written ≡ differences_text file before ++ sent
-
--- what is left of a line whose end wasn't read, shorter than a line that is too long
-abbrev pub IsPart : List ℕ → Type 0
-IsPart rest = IsBare rest × (length rest ≤ 255)
 
 -- Each end with its cause, where n lines were checked, this stands behind them in what was read, and these differences were found.
 abbrev pub Ends : ScriptEnd → Type 0 → SourceTrace → SourceTrace → SinkTrace → SinkTrace → ℕ → ℕ → Place → List ℕ → List ℕ → File → List Difference → Type 0

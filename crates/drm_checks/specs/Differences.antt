@@ -3,11 +3,7 @@ use Rattle.std.specs.Prelude.{ℕ, List, [], ◌∷◌, ◌++◌, codes, decimal
 use Rattle.std.specs.List.{flat_map}
 use Rattle.drm_table.specs.declared.answers.Answer.{Answer}
 use Rattle.drm_table.specs.declared.apart.Apart.{Apart}
-use Rattle.drm_streams.specs.declared.turns.Written.{Written}
-use Rattle.drm_streams.specs.declared.turns.Written.TheVariants as written
 use Rattle.drm_script.specs.Lines.{answer_line}
-use Rattle.drm_runs.specs.declared.stops.ScriptEnd.{ScriptEnd}
-use Rattle.drm_runs.specs.declared.stops.ScriptEnd.TheVariants as ends
 use Rattle.drm_checks.specs.Expectations.{is_met}
 
 -- a file by its name, and the command that explains one of its lines, but for the line's number; empty where there is none
@@ -74,9 +70,3 @@ met (Some expected) came = if is_met expected came then 1 else 0
 abbrev pub unmet : ℕ → Option (List ℕ) → Option (Result Answer Apart) → List Difference
 unmet number None came = []
 unmet number (Some expected) came = if is_met expected came then [] else record { number = number; expected = expected; came = came } ∷ []
-
--- how a check ends where a difference could not be told
-abbrev pub end_of_writing : Written → Option ScriptEnd
-end_of_writing written.Whole = None
-end_of_writing written.Fault = Some ends.WriteFault
-end_of_writing written.TurnsUsed = Some ends.TurnsUsed

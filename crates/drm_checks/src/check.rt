@@ -6,7 +6,7 @@ ghost use Rattle.drm_checks.specs.Checks.{Checks, ChecksOn};
 ghost use Rattle.drm_checks.specs.Differences.{file_of};
 
 use crate::checker::Checker;
-use drm_runs::{LineReader, NextLine, ScriptEnd, Setup, Stop};
+use drm_runs::{ScriptEnd, ScriptLines, Setup, Stop};
 use drm_script::Malformed;
 use drm_streams::{Sink, Source};
 use std::alloc::Global;
@@ -51,44 +51,22 @@ impl Report {
 /// A check that goes on.
 #[derive(Drop)]
 struct Check {
-    reader: LineReader,
+    lines: ScriptLines,
     checker: Checker,
 }
 
 impl Check {
-    ghost use Rattle.std.specs.Prelude.{◌≡◌, ◌<◌, ◌+◌, ◌^◌};
+    ghost use Rattle.std.specs.Prelude.{◌≡◌};
     ghost use Rattle.drm_checks.specs.Differences.{file_of};
-    ghost use Rattle.drm_checks.specs.Steps.{Advances, IsCountable, ChecksLast, first_check};
+    ghost use Rattle.drm_checks.specs.Steps.{Advances, IsCountable, first_check};
 
     fn new(setup: Setup, turns: u64) -> Check
         ensures { result ≡ first_check setup turns }
     {
         Check {
-            reader: LineReader::new(),
+            lines: ScriptLines::new(),
             checker: Checker::new(setup, turns),
         }
-    }
-
-    /// Checks what stands behind the last line end, if anything does.
-    fn check_last<K: Sink>(
-        &mut self,
-        alloc: Global,
-        name: &[u8],
-        command: &[u8],
-        sink: &mut K,
-    ) -> Stop
-        requires number { self.old.checker.number + 1 < 2 ^ 64 }
-        requires passed { self.old.checker.passed + 1 < 2 ^ 64 }
-        requires failed { self.old.checker.failed + 1 < 2 ^ 64 }
-        requires sink_calls { (K.trace sink.old).counts.calls + self.old.checker.turns < 2 ^ 48 }
-        ensures { ChecksLast self.old self.new (file_of name.now command.now) (K.trace sink.old) (K.trace sink.new) result }
-    {
-        let line = self.reader.line();
-        if line.is_empty() {
-            return Stop::of(ScriptEnd::Done);
-        }
-        let stop = self.checker.check_line(alloc, name, command, line, sink);
-        stop.unwrap_or(Stop::of(ScriptEnd::Done))
     }
 
     /// Reads a line and checks it. Gives how the check ends, where it doesn't go on.
@@ -103,19 +81,11 @@ impl Check {
         requires countable { IsCountable self.old (S.trace source.old) (K.trace sink.old) }
         ensures { Advances self.old self.new (file_of name.now command.now) (S.trace source.old) (S.trace source.new) (K.trace sink.old) (K.trace sink.new) result }
     {
-        match self.reader.next_line(source, &mut self.checker.turns) {
-            NextLine::Line => {
-                let line = self.reader.line();
-                self.checker.check_line(alloc, name, command, line, sink)
-            }
-            NextLine::End => Some(self.check_last(alloc, name, command, sink)),
-            NextLine::TooLong => {
-                let number = self.checker.number + 1;
-                Some(Stop::malformed(number, Malformed::too_long()))
-            }
-            NextLine::ReadFault => Some(Stop::of(ScriptEnd::ReadFault)),
-            NextLine::TurnsUsed => Some(Stop::of(ScriptEnd::TurnsUsed)),
+        if let Some(stop) = self.lines.read_next(source, &mut self.checker.turns) {
+            return Some(stop);
         }
+        self.checker
+            .check_line(alloc, name, command, &self.lines, sink)
     }
 }
 

@@ -2,25 +2,14 @@
 
 ghost use Rattle.std.specs.Prelude.{◌≡◌, ◌<◌, ◌+◌, ◌^◌};
 ghost use Rattle.drm_streams.specs.Texts.{WritesOut};
-ghost use Rattle.drm_checks.specs.Differences.{command_text, difference_text, end_of_expected, end_of_writing, file_of, front_of, line_text, why_text};
+ghost use Rattle.drm_checks.specs.Differences.{command_text, difference_text, end_of_expected, file_of, front_of, line_text, why_text};
 
 use crate::expectations::{is_met, parts_of};
-use drm_runs::{Interpreter, LineResult, ScriptEnd, Setup, Stop};
+use drm_runs::{Interpreter, LineResult, ScriptEnd, ScriptLines, Setup, Stop};
 use drm_script::line_of;
 use drm_streams::{Sink, Written, put_each};
 use drm_table::{Answer, Apart};
 use std::alloc::Global;
-
-/// How a check ends where a difference could not be told.
-fn end_of(written: Written) -> Option<Stop>
-    ensures { result ≡ end_of_writing written }
-{
-    match written {
-        Written::Whole => None,
-        Written::Fault => Some(Stop::of(ScriptEnd::WriteFault)),
-        Written::TurnsUsed => Some(Stop::of(ScriptEnd::TurnsUsed)),
-    }
-}
 
 /// What is expected as it is told: what stands before its last byte, and that byte, a carriage return or a space by a word for it.
 fn shown(expected: &[u8]) -> (&[u8], &[u8])
@@ -142,8 +131,6 @@ fn tell<K: Sink>(
 #[derive(Drop)]
 pub(crate) struct Checker {
     interpreter: Interpreter,
-    /// How many lines were used.
-    pub(crate) number: u64,
     /// How many expectations were met.
     pub(crate) passed: u64,
     /// How many expectations were not.
@@ -163,7 +150,6 @@ impl Checker {
     {
         Checker {
             interpreter: Interpreter::new(setup),
-            number: 0,
             passed: 0,
             failed: 0,
             turns,
@@ -175,6 +161,7 @@ impl Checker {
         &mut self,
         name: &[u8],
         command: &[u8],
+        number: u64,
         expected: Option<&[u8]>,
         came: &Option<Result<Answer, Apart>>,
         sink: &mut K,
@@ -182,7 +169,7 @@ impl Checker {
         requires passed { self.old.passed + 1 < 2 ^ 64 }
         requires failed { self.old.failed + 1 < 2 ^ 64 }
         requires sink_calls { (K.trace sink.old).counts.calls + self.old.turns < 2 ^ 48 }
-        ensures { Notes self.old self.new (file_of name.now command.now) (option_map (λ e. e.now) expected.entry) came.now (K.trace sink.old) (K.trace sink.new) result }
+        ensures { Notes self.old self.new (file_of name.now command.now) number (option_map (λ e. e.now) expected.entry) came.now (K.trace sink.old) (K.trace sink.new) result }
     {
         let Some(expected) = expected else {
             return None;
@@ -192,10 +179,10 @@ impl Checker {
             return None;
         }
         self.failed += 1;
-        end_of(tell(
+        Stop::of_writing(tell(
             name,
             command,
-            self.number,
+            number,
             expected,
             came,
             sink,
@@ -203,28 +190,27 @@ impl Checker {
         ))
     }
 
-    /// Asks what a line says, and looks whether what it expects came. Gives how the check ends, where it doesn't go on.
+    /// Asks what the line that is held says, and looks whether what it expects came. Gives how the check ends, where it doesn't go on.
     pub(crate) fn check_line<K: Sink>(
         &mut self,
         alloc: Global,
         name: &[u8],
         command: &[u8],
-        line: &[u8],
+        lines: &ScriptLines,
         sink: &mut K,
     ) -> Option<Stop>
-        requires number { self.old.number + 1 < 2 ^ 64 }
         requires passed { self.old.passed + 1 < 2 ^ 64 }
         requires failed { self.old.failed + 1 < 2 ^ 64 }
         requires sink_calls { (K.trace sink.old).counts.calls + self.old.turns < 2 ^ 48 }
-        ensures { ChecksLine self.old self.new (file_of name.now command.now) line.now (K.trace sink.old) (K.trace sink.new) result }
+        ensures { ChecksLine self.old self.new (file_of name.now command.now) lines.now (K.trace sink.old) (K.trace sink.new) result }
     {
-        self.number += 1;
-        let (script, expected) = parts_of(line);
+        let number = lines.number();
+        let (script, expected) = parts_of(lines.line());
         let mut outcome = Ok(Answer::Done);
         match self.interpreter.interpret(alloc, script, &mut outcome) {
-            LineResult::Unanswered => self.note(name, command, expected, &None, sink),
-            LineResult::Answered => self.note(name, command, expected, &Some(outcome), sink),
-            LineResult::Malformed(cause) => Some(Stop::malformed(self.number, cause)),
+            LineResult::Unanswered => self.note(name, command, number, expected, &None, sink),
+            LineResult::Answered => self.note(name, command, number, expected, &Some(outcome), sink),
+            LineResult::Malformed(cause) => Some(Stop::malformed(number, cause)),
             LineResult::NoMemory => Some(Stop::of(ScriptEnd::NoMemory)),
         }
     }

@@ -1,7 +1,7 @@
 pub mod AnswerLaws
 pub mod InterpreterLemmas
 pub mod LineLemmas
+pub mod LineStepLemmas
 pub mod ReaderLemmas
 pub mod RunLemmas
 pub mod StepLemmas
-pub mod WritingLemmas

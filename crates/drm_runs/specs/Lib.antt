@@ -1,5 +1,6 @@
 pub mod Interpreter
 pub mod Lines
+pub mod LineSteps
 pub mod Reader
 pub mod Runs
 pub mod RunSteps

@@ -6,12 +6,13 @@ mod interpreter;
 mod laws;
 mod reader;
 mod run;
+mod script_lines;
 mod stops;
 mod writing;
 
 pub use devices::{Setup, make_device, test_topology};
 pub use interpreter::{Interpreter, LineResult};
 pub use laws::scripts_are_answered;
-pub use reader::{LineReader, NextLine};
 pub use run::{Ran, run_on, run_script, run_with_cause};
+pub use script_lines::ScriptLines;
 pub use stops::{ScriptEnd, Stop};

@@ -23,7 +23,7 @@ enum Scan {
 
 /// How the next line was read.
 #[derive(Clone, Copy, Debug, PartialEq, Eq)]
-pub enum NextLine {
+pub(crate) enum NextLine {
     /// The line is held, and its end was read.
     Line,
     /// The source has ended; what stood behind the last line end is held.
@@ -38,7 +38,7 @@ pub enum NextLine {
 
 /// Reads lines of at most 255 bytes, of which it holds one at a time. Each call of the source asks for 256 bytes at most.
 #[derive(Drop)]
-pub struct LineReader {
+pub(crate) struct LineReader {
     chunk: [u8; CHUNK],
     next: usize,
     end: usize,
@@ -79,7 +79,7 @@ impl LineReader {
     ghost use Rattle.drm_runs.specs.Reader.{Refilled, ReadsOn, Reads, Scans};
 
     /// Nothing was read yet.
-    pub fn new() -> LineReader
+    pub(crate) fn new() -> LineReader
         ensures { result ≡ record { held = []; pending = [] } }
     {
         LineReader {
@@ -91,7 +91,7 @@ impl LineReader {
     }
 
     /// The line without its end.
-    pub fn line(&self) -> &[u8]
+    pub(crate) fn line(&self) -> &[u8]
         ensures { result.now ≡ self.now.held }
     {
         self.line.as_slice()
@@ -162,7 +162,7 @@ impl LineReader {
     }
 
     /// Reads the next line, in place of the one that is held.
-    pub fn next_line<S: Source>(&mut self, source: &mut S, turns: &mut u64) -> NextLine
+    pub(crate) fn next_line<S: Source>(&mut self, source: &mut S, turns: &mut u64) -> NextLine
         requires countable { (S.trace source.old).counts.calls + turns.old < 2 ^ 48 }
         ensures { (given : List ℕ) × Reads self.old self.new (S.trace source.old) (S.trace source.new) turns.old turns.new result given }
     {

@@ -2,91 +2,40 @@
 
 ghost use Rattle.std.specs.Prelude.{◌≡◌, ◌<◌, ◌+◌, ◌^◌, is_some};
 ghost use Rattle.drm_runs.specs.Runs.{Runs, RunsOn, is_malformed};
-ghost use Rattle.drm_runs.specs.RunSteps.{stop_of};
 
 use crate::devices::Setup;
 use crate::interpreter::Interpreter;
-use crate::reader::{LineReader, NextLine};
+use crate::script_lines::ScriptLines;
 use crate::stops::{ScriptEnd, Stop};
-use crate::writing::{Desk, LineEnd, use_line};
+use crate::writing::{Desk, use_line};
 use drm_script::Malformed;
 use drm_streams::{Sink, Source};
 use std::alloc::Global;
 
-/// How a run ends where a line does not let it go on.
-fn stop(line: LineEnd, number: u64) -> Option<Stop>
-    ensures { result ≡ stop_of line number }
-{
-    match line {
-        LineEnd::Used => None,
-        LineEnd::Malformed(cause) => Some(Stop::malformed(number, cause)),
-        LineEnd::WriteFault => Some(Stop::of(ScriptEnd::WriteFault)),
-        LineEnd::TurnsUsed => Some(Stop::of(ScriptEnd::TurnsUsed)),
-        LineEnd::NoMemory => Some(Stop::of(ScriptEnd::NoMemory)),
-    }
-}
-
 /// A run that goes on.
 #[derive(Drop)]
 struct Run {
-    reader: LineReader,
+    lines: ScriptLines,
     interpreter: Interpreter,
-    /// How many lines were used.
-    number: u64,
     /// How many calls of the source and the sink may still be made.
     turns: u64,
 }
 
 impl Run {
-    ghost use Rattle.std.specs.Prelude.{◌≡◌, ◌<◌, ◌+◌, ◌^◌};
-    ghost use Rattle.drm_runs.specs.RunSteps.{Advances, IsCountable, UsesHeld, UsesLast, at_first};
+    ghost use Rattle.std.specs.Prelude.{◌≡◌};
+    ghost use Rattle.drm_runs.specs.RunSteps.{Advances, IsCountable, at_first};
 
     fn new(setup: Setup, turns: u64) -> Run
         ensures { result ≡ at_first setup turns }
     {
         Run {
-            reader: LineReader::new(),
+            lines: ScriptLines::new(),
             interpreter: Interpreter::new(setup),
-            number: 0,
             turns,
         }
     }
 
-    /// Uses the line that is held; its answer is made on the desk. Gives how the run ends, where it doesn't go on.
-    fn use_held<K: Sink>(&mut self, alloc: Global, desk: &mut Desk, sink: &mut K) -> Option<Stop>
-        requires number { self.old.number + 1 < 2 ^ 64 }
-        requires sink_calls { (K.trace sink.old).counts.calls + self.old.turns < 2 ^ 48 }
-        ensures number { self.new.number ≡ self.old.number + 1 }
-        ensures reader { self.new.reader ≡ self.old.reader }
-        ensures uses { UsesHeld self.old self.new (K.trace sink.old) (K.trace sink.new) result }
-    {
-        self.number += 1;
-        let line = self.reader.line();
-        let used = use_line(
-            &mut self.interpreter,
-            alloc,
-            line,
-            desk,
-            sink,
-            &mut self.turns,
-        );
-        stop(used, self.number)
-    }
-
-    /// Uses what stands behind the last line end, if anything does.
-    fn use_last<K: Sink>(&mut self, alloc: Global, desk: &mut Desk, sink: &mut K) -> Stop
-        requires number { self.old.number + 1 < 2 ^ 64 }
-        requires sink_calls { (K.trace sink.old).counts.calls + self.old.turns < 2 ^ 48 }
-        ensures { UsesLast self.old self.new (K.trace sink.old) (K.trace sink.new) result }
-    {
-        if self.reader.line().is_empty() {
-            return Stop::of(ScriptEnd::Done);
-        }
-        self.use_held(alloc, desk, sink)
-            .unwrap_or(Stop::of(ScriptEnd::Done))
-    }
-
-    /// Reads a line and uses it. Gives how the run ends, where it doesn't go on.
+    /// Reads a line and uses it; its answer is made on the desk. Gives how the run ends, where it doesn't go on.
     fn use_next<S: Source, K: Sink>(
         &mut self,
         alloc: Global,
@@ -97,13 +46,17 @@ impl Run {
         requires countable { IsCountable self.old (S.trace source.old) (K.trace sink.old) }
         ensures { Advances self.old self.new (S.trace source.old) (S.trace source.new) (K.trace sink.old) (K.trace sink.new) result }
     {
-        match self.reader.next_line(source, &mut self.turns) {
-            NextLine::Line => self.use_held(alloc, desk, sink),
-            NextLine::End => Some(self.use_last(alloc, desk, sink)),
-            NextLine::TooLong => Some(Stop::malformed(self.number + 1, Malformed::too_long())),
-            NextLine::ReadFault => Some(Stop::of(ScriptEnd::ReadFault)),
-            NextLine::TurnsUsed => Some(Stop::of(ScriptEnd::TurnsUsed)),
+        if let Some(stop) = self.lines.read_next(source, &mut self.turns) {
+            return Some(stop);
         }
+        use_line(
+            &mut self.interpreter,
+            alloc,
+            &self.lines,
+            desk,
+            sink,
+            &mut self.turns,
+        )
     }
 }
 

@@ -1,6 +1,7 @@
 //! How a script ends.
 
 use drm_script::Malformed;
+use drm_streams::Written;
 use std::marker::Model;
 
 /// How the run of a script ends (own).
@@ -42,6 +43,7 @@ impl Model for Stop {
 impl Stop {
     ghost use Rattle.std.specs.Prelude.{◌≡◌, false, is_some};
     ghost use Rattle.drm_runs.specs.Runs.{is_malformed};
+    ghost use Rattle.drm_runs.specs.Writing.{end_of_writing};
 
     /// An end at which no line is malformed.
     pub fn of(end: ScriptEnd) -> Stop
@@ -58,6 +60,17 @@ impl Stop {
         Stop {
             end: ScriptEnd::Malformed(number),
             cause: Some(cause),
+        }
+    }
+
+    /// How a script ends after a text was put: it goes on if it was put whole.
+    pub fn of_writing(written: Written) -> Option<Stop>
+        ensures { result ≡ end_of_writing written }
+    {
+        match written {
+            Written::Whole => None,
+            Written::Fault => Some(Stop::of(ScriptEnd::WriteFault)),
+            Written::TurnsUsed => Some(Stop::of(ScriptEnd::TurnsUsed)),
         }
     }
 

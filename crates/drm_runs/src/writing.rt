@@ -1,23 +1,17 @@
 //! Using a line of a script: the device is asked, and its answer is written.
 
 ghost use Rattle.std.specs.Prelude.{◌≡◌, ◌<◌, ◌+◌, ◌^◌};
-ghost use Rattle.drm_runs.specs.Writing.{UsesLine, WritesAnswer};
+ghost use Rattle.drm_streams.specs.Turns.{Writes};
+ghost use Rattle.drm_script.specs.Lines.{answer_line};
+ghost use Rattle.drm_runs.specs.Writing.{UsesLine};
 
 use crate::interpreter::{Interpreter, LineResult};
-use drm_script::{LineText, Malformed};
+use crate::script_lines::ScriptLines;
+use crate::stops::{ScriptEnd, Stop};
+use drm_script::LineText;
 use drm_streams::{Sink, Written, put_all};
 use drm_table::{Answer, Apart};
 use std::alloc::Global;
-
-/// How the use of a line ended.
-#[derive(Clone, Copy, Debug, PartialEq, Eq)]
-pub(crate) enum LineEnd {
-    Used,
-    Malformed(Malformed),
-    WriteFault,
-    TurnsUsed,
-    NoMemory,
-}
 
 /// Where the answers of a run are made, and their lines, one after the other.
 #[derive(Drop)]
@@ -36,34 +30,30 @@ impl Desk {
 }
 
 /// Writes the line of the answer on the desk.
-fn write_line<K: Sink>(desk: &mut Desk, sink: &mut K, turns: &mut u64) -> LineEnd
+fn write_line<K: Sink>(desk: &mut Desk, sink: &mut K, turns: &mut u64) -> Written
     requires { (K.trace sink.old).counts.calls + turns.old < 2 ^ 48 }
-    ensures { WritesAnswer desk.old.outcome (K.trace sink.old) (K.trace sink.new) turns.old turns.new result }
+    ensures { Writes result (K.trace sink.old) (K.trace sink.new) (answer_line desk.old.outcome) turns.old turns.new }
 {
     desk.text.write(&desk.outcome);
-    match put_all(sink, desk.text.as_bytes(), turns) {
-        Written::Whole => LineEnd::Used,
-        Written::Fault => LineEnd::WriteFault,
-        Written::TurnsUsed => LineEnd::TurnsUsed,
-    }
+    put_all(sink, desk.text.as_bytes(), turns)
 }
 
-/// Uses one line, without its end, and writes what is answered, which is made on the desk.
+/// Uses the line that is held, and writes what is answered, which is made on the desk. Gives how the run ends, where it doesn't go on.
 pub(crate) fn use_line<K: Sink>(
     interpreter: &mut Interpreter,
     alloc: Global,
-    line: &[u8],
+    lines: &ScriptLines,
     desk: &mut Desk,
     sink: &mut K,
     turns: &mut u64,
-) -> LineEnd
+) -> Option<Stop>
     requires { (K.trace sink.old).counts.calls + turns.old < 2 ^ 48 }
-    ensures { UsesLine interpreter.old interpreter.new line.now (K.trace sink.old) (K.trace sink.new) turns.old turns.new result }
+    ensures { UsesLine interpreter.old interpreter.new lines.now (K.trace sink.old) (K.trace sink.new) turns.old turns.new result }
 {
-    match interpreter.interpret(alloc, line, &mut desk.outcome) {
-        LineResult::Unanswered => LineEnd::Used,
-        LineResult::Answered => write_line(desk, sink, turns),
-        LineResult::Malformed(malformed) => LineEnd::Malformed(malformed),
-        LineResult::NoMemory => LineEnd::NoMemory,
+    match interpreter.interpret(alloc, lines.line(), &mut desk.outcome) {
+        LineResult::Unanswered => None,
+        LineResult::Answered => Stop::of_writing(write_line(desk, sink, turns)),
+        LineResult::Malformed(cause) => Some(Stop::malformed(lines.number(), cause)),
+        LineResult::NoMemory => Some(Stop::of(ScriptEnd::NoMemory)),
     }
 }

@@ -6,8 +6,8 @@ use drm_checks::script_of;
 use drm_explanations::Labels;
 use drm_refusals::Line;
 use drm_rights::{Ledger, Step};
-use drm_runs::{Interpreter, LineReader, LineResult, NextLine, ScriptEnd, Setup, Stop};
-use drm_script::{Malformed, line_of};
+use drm_runs::{Interpreter, LineResult, ScriptEnd, ScriptLines, Setup, Stop};
+use drm_script::line_of;
 use drm_streams::Source;
 use drm_table::{Answer, Apart, Limits};
 use std::alloc::{AllocError, Global};
@@ -27,12 +27,10 @@ pub(crate) struct Recording {
 /// A script that is being run.
 #[derive(Drop)]
 struct Recorder {
-    reader: LineReader,
+    lines: ScriptLines,
     interpreter: Interpreter,
     /// What was noted so far.
     ledger: Ledger,
-    /// How many lines were used.
-    lines: u64,
     /// The line that is the last to be used, and what it was answered.
     until: Option<u64>,
     last: Option<Line>,
@@ -46,14 +44,16 @@ fn text_of(alloc: Global, answer: &Result<Answer, Apart>) -> Result<String, Allo
 }
 
 impl Recorder {
-    ghost use Rattle.std.specs.Prelude.{◌≡◌, ◌<◌, ◌+◌, ◌*◌, ◌^◌, length, IfNone};
+    ghost use Rattle.std.specs.Prelude.{◌≡◌, ◌<◌, ◌+◌, ◌^◌, IfNone};
+    ghost use Rattle.drm_runs.specs.LineSteps.{fuel_of, no_lines};
 
-    fn new(alloc: Global, setup: Setup, until: Option<u64>) -> Recorder {
+    fn new(alloc: Global, setup: Setup, until: Option<u64>) -> Recorder
+        ensures { result.lines ≡ no_lines }
+    {
         Recorder {
-            reader: LineReader::new(),
+            lines: ScriptLines::new(),
             interpreter: Interpreter::new(setup),
             ledger: Ledger::new(alloc),
-            lines: 0,
             until,
             last: None,
         }
@@ -61,7 +61,7 @@ impl Recorder {
 
     /// Notes the last event of the device's journal with its answer. Where memory is refused, what was noted before is gone.
     fn note(&mut self, alloc: Global, answer: Answer) -> Result<(), AllocError>
-        ensures { self.new.reader ≡ self.old.reader }
+        ensures { self.new.lines ≡ self.old.lines }
     {
         let Some(device) = self.interpreter.device() else {
             return Ok(());
@@ -75,17 +75,22 @@ impl Recorder {
         Ok(())
     }
 
+    /// Returns whether the line that is held is the last to be used.
+    fn is_at_last(&self) -> bool {
+        self.until == Some(self.lines.number())
+    }
+
     /// Keeps what the line was answered, where that is the last one, and notes it, where it is a step.
     fn keep(&mut self, alloc: Global, answer: Result<Answer, Apart>) -> Result<(), AllocError>
-        ensures { self.new.reader ≡ self.old.reader }
+        ensures { self.new.lines ≡ self.old.lines }
     {
-        if self.until == Some(self.lines) {
+        if self.is_at_last() {
             let apart = match &answer {
                 Ok(_) => None,
                 Err(apart) => Some(*apart),
             };
             self.last = Some(Line {
-                number: self.lines,
+                number: self.lines.number(),
                 answer: text_of(alloc, &answer)?,
                 apart,
             });
@@ -98,10 +103,9 @@ impl Recorder {
 
     /// Uses the line that is held. Gives how the script ends, where it doesn't go on.
     fn use_held(&mut self, alloc: Global) -> Option<Stop>
-        ensures { self.new.reader ≡ self.old.reader }
+        ensures { self.new.lines ≡ self.old.lines }
     {
-        self.lines = self.lines.saturating_add(1);
-        let line = script_of(self.reader.line());
+        let line = script_of(self.lines.line());
         let mut outcome = Ok(Answer::Done);
         match self.interpreter.interpret(alloc, line, &mut outcome) {
             LineResult::Unanswered => None,
@@ -109,17 +113,9 @@ impl Recorder {
                 Ok(()) => None,
                 Err(_) => Some(Stop::of(ScriptEnd::NoMemory)),
             },
-            LineResult::Malformed(cause) => Some(Stop::malformed(self.lines, cause)),
+            LineResult::Malformed(cause) => Some(Stop::malformed(self.lines.number(), cause)),
             LineResult::NoMemory => Some(Stop::of(ScriptEnd::NoMemory)),
         }
-    }
-
-    /// Uses what stands behind the last line end, if anything does.
-    fn use_last(&mut self, alloc: Global) -> Stop {
-        if self.reader.line().is_empty() {
-            return Stop::of(ScriptEnd::Done);
-        }
-        self.use_held(alloc).unwrap_or(Stop::of(ScriptEnd::Done))
     }
 
     /// Reads a line and uses it. Gives how the script ends, where it doesn't go on.
@@ -129,25 +125,15 @@ impl Recorder {
         source: &mut S,
         turns: &mut u64,
     ) -> Option<Stop>
+        requires number { self.old.lines.number + 1 < 2 ^ 64 }
         requires countable { (S.trace source.old).counts.calls + turns.old < 2 ^ 48 }
         ensures calls { (S.trace source.new).counts.calls + turns.new ≡ (S.trace source.old).counts.calls + turns.old }
-        ensures fewer { IfNone result (256 * turns.new + length self.new.reader.pending < 256 * turns.old + length self.old.reader.pending) }
+        ensures fewer { IfNone result ((self.new.lines.number ≡ self.old.lines.number + 1) × (fuel_of self.new.lines turns.new < fuel_of self.old.lines turns.old)) }
     {
-        match self.reader.next_line(source, turns) {
-            NextLine::Line => self.use_held(alloc),
-            NextLine::End => Some(self.use_last(alloc)),
-            NextLine::TooLong => {
-                let number = self.lines.saturating_add(1);
-                Some(Stop::malformed(number, Malformed::too_long()))
-            }
-            NextLine::ReadFault => Some(Stop::of(ScriptEnd::ReadFault)),
-            NextLine::TurnsUsed => Some(Stop::of(ScriptEnd::TurnsUsed)),
+        if let Some(stop) = self.lines.read_next(source, turns) {
+            return Some(stop);
         }
-    }
-
-    /// Whether the line was used that is the last to be.
-    fn is_at_last(&self) -> bool {
-        self.until == Some(self.lines)
+        self.use_held(alloc)
     }
 
     /// What was recorded.
@@ -159,13 +145,11 @@ impl Recorder {
             last,
             ..
         } = self;
-        let labels = *interpreter.labels();
-        let limits = interpreter.limits();
         Recording {
             ledger,
-            labels,
-            limits,
-            lines,
+            labels: *interpreter.labels(),
+            limits: interpreter.limits(),
+            lines: lines.number(),
             last,
         }
     }

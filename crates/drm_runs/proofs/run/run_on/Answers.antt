@@ -1,15 +1,14 @@
 use Rattle.std.proofs.Common.{arith, ap}
-use Rattle.drm_runs.proofs.RunLemmas.{ends_as}
 use Rattle.drm_runs.proofs.StepLemmas.{first_so_far}
-use Rattle.drm_runs.specs.RunSteps.{fuel_of}
+use Rattle.drm_runs.specs.LineSteps.{fuel_of}
 use Rattle.drm_runs.specs.declared.run.Run.{Run}
 use Rattle.drm_runs.proofs.run.run_on.Goals as goal
 
 pub lines-init : goal.lines-init
 lines-init g c =
     let turns = ap (λ (r : Run). r.turns) c.new-run.ensures in
-    let number = ap (λ (r : Run). r.number) c.new-run.ensures in
-    let fuel = ap fuel_of c.new-run.ensures in
+    let number = ap (λ (r : Run). r.lines.number) c.new-run.ensures in
+    let fuel = ap (λ (r : Run). fuel_of r.lines r.turns) c.new-run.ensures in
     record {
       so_far = first_so_far _ _ _ _ _ c.new-run.ensures;
       source_calls = omega (arith, turns);
@@ -18,7 +17,7 @@ lines-init g c =
     }
 
 pub returns-in-Some-clause-runs : goal.returns-in-Some-clause-runs
-returns-in-Some-clause-runs g c = ends_as c.end.ensures (c.in-Some.ensures _ _ _ _ c.lines.invariant.so_far)
+returns-in-Some-clause-runs g c = rw c.end.ensures (c.in-Some.ensures _ _ _ _ c.lines.invariant.so_far)
 
 pub lines-preserved : goal.lines-preserved
 lines-preserved g c =
