@@ -59,7 +59,7 @@ some_end a b e = cc
 abbrev pub report_with : ScriptEnd → ℕ → ℕ → Report
 report_with end passed failed = record { end = end; passed = passed; failed = failed }
 
-module _ {setting : Setting} {file : File} {s0 s : SourceTrace} {k0 k : SinkTrace} {turns : ℕ} {read : List ℕ} {lines : List (List ℕ)} {differences : List Difference} (old : Checker)
+module _ {setting : Setting} {s0 s : SourceTrace} {k0 k : SinkTrace} {read : List ℕ} {lines : List (List ℕ)} {differences : List Difference} (file : File) (turns : ℕ) (old : Checker)
     (given : IsGiven s0 s read) (took : Took k0 k (differences_text file differences)) (cost : s.counts.calls + k.counts.calls + old.turns ≡ s0.counts.calls + k0.counts.calls + turns)
     (checked : Checked setting lines old.passed differences old.interpreter.device old.interpreter.labels) (counted : old.failed ≡ length differences) where
   -- a check that ends with no further line
@@ -107,23 +107,20 @@ module _ {setting : Setting} {file : File} {s0 s : SourceTrace} {k0 k : SinkTrac
         (subst (λ (f : ℕ). ChecksOn setting file s0 s k0 k turns (report_with end old.passed f)) (sym st.failed) (ended end (state.held ++ h.behind) (inl h.whole) e)))
 
     module _ {line_end : Option ScriptEnd} (u : UsedLine old new file state k k' line_end) where
-      found : List Difference
+      abbrev found : List Difference
       found = unmet state.number (expected_part state.held) u.came
 
       grown : Checked setting (lines ++ state.held ∷ []) new.passed (differences ++ found) new.interpreter.device new.interpreter.labels
-      unfolding found
       grown =
           subst (λ (p : ℕ). Checked setting (lines ++ state.held ∷ []) p (differences ++ found) new.interpreter.device new.interpreter.labels) (sym u.passed)
           (subst (λ (m : ℕ). Checked setting (lines ++ state.held ∷ []) (old.passed + met (expected_part state.held) u.came) (differences ++ unmet m (expected_part state.held) u.came) new.interpreter.device new.interpreter.labels) (sym numbered)
           (line state.held u.came checked h.bare u.uses))
 
       grown_count : new.failed ≡ length (differences ++ found)
-      unfolding found
       grown_count = let a = u.failed in let b = length-append differences found in omega (arith, a, b, counted)
 
       -- a front of the difference was told
       cut_front : (p : PartialWriteCost k k' (differences_text file found) old.turns new.turns) → IsCutInLast file (length (lines ++ state.held ∷ [])) (differences ++ found) (differences_text file differences ++ p.front)
-      unfolding found
       cut_front p =
           subst (λ (m : ℕ). IsCutInLast file m (differences ++ found) (differences_text file differences ++ p.front)) h.so_far.number
           (cut-last file state.number differences (expected_part state.held) u.came p.front p.rest p.parts p.more)

@@ -42,3 +42,9 @@ bad_line {old} {new} {file} {lines} {sink} {sink'} same m s = subst (λ (e : Scr
 pub unmade_line : {old new : Checker} {file : File} {lines : LinesState} {sink sink' : SinkTrace} {end : ScriptEnd} → end ≡ ends.NoMemory → IsNowhere old.interpreter.device → WantsDevice (script_part lines.held)
     → Stands old new sink sink' → ChecksLine old new file lines sink sink' (Some end)
 unmade_line {old} {new} {file} {lines} {sink} {sink'} same none wants s = subst (λ (e : ScriptEnd). ChecksLine old new file lines sink sink' (Some e)) (sym same) (unmade none wants s)
+
+-- the line that is held and its number, as they were read
+pub as_held : {old new : Checker} {file : File} {sink sink' : SinkTrace} {end : Option ScriptEnd} (lines : LinesState) (line : List ℕ) (number : ℕ) → line ≡ lines.held → number ≡ lines.number
+    → ChecksLine old new file (record lines { held = line; number = number }) sink sink' end → ChecksLine old new file lines sink sink' end
+as_held {old} {new} {file} {sink} {sink'} {end} lines line number e d c =
+    subst (λ (l : List ℕ). ChecksLine old new file (record lines { held = l }) sink sink' end) e (subst (λ (n : ℕ). ChecksLine old new file (record lines { held = line; number = n }) sink sink' end) d c)

@@ -1,5 +1,5 @@
 -- A check goes on by a line, or ends with it.
-use Rattle.std.proofs.Common.{◌≡◌, ℕ, ◌+◌, List, [], refl, sym, subst, arith, Some, None, Option}
+use Rattle.std.proofs.Common.{◌≡◌, ℕ, List, [], refl, sym, subst, arith, Some, None, Option}
 use Rattle.drm_streams.specs.Streams.{SourceTrace, SinkTrace}
 use Rattle.drm_streams.specs.Turns.{WriteCost}
 use Rattle.drm_streams.specs.Texts.{WritesOut}
@@ -46,7 +46,7 @@ module _ (file : File) (old : Check) (lines : LinesState) (source source' : Sour
       → Advances old (record { lines = lines; checker = with_turns old.checker has }) file source source' sink sink (Some end)
   advances_end end r setting start first turns so =
       let all = r.reaches start so.read so.lines so.has_read in
-      check_ends (with_turns old.checker has) all.1.given so.took (let a = r.cost in let b = so.cost in omega (arith, a, b)) so.checked so.counted end all.1.why
+      check_ends file turns (with_turns old.checker has) all.1.given so.took (let a = r.cost in let b = so.cost in omega (arith, a, b)) so.checked so.counted end all.1.why
 
   module _ (r : ReadsNext old.lines lines source source' old.checker.turns has None) (new : Checker) (sink' : SinkTrace) where
     goes_on : ChecksLine (with_turns old.checker has) new file lines sink sink' None → GoesOn file old (record { lines = lines; checker = new }) source source' sink sink'
@@ -60,7 +60,7 @@ module _ (file : File) (old : Check) (lines : LinesState) (source source' : Sour
         let one = one_at_most lines.number (expected_part lines.held) u.came in record {
           so_far = λ (setting : Setting) (start : SourceTrace) (first : SinkTrace) (turns : ℕ) (so : SoFar setting file start source first sink turns old).
               let all = r.reaches start so.read so.lines so.has_read in
-              so_far_used (with_turns old.checker has) all.1.so_far.given so.took (let b = so.cost in omega (arith, spent, b)) so.checked so.counted all.1 new sink' u w.1;
+              so_far_used file turns (with_turns old.checker has) all.1.so_far.given so.took (let b = so.cost in omega (arith, spent, b)) so.checked so.counted all.1 new sink' u w.1;
           number = counted.0;
           passed = omega (arith, one, u.passed);
           failed = omega (arith, one, u.failed);
@@ -71,9 +71,9 @@ module _ (file : File) (old : Check) (lines : LinesState) (source source' : Sour
 
     pub advances_used : (end : Option ScriptEnd) → ChecksLine (with_turns old.checker has) new file lines sink sink' end → Advances old (record { lines = lines; checker = new }) file source source' sink sink' end
     advances_used None c = goes_on c
-    advances_used (Some end) c setting start first turns so =
+    advances_used (Some end) c = λ (setting : Setting) (start : SourceTrace) (first : SinkTrace) (turns : ℕ) (so : SoFar setting file start source first sink turns old).
         let all = r.reaches start so.read so.lines so.has_read in
-        stopped (with_turns old.checker has) all.1.so_far.given so.took (let a = r.cost in let b = so.cost in omega (arith, a, b)) so.checked so.counted all.1 new sink' end c
+        stopped file turns (with_turns old.checker has) all.1.so_far.given so.took (let a = r.cost in let b = so.cost in omega (arith, a, b)) so.checked so.counted all.1 new sink' end c
 
 -- a check of the file by another name that is told to have ended as it did
 pub ends_as : {setting : Setting} {file named : File} {s0 s : SourceTrace} {k0 k : SinkTrace} {turns passed failed : ℕ} {told end : ScriptEnd} → told ≡ end → named ≡ file

@@ -12,7 +12,7 @@ use Rattle.drm_script.proofs.LineLaws.{answer_bare}
 use Rattle.drm_runs.specs.Lines.{IsBare, ended, joined}
 use Rattle.drm_runs.specs.Script.{Setting, Place, Uses}
 use Rattle.drm_runs.proofs.LineLemmas.{IsBare-append}
-use Rattle.drm_runs.proofs.RunLemmas.{joined-push}
+use Rattle.drm_runs.proofs.LineStepLemmas.{joined-push}
 use Rattle.drm_checks.specs.Expectations.{arrow_from, arrow_place, begins_with_arrow, before, behind, script_part, expected_part, is_whole, is_short}
 use Rattle.drm_checks.specs.Differences.{Difference, met, unmet}
 use Rattle.drm_checks.specs.Checker.{results_of}

@@ -179,15 +179,7 @@ impl Checker {
             return None;
         }
         self.failed += 1;
-        Stop::of_writing(tell(
-            name,
-            command,
-            number,
-            expected,
-            came,
-            sink,
-            &mut self.turns,
-        ))
+        Stop::of_writing(tell(name, command, number, expected, came, sink, &mut self.turns))
     }
 
     /// Asks what the line that is held says, and looks whether what it expects came. Gives how the check ends, where it doesn't go on.
@@ -209,7 +201,14 @@ impl Checker {
         let mut outcome = Ok(Answer::Done);
         match self.interpreter.interpret(alloc, script, &mut outcome) {
             LineResult::Unanswered => self.note(name, command, number, expected, &None, sink),
-            LineResult::Answered => self.note(name, command, number, expected, &Some(outcome), sink),
+            LineResult::Answered => self.note(
+                name,
+                command,
+                number,
+                expected,
+                &Some(outcome),
+                sink,
+            ),
             LineResult::Malformed(cause) => Some(Stop::malformed(number, cause)),
             LineResult::NoMemory => Some(Stop::of(ScriptEnd::NoMemory)),
         }

@@ -1,8 +1,7 @@
 -- The next line of a script, from what the reader of lines made of it.
-use Rattle.std.proofs.Common.{◌≡◌, ℕ, ◌+◌, ◌*◌, ◌≤◌, ◌<◌, List, [], ◌∷◌, ◌++◌, length, refl, sym, ap, subst, ◌∙◌, arith, Bool, true, false, Some, None, Option, append_assoc, append-nil, length-append, inl, inr}
+use Rattle.std.proofs.Common.{◌≡◌, ℕ, ◌+◌, ◌≤◌, ◌<◌, List, [], ◌∷◌, ◌++◌, length, refl, sym, ap, subst, ◌∙◌, arith, Bool, true, false, Some, None, Option, append_assoc, append-nil, length-append, inl, inr}
 use Rattle.std.proofs.lemmas.List.{length_push}
 use Rattle.drm_streams.specs.Streams.{SourceTrace}
-use Rattle.drm_streams.specs.Turns.{ReadCost}
 use Rattle.drm_streams.proofs.Traces.{Gave-none, Gave-then}
 use Rattle.drm_runs.specs.Lines.{joined}
 use Rattle.drm_runs.specs.Reader.{Buffered, Reads}
@@ -41,13 +40,13 @@ module _ {source source' : SourceTrace} {had has : ℕ} {given : List ℕ} (old 
       one_more : (line : List ℕ) → n + 1 ≡ length (lines ++ line ∷ [])
       one_more line = let a = so.number in let b = length_push lines line in omega (arith, a, b)
 
-    ends_with : (end : ScriptEnd) → ({start : SourceTrace} {read : List ℕ} {lines : List (List ℕ)} → LinesRead start source (lines_state old n false) read lines → IsEndOfLines end start source' has (read ++ given) lines)
+    ends_with : (end : ScriptEnd) → ((start : SourceTrace) (read : List ℕ) (lines : List (List ℕ)) → LinesRead start source (lines_state old n false) read lines → IsEndOfLines end start source' has (read ++ given) lines)
         → ReadsNext (lines_state old n false) (lines_state reader n false) source source' had has (Some end)
     ends_with end h = record {
       cost = r.spent.cost;
       at_most = at_most;
       onward = λ none. absurd (cc);
-      reaches = λ (start : SourceTrace) (read : List ℕ) (lines : List (List ℕ)) (so : LinesRead start source (lines_state old n false) read lines). (read ++ given, record { given = given_then so; why = h so });
+      reaches = λ (start : SourceTrace) (read : List ℕ) (lines : List (List ℕ)) (so : LinesRead start source (lines_state old n false) read lines). (read ++ given, record { given = given_then so; why = h start read lines so });
     }
 
   pub reads_line : (is_last : Bool) → is_last ≡ false → Reads old reader source source' had has next_line.Line given
@@ -104,41 +103,28 @@ module _ {source source' : SourceTrace} {had has : ℕ} {given : List ℕ} (old 
   reads_last false h r new (Some end) last =
       subst (λ (s : LinesState). ReadsNext (lines_state old n false) s source source' had has (Some end)) (sym last.2)
       (subst (λ (e : ScriptEnd). ReadsNext (lines_state old n false) (lines_state reader n false) source source' had has (Some e)) (sym last.0)
-      (ends_with r ends.Done (λ {start} {read} {lines} so.
-          let ended : start.counts.ends < source'.counts.ends = let a = so.given.gave.counts.ends in let b = r.splits.4 in omega (arith, a, b) in
-          (inl (whole_then r so [] (r.splits.0 ∙ last.1)), ended))))
+      (ends_with r ends.Done (λ start read lines so.
+      let ended : start.counts.ends < source'.counts.ends = let a = so.given.gave.counts.ends in let b = r.splits.4 in omega (arith, a, b) in
+      (inl (whole_then r so [] (r.splits.0 ∙ last.1)), ended))))
 
   pub reads_too_long : (is_last : Bool) → is_last ≡ false → (end : ScriptEnd) → end ≡ ends.Malformed (n + 1) → Reads old reader source source' had has next_line.TooLong given
       → ReadsNext (lines_state old n is_last) (lines_state reader n is_last) source source' had has (Some end)
   reads_too_long true h end same r = absurd (cc)
   reads_too_long false h end same r =
       subst (λ (e : ScriptEnd). ReadsNext (lines_state old n false) (lines_state reader n false) source source' had has (Some e)) (sym same)
-      (ends_with r (ends.Malformed (n + 1)) (λ {start} {read} {lines} so. (ap (λ m. m + 1) so.number, old.pending ++ given, whole_then r so _ refl, r.splits)))
+      (ends_with r (ends.Malformed (n + 1)) (λ start read lines so. (ap (λ m. m + 1) so.number, old.pending ++ given, whole_then r so _ refl, r.splits.0, r.splits.1, r.splits.2)))
 
   pub reads_fault : (is_last : Bool) → is_last ≡ false → (end : ScriptEnd) → end ≡ ends.ReadFault → Reads old reader source source' had has next_line.ReadFault given
       → ReadsNext (lines_state old n is_last) (lines_state reader n is_last) source source' had has (Some end)
   reads_fault true h end same r = absurd (cc)
   reads_fault false h end same r =
       subst (λ (e : ScriptEnd). ReadsNext (lines_state old n false) (lines_state reader n false) source source' had has (Some e)) (sym same)
-      (ends_with r ends.ReadFault (λ {start} {read} {lines} so.
-          (reader.held, whole_then r so _ r.splits.0, (r.splits.2, r.splits.3), (let a = so.given.gave.counts.faults in let b = r.splits.4 in omega (arith, a, b)))))
+      (ends_with r ends.ReadFault (λ start read lines so.
+      (reader.held, whole_then r so _ r.splits.0, (r.splits.2, r.splits.3), (let a = so.given.gave.counts.faults in let b = r.splits.4 in omega (arith, a, b)))))
 
   pub reads_no_turn : (is_last : Bool) → is_last ≡ false → (end : ScriptEnd) → end ≡ ends.TurnsUsed → Reads old reader source source' had has next_line.TurnsUsed given
       → ReadsNext (lines_state old n is_last) (lines_state reader n is_last) source source' had has (Some end)
   reads_no_turn true h end same r = absurd (cc)
   reads_no_turn false h end same r =
       subst (λ (e : ScriptEnd). ReadsNext (lines_state old n false) (lines_state reader n false) source source' had has (Some e)) (sym same)
-      (ends_with r ends.TurnsUsed (λ {start} {read} {lines} so. (reader.held, whole_then r so _ r.splits.0, (r.splits.2, r.splits.3), r.splits.4)))
-
--- no line is behind the last one
-pub reads_none : (old : Buffered) (n : ℕ) (is_last : Bool) (source : SourceTrace) (had : ℕ) (end : ScriptEnd) → is_last ≡ true → end ≡ ends.Done
-    → ReadsNext (lines_state old n is_last) (lines_state old n is_last) source source had had (Some end)
-reads_none old n false source had end h same = absurd (cc)
-reads_none old n true source had end h same =
-    subst (λ (e : ScriptEnd). ReadsNext (lines_state old n true) (lines_state old n true) source source had had (Some e)) (sym same) (record {
-      cost = refl;
-      at_most = omega arith;
-      onward = λ none. absurd (cc);
-      reaches = λ (start : SourceTrace) (read : List ℕ) (lines : List (List ℕ)) (so : LinesRead start source (lines_state old n true) read lines).
-          let l = so.are_lines in (read, record { given = so.given; why = (inr (l.0, l.1, l.2, l.3, refl, l.5), l.5) });
-    })
+      (ends_with r ends.TurnsUsed (λ start read lines so. (reader.held, whole_then r so _ r.splits.0, (r.splits.2, r.splits.3), r.splits.4)))

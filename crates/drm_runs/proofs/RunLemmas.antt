@@ -1,5 +1,5 @@
 -- A run of a script, line by line.
-use Rattle.std.proofs.Common.{◌≡◌, ℕ, ◌+◌, ◌≤◌, ◌<◌, List, [], ◌∷◌, ◌++◌, length, refl, sym, ap, subst, ◌∙◌, arith, Some, None, Result, append_assoc, inl, inr}
+use Rattle.std.proofs.Common.{◌≡◌, ℕ, ◌+◌, ◌<◌, List, [], ◌∷◌, ◌++◌, refl, sym, ap, subst, ◌∙◌, arith, Some, None, Result, append_assoc, inl, inr}
 use Rattle.std.proofs.lemmas.List.{length_push}
 use Rattle.drm_table.specs.declared.answers.Answer.{Answer}
 use Rattle.drm_table.specs.declared.apart.Apart.{Apart}
@@ -35,7 +35,7 @@ unmade (line s b (skipped h)) e = let u = unmade s e in (ap (λ r. r ++ []) u.0,
 unmade (line s b (limited n h)) e = absurd e
 unmade (line s b (asked w h i t)) e = absurd e
 
-module _ {setting : Setting} {s0 s : SourceTrace} {k0 k : SinkTrace} {turns has : ℕ} {read : List ℕ} {lines : List (List ℕ)} {results : Results} (old : InterpreterState)
+module _ {setting : Setting} {s0 s : SourceTrace} {k0 k : SinkTrace} {read : List ℕ} {lines : List (List ℕ)} {results : Results} (turns has : ℕ) (old : InterpreterState)
     (given : IsGiven s0 s read) (took : Took k0 k (script_text results)) (cost : s.counts.calls + k.counts.calls + has ≡ s0.counts.calls + k0.counts.calls + turns)
     (script : Script setting lines results old.device old.labels) where
   ran : (device : Place) (labels : List ℕ) (end : ScriptEnd) → Ends setting end s0 s k0 k turns read (script_text results) device labels → RunsOn setting s0 s k0 k turns end device labels

@@ -1,5 +1,5 @@
 -- A run that goes on, line by line.
-use Rattle.std.specs.Prelude.{◌≡◌, ℕ, ◌+◌, ◌<◌, ◌≤◌, ◌^◌, List, [], Option, None, Some}
+use Rattle.std.specs.Prelude.{◌≡◌, ℕ, ◌+◌, ◌<◌, ◌≤◌, ◌^◌, List, Option, None, Some}
 use Rattle.drm_streams.specs.Streams.{SourceTrace, SinkTrace}
 use Rattle.drm_streams.specs.Turns.{Took}
 use Rattle.drm_runs.specs.Script.{Setting, Script, script_text}
