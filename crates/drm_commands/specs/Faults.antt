@@ -1,8 +1,8 @@
 -- How the program tells of a fault (own): a line on standard error, and its exit status.
 use Rattle.std.specs.Prelude.{ℕ, List, ◌++◌, codes, decimal}
 use Rattle.drm_connections.specs.Classes.{class_word}
-use Rattle.drm_server.specs.declared.faults.Fault.{Fault}
-use Rattle.drm_server.specs.declared.faults.Fault.TheVariants.{ScriptLine, Read, Write, Turns, Memory, Thread, Turn, CommandLine, Listen, Accept}
+use Rattle.drm_commands.specs.declared.faults.Fault.{Fault}
+use Rattle.drm_commands.specs.declared.faults.Fault.TheVariants.{ScriptLine, Read, Write, Turns, Memory, Thread, Turn, CommandLine, Listen, Accept}
 use Rattle.drm_listeners.specs.declared.serve_faults.ServeFault.{ServeFault}
 use Rattle.drm_listeners.specs.declared.serve_faults.ServeFault.TheVariants as serving
 

@@ -1,14 +1,12 @@
--- What the program ends with, by how the script's run or the listing ended (own).
+-- What the program ends with, by how the script's run ended (own).
 use Rattle.std.specs.Prelude.{ℕ, List, [], Option, None, Some, Result, Ok, Err, nat_lt, if◌then◌else◌}
 use Rattle.std.specs.Option.{option_map_or}
 use Rattle.drm_runs.specs.declared.stops.ScriptEnd.{ScriptEnd}
 use Rattle.drm_runs.specs.declared.stops.ScriptEnd.TheVariants as ends
 use Rattle.drm_checks.specs.declared.totals.Totals.{Totals}
-use Rattle.drm_server.specs.declared.listing.ListEnd.{ListEnd}
-use Rattle.drm_server.specs.declared.listing.ListEnd.TheVariants as list_ends
-use Rattle.drm_server.specs.declared.faults.Fault.{Fault}
-use Rattle.drm_server.specs.declared.faults.Fault.TheVariants as faults
-use Rattle.drm_server.specs.Faults.{fault_status, fault_line}
+use Rattle.drm_commands.specs.declared.faults.Fault.{Fault}
+use Rattle.drm_commands.specs.declared.faults.Fault.TheVariants as faults
+use Rattle.drm_commands.specs.Faults.{fault_status, fault_line}
 
 -- the fault that an end is, if it is one
 abbrev pub fault_of : ScriptEnd → Option Fault
@@ -23,12 +21,6 @@ fault_of ends.NoMemory = Some faults.Memory
 abbrev pub unless_fault : Option Fault → Result (Unit {0}) Fault
 unless_fault None = Ok tt
 unless_fault (Some fault) = Err fault
-
--- the fault that the end of a listing is, if it is one
-abbrev pub fault_of_listing : ListEnd → Option Fault
-fault_of_listing list_ends.Done = None
-fault_of_listing list_ends.WriteFault = Some faults.Write
-fault_of_listing list_ends.TurnsUsed = Some faults.Turns
 
 -- status 0 and no line where there is no fault
 abbrev pub status_by : Option Fault → ℕ

@@ -3,10 +3,10 @@
 ghost use Rattle.std.specs.Prelude.{◌≡◌, false, IfOk};
 ghost use Rattle.drm_streams.specs.Streams.{no_calls};
 ghost use Rattle.drm_runs.specs.Runs.{is_malformed};
-ghost use Rattle.drm_server.specs.Outcomes.{unless_fault};
-ghost use Rattle.drm_server.specs.Outcomes as outcomes;
+ghost use Rattle.drm_commands.specs.Outcomes.{unless_fault};
+ghost use Rattle.drm_commands.specs.Outcomes as outcomes;
 
-use crate::command_line::{AskedDevice, Checking};
+use crate::asked::{AskedDevice, Checking};
 use crate::commands::explain_command;
 use crate::devices::{TopologyText, asked_setup, read_asked};
 use crate::faults::Fault;
@@ -143,7 +143,7 @@ fn check_files<R: Input + Files + Print + AllocGlobal + Log>(
 }
 
 /// Checks files, each on a device of its own.
-pub(crate) fn check<R: Input + Files + Print + AllocGlobal + Log>(
+pub fn check<R: Input + Files + Print + AllocGlobal + Log>(
     rt: &R,
     alloc: Global,
     checking: &Checking<'_>,

@@ -1,6 +1,6 @@
 //! Commands as one types them.
 
-use crate::command_line::AskedDevice;
+use crate::asked::AskedDevice;
 use std::alloc::{AllocError, Global};
 
 /// Whether a shell takes the byte as it is, wherever it stands in a word.

@@ -3,7 +3,7 @@
 ghost use Rattle.std.specs.Prelude.{◌≡◌, true, IfOk};
 ghost use Rattle.drm_table.specs.Limits.{are_in_range};
 
-use crate::command_line::AskedDevice;
+use crate::asked::AskedDevice;
 use crate::faults::Fault;
 use crate::files::read_whole;
 use crate::limits::limits_of;
@@ -16,7 +16,7 @@ use std::alloc::Global;
 use std::rt::Files;
 
 /// The limits that the command line sets, or the program's.
-pub(crate) fn asked_limits<R: Log>(rt: &R, numbers: Option<&str>) -> Result<Limits, Fault>
+pub fn asked_limits<R: Log>(rt: &R, numbers: Option<&str>) -> Result<Limits, Fault>
     ensures { IfOk result (λ limits. are_in_range limits ≡ true) }
 {
     let Some(numbers) = numbers else {
@@ -31,13 +31,13 @@ pub(crate) fn asked_limits<R: Log>(rt: &R, numbers: Option<&str>) -> Result<Limi
 
 /// The text of a topology's file. It is read once, so that it can be a pipe.
 #[derive(Drop)]
-pub(crate) struct TopologyText<'a> {
+pub struct TopologyText<'a> {
     pub(crate) path: &'a str,
     text: Vec<u8>,
 }
 
 /// Reads the file of the topology, if there is one. Limits that can't be used are refused before.
-pub(crate) fn read_asked<'a, R: Files + AllocGlobal + Log>(
+pub fn read_asked<'a, R: Files + AllocGlobal + Log>(
     rt: &R,
     asked: AskedDevice<'a>,
 ) -> Result<Option<TopologyText<'a>>, Fault> {
@@ -81,7 +81,7 @@ pub(crate) fn asked_setup<R: Log>(
 }
 
 /// An empty device with these limits, and the topology of a file, or the test topology.
-pub(crate) fn asked_device<R: Log>(
+pub fn asked_device<R: Log>(
     rt: &R,
     alloc: Global,
     file: Option<&TopologyText<'_>>,

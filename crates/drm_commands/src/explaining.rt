@@ -1,7 +1,7 @@
 //! Explaining a script.
 
+use crate::asked::Explaining;
 use crate::checking::{INPUT, fault_of, open, tell_end};
-use crate::command_line::Explaining;
 use crate::devices::{TopologyText, asked_setup, asked_topology, read_asked};
 use crate::faults::{Fault, FaultLine};
 use crate::files::LoggedRead;
@@ -213,7 +213,7 @@ fn record_and_tell<R: Input + Files + Print + AllocGlobal + Log>(
 }
 
 /// Explains what the clients of a script have, or the answer of one of its lines, on standard output.
-pub(crate) fn explain_script<R: Input + Files + Print + AllocGlobal + Log>(
+pub fn explain_script<R: Input + Files + Print + AllocGlobal + Log>(
     rt: &R,
     alloc: Global,
     explaining: Explaining<'_>,

@@ -3,7 +3,7 @@
 ghost use Rattle.std.specs.Prelude.{◌≡◌, ◌+◌, ◌≤◌, ◌++◌, length, decimal};
 ghost use Rattle.arrayvec.specs.ArrayString.{array_string_len};
 ghost use Rattle.drm_connections.specs.Classes as classes;
-ghost use Rattle.drm_server.specs.Faults as faults;
+ghost use Rattle.drm_commands.specs.Faults as faults;
 
 use arrayvec::ArrayString;
 use drm_connections::class_word;

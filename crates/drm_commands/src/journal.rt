@@ -31,16 +31,16 @@ fn is_same_file<R: Files>(rt: &R, path: &str, other: &str) -> bool {
 
 /// The open file of a journal.
 #[derive(Drop)]
-pub(crate) struct JournalFile<'a, F: Drop> {
+pub struct JournalFile<'a, F: Drop> {
     path: &'a str,
     file: F,
 }
 
 /// The files that a journal must not replace.
 #[derive(Clone, Copy, Debug, PartialEq, Eq)]
-pub(crate) struct FilesRead<'a> {
-    pub(crate) topology: Option<&'a str>,
-    pub(crate) script: Option<&'a str>,
+pub struct FilesRead<'a> {
+    pub topology: Option<&'a str>,
+    pub script: Option<&'a str>,
 }
 
 /// Refuses a journal in the place of a file that is read, which is a `kind`.
@@ -75,7 +75,7 @@ pub(crate) fn create_journal<'a, R: Files + Log>(
 }
 
 /// Creates the file of a journal, if there is to be one.
-pub(crate) fn create_asked<'a, R: Files + Log>(
+pub fn create_asked<'a, R: Files + Log>(
     rt: &R,
     path: Option<&'a str>,
     read: FilesRead<'_>,
@@ -111,7 +111,7 @@ fn write_journal<R: Log, F: Write + Drop>(
 
 /// Writes the events of a journal into its file, if there is one, with the answers of an empty device of the topology that is asked for
 /// and of the same limits.
-pub(crate) fn write_noted<R: Files + AllocGlobal + Log>(
+pub fn write_noted<R: Files + AllocGlobal + Log>(
     rt: &R,
     alloc: Global,
     journal: Option<JournalFile<'_, R::File>>,

@@ -1,11 +1,10 @@
 //! What the program ends with.
 
 ghost use Rattle.std.specs.Prelude.{◌≡◌, []};
-ghost use Rattle.drm_server.specs.Outcomes.{checks_status, fault_of, fault_of_listing, line_by, status_by};
-ghost use Rattle.drm_server.specs.Faults.{fault_status, fault_line};
+ghost use Rattle.drm_commands.specs.Outcomes.{checks_status, fault_of, line_by, status_by};
+ghost use Rattle.drm_commands.specs.Faults.{fault_status, fault_line};
 
 use crate::faults::{Fault, FaultLine};
-use crate::listing::ListEnd;
 use drm_checks::Totals;
 use drm_runs::ScriptEnd;
 
@@ -40,7 +39,8 @@ pub fn outcome_of_fault(fault: Fault) -> Outcome
     }
 }
 
-fn outcome_by(fault: Option<Fault>) -> Outcome
+/// What the program ends with by its fault, if it has one: else status 0 and no line (own).
+pub fn outcome_by(fault: Option<Fault>) -> Outcome
     ensures status { result.status ≡ status_by fault }
     ensures line { result.line ≡ line_by fault }
 {
@@ -59,25 +59,6 @@ pub fn outcome_of(end: &ScriptEnd) -> Outcome
     ensures line { result.line ≡ line_by (fault_of end.now) }
 {
     outcome_by(script_fault(end))
-}
-
-fn listing_fault(end: &ListEnd) -> Option<Fault>
-    ensures { result ≡ fault_of_listing end.now }
-{
-    match end {
-        ListEnd::Done => None,
-        ListEnd::WriteFault => Some(Fault::Write),
-        ListEnd::TurnsUsed => Some(Fault::Turns),
-    }
-}
-
-/// What `drm_server serve` ends with once all sessions have ended, by how the listing ended: status 0 and no line where it is
-/// done (own).
-pub fn outcome_of_listing(end: &ListEnd) -> Outcome
-    ensures status { result.status ≡ status_by (fault_of_listing end.now) }
-    ensures line { result.line ≡ line_by (fault_of_listing end.now) }
-{
-    outcome_by(listing_fault(end))
 }
 
 /// What `drm_server check` ends with, by what its files came to: status 0 if all expectations are met and each file has

@@ -3,8 +3,8 @@
 ghost use Rattle.std.specs.Prelude.{◌≡◌};
 ghost use Rattle.drm_streams.specs.Streams.{no_calls};
 
+use crate::asked::Running;
 use crate::checking::{INPUT, open};
-use crate::command_line::Running;
 use crate::devices::{TopologyText, asked_setup, read_asked};
 use crate::faults::Fault;
 use crate::journal::{FilesRead, JournalFile, create_asked, write_noted};
@@ -92,7 +92,7 @@ fn run_asked<R: Input + Print + Files + AllocGlobal + Log>(
 }
 
 /// Runs the script of a file, or of standard input.
-pub(crate) fn run<R: Input + Print + Files + AllocGlobal + Log>(
+pub fn run<R: Input + Print + Files + AllocGlobal + Log>(
     rt: &R,
     alloc: Global,
     running: Running<'_>,

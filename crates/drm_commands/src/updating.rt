@@ -1,6 +1,6 @@
 //! Writing into files what is answered.
 
-use crate::command_line::{AskedDevice, Checking};
+use crate::asked::{AskedDevice, Checking};
 use crate::devices::{TopologyText, asked_setup, read_asked};
 use crate::faults::{Fault, FaultLine};
 use crate::files::{read_whole, replace_text, write_fault};
@@ -52,7 +52,7 @@ fn update_files<R: Files + AllocGlobal + Log>(
 }
 
 /// Updates each file, up to the first that can't be.
-pub(crate) fn update<R: Files + AllocGlobal + Log>(
+pub fn update<R: Files + AllocGlobal + Log>(
     rt: &R,
     alloc: Global,
     checking: &Checking<'_>,

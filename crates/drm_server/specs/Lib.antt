@@ -1,3 +1,1 @@
-pub mod Faults
 pub mod Listing
-pub mod Outcomes

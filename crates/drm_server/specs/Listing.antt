@@ -1,5 +1,5 @@
 -- The listing of what a device holds (own).
-use Rattle.std.specs.Prelude.{◌≡◌, ℕ, ◌+◌, ◌<◌, ◌≤◌, List, [], ◌++◌, length}
+use Rattle.std.specs.Prelude.{◌≡◌, ℕ, ◌+◌, ◌<◌, ◌≤◌, List, [], ◌++◌, Option, None, Some, length}
 use Rattle.std.specs.List.{flat_map}
 use Rattle.drm_table.specs.declared.audits.AuditKind.{AuditKind}
 use Rattle.drm_table.specs.Audits.{kinds}
@@ -8,6 +8,8 @@ use Rattle.drm_model.specs.Audit.{audit_rows, rising_rows}
 use Rattle.drm_streams.specs.Streams.{SinkTrace}
 use Rattle.drm_streams.specs.Turns.{Took}
 use Rattle.drm_script.specs.Lines.{audit_line}
+use Rattle.drm_commands.specs.declared.faults.Fault.{Fault}
+use Rattle.drm_commands.specs.declared.faults.Fault.TheVariants as faults
 use Rattle.drm_server.specs.declared.listing.ListEnd.{ListEnd}
 use Rattle.drm_server.specs.declared.listing.ListEnd.TheVariants as ends
 
@@ -33,3 +35,9 @@ pub record Lists (w : Rows) (old new : SinkTrace) (turns : ℕ) (end : ListEnd) 
   pub took : Took old new written
   pub turns_at_most : new.counts.calls ≤ old.counts.calls + turns
   pub end_condition : EndCondition end later old new turns
+
+-- the fault that the end of a listing is, if it is one
+abbrev pub fault_of_listing : ListEnd → Option Fault
+fault_of_listing ends.Done = None
+fault_of_listing ends.WriteFault = Some faults.Write
+fault_of_listing ends.TurnsUsed = Some faults.Turns

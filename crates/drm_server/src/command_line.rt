@@ -4,6 +4,7 @@ use crate::sockets::Paths;
 use clap::builder::ValueParser;
 use clap::error::ErrorKind;
 use clap::{Arg, ArgAction, ArgMatches, Command, Error};
+use drm_commands::{AskedDevice, Checking, Explaining, Running};
 use drm_connections::Counts;
 use std::alloc::{AllocError, Global};
 
@@ -52,32 +53,6 @@ Exit status:
   2  a line of the topology is malformed
   3  a refused command line";
 
-/// A device as the command line asks for it.
-#[derive(Clone, Copy, Debug, PartialEq, Eq)]
-pub(crate) struct AskedDevice<'a> {
-    /// The file of its topology.
-    pub(crate) topology: Option<&'a str>,
-    /// Its limits, as eight numbers; of a script those that it doesn't set itself.
-    pub(crate) limits: Option<&'a str>,
-}
-
-/// How to run a script.
-#[derive(Clone, Copy, Debug, PartialEq, Eq)]
-pub(crate) struct Running<'a> {
-    /// The file of the script, if it is not on standard input.
-    pub(crate) path: Option<&'a str>,
-    pub(crate) device: AskedDevice<'a>,
-    /// Where what was noted is written at the end.
-    pub(crate) journal: Option<&'a str>,
-}
-
-/// Which files to check or to update.
-#[derive(Debug, PartialEq, Eq, Drop)]
-pub(crate) struct Checking<'a> {
-    pub(crate) files: Vec<&'a str>,
-    pub(crate) device: AskedDevice<'a>,
-}
-
 /// How many connections a server accepts.
 #[derive(Clone, Copy, Debug, PartialEq, Eq)]
 pub(crate) enum Accepts {
@@ -99,18 +74,6 @@ pub(crate) struct Serving<'a> {
     pub(crate) device: AskedDevice<'a>,
     /// Where what was noted is written at the end.
     pub(crate) journal: Option<&'a str>,
-}
-
-/// Which script to explain, of which client or line, and in which form.
-#[derive(Clone, Copy, Debug, PartialEq, Eq)]
-pub(crate) struct Explaining<'a> {
-    pub(crate) path: &'a str,
-    pub(crate) device: AskedDevice<'a>,
-    /// The client alone of which is told: a label or a number.
-    pub(crate) client: Option<&'a str>,
-    /// The line whose answer alone is told of.
-    pub(crate) line: Option<u64>,
-    pub(crate) is_json: bool,
 }
 
 /// What the command line asks for.

@@ -3,20 +3,16 @@
 ghost use Rattle.std.specs.Prelude.{◌≡◌, true};
 ghost use Rattle.drm_table.specs.Limits.{are_in_range};
 
-use crate::checking::check;
 use crate::command_line::{Asked, Serving, is_memory, read_words};
-use crate::devices::{TopologyText, asked_device, asked_limits, read_asked};
-use crate::explaining::explain_script;
-use crate::faults::{Fault, FaultLine};
-use crate::journal::{FilesRead, JournalFile, create_asked, write_noted};
-use crate::listing::list_audit;
-use crate::outcomes::{Outcome, outcome_of_fault, outcome_of_listing};
-use crate::running::run;
+use crate::listing::{list_audit, outcome_of_listing};
 use crate::serving::{Ended, serve_device};
 use crate::standard::open_standard;
-use crate::updating::update;
 use crate::words::words_of;
 use clap::Error;
+use drm_commands::{
+    Fault, FaultLine, FilesRead, JournalFile, Outcome, TopologyText, asked_device, asked_limits,
+    check, create_asked, explain_script, outcome_of_fault, read_asked, run, update, write_noted,
+};
 use drm_connections::PROGRAM;
 use drm_device::{Device, Limits};
 use drm_streams::ToWrite;

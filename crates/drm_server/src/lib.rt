@@ -1,34 +1,22 @@
 //! The display server: it serves connections on sockets, lists what a device holds, and is a program as a function.
 #![tactic(auto)]
 
-mod checking;
 mod command_line;
-mod commands;
-mod devices;
 mod ending;
 mod entry;
-mod explaining;
-mod faults;
-mod files;
-mod journal;
-mod limits;
 mod listing;
-mod outcomes;
-mod recording;
-mod running;
 mod serving;
 mod sockets;
 mod standard;
-mod updating;
-mod visible;
 mod words;
 
+pub use drm_commands::{
+    Fault, FaultLine, Outcome, outcome_of, outcome_of_checks, outcome_of_fault,
+};
 pub use drm_connections::{Counts, OpenConnections, class_word};
 pub use drm_listeners::{ServeFault, Unserved, serve_all, serve_until_ended, serve_until_told};
 pub use drm_runs::{
     Ran, ScriptEnd, Setup, run_on, run_script, run_with_cause, scripts_are_answered,
 };
 pub use entry::program;
-pub use faults::{Fault, FaultLine};
-pub use listing::{ListEnd, list_audit};
-pub use outcomes::{Outcome, outcome_of, outcome_of_checks, outcome_of_fault, outcome_of_listing};
+pub use listing::{ListEnd, list_audit, outcome_of_listing};

@@ -5,8 +5,10 @@ ghost use Rattle.std.specs.List.{flat_map};
 ghost use Rattle.drm_model.specs.Run.{rows_of};
 ghost use Rattle.drm_script.specs.Lines as lines;
 ghost use Rattle.drm_streams.specs.Texts.{WritesOut};
-ghost use Rattle.drm_server.specs.Listing.{Lists, kind_text};
+ghost use Rattle.drm_commands.specs.Outcomes.{line_by, status_by};
+ghost use Rattle.drm_server.specs.Listing.{Lists, fault_of_listing, kind_text};
 
+use drm_commands::{Fault, Outcome, outcome_by};
 use drm_device::Device;
 use drm_script::audit_line;
 use drm_streams::{Sink, Written, put_all};
@@ -77,4 +79,23 @@ fn list_rows<K: Sink>(kind: AuditKind, rows: &[AuditRow], sink: &mut K, turns: &
         }
     }
     Written::Whole
+}
+
+fn listing_fault(end: &ListEnd) -> Option<Fault>
+    ensures { result ≡ fault_of_listing end.now }
+{
+    match end {
+        ListEnd::Done => None,
+        ListEnd::WriteFault => Some(Fault::Write),
+        ListEnd::TurnsUsed => Some(Fault::Turns),
+    }
+}
+
+/// What `drm_server serve` ends with once all sessions have ended, by how the listing ended: status 0 and no line where it is
+/// done (own).
+pub fn outcome_of_listing(end: &ListEnd) -> Outcome
+    ensures status { result.status ≡ status_by (fault_of_listing end.now) }
+    ensures line { result.line ≡ line_by (fault_of_listing end.now) }
+{
+    outcome_by(listing_fault(end))
 }

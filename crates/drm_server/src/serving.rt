@@ -2,8 +2,8 @@
 
 use crate::command_line::{Accepts, Serving};
 use crate::ending::end_with_input;
-use crate::faults::Fault;
 use crate::sockets::{Listeners, Sockets, bind_all};
+use drm_commands::Fault;
 use drm_connections::{MOST_AT_ONCE, OpenConnections, PROGRAM};
 use drm_device::Device;
 use drm_listeners::{ServeFault, Unserved, serve_keeping, serve_until_ended};

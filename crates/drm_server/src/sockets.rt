@@ -1,9 +1,9 @@
 //! The sockets that the program binds.
 
 ghost use Rattle.std.specs.Prelude.{◌≡◌, IfErr};
-ghost use Rattle.drm_server.specs.declared.faults.Fault.TheVariants.{Listen};
+ghost use Rattle.drm_commands.specs.declared.faults.Fault.TheVariants.{Listen};
 
-use crate::faults::Fault;
+use drm_commands::Fault;
 use drm_connections::PROGRAM;
 use drm_sessions::Class;
 use log::{Log, error};

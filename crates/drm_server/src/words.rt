@@ -1,6 +1,6 @@
 //! The words of the command line.
 
-use crate::faults::Fault;
+use drm_commands::Fault;
 use drm_connections::PROGRAM;
 use log::{Log, error};
 use std::alloc::Global;

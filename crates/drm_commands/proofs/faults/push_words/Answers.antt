@@ -1,7 +1,7 @@
 use Rattle.std.proofs.Common.{◌++◌, ℕ, List, codes, decimal, ap, sym, ◌∙◌}
 use Rattle.std.proofs.lemmas.List.{append_assoc}
-use Rattle.drm_server.specs.Faults as faults
-use Rattle.drm_server.proofs.faults.push_words.Goals as goal
+use Rattle.drm_commands.specs.Faults as faults
+use Rattle.drm_commands.proofs.faults.push_words.Goals as goal
 
 pub returns-in-ScriptLine : goal.returns-in-ScriptLine
 returns-in-ScriptLine c =

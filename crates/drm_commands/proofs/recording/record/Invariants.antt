@@ -1,6 +1,6 @@
 use Rattle.std.proofs.Common.{◌+◌, ◌*◌, ◌≤◌}
 use Rattle.drm_runs.specs.LineSteps.{fuel_of}
-use Rattle.drm_server.proofs.recording.record.Given as goal
+use Rattle.drm_commands.proofs.recording.record.Given as goal
 
 abbrev pub invariant-lines : goal.invariant-lines
 invariant-lines g l = record {

@@ -1,0 +1,27 @@
+//! The commands of the program that run, check, update and explain scripts, and what the program ends with.
+#![tactic(auto)]
+
+mod asked;
+mod checking;
+mod commands;
+mod devices;
+mod explaining;
+mod faults;
+mod files;
+mod journal;
+mod limits;
+mod outcomes;
+mod recording;
+mod running;
+mod updating;
+mod visible;
+
+pub use asked::{AskedDevice, Checking, Explaining, Running};
+pub use checking::check;
+pub use devices::{TopologyText, asked_device, asked_limits, read_asked};
+pub use explaining::explain_script;
+pub use faults::{Fault, FaultLine};
+pub use journal::{FilesRead, JournalFile, create_asked, write_noted};
+pub use outcomes::{Outcome, outcome_by, outcome_of, outcome_of_checks, outcome_of_fault};
+pub use running::run;
+pub use updating::update;
