@@ -2,9 +2,14 @@
 
 /// The reason a client was not opened or a handle was not assigned. The state is unchanged.
 ///
+/// # Examples
+///
 /// ```rust
+/// use drm_files::{FileFault, Files};
+///
+/// let alloc = rt.alloc();
 /// let mut files = Files::new(alloc, 0, 100);
-/// assert!(files.open(1, false, false, true) == Err(FileFault::Full));
+/// assert!(rt; files.open(1, false, false, true) == Err(FileFault::Full));
 /// ```
 #[derive(Clone, Copy, PartialEq, Eq, Debug)]
 pub enum FileFault {

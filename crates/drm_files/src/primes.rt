@@ -22,9 +22,17 @@ impl Files {
     /// A further import of the object returns this handle. Returns `None` if no handle of the client for the object has
     /// an export order. Looks at no other handle.
     ///
+    /// # Examples
+    ///
     /// ```rust
+    /// use drm_files::Files;
+    /// use drm_gem::ObjectKey;
+    ///
+    /// let alloc = rt.alloc();
+    /// let mut files = Files::new(alloc, 4, 100);
+    /// let Ok(()) = files.open(1, false, false, true) else { return };
     /// let object = ObjectKey::from_number(7);
-    /// assert!(files.prime_handle(1, object).is_none());
+    /// assert!(rt; files.prime_handle(1, object).is_none());
     /// ```
     pub fn prime_handle(&self, client: u32, object: ObjectKey) -> Option<u32>
         requires open_client { is_open_client self.now client ≡ true }
@@ -42,10 +50,19 @@ impl Files {
     /// If the handle has one already, nothing changes. Looks at the client's handles for the object whose export order
     /// is greater, and at no other.
     ///
+    /// # Examples
+    ///
     /// ```rust
+    /// use drm_files::Files;
+    /// use drm_gem::ObjectKey;
+    ///
+    /// let alloc = rt.alloc();
+    /// let mut files = Files::new(alloc, 4, 100);
+    /// let Ok(()) = files.open(1, false, false, true) else { return };
+    /// let object = ObjectKey::from_number(7);
     /// let Ok(handle) = files.add_handle(1, object, None) else { return };
     /// files.set_prime(1, handle, 5);
-    /// assert!(files.prime_handle(1, object) == Some(handle));
+    /// assert!(rt; files.prime_handle(1, object) == Some(handle));
     /// ```
     pub fn set_prime(&mut self, client: u32, handle: u32, export_order: u32)
         requires open_client { is_open_client self.old client ≡ true }

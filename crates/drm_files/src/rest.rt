@@ -11,7 +11,13 @@ use std::marker::Model;
 /// The handles that a closed client had, each with its object. Contracts see the list of these pairs, in the order of
 /// the handles.
 ///
+/// # Examples
+///
 /// ```rust
+/// use drm_files::Files;
+/// use drm_gem::ObjectKey;
+///
+/// let alloc = rt.alloc();
 /// let mut files = Files::new(alloc, 4, 100);
 /// let Ok(()) = files.open(1, false, false, true) else { return };
 /// let object = ObjectKey::from_number(7);
@@ -49,9 +55,20 @@ impl FileRest {
 
     /// Removes the first handle and returns it with its object, or returns `None` if none is left. Does not allocate.
     ///
+    /// # Examples
+    ///
     /// ```rust
-    /// assert!(rest.take_next() == Some((handle, object)));
-    /// assert!(rest.take_next().is_none());
+    /// use drm_files::Files;
+    /// use drm_gem::ObjectKey;
+    ///
+    /// let alloc = rt.alloc();
+    /// let mut files = Files::new(alloc, 4, 100);
+    /// let Ok(()) = files.open(1, false, false, true) else { return };
+    /// let object = ObjectKey::from_number(7);
+    /// let Ok(handle) = files.add_handle(1, object, None) else { return };
+    /// let mut rest = files.close(1);
+    /// assert!(rt; rest.take_next() == Some((handle, object)));
+    /// assert!(rt; rest.take_next().is_none());
     /// ```
     pub fn take_next(&mut self) -> Option<(u32, ObjectKey)>
         ensures first { result ≡ slice_get self.old 0 }

@@ -4,11 +4,16 @@ use drm_gem::ObjectKey;
 
 /// The flags of a client (drm-uapi: primary and render nodes, authentication).
 ///
+/// # Examples
+///
 /// ```rust
+/// use drm_files::{FileFlags, Files};
+///
+/// let alloc = rt.alloc();
 /// let mut files = Files::new(alloc, 4, 100);
 /// let Ok(()) = files.open(1, false, true, true) else { return };
 /// let flags = FileFlags { render: false, root: true, authenticated: true, universal: true };
-/// assert!(files.flags_of(1) == Some(flags));
+/// assert!(rt; files.flags_of(1) == Some(flags));
 /// ```
 #[derive(Clone, Copy, PartialEq, Eq, Debug)]
 pub struct FileFlags {
@@ -25,8 +30,16 @@ pub struct FileFlags {
 
 /// An open client.
 ///
+/// # Examples
+///
 /// ```rust
-/// assert!(files.nth_client(0) == Some(FileClient { client: 1, flags }));
+/// use drm_files::{FileClient, FileFlags, Files};
+///
+/// let alloc = rt.alloc();
+/// let mut files = Files::new(alloc, 4, 100);
+/// let Ok(()) = files.open(1, false, true, true) else { return };
+/// let flags = FileFlags { render: false, root: true, authenticated: true, universal: true };
+/// assert!(rt; files.nth_client(0) == Some(FileClient { client: 1, flags }));
 /// ```
 #[derive(Clone, Copy, PartialEq, Eq, Debug)]
 pub struct FileClient {
@@ -38,8 +51,16 @@ pub struct FileClient {
 
 /// A row of an audit from [`Files`](crate::Files) (own).
 ///
+/// # Examples
+///
 /// ```rust
-/// assert!(files.nth(1, 0) == Some(FileRow::Client(FileClient { client: 1, flags })));
+/// use drm_files::{FileClient, FileFlags, FileRow, Files};
+///
+/// let alloc = rt.alloc();
+/// let mut files = Files::new(alloc, 4, 100);
+/// let Ok(()) = files.open(1, false, true, true) else { return };
+/// let flags = FileFlags { render: false, root: true, authenticated: true, universal: true };
+/// assert!(rt; files.nth(1, 0) == Some(FileRow::Client(FileClient { client: 1, flags })));
 /// ```
 #[derive(Clone, Copy, PartialEq, Eq, Debug)]
 pub enum FileRow {
@@ -51,11 +72,19 @@ pub enum FileRow {
 
 /// A handle that a client holds (drm-gem(7)).
 ///
+/// # Examples
+///
 /// ```rust
+/// use drm_files::{FileHandle, Files};
+/// use drm_gem::ObjectKey;
+///
+/// let alloc = rt.alloc();
+/// let mut files = Files::new(alloc, 4, 100);
+/// let Ok(()) = files.open(1, false, true, true) else { return };
 /// let object = ObjectKey::from_number(7);
 /// let Ok(handle) = files.add_handle(1, object, Some(3)) else { return };
 /// let hold = FileHandle { client: 1, handle, object, export_order: Some(3) };
-/// assert!(files.nth_handle(0) == Some(hold));
+/// assert!(rt; files.nth_handle(0) == Some(hold));
 /// ```
 #[derive(Clone, Copy, PartialEq, Eq, Debug)]
 pub struct FileHandle {

@@ -7,7 +7,11 @@ use std::marker::Model;
 /// The key of an object of [`Objects`](crate::Objects) while it exists. Another object may have the key afterwards.
 /// Contracts see a number.
 ///
+/// # Examples
+///
 /// ```rust
+/// use drm_gem::ObjectKey;
+///
 /// let key = ObjectKey::from_number(7);
 /// ```
 #[derive(Clone, Copy, PartialEq, Eq, Debug)]
@@ -28,8 +32,13 @@ impl Model for ObjectKey {
 impl ObjectKey {
     /// Returns the key with this number. It may be that of no object. Does not allocate.
     ///
+    /// # Examples
+    ///
     /// ```rust
-    /// assert!(key == ObjectKey::from_number(7));
+    /// use drm_gem::ObjectKey;
+    ///
+    /// let key = ObjectKey::from_number(7);
+    /// assert!(rt; key == ObjectKey::from_number(7));
     /// ```
     pub fn from_number(number: u32) -> ObjectKey
         ensures { result ≡ number }
@@ -39,8 +48,13 @@ impl ObjectKey {
 
     /// Returns the key's number.
     ///
+    /// # Examples
+    ///
     /// ```rust
-    /// assert!(key.number() == 7);
+    /// use drm_gem::ObjectKey;
+    ///
+    /// let key = ObjectKey::from_number(7);
+    /// assert!(rt; key.number() == 7);
     /// ```
     pub fn number(self) -> u32
         ensures { result ≡ self }

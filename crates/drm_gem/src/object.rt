@@ -4,11 +4,16 @@ use crate::keys::ObjectKey;
 
 /// An object, with the number of its references.
 ///
+/// # Examples
+///
 /// ```rust
+/// use drm_gem::Objects;
+///
+/// let alloc = rt.alloc();
 /// let mut objects = Objects::new(alloc, 1);
 /// let Ok(key) = objects.create(3, 4096) else { return };
 /// let Some(object) = objects.get(key) else { return };
-/// assert!(object.step_number == 3 && object.size == 4096 && object.holds == 1);
+/// assert!(rt; object.step_number == 3 && object.size == 4096 && object.holds == 1);
 /// ```
 #[derive(Clone, Copy, PartialEq, Eq, Debug)]
 pub struct Object {
@@ -29,11 +34,16 @@ pub struct Object {
 /// An object that was freed because nothing refers to it. The owner of its memory would free that now. A device's
 /// buffers have no memory, so its calls ignore this value.
 ///
+/// # Examples
+///
 /// ```rust
+/// use drm_gem::{Dead, Objects};
+///
+/// let alloc = rt.alloc();
 /// let mut objects = Objects::new(alloc, 1);
 /// let Ok(key) = objects.create(3, 4096) else { return };
 /// let gone = Dead { birth: 3, size: 4096 };
-/// assert!(objects.unhold(key) == Some(gone));
+/// assert!(rt; objects.unhold(key) == Some(gone));
 /// ```
 #[derive(Clone, Copy, PartialEq, Eq, Debug)]
 pub struct Dead {

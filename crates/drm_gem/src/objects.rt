@@ -19,9 +19,14 @@ const OBJECT_KIND: u32 = 3;
 
 /// The reason an object was not created. The objects are unchanged.
 ///
+/// # Examples
+///
 /// ```rust
+/// use drm_gem::{CreateFault, Objects};
+///
+/// let alloc = rt.alloc();
 /// let mut full = Objects::new(alloc, 0);
-/// assert!(full.create(1, 4096) == Err(CreateFault::Full));
+/// assert!(rt; full.create(1, 4096) == Err(CreateFault::Full));
 /// ```
 #[derive(Clone, Copy, PartialEq, Eq, Debug)]
 pub enum CreateFault {
@@ -33,7 +38,12 @@ pub enum CreateFault {
 
 /// The objects that exist, in the order in which they were created. Contracts see a flat list.
 ///
+/// # Examples
+///
 /// ```rust
+/// use drm_gem::Objects;
+///
+/// let alloc = rt.alloc();
 /// let mut objects = Objects::new(alloc, 2);
 /// let Ok(key) = objects.create(1, 4096) else { return };
 /// ```
@@ -72,8 +82,13 @@ impl Model for Objects {
 impl Objects {
     /// Creates a table without objects. At most `limit` may exist at once. Does not allocate.
     ///
+    /// # Examples
+    ///
     /// ```rust
-    /// assert!(Objects::new(alloc, 2).nth_object(0).is_none());
+    /// use drm_gem::Objects;
+    ///
+    /// let alloc = rt.alloc();
+    /// assert!(rt; Objects::new(alloc, 2).nth_object(0).is_none());
     /// ```
     pub fn new(alloc: Global, limit: u32) -> Objects
         ensures { result ≡ record { limit = limit; objects = [] } }
@@ -92,9 +107,16 @@ impl Objects {
     ///
     /// `Full` if the limit is reached (own), `NoMemory` if memory is refused. The objects are then unchanged.
     ///
+    /// # Examples
+    ///
     /// ```rust
+    /// use drm_gem::Objects;
+    ///
+    /// let alloc = rt.alloc();
+    /// let mut objects = Objects::new(alloc, 2);
+    /// let Ok(key) = objects.create(1, 4096) else { return };
     /// let Ok(other) = objects.create(2, 8192) else { return };
-    /// assert!(other != key);
+    /// assert!(rt; other != key);
     /// ```
     pub fn create(&mut self, birth: u32, size: u64) -> Result<ObjectKey, CreateFault>
         requires unused { IsUnusedBirth self.old birth }
@@ -135,8 +157,16 @@ impl Objects {
 
     /// Returns the object with this key, if it exists.
     ///
+    /// # Examples
+    ///
     /// ```rust
-    /// assert!(objects.get(key).is_some());
+    /// use drm_gem::Objects;
+    ///
+    /// let alloc = rt.alloc();
+    /// let mut objects = Objects::new(alloc, 2);
+    /// let Ok(key) = objects.create(1, 4096) else { return };
+    /// let Ok(other) = objects.create(2, 8192) else { return };
+    /// assert!(rt; objects.get(key).is_some());
     /// ```
     pub fn get(&self, key: ObjectKey) -> Option<Object>
         ensures { result ≡ object_at self.now key }
@@ -146,9 +176,17 @@ impl Objects {
 
     /// Adds a handle to the object's count. The object must exist.
     ///
+    /// # Examples
+    ///
     /// ```rust
+    /// use drm_gem::Objects;
+    ///
+    /// let alloc = rt.alloc();
+    /// let mut objects = Objects::new(alloc, 2);
+    /// let Ok(key) = objects.create(1, 4096) else { return };
+    /// let Ok(other) = objects.create(2, 8192) else { return };
     /// objects.hold(key);
-    /// assert!(objects.holds(key) == 2);
+    /// assert!(rt; objects.holds(key) == 2);
     /// ```
     pub fn hold(&mut self, key: ObjectKey)
         requires { passes (λ x. nat_lt x.holds u32.MAX) self.old key ≡ true }
@@ -165,8 +203,17 @@ impl Objects {
     /// Removes a handle from the object's count. If nothing refers to the object then, it is freed and returned
     /// (drm-gem(7)).
     ///
+    /// # Examples
+    ///
     /// ```rust
-    /// assert!(objects.unhold(key).is_none());
+    /// use drm_gem::Objects;
+    ///
+    /// let alloc = rt.alloc();
+    /// let mut objects = Objects::new(alloc, 2);
+    /// let Ok(key) = objects.create(1, 4096) else { return };
+    /// let Ok(other) = objects.create(2, 8192) else { return };
+    /// objects.hold(key);
+    /// assert!(rt; objects.unhold(key).is_none());
     /// ```
     pub fn unhold(&mut self, key: ObjectKey) -> Option<Dead>
         requires { passes (λ x. nat_le 1 x.holds) self.old key ≡ true }
@@ -184,9 +231,19 @@ impl Objects {
 
     /// Adds a token or framebuffer to the object's count. The object must exist.
     ///
+    /// # Examples
+    ///
     /// ```rust
+    /// use drm_gem::Objects;
+    ///
+    /// let alloc = rt.alloc();
+    /// let mut objects = Objects::new(alloc, 2);
+    /// let Ok(key) = objects.create(1, 4096) else { return };
+    /// let Ok(other) = objects.create(2, 8192) else { return };
+    /// objects.hold(key);
+    /// assert!(rt; objects.unhold(key).is_none());
     /// objects.refer(key);
-    /// assert!(objects.refs(key) == 1);
+    /// assert!(rt; objects.refs(key) == 1);
     /// ```
     pub fn refer(&mut self, key: ObjectKey)
         requires { passes (λ x. nat_lt x.refs u32.MAX) self.old key ≡ true }
@@ -203,8 +260,19 @@ impl Objects {
     /// Removes a token or framebuffer from the object's count. If nothing refers to the object then, it is freed and
     /// returned.
     ///
+    /// # Examples
+    ///
     /// ```rust
-    /// assert!(objects.unrefer(key).is_none());
+    /// use drm_gem::Objects;
+    ///
+    /// let alloc = rt.alloc();
+    /// let mut objects = Objects::new(alloc, 2);
+    /// let Ok(key) = objects.create(1, 4096) else { return };
+    /// let Ok(other) = objects.create(2, 8192) else { return };
+    /// objects.hold(key);
+    /// assert!(rt; objects.unhold(key).is_none());
+    /// objects.refer(key);
+    /// assert!(rt; objects.unrefer(key).is_none());
     /// ```
     pub fn unrefer(&mut self, key: ObjectKey) -> Option<Dead>
         requires { passes (λ x. nat_le 1 x.refs) self.old key ≡ true }
@@ -222,8 +290,20 @@ impl Objects {
 
     /// Returns the number of handles that name the object.
     ///
+    /// # Examples
+    ///
     /// ```rust
-    /// assert!(objects.holds(key) == 1);
+    /// use drm_gem::Objects;
+    ///
+    /// let alloc = rt.alloc();
+    /// let mut objects = Objects::new(alloc, 2);
+    /// let Ok(key) = objects.create(1, 4096) else { return };
+    /// let Ok(other) = objects.create(2, 8192) else { return };
+    /// objects.hold(key);
+    /// assert!(rt; objects.unhold(key).is_none());
+    /// objects.refer(key);
+    /// assert!(rt; objects.unrefer(key).is_none());
+    /// assert!(rt; objects.holds(key) == 1);
     /// ```
     pub fn holds(&self, key: ObjectKey) -> u32
         requires { is_there self.now key ≡ true }
@@ -234,8 +314,20 @@ impl Objects {
 
     /// Returns the number of tokens and framebuffers that refer to the object.
     ///
+    /// # Examples
+    ///
     /// ```rust
-    /// assert!(objects.refs(key) == 0);
+    /// use drm_gem::Objects;
+    ///
+    /// let alloc = rt.alloc();
+    /// let mut objects = Objects::new(alloc, 2);
+    /// let Ok(key) = objects.create(1, 4096) else { return };
+    /// let Ok(other) = objects.create(2, 8192) else { return };
+    /// objects.hold(key);
+    /// assert!(rt; objects.unhold(key).is_none());
+    /// objects.refer(key);
+    /// assert!(rt; objects.unrefer(key).is_none());
+    /// assert!(rt; objects.refs(key) == 0);
     /// ```
     pub fn refs(&self, key: ObjectKey) -> u32
         requires { is_there self.now key ≡ true }
@@ -246,8 +338,20 @@ impl Objects {
 
     /// Returns the number of the step that created the object.
     ///
+    /// # Examples
+    ///
     /// ```rust
-    /// assert!(objects.birth(key) == 1);
+    /// use drm_gem::Objects;
+    ///
+    /// let alloc = rt.alloc();
+    /// let mut objects = Objects::new(alloc, 2);
+    /// let Ok(key) = objects.create(1, 4096) else { return };
+    /// let Ok(other) = objects.create(2, 8192) else { return };
+    /// objects.hold(key);
+    /// assert!(rt; objects.unhold(key).is_none());
+    /// objects.refer(key);
+    /// assert!(rt; objects.unrefer(key).is_none());
+    /// assert!(rt; objects.birth(key) == 1);
     /// ```
     pub fn birth(&self, key: ObjectKey) -> u32
         requires { is_there self.now key ≡ true }
@@ -258,8 +362,20 @@ impl Objects {
 
     /// Returns the object's size in bytes.
     ///
+    /// # Examples
+    ///
     /// ```rust
-    /// assert!(objects.size(key) == 4096);
+    /// use drm_gem::Objects;
+    ///
+    /// let alloc = rt.alloc();
+    /// let mut objects = Objects::new(alloc, 2);
+    /// let Ok(key) = objects.create(1, 4096) else { return };
+    /// let Ok(other) = objects.create(2, 8192) else { return };
+    /// objects.hold(key);
+    /// assert!(rt; objects.unhold(key).is_none());
+    /// objects.refer(key);
+    /// assert!(rt; objects.unrefer(key).is_none());
+    /// assert!(rt; objects.size(key) == 4096);
     /// ```
     pub fn size(&self, key: ObjectKey) -> u64
         requires { is_there self.now key ≡ true }
@@ -270,8 +386,20 @@ impl Objects {
 
     /// Returns the object's stamp, which represents its contents (own).
     ///
+    /// # Examples
+    ///
     /// ```rust
-    /// assert!(objects.stamp(key) == 0);
+    /// use drm_gem::Objects;
+    ///
+    /// let alloc = rt.alloc();
+    /// let mut objects = Objects::new(alloc, 2);
+    /// let Ok(key) = objects.create(1, 4096) else { return };
+    /// let Ok(other) = objects.create(2, 8192) else { return };
+    /// objects.hold(key);
+    /// assert!(rt; objects.unhold(key).is_none());
+    /// objects.refer(key);
+    /// assert!(rt; objects.unrefer(key).is_none());
+    /// assert!(rt; objects.stamp(key) == 0);
     /// ```
     pub fn stamp(&self, key: ObjectKey) -> u64
         requires { is_there self.now key ≡ true }
@@ -282,9 +410,21 @@ impl Objects {
 
     /// Sets the object's stamp (own).
     ///
+    /// # Examples
+    ///
     /// ```rust
+    /// use drm_gem::Objects;
+    ///
+    /// let alloc = rt.alloc();
+    /// let mut objects = Objects::new(alloc, 2);
+    /// let Ok(key) = objects.create(1, 4096) else { return };
+    /// let Ok(other) = objects.create(2, 8192) else { return };
+    /// objects.hold(key);
+    /// assert!(rt; objects.unhold(key).is_none());
+    /// objects.refer(key);
+    /// assert!(rt; objects.unrefer(key).is_none());
     /// objects.set_stamp(key, 77);
-    /// assert!(objects.stamp(key) == 77);
+    /// assert!(rt; objects.stamp(key) == 77);
     /// ```
     pub fn set_stamp(&mut self, key: ObjectKey, stamp: u64)
         requires { is_there self.old key ≡ true }
@@ -297,8 +437,21 @@ impl Objects {
     /// Returns the row at a position, from 0, of the rows of an audit's kind (own). Objects are kind 3, in the order in
     /// which they were created. No other kind has rows here. Does not allocate.
     ///
+    /// # Examples
+    ///
     /// ```rust
-    /// assert!(objects.nth(3, 0) == objects.get(key) && objects.nth(4, 0).is_none());
+    /// use drm_gem::Objects;
+    ///
+    /// let alloc = rt.alloc();
+    /// let mut objects = Objects::new(alloc, 2);
+    /// let Ok(key) = objects.create(1, 4096) else { return };
+    /// let Ok(other) = objects.create(2, 8192) else { return };
+    /// objects.hold(key);
+    /// assert!(rt; objects.unhold(key).is_none());
+    /// objects.refer(key);
+    /// assert!(rt; objects.unrefer(key).is_none());
+    /// objects.set_stamp(key, 77);
+    /// assert!(rt; objects.nth(3, 0) == objects.get(key) && objects.nth(4, 0).is_none());
     /// ```
     pub fn nth(&self, kind: u32, i: usize) -> Option<Object>
         ensures { result ≡ nth_row self.now kind i }
@@ -311,8 +464,21 @@ impl Objects {
 
     /// Returns the object at a position, from 0, in the order in which they were created. Does not allocate.
     ///
+    /// # Examples
+    ///
     /// ```rust
-    /// assert!(objects.nth_object(0) == objects.get(key));
+    /// use drm_gem::Objects;
+    ///
+    /// let alloc = rt.alloc();
+    /// let mut objects = Objects::new(alloc, 2);
+    /// let Ok(key) = objects.create(1, 4096) else { return };
+    /// let Ok(other) = objects.create(2, 8192) else { return };
+    /// objects.hold(key);
+    /// assert!(rt; objects.unhold(key).is_none());
+    /// objects.refer(key);
+    /// assert!(rt; objects.unrefer(key).is_none());
+    /// objects.set_stamp(key, 77);
+    /// assert!(rt; objects.nth_object(0) == objects.get(key));
     /// ```
     pub fn nth_object(&self, position: usize) -> Option<Object>
         ensures { result ≡ slice_get self.now.objects position }

@@ -2,20 +2,30 @@
 
 /// Memory was refused, and all is unchanged.
 ///
+/// # Examples
+///
 /// ```rust
+/// use drm_id_alloc::{Groups, NoMemory};
+///
+/// let alloc = rt.alloc();
 /// let mut groups = Groups::new(alloc);
 /// let Ok(()) = groups.note(3, 500) else { return };
-/// assert!(groups.note(3, 500) != Err(NoMemory));
+/// assert!(rt; groups.note(3, 500) != Err(NoMemory));
 /// ```
 #[derive(Clone, Copy, PartialEq, Eq, Debug)]
 pub struct NoMemory;
 
 /// Why nothing was added. Each hands the value back.
 ///
+/// # Examples
+///
 /// ```rust
+/// use drm_id_alloc::{AddFault, IdTable};
+///
+/// let alloc = rt.alloc();
 /// let mut table: IdTable<u8> = IdTable::new(alloc, 1, 1);
 /// let Ok(_id) = table.add(7) else { return };
-/// assert!(table.add(8) == Err(AddFault::Full(8)));
+/// assert!(rt; table.add(8) == Err(AddFault::Full(8)));
 /// ```
 #[derive(Debug, Drop, PartialEq, Eq)]
 pub enum AddFault<T> {

@@ -19,7 +19,12 @@ use std::marker::Model;
 /// nodes of 64 places if they are not. One number of a group costs no more than that. From the second on, the group has
 /// an array. A group without numbers costs nothing.
 ///
+/// # Examples
+///
 /// ```rust
+/// use drm_id_alloc::Groups;
+///
+/// let alloc = rt.alloc();
 /// let mut groups = Groups::new(alloc);
 /// let Ok(()) = groups.note(3, 500) else { return };
 /// ```
@@ -42,8 +47,13 @@ impl Model for Groups {
 impl Groups {
     /// No group has a number. Does not allocate.
     ///
+    /// # Examples
+    ///
     /// ```rust
-    /// assert!(!Groups::new(alloc).has(3, 500));
+    /// use drm_id_alloc::Groups;
+    ///
+    /// let alloc = rt.alloc();
+    /// assert!(rt; !Groups::new(alloc).has(3, 500));
     /// ```
     pub fn new(alloc: Global) -> Groups
         ensures { (g n : ℕ) → has result g n ≡ false }
@@ -56,7 +66,14 @@ impl Groups {
 
     /// Notes a number of a group. One that the group has stays. Without memory nothing changes.
     ///
+    /// # Examples
+    ///
     /// ```rust
+    /// use drm_id_alloc::Groups;
+    ///
+    /// let alloc = rt.alloc();
+    /// let mut groups = Groups::new(alloc);
+    /// let Ok(()) = groups.note(3, 500) else { return };
     /// let Ok(()) = groups.note(3, 7) else { return };
     /// ```
     pub fn note(&mut self, group: u32, number: u32) -> Result<(), NoMemory>
@@ -74,9 +91,17 @@ impl Groups {
 
     /// Forgets a number of a group, if the group has it. Does not allocate.
     ///
+    /// # Examples
+    ///
     /// ```rust
+    /// use drm_id_alloc::Groups;
+    ///
+    /// let alloc = rt.alloc();
+    /// let mut groups = Groups::new(alloc);
+    /// let Ok(()) = groups.note(3, 500) else { return };
+    /// let Ok(()) = groups.note(3, 7) else { return };
     /// groups.forget(3, 500);
-    /// assert!(!groups.has(3, 500));
+    /// assert!(rt; !groups.has(3, 500));
     /// ```
     pub fn forget(&mut self, group: u32, number: u32)
         ensures { IsTaken (has self.old) group number (has self.new) }
@@ -93,8 +118,17 @@ impl Groups {
 
     /// Returns the least number of a group that is not below `from`.
     ///
+    /// # Examples
+    ///
     /// ```rust
-    /// assert!(groups.next(3, 0) == Some(7));
+    /// use drm_id_alloc::Groups;
+    ///
+    /// let alloc = rt.alloc();
+    /// let mut groups = Groups::new(alloc);
+    /// let Ok(()) = groups.note(3, 500) else { return };
+    /// let Ok(()) = groups.note(3, 7) else { return };
+    /// groups.forget(3, 500);
+    /// assert!(rt; groups.next(3, 0) == Some(7));
     /// ```
     pub fn next(&self, group: u32, from: u32) -> Option<u32>
         ensures least { result ≡ least (has self.now group) from u32.MAX }
@@ -106,8 +140,17 @@ impl Groups {
     /// Returns the number at a place of a group's, rising, where 0 is the first; none past the last. A late place costs
     /// what an early one does.
     ///
+    /// # Examples
+    ///
     /// ```rust
-    /// assert!(groups.nth(3, 0) == Some(7));
+    /// use drm_id_alloc::Groups;
+    ///
+    /// let alloc = rt.alloc();
+    /// let mut groups = Groups::new(alloc);
+    /// let Ok(()) = groups.note(3, 500) else { return };
+    /// let Ok(()) = groups.note(3, 7) else { return };
+    /// groups.forget(3, 500);
+    /// assert!(rt; groups.nth(3, 0) == Some(7));
     /// ```
     pub fn nth(&self, group: u32, position: usize) -> Option<u32>
         ensures { result ≡ slice_get (numbers_of self.now group) position }
@@ -117,8 +160,17 @@ impl Groups {
 
     /// How many numbers a group has.
     ///
+    /// # Examples
+    ///
     /// ```rust
-    /// assert!(groups.len(3) == 1 && groups.len(4) == 0);
+    /// use drm_id_alloc::Groups;
+    ///
+    /// let alloc = rt.alloc();
+    /// let mut groups = Groups::new(alloc);
+    /// let Ok(()) = groups.note(3, 500) else { return };
+    /// let Ok(()) = groups.note(3, 7) else { return };
+    /// groups.forget(3, 500);
+    /// assert!(rt; groups.len(3) == 1 && groups.len(4) == 0);
     /// ```
     pub fn len(&self, group: u32) -> usize
         ensures { result ≡ length (numbers_of self.now group) }
@@ -131,8 +183,17 @@ impl Groups {
 
     /// Returns whether a group has a number.
     ///
+    /// # Examples
+    ///
     /// ```rust
-    /// assert!(groups.has(3, 7) && !groups.has(4, 7));
+    /// use drm_id_alloc::Groups;
+    ///
+    /// let alloc = rt.alloc();
+    /// let mut groups = Groups::new(alloc);
+    /// let Ok(()) = groups.note(3, 500) else { return };
+    /// let Ok(()) = groups.note(3, 7) else { return };
+    /// groups.forget(3, 500);
+    /// assert!(rt; groups.has(3, 7) && !groups.has(4, 7));
     /// ```
     pub fn has(&self, group: u32, number: u32) -> bool
         ensures { result ≡ has self.now group number }

@@ -14,7 +14,12 @@ use std::marker::Model;
 /// A table whose numbers are allocated from a range, with both its ends (as Linux's IDR). Contracts see the map from
 /// numbers to values, the range, and the number that `add_cyclic` returned last.
 ///
+/// # Examples
+///
 /// ```rust
+/// use drm_id_alloc::IdTable;
+///
+/// let alloc = rt.alloc();
 /// let mut table: IdTable<u8> = IdTable::new(alloc, 1, 2);
 /// let Ok(id) = table.add(7) else { return };
 /// ```
@@ -48,9 +53,14 @@ impl<T: Drop> IdTable<T> {
 
     /// Returns a table with nothing in it, which takes no memory. It keeps the allocator for the entries to come.
     ///
+    /// # Examples
+    ///
     /// ```rust
+    /// use drm_id_alloc::IdTable;
+    ///
+    /// let alloc = rt.alloc();
     /// let empty: IdTable<u8> = IdTable::new(alloc, 1, 9);
-    /// assert!(empty.len() == 0 && empty.last_given().is_none());
+    /// assert!(rt; empty.len() == 0 && empty.last_given().is_none());
     /// ```
     pub fn new(alloc: Global, first: u32, last: u32) -> Self
         requires { first ≤ last }
@@ -70,8 +80,15 @@ impl<T: Drop> IdTable<T> {
     ///
     /// If no number is free or memory is refused, the table is unchanged, and the error has the value.
     ///
+    /// # Examples
+    ///
     /// ```rust
-    /// assert!(id == 1);
+    /// use drm_id_alloc::IdTable;
+    ///
+    /// let alloc = rt.alloc();
+    /// let mut table: IdTable<u8> = IdTable::new(alloc, 1, 2);
+    /// let Ok(id) = table.add(7) else { return };
+    /// assert!(rt; id == 1);
     /// ```
     pub fn add(&mut self, value: T) -> Result<u32, AddFault<T>>
         ensures given { IfOk result (λ id. least_free self.old ≡ Some id) }
@@ -99,10 +116,17 @@ impl<T: Drop> IdTable<T> {
     ///
     /// If no number is free or memory is refused, the table is unchanged, and the error has the value.
     ///
+    /// # Examples
+    ///
     /// ```rust
+    /// use drm_id_alloc::{AddFault, IdTable};
+    ///
+    /// let alloc = rt.alloc();
+    /// let mut table: IdTable<u8> = IdTable::new(alloc, 1, 2);
+    /// let Ok(id) = table.add(7) else { return };
     /// let Ok(other) = table.add_cyclic(8) else { return };
-    /// assert!(other == 2 || other == 1);
-    /// assert!(table.add(9) == Err(AddFault::Full(9)));
+    /// assert!(rt; other == 2 || other == 1);
+    /// assert!(rt; table.add(9) == Err(AddFault::Full(9)));
     /// ```
     pub fn add_cyclic(&mut self, value: T) -> Result<u32, AddFault<T>>
         ensures given { IfOk result (λ id. next_cyclic self.old ≡ Some id) }
@@ -142,8 +166,17 @@ impl<T: Drop> IdTable<T> {
 
     /// Returns the number that `add_cyclic` returns next; none where no number is free.
     ///
+    /// # Examples
+    ///
     /// ```rust
-    /// assert!(table.next_in_turn().is_none());
+    /// use drm_id_alloc::{AddFault, IdTable};
+    ///
+    /// let alloc = rt.alloc();
+    /// let mut table: IdTable<u8> = IdTable::new(alloc, 1, 2);
+    /// let Ok(id) = table.add(7) else { return };
+    /// let Ok(other) = table.add_cyclic(8) else { return };
+    /// assert!(rt; table.add(9) == Err(AddFault::Full(9)));
+    /// assert!(rt; table.next_in_turn().is_none());
     /// ```
     pub fn next_in_turn(&self) -> Option<u32>
         ensures next { result ≡ next_cyclic self.now }
@@ -181,8 +214,17 @@ impl<T: Drop> IdTable<T> {
 
     /// Returns the value at the number, if there is one.
     ///
+    /// # Examples
+    ///
     /// ```rust
-    /// assert!(table.get(id) == Some(&7));
+    /// use drm_id_alloc::{AddFault, IdTable};
+    ///
+    /// let alloc = rt.alloc();
+    /// let mut table: IdTable<u8> = IdTable::new(alloc, 1, 2);
+    /// let Ok(id) = table.add(7) else { return };
+    /// let Ok(other) = table.add_cyclic(8) else { return };
+    /// assert!(rt; table.add(9) == Err(AddFault::Full(9)));
+    /// assert!(rt; table.get(id) == Some(&7));
     /// ```
     pub fn get(&self, id: u32) -> Option<&T>
         ensures value { option_copied result ≡ map.get self.now.slots id }
@@ -198,8 +240,17 @@ impl<T: Drop> IdTable<T> {
     ///
     /// If the number has no value, the table is unchanged, and the error is the new value.
     ///
+    /// # Examples
+    ///
     /// ```rust
-    /// assert!(table.replace(id, 5) == Ok(7));
+    /// use drm_id_alloc::{AddFault, IdTable};
+    ///
+    /// let alloc = rt.alloc();
+    /// let mut table: IdTable<u8> = IdTable::new(alloc, 1, 2);
+    /// let Ok(id) = table.add(7) else { return };
+    /// let Ok(other) = table.add_cyclic(8) else { return };
+    /// assert!(rt; table.add(9) == Err(AddFault::Full(9)));
+    /// assert!(rt; table.replace(id, 5) == Ok(7));
     /// ```
     pub fn replace(&mut self, id: u32, value: T) -> Result<T, T>
         ensures had { IfOk result (λ old. map.get self.old.slots id ≡ Some old) }
@@ -217,8 +268,18 @@ impl<T: Drop> IdTable<T> {
     /// Takes the value out, and the number is free. The last number given stays. Where the number has no value, the
     /// table stays as it is.
     ///
+    /// # Examples
+    ///
     /// ```rust
-    /// assert!(table.remove(id) == Some(5));
+    /// use drm_id_alloc::{AddFault, IdTable};
+    ///
+    /// let alloc = rt.alloc();
+    /// let mut table: IdTable<u8> = IdTable::new(alloc, 1, 2);
+    /// let Ok(id) = table.add(7) else { return };
+    /// let Ok(other) = table.add_cyclic(8) else { return };
+    /// assert!(rt; table.add(9) == Err(AddFault::Full(9)));
+    /// assert!(rt; table.replace(id, 5) == Ok(7));
+    /// assert!(rt; table.remove(id) == Some(5));
     /// ```
     pub fn remove(&mut self, id: u32) -> Option<T>
         ensures value { result ≡ map.get self.old.slots id }
@@ -230,8 +291,19 @@ impl<T: Drop> IdTable<T> {
 
     /// Returns the least number not below `from` that is in use.
     ///
+    /// # Examples
+    ///
     /// ```rust
-    /// assert!(table.next(1) == Some(2));
+    /// use drm_id_alloc::{AddFault, IdTable};
+    ///
+    /// let alloc = rt.alloc();
+    /// let mut table: IdTable<u8> = IdTable::new(alloc, 1, 2);
+    /// let Ok(id) = table.add(7) else { return };
+    /// let Ok(other) = table.add_cyclic(8) else { return };
+    /// assert!(rt; table.add(9) == Err(AddFault::Full(9)));
+    /// assert!(rt; table.replace(id, 5) == Ok(7));
+    /// assert!(rt; table.remove(id) == Some(5));
+    /// assert!(rt; table.next(1) == Some(2));
     /// ```
     pub fn next(&self, from: u32) -> Option<u32>
         ensures least { result ≡ least (map.contains_key self.now.slots) from u32.MAX }
@@ -246,8 +318,19 @@ impl<T: Drop> IdTable<T> {
     /// Returns the number at a place of the list of the numbers in use, rising, where 0 is the first. A late place
     /// costs what an early one does.
     ///
+    /// # Examples
+    ///
     /// ```rust
-    /// assert!(table.nth(0) == Some(2));
+    /// use drm_id_alloc::{AddFault, IdTable};
+    ///
+    /// let alloc = rt.alloc();
+    /// let mut table: IdTable<u8> = IdTable::new(alloc, 1, 2);
+    /// let Ok(id) = table.add(7) else { return };
+    /// let Ok(other) = table.add_cyclic(8) else { return };
+    /// assert!(rt; table.add(9) == Err(AddFault::Full(9)));
+    /// assert!(rt; table.replace(id, 5) == Ok(7));
+    /// assert!(rt; table.remove(id) == Some(5));
+    /// assert!(rt; table.nth(0) == Some(2));
     /// ```
     pub fn nth(&self, position: usize) -> Option<u32>
         ensures nth { result ≡ slice_get (map.keys self.now.slots) position }
@@ -262,8 +345,19 @@ impl<T: Drop> IdTable<T> {
 
     /// Returns the number of in numbers use.
     ///
+    /// # Examples
+    ///
     /// ```rust
-    /// assert!(table.len() == 1);
+    /// use drm_id_alloc::{AddFault, IdTable};
+    ///
+    /// let alloc = rt.alloc();
+    /// let mut table: IdTable<u8> = IdTable::new(alloc, 1, 2);
+    /// let Ok(id) = table.add(7) else { return };
+    /// let Ok(other) = table.add_cyclic(8) else { return };
+    /// assert!(rt; table.add(9) == Err(AddFault::Full(9)));
+    /// assert!(rt; table.replace(id, 5) == Ok(7));
+    /// assert!(rt; table.remove(id) == Some(5));
+    /// assert!(rt; table.len() == 1);
     /// ```
     pub fn len(&self) -> usize
         ensures len { result ≡ map.len self.now.slots }
@@ -274,8 +368,19 @@ impl<T: Drop> IdTable<T> {
 
     /// Returns whether no number is free.
     ///
+    /// # Examples
+    ///
     /// ```rust
-    /// assert!(!table.is_full());
+    /// use drm_id_alloc::{AddFault, IdTable};
+    ///
+    /// let alloc = rt.alloc();
+    /// let mut table: IdTable<u8> = IdTable::new(alloc, 1, 2);
+    /// let Ok(id) = table.add(7) else { return };
+    /// let Ok(other) = table.add_cyclic(8) else { return };
+    /// assert!(rt; table.add(9) == Err(AddFault::Full(9)));
+    /// assert!(rt; table.replace(id, 5) == Ok(7));
+    /// assert!(rt; table.remove(id) == Some(5));
+    /// assert!(rt; !table.is_full());
     /// ```
     pub fn is_full(&self) -> bool
         ensures { IsTrue result ↔ (least_free self.now ≡ None) }
@@ -285,8 +390,19 @@ impl<T: Drop> IdTable<T> {
 
     /// Returns the last number that `add_cyclic` returned; none before the first.
     ///
+    /// # Examples
+    ///
     /// ```rust
-    /// assert!(table.last_given() == Some(2));
+    /// use drm_id_alloc::{AddFault, IdTable};
+    ///
+    /// let alloc = rt.alloc();
+    /// let mut table: IdTable<u8> = IdTable::new(alloc, 1, 2);
+    /// let Ok(id) = table.add(7) else { return };
+    /// let Ok(other) = table.add_cyclic(8) else { return };
+    /// assert!(rt; table.add(9) == Err(AddFault::Full(9)));
+    /// assert!(rt; table.replace(id, 5) == Ok(7));
+    /// assert!(rt; table.remove(id) == Some(5));
+    /// assert!(rt; table.last_given() == Some(2));
     /// ```
     pub fn last_given(&self) -> Option<u32>
         ensures last_given { result ≡ self.now.last_given }

@@ -20,7 +20,12 @@ use std::marker::Model;
 /// A finite map from `u32`, whose entries carry three marks each (as Linux's XArray). Contracts see the map and, for
 /// each mark, the set of the indices whose entry carries it.
 ///
+/// # Examples
+///
 /// ```rust
+/// use drm_index_array::IndexArray;
+///
+/// let alloc = rt.alloc();
 /// let mut array: IndexArray<u8> = IndexArray::new(alloc);
 /// let Ok(()) = array.insert(300, 7) else { return };
 /// ```
@@ -55,9 +60,14 @@ impl<T: Drop> IndexArray<T> {
 
     /// Returns an array with no entry, which takes no memory. It keeps the allocator for the entries to come.
     ///
+    /// # Examples
+    ///
     /// ```rust
+    /// use drm_index_array::IndexArray;
+    ///
+    /// let alloc = rt.alloc();
     /// let empty: IndexArray<u8> = IndexArray::new(alloc);
-    /// assert!(empty.len() == 0);
+    /// assert!(rt; empty.len() == 0);
     /// ```
     pub fn new(alloc: Global) -> Self
         ensures { result ≡ empty_array }
@@ -71,8 +81,15 @@ impl<T: Drop> IndexArray<T> {
 
     /// Returns the number of entries.
     ///
+    /// # Examples
+    ///
     /// ```rust
-    /// assert!(array.len() == 1);
+    /// use drm_index_array::IndexArray;
+    ///
+    /// let alloc = rt.alloc();
+    /// let mut array: IndexArray<u8> = IndexArray::new(alloc);
+    /// let Ok(()) = array.insert(300, 7) else { return };
+    /// assert!(rt; array.len() == 1);
     /// ```
     pub fn len(&self) -> usize
         ensures len { result ≡ map.len self.now.items }
@@ -87,8 +104,15 @@ impl<T: Drop> IndexArray<T> {
     ///
     /// If the index has an entry or memory is refused, the array is unchanged, and the error has the value.
     ///
+    /// # Examples
+    ///
     /// ```rust
-    /// assert!(array.insert(300, 8) == Err(InsertFault::Taken(8)));
+    /// use drm_index_array::{IndexArray, InsertFault};
+    ///
+    /// let alloc = rt.alloc();
+    /// let mut array: IndexArray<u8> = IndexArray::new(alloc);
+    /// let Ok(()) = array.insert(300, 7) else { return };
+    /// assert!(rt; array.insert(300, 8) == Err(InsertFault::Taken(8)));
     /// ```
     pub fn insert(&mut self, index: u32, value: T) -> Result<(), InsertFault<T>>
         ensures ok { OnOk result (self.new ≡ with_item self.old index value) }
@@ -111,8 +135,16 @@ impl<T: Drop> IndexArray<T> {
 
     /// Returns the value at the index, if there is one.
     ///
+    /// # Examples
+    ///
     /// ```rust
-    /// assert!(array.get(300) == Some(&7));
+    /// use drm_index_array::{IndexArray, InsertFault};
+    ///
+    /// let alloc = rt.alloc();
+    /// let mut array: IndexArray<u8> = IndexArray::new(alloc);
+    /// let Ok(()) = array.insert(300, 7) else { return };
+    /// assert!(rt; array.insert(300, 8) == Err(InsertFault::Taken(8)));
+    /// assert!(rt; array.get(300) == Some(&7));
     /// ```
     pub fn get(&self, index: u32) -> Option<&T>
         ensures value { option_copied result ≡ map.get self.now.items index }
@@ -129,11 +161,19 @@ impl<T: Drop> IndexArray<T> {
 
     /// Returns the value at the index for writing, if there is one. The entry keeps its marks.
     ///
+    /// # Examples
+    ///
     /// ```rust
+    /// use drm_index_array::{IndexArray, InsertFault};
+    ///
+    /// let alloc = rt.alloc();
+    /// let mut array: IndexArray<u8> = IndexArray::new(alloc);
+    /// let Ok(()) = array.insert(300, 7) else { return };
+    /// assert!(rt; array.insert(300, 8) == Err(InsertFault::Taken(8)));
     /// if let Some(value) = array.get_mut(300) {
     ///     *value = 9;
     /// }
-    /// assert!(array.get(300) == Some(&9));
+    /// assert!(rt; array.get(300) == Some(&9));
     /// ```
     pub fn get_mut(&mut self, index: u32) -> Option<&mut T>
         ensures* writes_back { sem 𝓛 (lends_get T.row self.entry index result) }
@@ -147,9 +187,20 @@ impl<T: Drop> IndexArray<T> {
 
     /// Takes the entry out, with its marks. Where there is none, the array stays as it is.
     ///
+    /// # Examples
+    ///
     /// ```rust
-    /// assert!(array.remove(300) == Some(9));
-    /// assert!(array.get(300).is_none());
+    /// use drm_index_array::{IndexArray, InsertFault};
+    ///
+    /// let alloc = rt.alloc();
+    /// let mut array: IndexArray<u8> = IndexArray::new(alloc);
+    /// let Ok(()) = array.insert(300, 7) else { return };
+    /// assert!(rt; array.insert(300, 8) == Err(InsertFault::Taken(8)));
+    /// if let Some(value) = array.get_mut(300) {
+    ///     *value = 9;
+    /// }
+    /// assert!(rt; array.remove(300) == Some(9));
+    /// assert!(rt; array.get(300).is_none());
     /// ```
     pub fn remove(&mut self, index: u32) -> Option<T>
         ensures value { result ≡ map.get self.old.items index }
@@ -167,9 +218,21 @@ impl<T: Drop> IndexArray<T> {
 
     /// Sets the mark of the entry at the index, and says whether there is one.
     ///
+    /// # Examples
+    ///
     /// ```rust
+    /// use drm_index_array::{IndexArray, InsertFault, Mark};
+    ///
+    /// let alloc = rt.alloc();
+    /// let mut array: IndexArray<u8> = IndexArray::new(alloc);
+    /// let Ok(()) = array.insert(300, 7) else { return };
+    /// assert!(rt; array.insert(300, 8) == Err(InsertFault::Taken(8)));
+    /// if let Some(value) = array.get_mut(300) {
+    ///     *value = 9;
+    /// }
+    /// assert!(rt; array.remove(300) == Some(9));
     /// let Ok(()) = array.insert(40, 1) else { return };
-    /// assert!(array.set_mark(40, Mark::M0));
+    /// assert!(rt; array.set_mark(40, Mark::M0));
     /// ```
     pub fn set_mark(&mut self, index: u32, mark: Mark) -> bool
         ensures result { IsTrue result ↔ IsSome (map.get self.old.items index) }
@@ -181,8 +244,22 @@ impl<T: Drop> IndexArray<T> {
 
     /// Takes the mark from the entry at the index, and says whether there is one.
     ///
+    /// # Examples
+    ///
     /// ```rust
-    /// assert!(array.clear_mark(40, Mark::M0));
+    /// use drm_index_array::{IndexArray, InsertFault, Mark};
+    ///
+    /// let alloc = rt.alloc();
+    /// let mut array: IndexArray<u8> = IndexArray::new(alloc);
+    /// let Ok(()) = array.insert(300, 7) else { return };
+    /// assert!(rt; array.insert(300, 8) == Err(InsertFault::Taken(8)));
+    /// if let Some(value) = array.get_mut(300) {
+    ///     *value = 9;
+    /// }
+    /// assert!(rt; array.remove(300) == Some(9));
+    /// let Ok(()) = array.insert(40, 1) else { return };
+    /// assert!(rt; array.set_mark(40, Mark::M0));
+    /// assert!(rt; array.clear_mark(40, Mark::M0));
     /// ```
     pub fn clear_mark(&mut self, index: u32, mark: Mark) -> bool
         ensures result { IsTrue result ↔ IsSome (map.get self.old.items index) }
@@ -209,8 +286,23 @@ impl<T: Drop> IndexArray<T> {
 
     /// Returns whether the index has an entry that carries the mark.
     ///
+    /// # Examples
+    ///
     /// ```rust
-    /// assert!(!array.marked(40, Mark::M0));
+    /// use drm_index_array::{IndexArray, InsertFault, Mark};
+    ///
+    /// let alloc = rt.alloc();
+    /// let mut array: IndexArray<u8> = IndexArray::new(alloc);
+    /// let Ok(()) = array.insert(300, 7) else { return };
+    /// assert!(rt; array.insert(300, 8) == Err(InsertFault::Taken(8)));
+    /// if let Some(value) = array.get_mut(300) {
+    ///     *value = 9;
+    /// }
+    /// assert!(rt; array.remove(300) == Some(9));
+    /// let Ok(()) = array.insert(40, 1) else { return };
+    /// assert!(rt; array.set_mark(40, Mark::M0));
+    /// assert!(rt; array.clear_mark(40, Mark::M0));
+    /// assert!(rt; !array.marked(40, Mark::M0));
     /// ```
     pub fn marked(&self, index: u32, mark: Mark) -> bool
         ensures marked { result ≡ set.contains (marked_with self.now mark) index }
@@ -227,8 +319,23 @@ impl<T: Drop> IndexArray<T> {
 
     /// Returns the least index not below `from` that has an entry.
     ///
+    /// # Examples
+    ///
     /// ```rust
-    /// assert!(array.next(0) == Some(40));
+    /// use drm_index_array::{IndexArray, InsertFault, Mark};
+    ///
+    /// let alloc = rt.alloc();
+    /// let mut array: IndexArray<u8> = IndexArray::new(alloc);
+    /// let Ok(()) = array.insert(300, 7) else { return };
+    /// assert!(rt; array.insert(300, 8) == Err(InsertFault::Taken(8)));
+    /// if let Some(value) = array.get_mut(300) {
+    ///     *value = 9;
+    /// }
+    /// assert!(rt; array.remove(300) == Some(9));
+    /// let Ok(()) = array.insert(40, 1) else { return };
+    /// assert!(rt; array.set_mark(40, Mark::M0));
+    /// assert!(rt; array.clear_mark(40, Mark::M0));
+    /// assert!(rt; array.next(0) == Some(40));
     /// ```
     pub fn next(&self, from: u32) -> Option<u32>
         ensures least { result ≡ least (map.contains_key self.now.items) from u32.MAX }
@@ -247,8 +354,23 @@ impl<T: Drop> IndexArray<T> {
     /// Returns the index at a place of the list of the indices that have an entry, rising, where 0 is the first. Whole
     /// subtrees are passed over, so a late place costs what an early one does.
     ///
+    /// # Examples
+    ///
     /// ```rust
-    /// assert!(array.nth(0) == Some(40) && array.nth(1).is_none());
+    /// use drm_index_array::{IndexArray, InsertFault, Mark};
+    ///
+    /// let alloc = rt.alloc();
+    /// let mut array: IndexArray<u8> = IndexArray::new(alloc);
+    /// let Ok(()) = array.insert(300, 7) else { return };
+    /// assert!(rt; array.insert(300, 8) == Err(InsertFault::Taken(8)));
+    /// if let Some(value) = array.get_mut(300) {
+    ///     *value = 9;
+    /// }
+    /// assert!(rt; array.remove(300) == Some(9));
+    /// let Ok(()) = array.insert(40, 1) else { return };
+    /// assert!(rt; array.set_mark(40, Mark::M0));
+    /// assert!(rt; array.clear_mark(40, Mark::M0));
+    /// assert!(rt; array.nth(0) == Some(40) && array.nth(1).is_none());
     /// ```
     pub fn nth(&self, position: usize) -> Option<u32>
         ensures nth { result ≡ slice_get (map.keys self.now.items) position }
@@ -267,8 +389,23 @@ impl<T: Drop> IndexArray<T> {
 
     /// Returns the least index not below `from` whose entry carries the mark.
     ///
+    /// # Examples
+    ///
     /// ```rust
-    /// assert!(array.next_marked(0, Mark::M0).is_none());
+    /// use drm_index_array::{IndexArray, InsertFault, Mark};
+    ///
+    /// let alloc = rt.alloc();
+    /// let mut array: IndexArray<u8> = IndexArray::new(alloc);
+    /// let Ok(()) = array.insert(300, 7) else { return };
+    /// assert!(rt; array.insert(300, 8) == Err(InsertFault::Taken(8)));
+    /// if let Some(value) = array.get_mut(300) {
+    ///     *value = 9;
+    /// }
+    /// assert!(rt; array.remove(300) == Some(9));
+    /// let Ok(()) = array.insert(40, 1) else { return };
+    /// assert!(rt; array.set_mark(40, Mark::M0));
+    /// assert!(rt; array.clear_mark(40, Mark::M0));
+    /// assert!(rt; array.next_marked(0, Mark::M0).is_none());
     /// ```
     pub fn next_marked(&self, from: u32, mark: Mark) -> Option<u32>
         ensures least { result ≡ least (set.contains (marked_with self.now mark)) from u32.MAX }
@@ -286,8 +423,23 @@ impl<T: Drop> IndexArray<T> {
 
     /// Returns the least index not below `from` that has no entry.
     ///
+    /// # Examples
+    ///
     /// ```rust
-    /// assert!(array.next_vacant(40) == Some(41));
+    /// use drm_index_array::{IndexArray, InsertFault, Mark};
+    ///
+    /// let alloc = rt.alloc();
+    /// let mut array: IndexArray<u8> = IndexArray::new(alloc);
+    /// let Ok(()) = array.insert(300, 7) else { return };
+    /// assert!(rt; array.insert(300, 8) == Err(InsertFault::Taken(8)));
+    /// if let Some(value) = array.get_mut(300) {
+    ///     *value = 9;
+    /// }
+    /// assert!(rt; array.remove(300) == Some(9));
+    /// let Ok(()) = array.insert(40, 1) else { return };
+    /// assert!(rt; array.set_mark(40, Mark::M0));
+    /// assert!(rt; array.clear_mark(40, Mark::M0));
+    /// assert!(rt; array.next_vacant(40) == Some(41));
     /// ```
     pub fn next_vacant(&self, from: u32) -> Option<u32>
         ensures { result ≡ least (λ i. not (map.contains_key self.now.items i)) from u32.MAX }

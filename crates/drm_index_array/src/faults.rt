@@ -4,7 +4,11 @@ ghost use Rattle.std.specs.Prelude.{◌≡◌};
 
 /// Why an insertion left the array unchanged. Each hands the value back.
 ///
+/// # Examples
+///
 /// ```rust
+/// use drm_index_array::InsertFault;
+///
 /// let taken = InsertFault::Taken(7);
 /// ```
 #[derive(Debug, Drop, PartialEq, Eq)]
@@ -20,8 +24,13 @@ impl<T> InsertFault<T> {
 
     /// Returns the value that was not stored.
     ///
+    /// # Examples
+    ///
     /// ```rust
-    /// assert!(taken.into_value() == 7);
+    /// use drm_index_array::InsertFault;
+    ///
+    /// let taken = InsertFault::Taken(7);
+    /// assert!(rt; taken.into_value() == 7);
     /// ```
     pub fn into_value(self) -> T
         ensures { result ≡ value_of self }

@@ -2,10 +2,15 @@
 
 /// One of the three marks that an entry can carry. What each represents is the caller's choice.
 ///
+/// # Examples
+///
 /// ```rust
+/// use drm_index_array::{IndexArray, Mark};
+///
+/// let alloc = rt.alloc();
 /// let mut array: IndexArray<u8> = IndexArray::new(alloc);
 /// let Ok(()) = array.insert(5, 1) else { return };
-/// assert!(array.set_mark(5, Mark::M1) && !array.marked(5, Mark::M2));
+/// assert!(rt; array.set_mark(5, Mark::M1) && !array.marked(5, Mark::M2));
 /// ```
 #[derive(Debug, Clone, Copy, PartialEq, Eq)]
 pub enum Mark {

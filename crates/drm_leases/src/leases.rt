@@ -35,7 +35,14 @@ const GRANT_KIND: u32 = 7;
 /// lease. Contracts see flat lists, in the order of the lessees, which they name by the numbers of the steps that
 /// created them.
 ///
+/// # Examples
+///
 /// ```rust
+/// use drm_leases::Leases;
+/// use drm_masters::Masters;
+/// use drm_modes::{Modes, Topology};
+///
+/// let alloc = rt.alloc();
 /// let Some(topology) = Topology::new(2, &[1, 2], &[3, 2], &[5, 6]) else { return };
 /// let modes = Modes::new(alloc, topology, 4);
 /// let mut masters = Masters::new(alloc, 4, 4);
@@ -72,8 +79,13 @@ impl Model for Leases {
 impl Leases {
     /// Creates a table without leases. It can allocate the tokens from 1 to `last`. Does not allocate memory.
     ///
+    /// # Examples
+    ///
     /// ```rust
-    /// assert!(Leases::new(alloc, 8).last_given().is_none());
+    /// use drm_leases::Leases;
+    ///
+    /// let alloc = rt.alloc();
+    /// assert!(rt; Leases::new(alloc, 8).last_given().is_none());
     /// ```
     pub fn new(alloc: Global, last: u32) -> Leases
         requires { 1 ≤ last }
@@ -104,8 +116,21 @@ impl Leases {
     /// `Denied` with the first failing rule, in the order 35, 30 to 34, 43. Each rule is over all ids, and 34 over the
     /// added planes too. `NoMemory` if no rule denies it, and memory is refused. The state is then unchanged.
     ///
+    /// # Examples
+    ///
     /// ```rust
-    /// assert!(leased.id == 1 && leased.token == 1);
+    /// use drm_leases::Leases;
+    /// use drm_masters::Masters;
+    /// use drm_modes::{Modes, Topology};
+    ///
+    /// let alloc = rt.alloc();
+    /// let Some(topology) = Topology::new(2, &[1, 2], &[3, 2], &[5, 6]) else { return };
+    /// let modes = Modes::new(alloc, topology, 4);
+    /// let mut masters = Masters::new(alloc, 4, 4);
+    /// let Ok(_first) = masters.on_open(1, 1) else { return };
+    /// let mut leases = Leases::new(alloc, 8);
+    /// let Ok(leased) = leases.create(&mut masters, &modes, 1, true, &[1, 3, 7], 2) else { return };
+    /// assert!(rt; leased.id == 1 && leased.token == 1);
     /// ```
     pub fn create(
         &mut self,
@@ -146,8 +171,21 @@ impl Leases {
     /// Returns whether the lease of a lessee has a mode object. Returns `false` if no lessee with a lease has the key.
     /// Does not allocate.
     ///
+    /// # Examples
+    ///
     /// ```rust
-    /// assert!(leases.holds(leased.m, 1) && !leases.holds(leased.m, 2));
+    /// use drm_leases::Leases;
+    /// use drm_masters::Masters;
+    /// use drm_modes::{Modes, Topology};
+    ///
+    /// let alloc = rt.alloc();
+    /// let Some(topology) = Topology::new(2, &[1, 2], &[3, 2], &[5, 6]) else { return };
+    /// let modes = Modes::new(alloc, topology, 4);
+    /// let mut masters = Masters::new(alloc, 4, 4);
+    /// let Ok(_first) = masters.on_open(1, 1) else { return };
+    /// let mut leases = Leases::new(alloc, 8);
+    /// let Ok(leased) = leases.create(&mut masters, &modes, 1, true, &[1, 3, 7], 2) else { return };
+    /// assert!(rt; leases.holds(leased.m, 1) && !leases.holds(leased.m, 2));
     /// ```
     pub fn holds(&self, master: MasterKey, mode_object: u32) -> bool
         ensures { result ≡ option_map_or (λ m. sets.is_granted self.now.grants m mode_object) (sets.lessee_at self.now.lendings master) false }
@@ -161,8 +199,21 @@ impl Leases {
     /// Returns whether a master controls a mode object (drm-uapi, leases). A master without a lessor controls all, a
     /// lessee those of its lease. `master` is the number of the step that created it. Does not allocate.
     ///
+    /// # Examples
+    ///
     /// ```rust
-    /// assert!(leases.controls(&masters, 1, 2) && !leases.controls(&masters, 2, 2));
+    /// use drm_leases::Leases;
+    /// use drm_masters::Masters;
+    /// use drm_modes::{Modes, Topology};
+    ///
+    /// let alloc = rt.alloc();
+    /// let Some(topology) = Topology::new(2, &[1, 2], &[3, 2], &[5, 6]) else { return };
+    /// let modes = Modes::new(alloc, topology, 4);
+    /// let mut masters = Masters::new(alloc, 4, 4);
+    /// let Ok(_first) = masters.on_open(1, 1) else { return };
+    /// let mut leases = Leases::new(alloc, 8);
+    /// let Ok(leased) = leases.create(&mut masters, &modes, 1, true, &[1, 3, 7], 2) else { return };
+    /// assert!(rt; leases.controls(&masters, 1, 2) && !leases.controls(&masters, 2, 2));
     /// ```
     pub fn controls(&self, masters: &Masters, master: u32, mode_object: u32) -> bool
         ensures { result ≡ sets.controls self.now.grants masters.now.masters master mode_object }
@@ -172,9 +223,22 @@ impl Leases {
 
     /// Returns whether the lease of a direct lessee of the master has a mode object. Does not allocate.
     ///
+    /// # Examples
+    ///
     /// ```rust
+    /// use drm_leases::Leases;
+    /// use drm_masters::Masters;
+    /// use drm_modes::{Modes, Topology};
+    ///
+    /// let alloc = rt.alloc();
+    /// let Some(topology) = Topology::new(2, &[1, 2], &[3, 2], &[5, 6]) else { return };
+    /// let modes = Modes::new(alloc, topology, 4);
+    /// let mut masters = Masters::new(alloc, 4, 4);
+    /// let Ok(_first) = masters.on_open(1, 1) else { return };
+    /// let mut leases = Leases::new(alloc, 8);
+    /// let Ok(leased) = leases.create(&mut masters, &modes, 1, true, &[1, 3, 7], 2) else { return };
     /// let Some(owner) = masters.master(1) else { return };
-    /// assert!(leases.leased_out(&masters, owner.key, 3));
+    /// assert!(rt; leases.leased_out(&masters, owner.key, 3));
     /// ```
     pub fn leased_out(&self, masters: &Masters, master: MasterKey, mode_object: u32) -> bool
         requires there { masters_sets.is_there masters.now.masters master ≡ true }
@@ -190,9 +254,22 @@ impl Leases {
     /// Returns the ids of the direct lessees of the master whose lease is not empty, in rising order (drm-uapi, leases;
     /// the order is own). Does not allocate.
     ///
+    /// # Examples
+    ///
     /// ```rust
+    /// use drm_leases::Leases;
+    /// use drm_masters::Masters;
+    /// use drm_modes::{Modes, Topology};
+    ///
+    /// let alloc = rt.alloc();
+    /// let Some(topology) = Topology::new(2, &[1, 2], &[3, 2], &[5, 6]) else { return };
+    /// let modes = Modes::new(alloc, topology, 4);
+    /// let mut masters = Masters::new(alloc, 4, 4);
+    /// let Ok(_first) = masters.on_open(1, 1) else { return };
+    /// let mut leases = Leases::new(alloc, 8);
+    /// let Ok(leased) = leases.create(&mut masters, &modes, 1, true, &[1, 3, 7], 2) else { return };
     /// let Some(owner) = masters.master(1) else { return };
-    /// assert!(leases.list(&masters, owner.key).ids() == [1].as_slice());
+    /// assert!(rt; leases.list(&masters, owner.key).ids() == [1].as_slice());
     /// ```
     pub fn list(&self, masters: &Masters, master: MasterKey) -> ShownList
         requires { masters_sets.is_there masters.now.masters master ≡ true }
@@ -212,8 +289,21 @@ impl Leases {
     /// Returns the mode objects in the lease of a lessee, in rising order. The list is empty if no lessee with a lease
     /// has the key. Does not allocate.
     ///
+    /// # Examples
+    ///
     /// ```rust
-    /// assert!(leases.objects_of(leased.m).ids() == [1, 3, 7].as_slice());
+    /// use drm_leases::Leases;
+    /// use drm_masters::Masters;
+    /// use drm_modes::{Modes, Topology};
+    ///
+    /// let alloc = rt.alloc();
+    /// let Some(topology) = Topology::new(2, &[1, 2], &[3, 2], &[5, 6]) else { return };
+    /// let modes = Modes::new(alloc, topology, 4);
+    /// let mut masters = Masters::new(alloc, 4, 4);
+    /// let Ok(_first) = masters.on_open(1, 1) else { return };
+    /// let mut leases = Leases::new(alloc, 8);
+    /// let Ok(leased) = leases.create(&mut masters, &modes, 1, true, &[1, 3, 7], 2) else { return };
+    /// assert!(rt; leases.objects_of(leased.m).ids() == [1, 3, 7].as_slice());
     /// ```
     pub fn objects_of(&self, master: MasterKey) -> ShownList
         ensures { result ≡ option_map_or (sets.granted_objects self.now.grants) (sets.lessee_at self.now.lendings master) [] }
@@ -226,8 +316,21 @@ impl Leases {
 
     /// Returns the lessee that a token opens, if the token is open. Does not allocate.
     ///
+    /// # Examples
+    ///
     /// ```rust
-    /// assert!(leases.token_master(leased.token) == Some(leased.m));
+    /// use drm_leases::Leases;
+    /// use drm_masters::Masters;
+    /// use drm_modes::{Modes, Topology};
+    ///
+    /// let alloc = rt.alloc();
+    /// let Some(topology) = Topology::new(2, &[1, 2], &[3, 2], &[5, 6]) else { return };
+    /// let modes = Modes::new(alloc, topology, 4);
+    /// let mut masters = Masters::new(alloc, 4, 4);
+    /// let Ok(_first) = masters.on_open(1, 1) else { return };
+    /// let mut leases = Leases::new(alloc, 8);
+    /// let Ok(leased) = leases.create(&mut masters, &modes, 1, true, &[1, 3, 7], 2) else { return };
+    /// assert!(rt; leases.token_master(leased.token) == Some(leased.m));
     /// ```
     pub fn token_master(&self, token: u32) -> Option<MasterKey>
         ensures { result ≡ option_and_then (sets.key_at self.now.lendings) (sets.token_master self.now.tokens token) }
@@ -239,8 +342,21 @@ impl Leases {
     /// Returns the open token of a lessee, if it has one. The lessee is named by the number of the step that created
     /// it. Does not allocate.
     ///
+    /// # Examples
+    ///
     /// ```rust
-    /// assert!(leases.token_of(2) == Some(leased.token));
+    /// use drm_leases::Leases;
+    /// use drm_masters::Masters;
+    /// use drm_modes::{Modes, Topology};
+    ///
+    /// let alloc = rt.alloc();
+    /// let Some(topology) = Topology::new(2, &[1, 2], &[3, 2], &[5, 6]) else { return };
+    /// let modes = Modes::new(alloc, topology, 4);
+    /// let mut masters = Masters::new(alloc, 4, 4);
+    /// let Ok(_first) = masters.on_open(1, 1) else { return };
+    /// let mut leases = Leases::new(alloc, 8);
+    /// let Ok(leased) = leases.create(&mut masters, &modes, 1, true, &[1, 3, 7], 2) else { return };
+    /// assert!(rt; leases.token_of(2) == Some(leased.token));
     /// ```
     pub fn token_of(&self, master: u32) -> Option<u32>
         ensures { result ≡ sets.token_of self.now.tokens master }
@@ -250,9 +366,22 @@ impl Leases {
 
     /// Spends an open token, and returns the lessee that it opens. If the token is not open, nothing changes. Does not allocate.
     ///
+    /// # Examples
+    ///
     /// ```rust
-    /// assert!(leases.redeem(leased.token) == Some(leased.m));
-    /// assert!(leases.token_of(2).is_none());
+    /// use drm_leases::Leases;
+    /// use drm_masters::Masters;
+    /// use drm_modes::{Modes, Topology};
+    ///
+    /// let alloc = rt.alloc();
+    /// let Some(topology) = Topology::new(2, &[1, 2], &[3, 2], &[5, 6]) else { return };
+    /// let modes = Modes::new(alloc, topology, 4);
+    /// let mut masters = Masters::new(alloc, 4, 4);
+    /// let Ok(_first) = masters.on_open(1, 1) else { return };
+    /// let mut leases = Leases::new(alloc, 8);
+    /// let Ok(leased) = leases.create(&mut masters, &modes, 1, true, &[1, 3, 7], 2) else { return };
+    /// assert!(rt; leases.redeem(leased.token) == Some(leased.m));
+    /// assert!(rt; leases.token_of(2).is_none());
     /// ```
     pub fn redeem(&mut self, token: u32) -> Option<MasterKey>
         ensures master { result ≡ option_and_then (sets.key_at self.old.lendings) (sets.token_master self.old.tokens token) }
@@ -269,11 +398,25 @@ impl Leases {
     /// client or a lessee below it holds it. No other master is released: the own master of a client that closed
     /// stays until [`Masters::release`].
     ///
+    /// # Examples
+    ///
     /// ```rust
+    /// use drm_leases::Leases;
+    /// use drm_masters::Masters;
+    /// use drm_modes::{Modes, Topology};
+    ///
+    /// let alloc = rt.alloc();
+    /// let Some(topology) = Topology::new(2, &[1, 2], &[3, 2], &[5, 6]) else { return };
+    /// let modes = Modes::new(alloc, topology, 4);
+    /// let mut masters = Masters::new(alloc, 4, 4);
+    /// let Ok(_first) = masters.on_open(1, 1) else { return };
+    /// let mut leases = Leases::new(alloc, 8);
+    /// let Ok(leased) = leases.create(&mut masters, &modes, 1, true, &[1, 3, 7], 2) else { return };
+    /// assert!(rt; leases.redeem(leased.token) == Some(leased.m));
     /// if masters.of_key(leased.m).is_some() {
     ///     leases.revoke(&mut masters, leased.m);
     /// }
-    /// assert!(leases.objects_of(leased.m).ids().is_empty());
+    /// assert!(rt; leases.objects_of(leased.m).ids().is_empty());
     /// ```
     pub fn revoke(&mut self, masters: &mut Masters, master: MasterKey)
         requires there { masters_sets.is_there masters.old.masters master ≡ true }
@@ -294,7 +437,24 @@ impl Leases {
     /// It removes their open tokens, and releases each lessee whose token it removes. The master's own lease and open
     /// token remain, and no other master is released.
     ///
+    /// # Examples
+    ///
     /// ```rust
+    /// use drm_leases::Leases;
+    /// use drm_masters::Masters;
+    /// use drm_modes::{Modes, Topology};
+    ///
+    /// let alloc = rt.alloc();
+    /// let Some(topology) = Topology::new(2, &[1, 2], &[3, 2], &[5, 6]) else { return };
+    /// let modes = Modes::new(alloc, topology, 4);
+    /// let mut masters = Masters::new(alloc, 4, 4);
+    /// let Ok(_first) = masters.on_open(1, 1) else { return };
+    /// let mut leases = Leases::new(alloc, 8);
+    /// let Ok(leased) = leases.create(&mut masters, &modes, 1, true, &[1, 3, 7], 2) else { return };
+    /// assert!(rt; leases.redeem(leased.token) == Some(leased.m));
+    /// if masters.of_key(leased.m).is_some() {
+    ///     leases.revoke(&mut masters, leased.m);
+    /// }
     /// let Some(owner) = masters.master(1) else { return };
     /// leases.revoke_below(&mut masters, owner.key);
     /// ```
@@ -314,8 +474,27 @@ impl Leases {
 
     /// Returns the token that was allocated last, or `None` before the first.
     ///
+    /// # Examples
+    ///
     /// ```rust
-    /// assert!(leases.last_given() == Some(leased.token));
+    /// use drm_leases::Leases;
+    /// use drm_masters::Masters;
+    /// use drm_modes::{Modes, Topology};
+    ///
+    /// let alloc = rt.alloc();
+    /// let Some(topology) = Topology::new(2, &[1, 2], &[3, 2], &[5, 6]) else { return };
+    /// let modes = Modes::new(alloc, topology, 4);
+    /// let mut masters = Masters::new(alloc, 4, 4);
+    /// let Ok(_first) = masters.on_open(1, 1) else { return };
+    /// let mut leases = Leases::new(alloc, 8);
+    /// let Ok(leased) = leases.create(&mut masters, &modes, 1, true, &[1, 3, 7], 2) else { return };
+    /// assert!(rt; leases.redeem(leased.token) == Some(leased.m));
+    /// if masters.of_key(leased.m).is_some() {
+    ///     leases.revoke(&mut masters, leased.m);
+    /// }
+    /// let Some(owner) = masters.master(1) else { return };
+    /// leases.revoke_below(&mut masters, owner.key);
+    /// assert!(rt; leases.last_given() == Some(leased.token));
     /// ```
     pub fn last_given(&self) -> Option<u32>
         ensures { result ≡ self.now.last_given }
@@ -326,8 +505,27 @@ impl Leases {
     /// Returns the row at a position, from 0, of the rows of an audit's kind (own). Grants are kind 7, in the order of
     /// lessees and of ids in a lease. No other kind has rows here. Does not allocate.
     ///
+    /// # Examples
+    ///
     /// ```rust
-    /// assert!(leases.nth(7, 0) == leases.nth_grant(0) && leases.nth(2, 0).is_none());
+    /// use drm_leases::Leases;
+    /// use drm_masters::Masters;
+    /// use drm_modes::{Modes, Topology};
+    ///
+    /// let alloc = rt.alloc();
+    /// let Some(topology) = Topology::new(2, &[1, 2], &[3, 2], &[5, 6]) else { return };
+    /// let modes = Modes::new(alloc, topology, 4);
+    /// let mut masters = Masters::new(alloc, 4, 4);
+    /// let Ok(_first) = masters.on_open(1, 1) else { return };
+    /// let mut leases = Leases::new(alloc, 8);
+    /// let Ok(leased) = leases.create(&mut masters, &modes, 1, true, &[1, 3, 7], 2) else { return };
+    /// assert!(rt; leases.redeem(leased.token) == Some(leased.m));
+    /// if masters.of_key(leased.m).is_some() {
+    ///     leases.revoke(&mut masters, leased.m);
+    /// }
+    /// let Some(owner) = masters.master(1) else { return };
+    /// leases.revoke_below(&mut masters, owner.key);
+    /// assert!(rt; leases.nth(7, 0) == leases.nth_grant(0) && leases.nth(2, 0).is_none());
     /// ```
     pub fn nth(&self, kind: u32, i: usize) -> Option<Grant>
         ensures { result ≡ sets.nth_row self.now kind i }
@@ -340,8 +538,27 @@ impl Leases {
 
     /// Returns the grant at a position, from 0, in the order of lessees and of ids in a lease. Does not allocate.
     ///
+    /// # Examples
+    ///
     /// ```rust
-    /// assert!(leases.nth_grant(0).is_none());
+    /// use drm_leases::Leases;
+    /// use drm_masters::Masters;
+    /// use drm_modes::{Modes, Topology};
+    ///
+    /// let alloc = rt.alloc();
+    /// let Some(topology) = Topology::new(2, &[1, 2], &[3, 2], &[5, 6]) else { return };
+    /// let modes = Modes::new(alloc, topology, 4);
+    /// let mut masters = Masters::new(alloc, 4, 4);
+    /// let Ok(_first) = masters.on_open(1, 1) else { return };
+    /// let mut leases = Leases::new(alloc, 8);
+    /// let Ok(leased) = leases.create(&mut masters, &modes, 1, true, &[1, 3, 7], 2) else { return };
+    /// assert!(rt; leases.redeem(leased.token) == Some(leased.m));
+    /// if masters.of_key(leased.m).is_some() {
+    ///     leases.revoke(&mut masters, leased.m);
+    /// }
+    /// let Some(owner) = masters.master(1) else { return };
+    /// leases.revoke_below(&mut masters, owner.key);
+    /// assert!(rt; leases.nth_grant(0).is_none());
     /// ```
     pub fn nth_grant(&self, position: usize) -> Option<Grant>
         ensures { result ≡ slice_get self.now.grants position }

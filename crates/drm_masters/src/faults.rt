@@ -4,8 +4,16 @@ use drm_table::Rule;
 
 /// The way in which a client became current (drm-uapi, SET_MASTER).
 ///
+/// # Examples
+///
 /// ```rust
-/// assert!(masters.member(1).is_none() || masters.set(1, false, 2) == Ok(SetDone::Already));
+/// use drm_masters::{Masters, NoMemory, SetDone};
+///
+/// let alloc = rt.alloc();
+/// let mut masters = Masters::new(alloc, 4, 0);
+/// let Ok(_first) = masters.on_open(1, 1) else { return };
+/// assert!(rt; masters.member(1).is_none() || masters.magic(1) != Err(NoMemory));
+/// assert!(rt; masters.member(1).is_none() || masters.set(1, false, 2) == Ok(SetDone::Already));
 /// ```
 #[derive(Clone, Copy, PartialEq, Eq, Debug)]
 pub enum SetDone {
@@ -19,10 +27,20 @@ pub enum SetDone {
 
 /// The reason SET_MASTER failed. The state is unchanged.
 ///
+/// # Examples
+///
 /// ```rust
+/// use drm_masters::{Masters, NoMemory, SetDone, SetFault};
+/// use drm_table::Rule;
+///
+/// let alloc = rt.alloc();
+/// let mut masters = Masters::new(alloc, 4, 0);
+/// let Ok(_first) = masters.on_open(1, 1) else { return };
+/// assert!(rt; masters.member(1).is_none() || masters.magic(1) != Err(NoMemory));
+/// assert!(rt; masters.member(1).is_none() || masters.set(1, false, 2) == Ok(SetDone::Already));
 /// let Ok(_second) = masters.on_open(2, 2) else { return };
 /// let denied = Err(SetFault::Denied(Rule::MasterPerm));
-/// assert!(masters.member(2).is_none() || masters.set(2, false, 3) == denied);
+/// assert!(rt; masters.member(2).is_none() || masters.set(2, false, 3) == denied);
 /// ```
 #[derive(Clone, Copy, PartialEq, Eq, Debug)]
 pub enum SetFault {
@@ -34,9 +52,22 @@ pub enum SetFault {
 
 /// The reason a lessee was not created. The state is unchanged.
 ///
+/// # Examples
+///
 /// ```rust
+/// use drm_masters::{LesseeFault, Masters, NoMemory, SetDone, SetFault};
+/// use drm_table::Rule;
+///
+/// let alloc = rt.alloc();
+/// let mut masters = Masters::new(alloc, 4, 0);
+/// let Ok(_first) = masters.on_open(1, 1) else { return };
+/// assert!(rt; masters.member(1).is_none() || masters.magic(1) != Err(NoMemory));
+/// assert!(rt; masters.member(1).is_none() || masters.set(1, false, 2) == Ok(SetDone::Already));
+/// let Ok(_second) = masters.on_open(2, 2) else { return };
+/// let denied = Err(SetFault::Denied(Rule::MasterPerm));
+/// assert!(rt; masters.member(2).is_none() || masters.set(2, false, 3) == denied);
 /// let Some(owner) = masters.master(1) else { return };
-/// assert!(masters.make_lessee(owner.key, 4) == Err(LesseeFault::Full));
+/// assert!(rt; masters.make_lessee(owner.key, 4) == Err(LesseeFault::Full));
 /// ```
 #[derive(Clone, Copy, PartialEq, Eq, Debug)]
 pub enum LesseeFault {

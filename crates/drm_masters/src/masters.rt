@@ -30,7 +30,12 @@ const MASTER_KIND: u32 = 2;
 /// stays while it, or one below it, is kept or named by a client. Contracts see flat lists: clients in the order of
 /// their numbers, masters in the order in which they were created.
 ///
+/// # Examples
+///
 /// ```rust
+/// use drm_masters::Masters;
+///
+/// let alloc = rt.alloc();
 /// let mut masters = Masters::new(alloc, 4, 4);
 /// let Ok(is_first) = masters.on_open(1, 1) else { return };
 /// ```
@@ -75,8 +80,13 @@ impl Masters {
     /// It can hold at most `clients` clients, whose magics are 1 to `clients`. The lessee ids under each owner are 1 to
     /// `lessees`, at most 64.
     ///
+    /// # Examples
+    ///
     /// ```rust
-    /// assert!(Masters::new(alloc, 4, 4).device_master().is_none());
+    /// use drm_masters::Masters;
+    ///
+    /// let alloc = rt.alloc();
+    /// assert!(rt; Masters::new(alloc, 4, 4).device_master().is_none());
     /// ```
     pub fn new(alloc: Global, clients: u32, lessees: u32) -> Masters
         requires few { lessees ≤ 64 }
@@ -100,8 +110,15 @@ impl Masters {
 
     /// Returns a client's relation to its master, if it belongs to one. Does not allocate.
     ///
+    /// # Examples
+    ///
     /// ```rust
-    /// assert!(matches!(masters.member(1), Some(row) if row.is_master && row.master == 1));
+    /// use drm_masters::Masters;
+    ///
+    /// let alloc = rt.alloc();
+    /// let mut masters = Masters::new(alloc, 4, 4);
+    /// let Ok(is_first) = masters.on_open(1, 1) else { return };
+    /// assert!(rt; matches!(masters.member(1), Some(row) if row.is_master && row.master == 1));
     /// ```
     pub fn member(&self, client: u32) -> Option<Member>
         ensures member { result ≡ sets.member_of self.now.members client }
@@ -112,8 +129,15 @@ impl Masters {
 
     /// Returns the key of a client's master, if it belongs to one. Does not allocate.
     ///
+    /// # Examples
+    ///
     /// ```rust
-    /// assert!(masters.master_of(1).is_some() && masters.master_of(2).is_none());
+    /// use drm_masters::Masters;
+    ///
+    /// let alloc = rt.alloc();
+    /// let mut masters = Masters::new(alloc, 4, 4);
+    /// let Ok(is_first) = masters.on_open(1, 1) else { return };
+    /// assert!(rt; masters.master_of(1).is_some() && masters.master_of(2).is_none());
     /// ```
     pub fn master_of(&self, client: u32) -> Option<MasterKey>
         ensures { result ≡ option_and_then (λ x. sets.key_of self.now.masters x.master) (sets.member_of self.now.members client) }
@@ -125,8 +149,15 @@ impl Masters {
 
     /// Returns the master with a step number, if it exists. Does not allocate.
     ///
+    /// # Examples
+    ///
     /// ```rust
-    /// assert!(matches!(masters.master(1), Some(row) if row.lessor.is_none() && !row.kept));
+    /// use drm_masters::Masters;
+    ///
+    /// let alloc = rt.alloc();
+    /// let mut masters = Masters::new(alloc, 4, 4);
+    /// let Ok(is_first) = masters.on_open(1, 1) else { return };
+    /// assert!(rt; matches!(masters.master(1), Some(row) if row.lessor.is_none() && !row.kept));
     /// ```
     pub fn master(&self, step_number: u32) -> Option<Master>
         ensures master { result ≡ sets.master_at self.now.masters step_number }
@@ -137,9 +168,16 @@ impl Masters {
 
     /// Returns the master that a key names, if it exists. Does not allocate.
     ///
+    /// # Examples
+    ///
     /// ```rust
+    /// use drm_masters::Masters;
+    ///
+    /// let alloc = rt.alloc();
+    /// let mut masters = Masters::new(alloc, 4, 4);
+    /// let Ok(is_first) = masters.on_open(1, 1) else { return };
     /// if let Some(row) = masters.master(1) {
-    ///     assert!(masters.of_key(row.key) == Some(row));
+    ///     assert!(rt; masters.of_key(row.key) == Some(row));
     /// }
     /// ```
     pub fn of_key(&self, master: MasterKey) -> Option<Master>
@@ -151,8 +189,15 @@ impl Masters {
     /// Returns the depth of a master below its owner: 0 without a lessor, else one more than its lessor's (own).
     /// `master` is the number of the step that created it. Does not allocate.
     ///
+    /// # Examples
+    ///
     /// ```rust
-    /// assert!(masters.depth(1) == 0);
+    /// use drm_masters::Masters;
+    ///
+    /// let alloc = rt.alloc();
+    /// let mut masters = Masters::new(alloc, 4, 4);
+    /// let Ok(is_first) = masters.on_open(1, 1) else { return };
+    /// assert!(rt; masters.depth(1) == 0);
     /// ```
     pub fn depth(&self, master: u32) -> u32
         ensures { result ≡ sets.depth_of self.now.masters master }
@@ -162,9 +207,16 @@ impl Masters {
 
     /// Returns the key of a master's lessor, if it is a lessee. Does not allocate.
     ///
+    /// # Examples
+    ///
     /// ```rust
+    /// use drm_masters::Masters;
+    ///
+    /// let alloc = rt.alloc();
+    /// let mut masters = Masters::new(alloc, 4, 4);
+    /// let Ok(is_first) = masters.on_open(1, 1) else { return };
     /// let Some(row) = masters.master(1) else { return };
-    /// assert!(masters.lessor_of(row.key).is_none());
+    /// assert!(rt; masters.lessor_of(row.key).is_none());
     /// ```
     pub fn lessor_of(&self, master: MasterKey) -> Option<MasterKey>
         requires { sets.is_there self.now.masters master ≡ true }
@@ -178,8 +230,15 @@ impl Masters {
     /// Returns the direct lessee of a master at a position, from 0, in the order in which they were created. Masters
     /// are named by the numbers of the steps that created them. Does not allocate.
     ///
+    /// # Examples
+    ///
     /// ```rust
-    /// assert!(masters.nth_lessee(1, 0).is_none());
+    /// use drm_masters::Masters;
+    ///
+    /// let alloc = rt.alloc();
+    /// let mut masters = Masters::new(alloc, 4, 4);
+    /// let Ok(is_first) = masters.on_open(1, 1) else { return };
+    /// assert!(rt; masters.nth_lessee(1, 0).is_none());
     /// ```
     pub fn nth_lessee(&self, lessor: u32, position: usize) -> Option<u32>
         ensures { result ≡ slice_get (sets.lessees_of self.now.masters lessor) position }
@@ -189,8 +248,15 @@ impl Masters {
 
     /// Returns the number of the step that created the device's master, if the device has one.
     ///
+    /// # Examples
+    ///
     /// ```rust
-    /// assert!(masters.device_master() == Some(1));
+    /// use drm_masters::Masters;
+    ///
+    /// let alloc = rt.alloc();
+    /// let mut masters = Masters::new(alloc, 4, 4);
+    /// let Ok(is_first) = masters.on_open(1, 1) else { return };
+    /// assert!(rt; masters.device_master() == Some(1));
     /// ```
     pub fn device_master(&self) -> Option<u32>
         ensures { result ≡ self.now.device_master }
@@ -201,8 +267,15 @@ impl Masters {
     /// Returns whether the client is current (`drm_is_current_master`; for a lessee drm-uapi, leases). It is if it is a
     /// master and the owner of its master is the device's. A client without a master is not. Does not allocate.
     ///
+    /// # Examples
+    ///
     /// ```rust
-    /// assert!(masters.is_current(1) && !masters.is_current(2));
+    /// use drm_masters::Masters;
+    ///
+    /// let alloc = rt.alloc();
+    /// let mut masters = Masters::new(alloc, 4, 4);
+    /// let Ok(is_first) = masters.on_open(1, 1) else { return };
+    /// assert!(rt; masters.is_current(1) && !masters.is_current(2));
     /// ```
     pub fn is_current(&self, client: u32) -> bool
         ensures { result ≡ sets.is_current self.now client }
@@ -224,8 +297,15 @@ impl Masters {
     ///
     /// If memory is refused, nothing changes.
     ///
+    /// # Examples
+    ///
     /// ```rust
-    /// assert!(is_first);
+    /// use drm_masters::Masters;
+    ///
+    /// let alloc = rt.alloc();
+    /// let mut masters = Masters::new(alloc, 4, 4);
+    /// let Ok(is_first) = masters.on_open(1, 1) else { return };
+    /// assert!(rt; is_first);
     /// ```
     pub fn on_open(&mut self, client: u32, birth: u32) -> Result<bool, NoMemory>
         requires new_client { is_some (sets.member_of self.old.members client) ≡ false }
@@ -260,13 +340,18 @@ impl Masters {
     ///
     /// If memory is refused, nothing changes.
     ///
+    /// # Examples
+    ///
     /// ```rust
+    /// use drm_masters::Masters;
+    ///
+    /// let alloc = rt.alloc();
     /// let mut masters = Masters::new(alloc, 4, 4);
     /// let Ok(_first) = masters.on_open(1, 1) else { return };
     /// let Some(owner) = masters.master(1) else { return };
     /// let Ok((lessee, _id)) = masters.make_lessee(owner.key, 2) else { return };
     /// let Ok(()) = masters.on_redeem(3, lessee) else { return };
-    /// assert!(masters.is_current(3));
+    /// assert!(rt; masters.is_current(3));
     /// ```
     pub fn on_redeem(&mut self, client: u32, master: MasterKey) -> Result<(), NoMemory>
         requires new_client { is_some (sets.member_of self.old.members client) ≡ false }
@@ -301,9 +386,19 @@ impl Masters {
     ///
     /// `Denied` with the rule, or `NoMemory` if memory for a new master is refused. The state is then unchanged.
     ///
+    /// # Examples
+    ///
     /// ```rust
+    /// use drm_masters::{Masters, SetDone};
+    ///
+    /// let alloc = rt.alloc();
+    /// let mut masters = Masters::new(alloc, 4, 4);
+    /// let Ok(_first) = masters.on_open(1, 1) else { return };
+    /// let Some(owner) = masters.master(1) else { return };
+    /// let Ok((lessee, _id)) = masters.make_lessee(owner.key, 2) else { return };
+    /// let Ok(()) = masters.on_redeem(3, lessee) else { return };
     /// if masters.member(1).is_some() {
-    ///     assert!(masters.set(1, false, 9) == Ok(SetDone::Already));
+    ///     assert!(rt; masters.set(1, false, 9) == Ok(SetDone::Already));
     /// }
     /// ```
     #[tactic(auto, unfolding(crate::specs::Calls::set_checks))]
@@ -348,9 +443,22 @@ impl Masters {
     /// - 28: the client is not current.
     /// - 29: the client is a lessee.
     ///
+    /// # Examples
+    ///
     /// ```rust
+    /// use drm_masters::{Masters, SetDone};
+    ///
+    /// let alloc = rt.alloc();
+    /// let mut masters = Masters::new(alloc, 4, 4);
+    /// let Ok(_first) = masters.on_open(1, 1) else { return };
+    /// let Some(owner) = masters.master(1) else { return };
+    /// let Ok((lessee, _id)) = masters.make_lessee(owner.key, 2) else { return };
+    /// let Ok(()) = masters.on_redeem(3, lessee) else { return };
     /// if masters.member(1).is_some() {
-    ///     assert!(masters.drop_master(1, false) == Ok(()));
+    ///     assert!(rt; masters.set(1, false, 9) == Ok(SetDone::Already));
+    /// }
+    /// if masters.member(1).is_some() {
+    ///     assert!(rt; masters.drop_master(1, false) == Ok(()));
     /// }
     /// ```
     #[tactic(auto, unfolding(crate::specs::Calls::drop_checks))]
@@ -384,9 +492,25 @@ impl Masters {
     ///
     /// If memory is refused, nothing changes.
     ///
+    /// # Examples
+    ///
     /// ```rust
+    /// use drm_masters::{Masters, SetDone};
+    ///
+    /// let alloc = rt.alloc();
+    /// let mut masters = Masters::new(alloc, 4, 4);
+    /// let Ok(_first) = masters.on_open(1, 1) else { return };
+    /// let Some(owner) = masters.master(1) else { return };
+    /// let Ok((lessee, _id)) = masters.make_lessee(owner.key, 2) else { return };
+    /// let Ok(()) = masters.on_redeem(3, lessee) else { return };
     /// if masters.member(1).is_some() {
-    ///     assert!(masters.magic(1) == Ok(1));
+    ///     assert!(rt; masters.set(1, false, 9) == Ok(SetDone::Already));
+    /// }
+    /// if masters.member(1).is_some() {
+    ///     assert!(rt; masters.drop_master(1, false) == Ok(()));
+    /// }
+    /// if masters.member(1).is_some() {
+    ///     assert!(rt; masters.magic(1) == Ok(1));
     /// }
     /// ```
     pub fn magic(&mut self, client: u32) -> Result<u32, NoMemory>
@@ -414,9 +538,29 @@ impl Masters {
     ///
     /// Rule 25 if no client has the number there, or the number is spent. The state is then unchanged.
     ///
+    /// # Examples
+    ///
     /// ```rust
+    /// use drm_masters::{Masters, SetDone};
+    /// use drm_table::Rule;
+    ///
+    /// let alloc = rt.alloc();
+    /// let mut masters = Masters::new(alloc, 4, 4);
+    /// let Ok(_first) = masters.on_open(1, 1) else { return };
+    /// let Some(owner) = masters.master(1) else { return };
+    /// let Ok((lessee, _id)) = masters.make_lessee(owner.key, 2) else { return };
+    /// let Ok(()) = masters.on_redeem(3, lessee) else { return };
     /// if masters.member(1).is_some() {
-    ///     assert!(masters.auth(1, 7) == Err(Rule::NoMagic));
+    ///     assert!(rt; masters.set(1, false, 9) == Ok(SetDone::Already));
+    /// }
+    /// if masters.member(1).is_some() {
+    ///     assert!(rt; masters.drop_master(1, false) == Ok(()));
+    /// }
+    /// if masters.member(1).is_some() {
+    ///     assert!(rt; masters.magic(1) == Ok(1));
+    /// }
+    /// if masters.member(1).is_some() {
+    ///     assert!(rt; masters.auth(1, 7) == Err(Rule::NoMagic));
     /// }
     /// ```
     pub fn auth(&mut self, client: u32, number: u32) -> Result<u32, Rule>
@@ -439,9 +583,32 @@ impl Masters {
     /// The client's own master is returned and stays until its release. If it was the device's, the device has none.
     /// Any other master is freed if nothing else holds it. For a client without a master, nothing changes.
     ///
+    /// # Examples
+    ///
     /// ```rust
-    /// assert!(masters.on_close(1).is_some());
-    /// assert!(masters.member(1).is_none());
+    /// use drm_masters::{Masters, SetDone};
+    /// use drm_table::Rule;
+    ///
+    /// let alloc = rt.alloc();
+    /// let mut masters = Masters::new(alloc, 4, 4);
+    /// let Ok(_first) = masters.on_open(1, 1) else { return };
+    /// let Some(owner) = masters.master(1) else { return };
+    /// let Ok((lessee, _id)) = masters.make_lessee(owner.key, 2) else { return };
+    /// let Ok(()) = masters.on_redeem(3, lessee) else { return };
+    /// if masters.member(1).is_some() {
+    ///     assert!(rt; masters.set(1, false, 9) == Ok(SetDone::Already));
+    /// }
+    /// if masters.member(1).is_some() {
+    ///     assert!(rt; masters.drop_master(1, false) == Ok(()));
+    /// }
+    /// if masters.member(1).is_some() {
+    ///     assert!(rt; masters.magic(1) == Ok(1));
+    /// }
+    /// if masters.member(1).is_some() {
+    ///     assert!(rt; masters.auth(1, 7) == Err(Rule::NoMagic));
+    /// }
+    /// assert!(rt; masters.on_close(1).is_some());
+    /// assert!(rt; masters.member(1).is_none());
     /// ```
     pub fn on_close(&mut self, client: u32) -> Option<MasterKey>
         ensures { calls.ClosedBy self.old (sets.member_of self.old.members client) result self.new }
@@ -470,12 +637,17 @@ impl Masters {
     ///
     /// `Full` if each id is taken under the owner, `NoMemory` if memory is refused. The state is then unchanged.
     ///
+    /// # Examples
+    ///
     /// ```rust
+    /// use drm_masters::Masters;
+    ///
+    /// let alloc = rt.alloc();
     /// let mut masters = Masters::new(alloc, 4, 4);
     /// let Ok(_first) = masters.on_open(1, 1) else { return };
     /// let Some(owner) = masters.master(1) else { return };
     /// let Ok((lessee, id)) = masters.make_lessee(owner.key, 2) else { return };
-    /// assert!(id == 1);
+    /// assert!(rt; id == 1);
     /// ```
     pub fn make_lessee(
         &mut self,
@@ -503,9 +675,18 @@ impl Masters {
 
     /// Returns the lessee with this id under the owner of `master`. Does not allocate.
     ///
+    /// # Examples
+    ///
     /// ```rust
+    /// use drm_masters::Masters;
+    ///
+    /// let alloc = rt.alloc();
+    /// let mut masters = Masters::new(alloc, 4, 4);
+    /// let Ok(_first) = masters.on_open(1, 1) else { return };
     /// let Some(owner) = masters.master(1) else { return };
-    /// assert!(masters.lessee(owner.key, id) == Some(lessee));
+    /// let Ok((lessee, id)) = masters.make_lessee(owner.key, 2) else { return };
+    /// let Some(owner) = masters.master(1) else { return };
+    /// assert!(rt; masters.lessee(owner.key, id) == Some(lessee));
     /// ```
     pub fn lessee(&self, master: MasterKey, id: u32) -> Option<MasterKey>
         requires { sets.is_there self.now.masters master ≡ true }
@@ -519,8 +700,17 @@ impl Masters {
 
     /// Returns the highest id that a lessee may have.
     ///
+    /// # Examples
+    ///
     /// ```rust
-    /// assert!(masters.last_lessee() == 4);
+    /// use drm_masters::Masters;
+    ///
+    /// let alloc = rt.alloc();
+    /// let mut masters = Masters::new(alloc, 4, 4);
+    /// let Ok(_first) = masters.on_open(1, 1) else { return };
+    /// let Some(owner) = masters.master(1) else { return };
+    /// let Ok((lessee, id)) = masters.make_lessee(owner.key, 2) else { return };
+    /// assert!(rt; masters.last_lessee() == 4);
     /// ```
     pub fn last_lessee(&self) -> u32
         ensures { result ≡ self.now.last_lessee }
@@ -530,8 +720,17 @@ impl Masters {
 
     /// Returns the lowest id that no lessee of the master's owner has, or `None` if each is taken. Does not allocate.
     ///
+    /// # Examples
+    ///
     /// ```rust
-    /// assert!(masters.free_lessee(1) == Some(2));
+    /// use drm_masters::Masters;
+    ///
+    /// let alloc = rt.alloc();
+    /// let mut masters = Masters::new(alloc, 4, 4);
+    /// let Ok(_first) = masters.on_open(1, 1) else { return };
+    /// let Some(owner) = masters.master(1) else { return };
+    /// let Ok((lessee, id)) = masters.make_lessee(owner.key, 2) else { return };
+    /// assert!(rt; masters.free_lessee(1) == Some(2));
     /// ```
     pub fn free_lessee(&self, master: u32) -> Option<u32>
         ensures { result ≡ sets.free_lessee self.now master }
@@ -543,11 +742,20 @@ impl Masters {
     /// Releases a kept master. It is freed, and so are those above it, as far as nothing else holds them. Does not
     /// allocate.
     ///
+    /// # Examples
+    ///
     /// ```rust
+    /// use drm_masters::Masters;
+    ///
+    /// let alloc = rt.alloc();
+    /// let mut masters = Masters::new(alloc, 4, 4);
+    /// let Ok(_first) = masters.on_open(1, 1) else { return };
+    /// let Some(owner) = masters.master(1) else { return };
+    /// let Ok((lessee, id)) = masters.make_lessee(owner.key, 2) else { return };
     /// if let Some(row) = masters.master(2) {
     ///     masters.release(row.key);
     /// }
-    /// assert!(masters.master(2).is_none());
+    /// assert!(rt; masters.master(2).is_none());
     /// ```
     pub fn release(&mut self, master: MasterKey)
         requires { sets.is_there self.old.masters master ≡ true }
@@ -563,8 +771,20 @@ impl Masters {
     /// Returns the client at a position, from 0, in the order of their numbers, among those that belong to a master.
     /// Does not allocate.
     ///
+    /// # Examples
+    ///
     /// ```rust
-    /// assert!(matches!(masters.nth_member(0), Some(row) if row.client == 1));
+    /// use drm_masters::Masters;
+    ///
+    /// let alloc = rt.alloc();
+    /// let mut masters = Masters::new(alloc, 4, 4);
+    /// let Ok(_first) = masters.on_open(1, 1) else { return };
+    /// let Some(owner) = masters.master(1) else { return };
+    /// let Ok((lessee, id)) = masters.make_lessee(owner.key, 2) else { return };
+    /// if let Some(row) = masters.master(2) {
+    ///     masters.release(row.key);
+    /// }
+    /// assert!(rt; matches!(masters.nth_member(0), Some(row) if row.client == 1));
     /// ```
     pub fn nth_member(&self, position: usize) -> Option<Member>
         ensures { result ≡ slice_get self.now.members position }
@@ -574,8 +794,20 @@ impl Masters {
 
     /// Returns the master at a position, from 0, in the order in which they were created. Does not allocate.
     ///
+    /// # Examples
+    ///
     /// ```rust
-    /// assert!(matches!(masters.nth_master(0), Some(row) if row.step_number == 1));
+    /// use drm_masters::Masters;
+    ///
+    /// let alloc = rt.alloc();
+    /// let mut masters = Masters::new(alloc, 4, 4);
+    /// let Ok(_first) = masters.on_open(1, 1) else { return };
+    /// let Some(owner) = masters.master(1) else { return };
+    /// let Ok((lessee, id)) = masters.make_lessee(owner.key, 2) else { return };
+    /// if let Some(row) = masters.master(2) {
+    ///     masters.release(row.key);
+    /// }
+    /// assert!(rt; matches!(masters.nth_master(0), Some(row) if row.step_number == 1));
     /// ```
     pub fn nth_master(&self, position: usize) -> Option<Master>
         ensures { result ≡ slice_get self.now.masters position }
@@ -588,8 +820,20 @@ impl Masters {
     /// Clients that belong to a master are kind 1, in the order of their numbers. Masters are kind 2, in the order in
     /// which they were created. No other kind has rows here.
     ///
+    /// # Examples
+    ///
     /// ```rust
-    /// assert!(masters.nth(2, 0).is_some() && masters.nth(3, 0).is_none());
+    /// use drm_masters::Masters;
+    ///
+    /// let alloc = rt.alloc();
+    /// let mut masters = Masters::new(alloc, 4, 4);
+    /// let Ok(_first) = masters.on_open(1, 1) else { return };
+    /// let Some(owner) = masters.master(1) else { return };
+    /// let Ok((lessee, id)) = masters.make_lessee(owner.key, 2) else { return };
+    /// if let Some(row) = masters.master(2) {
+    ///     masters.release(row.key);
+    /// }
+    /// assert!(rt; masters.nth(2, 0).is_some() && masters.nth(3, 0).is_none());
     /// ```
     pub fn nth(&self, kind: u32, i: usize) -> Option<MasterRow>
         ensures { result ≡ sets.nth_row self.now kind i }

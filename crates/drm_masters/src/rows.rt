@@ -7,11 +7,16 @@ use std::marker::Model;
 /// The key of a master of [`Masters`](crate::Masters) while it exists. Another master may have the key afterwards.
 /// Contracts see a number.
 ///
+/// # Examples
+///
 /// ```rust
+/// use drm_masters::Masters;
+///
+/// let alloc = rt.alloc();
 /// let mut masters = Masters::new(alloc, 4, 4);
 /// let Ok(_first) = masters.on_open(1, 1) else { return };
 /// let Some(key) = masters.master_of(1) else { return };
-/// assert!(matches!(masters.master(1), Some(row) if row.key == key));
+/// assert!(rt; matches!(masters.master(1), Some(row) if row.key == key));
 /// ```
 #[derive(Clone, Copy, PartialEq, Eq, Debug)]
 pub struct MasterKey {
@@ -37,9 +42,17 @@ impl MasterKey {
 
     /// Returns the key as a number, which another table can use as an index. Does not allocate.
     ///
+    /// # Examples
+    ///
     /// ```rust
+    /// use drm_masters::Masters;
+    ///
+    /// let alloc = rt.alloc();
+    /// let mut masters = Masters::new(alloc, 4, 4);
+    /// let Ok(_first) = masters.on_open(1, 1) else { return };
+    /// let Some(key) = masters.master_of(1) else { return };
     /// let Some(row) = masters.master(1) else { return };
-    /// assert!(row.key.number() == key.number());
+    /// assert!(rt; row.key.number() == key.number());
     /// ```
     pub fn number(self) -> u32
         ensures { result ≡ self }
@@ -50,12 +63,27 @@ impl MasterKey {
 
 /// A client's number under its master (drm(7)).
 ///
+/// # Examples
+///
 /// ```rust
+/// use drm_masters::{LesseeFault, Magic, Masters, NoMemory, SetDone, SetFault};
+/// use drm_table::Rule;
+///
+/// let alloc = rt.alloc();
+/// let mut masters = Masters::new(alloc, 4, 0);
+/// let Ok(_first) = masters.on_open(1, 1) else { return };
+/// assert!(rt; masters.member(1).is_none() || masters.magic(1) != Err(NoMemory));
+/// assert!(rt; masters.member(1).is_none() || masters.set(1, false, 2) == Ok(SetDone::Already));
+/// let Ok(_second) = masters.on_open(2, 2) else { return };
+/// let denied = Err(SetFault::Denied(Rule::MasterPerm));
+/// assert!(rt; masters.member(2).is_none() || masters.set(2, false, 3) == denied);
+/// let Some(owner) = masters.master(1) else { return };
+/// assert!(rt; masters.make_lessee(owner.key, 4) == Err(LesseeFault::Full));
 /// if masters.member(1).is_some() {
-///     assert!(masters.magic(1) == Ok(1));
+///     assert!(rt; masters.magic(1) == Ok(1));
 /// }
 /// let magic = Some(Magic { number: 1, spent: false });
-/// assert!(matches!(masters.member(1), Some(row) if row.magic == magic));
+/// assert!(rt; matches!(masters.member(1), Some(row) if row.magic == magic));
 /// ```
 #[derive(Clone, Copy, PartialEq, Eq, Debug)]
 pub struct Magic {
@@ -67,9 +95,28 @@ pub struct Magic {
 
 /// An open client's relation to its master. A render client has none, and is not listed.
 ///
+/// # Examples
+///
 /// ```rust
+/// use drm_masters::{LesseeFault, Magic, Masters, Member, NoMemory, SetDone, SetFault};
+/// use drm_table::Rule;
+///
+/// let alloc = rt.alloc();
+/// let mut masters = Masters::new(alloc, 4, 0);
+/// let Ok(_first) = masters.on_open(1, 1) else { return };
+/// assert!(rt; masters.member(1).is_none() || masters.magic(1) != Err(NoMemory));
+/// assert!(rt; masters.member(1).is_none() || masters.set(1, false, 2) == Ok(SetDone::Already));
+/// let Ok(_second) = masters.on_open(2, 2) else { return };
+/// let denied = Err(SetFault::Denied(Rule::MasterPerm));
+/// assert!(rt; masters.member(2).is_none() || masters.set(2, false, 3) == denied);
+/// let Some(owner) = masters.master(1) else { return };
+/// assert!(rt; masters.make_lessee(owner.key, 4) == Err(LesseeFault::Full));
+/// if masters.member(1).is_some() {
+///     assert!(rt; masters.magic(1) == Ok(1));
+/// }
+/// let magic = Some(Magic { number: 1, spent: false });
 /// let member = Member { client: 1, once_master: true, is_master: true, master: 1, magic };
-/// assert!(masters.nth_member(0) == Some(member));
+/// assert!(rt; masters.nth_member(0) == Some(member));
 /// ```
 #[derive(Clone, Copy, PartialEq, Eq, Debug)]
 pub struct Member {
@@ -87,8 +134,26 @@ pub struct Member {
 
 /// A row of an audit from [`Masters`](crate::Masters) (own).
 ///
+/// # Examples
+///
 /// ```rust
-/// assert!(matches!(masters.nth(1, 0), Some(MasterRow::Client(row)) if row.client == 1));
+/// use drm_masters::{LesseeFault, MasterRow, Masters, NoMemory, SetDone, SetFault};
+/// use drm_table::Rule;
+///
+/// let alloc = rt.alloc();
+/// let mut masters = Masters::new(alloc, 4, 0);
+/// let Ok(_first) = masters.on_open(1, 1) else { return };
+/// assert!(rt; masters.member(1).is_none() || masters.magic(1) != Err(NoMemory));
+/// assert!(rt; masters.member(1).is_none() || masters.set(1, false, 2) == Ok(SetDone::Already));
+/// let Ok(_second) = masters.on_open(2, 2) else { return };
+/// let denied = Err(SetFault::Denied(Rule::MasterPerm));
+/// assert!(rt; masters.member(2).is_none() || masters.set(2, false, 3) == denied);
+/// let Some(owner) = masters.master(1) else { return };
+/// assert!(rt; masters.make_lessee(owner.key, 4) == Err(LesseeFault::Full));
+/// if masters.member(1).is_some() {
+///     assert!(rt; masters.magic(1) == Ok(1));
+/// }
+/// assert!(rt; matches!(masters.nth(1, 0), Some(MasterRow::Client(row)) if row.client == 1));
 /// ```
 #[derive(Clone, Copy, PartialEq, Eq, Debug)]
 pub enum MasterRow {
@@ -100,10 +165,28 @@ pub enum MasterRow {
 
 /// A master (drm(7)).
 ///
+/// # Examples
+///
 /// ```rust
+/// use drm_masters::{LesseeFault, Master, Masters, NoMemory, SetDone, SetFault};
+/// use drm_table::Rule;
+///
+/// let alloc = rt.alloc();
+/// let mut masters = Masters::new(alloc, 4, 0);
+/// let Ok(_first) = masters.on_open(1, 1) else { return };
+/// assert!(rt; masters.member(1).is_none() || masters.magic(1) != Err(NoMemory));
+/// assert!(rt; masters.member(1).is_none() || masters.set(1, false, 2) == Ok(SetDone::Already));
+/// let Ok(_second) = masters.on_open(2, 2) else { return };
+/// let denied = Err(SetFault::Denied(Rule::MasterPerm));
+/// assert!(rt; masters.member(2).is_none() || masters.set(2, false, 3) == denied);
+/// let Some(owner) = masters.master(1) else { return };
+/// assert!(rt; masters.make_lessee(owner.key, 4) == Err(LesseeFault::Full));
+/// if masters.member(1).is_some() {
+///     assert!(rt; masters.magic(1) == Ok(1));
+/// }
 /// let Some(key) = masters.master_of(1) else { return };
 /// let master = Master { key, step_number: 1, lessor: None, lessee_id: 0, kept: false };
-/// assert!(masters.nth_master(0) == Some(master));
+/// assert!(rt; masters.nth_master(0) == Some(master));
 /// ```
 #[derive(Clone, Copy, PartialEq, Eq, Debug)]
 pub struct Master {

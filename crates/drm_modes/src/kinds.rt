@@ -2,9 +2,13 @@
 
 /// The kind of a fixed mode object (drm-uapi, mode setting).
 ///
+/// # Examples
+///
 /// ```rust
+/// use drm_modes::{Kind, Topology};
+///
 /// let Some(topology) = Topology::new(2, &[1, 2], &[3, 2], &[5, 6]) else { return };
-/// assert!(topology.kind(1) == Some(Kind::Crtc) && topology.kind(8) == Some(Kind::Connector));
+/// assert!(rt; topology.kind(1) == Some(Kind::Crtc) && topology.kind(8) == Some(Kind::Connector));
 /// ```
 #[derive(Clone, Copy, PartialEq, Eq, Debug)]
 pub enum Kind {
@@ -20,7 +24,11 @@ pub enum Kind {
 
 /// The kind of a plane (drm-uapi, universal planes).
 ///
+/// # Examples
+///
 /// ```rust
+/// use drm_modes::PlaneKind;
+///
 /// let kind = PlaneKind::Primary(1);
 /// ```
 #[derive(Clone, Copy, PartialEq, Eq, Debug, Default)]
@@ -40,8 +48,13 @@ impl PlaneKind {
 
     /// Returns the CRTC of a primary or a cursor plane, or `None` for an overlay plane.
     ///
+    /// # Examples
+    ///
     /// ```rust
-    /// assert!(kind.crtc() == Some(1) && PlaneKind::Overlay.crtc().is_none());
+    /// use drm_modes::PlaneKind;
+    ///
+    /// let kind = PlaneKind::Primary(1);
+    /// assert!(rt; kind.crtc() == Some(1) && PlaneKind::Overlay.crtc().is_none());
     /// ```
     pub fn crtc(self) -> Option<u32>
         ensures { result ≡ crtc_of_kind self }

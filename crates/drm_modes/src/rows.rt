@@ -4,7 +4,11 @@ use drm_gem::ObjectKey;
 
 /// The shape of a framebuffer's pixels (drm-uapi, mode setting: MODE_ADDFB).
 ///
+/// # Examples
+///
 /// ```rust
+/// use drm_modes::Shape;
+///
 /// let shape = Shape { width: 640, height: 480, pitch: 2560, bpp: 32 };
 /// ```
 #[derive(Clone, Copy, PartialEq, Eq, Debug)]
@@ -21,12 +25,19 @@ pub struct Shape {
 
 /// A framebuffer: an object whose pixels can be shown (drm-uapi, mode setting).
 ///
+/// # Examples
+///
 /// ```rust
+/// use drm_gem::ObjectKey;
+/// use drm_modes::{Framebuffer, Modes, Shape, Topology};
+///
+/// let alloc = rt.alloc();
+/// let shape = Shape { width: 640, height: 480, pitch: 2560, bpp: 32 };
 /// let Some(topology) = Topology::new(2, &[1, 2], &[3, 2], &[5, 6]) else { return };
 /// let mut modes = Modes::new(alloc, topology, 4);
 /// let object = ObjectKey::from_number(7);
 /// let Ok(framebuffer) = modes.addfb(1, shape, object) else { return };
-/// assert!(modes.nth_framebuffer(0) == Some(Framebuffer { framebuffer, client: 1, shape, object }));
+/// assert!(rt; modes.nth_framebuffer(0) == Some(Framebuffer { framebuffer, client: 1, shape, object }));
 /// ```
 #[derive(Clone, Copy, PartialEq, Eq, Debug)]
 pub struct Framebuffer {
@@ -42,8 +53,19 @@ pub struct Framebuffer {
 
 /// A framebuffer without its id (drm-uapi, mode setting).
 ///
+/// # Examples
+///
 /// ```rust
-/// assert!(modes.fb(framebuffer) == Some(Fb { client: 1, shape, object }));
+/// use drm_gem::ObjectKey;
+/// use drm_modes::{Fb, Modes, Shape, Topology};
+///
+/// let alloc = rt.alloc();
+/// let shape = Shape { width: 640, height: 480, pitch: 2560, bpp: 32 };
+/// let Some(topology) = Topology::new(2, &[1, 2], &[3, 2], &[5, 6]) else { return };
+/// let mut modes = Modes::new(alloc, topology, 4);
+/// let object = ObjectKey::from_number(7);
+/// let Ok(framebuffer) = modes.addfb(1, shape, object) else { return };
+/// assert!(rt; modes.fb(framebuffer) == Some(Fb { client: 1, shape, object }));
 /// ```
 #[derive(Clone, Copy, PartialEq, Eq, Debug)]
 pub struct Fb {
@@ -57,9 +79,20 @@ pub struct Fb {
 
 /// A row of an audit from [`Modes`](crate::Modes) (own).
 ///
+/// # Examples
+///
 /// ```rust
+/// use drm_gem::ObjectKey;
+/// use drm_modes::{Framebuffer, ModeRow, Modes, Shape, Topology};
+///
+/// let alloc = rt.alloc();
+/// let shape = Shape { width: 640, height: 480, pitch: 2560, bpp: 32 };
+/// let Some(topology) = Topology::new(2, &[1, 2], &[3, 2], &[5, 6]) else { return };
+/// let mut modes = Modes::new(alloc, topology, 4);
+/// let object = ObjectKey::from_number(7);
+/// let Ok(framebuffer) = modes.addfb(1, shape, object) else { return };
 /// let row = Framebuffer { framebuffer, client: 1, shape, object };
-/// assert!(modes.nth(8, 0) == Some(ModeRow::Framebuffer(row)));
+/// assert!(rt; modes.nth(8, 0) == Some(ModeRow::Framebuffer(row)));
 /// ```
 #[derive(Clone, Copy, PartialEq, Eq, Debug)]
 pub enum ModeRow {
@@ -71,11 +104,22 @@ pub enum ModeRow {
 
 /// A CRTC or a plane that shows a framebuffer.
 ///
+/// # Examples
+///
 /// ```rust
+/// use drm_gem::ObjectKey;
+/// use drm_modes::{Kind, Modes, Shape, Shown, Topology};
+///
+/// let alloc = rt.alloc();
+/// let shape = Shape { width: 640, height: 480, pitch: 2560, bpp: 32 };
+/// let Some(topology) = Topology::new(2, &[1, 2], &[3, 2], &[5, 6]) else { return };
+/// let mut modes = Modes::new(alloc, topology, 4);
+/// let object = ObjectKey::from_number(7);
+/// let Ok(framebuffer) = modes.addfb(1, shape, object) else { return };
 /// if modes.is_of_kind(Kind::Crtc, 1) && modes.fb(framebuffer).is_some() {
 ///     modes.setcrtc(1, framebuffer);
 /// }
-/// assert!(modes.nth_shown(0) == Some(Shown { engine: 1, framebuffer }));
+/// assert!(rt; modes.nth_shown(0) == Some(Shown { engine: 1, framebuffer }));
 /// ```
 #[derive(Clone, Copy, PartialEq, Eq, Debug)]
 pub struct Shown {

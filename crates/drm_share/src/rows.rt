@@ -4,11 +4,17 @@ use drm_gem::ObjectKey;
 
 /// A global name of an object (drm-gem(7), flink).
 ///
+/// # Examples
+///
 /// ```rust
+/// use drm_gem::ObjectKey;
+/// use drm_share::{Names, SharedName};
+///
+/// let alloc = rt.alloc();
 /// let mut names = Names::new(alloc, 100);
 /// let object = ObjectKey::from_number(4);
 /// let Ok(name) = names.give(object) else { return };
-/// assert!(names.nth_name(0) == Some(SharedName { name, object }));
+/// assert!(rt; names.nth_name(0) == Some(SharedName { name, object }));
 /// ```
 #[derive(Clone, Copy, PartialEq, Eq, Debug)]
 pub struct SharedName {
@@ -20,11 +26,17 @@ pub struct SharedName {
 
 /// An open token, used in place of the file descriptor of an exported object (drm-mm, PRIME; tokens are own).
 ///
+/// # Examples
+///
 /// ```rust
+/// use drm_gem::ObjectKey;
+/// use drm_share::{SharedToken, Tokens};
+///
+/// let alloc = rt.alloc();
 /// let mut tokens = Tokens::new(alloc, 100);
 /// let object = ObjectKey::from_number(4);
 /// let Ok(token) = tokens.export(9, object) else { return };
-/// assert!(tokens.nth_token(0) == Some(SharedToken { token, client: 9, object }));
+/// assert!(rt; tokens.nth_token(0) == Some(SharedToken { token, client: 9, object }));
 /// ```
 #[derive(Clone, Copy, PartialEq, Eq, Debug)]
 pub struct SharedToken {

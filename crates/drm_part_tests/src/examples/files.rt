@@ -48,6 +48,14 @@ fn files(rt: HostRuntime) {
     };
     let mut rest = files.close(2);
     assert!(rt; rest.take_next().is_none() && files.len() == 1);
+    let mut files = Files::new(alloc, 4, 100);
+    let Ok(()) = files.open(1, false, false, true) else {
+        panic!(rt; "refused")
+    };
+    let Ok(()) = files.open(2, true, false, false) else {
+        panic!(rt; "refused")
+    };
+    let mut rest = files.close(2);
     assert!(rt; files.len() == 1);
     assert!(rt; !files.is_full());
     assert!(rt; files.has_room(1));

@@ -13,10 +13,6 @@ fn values(rt: HostRuntime) {
         panic!(rt; "refused")
     };
     assert!(rt; object.step_number == 3 && object.size == 4096 && object.holds == 1);
-    let mut objects = Objects::new(alloc, 1);
-    let Ok(key) = objects.create(3, 4096) else {
-        panic!(rt; "refused")
-    };
     let gone = Dead {
         birth: 3,
         size: 4096,

@@ -8,17 +8,31 @@ use drm_table::Rule;
 #[test]
 fn values(rt: HostRuntime) {
     let alloc = rt.alloc();
-    let Some(topology) = Topology::new(2, &[1, 2], &[3, 2], &[5, 6]) else { panic!(rt; "refused") };
+    let Some(topology) = Topology::new(2, &[1, 2], &[3, 2], &[5, 6]) else {
+        panic!(rt; "refused")
+    };
     let modes = Modes::new(alloc, topology, 4);
     let mut masters = Masters::new(alloc, 4, 4);
-    let Ok(_first) = masters.on_open(1, 1) else { panic!(rt; "refused") };
+    let Ok(_first) = masters.on_open(1, 1) else {
+        panic!(rt; "refused")
+    };
     let shape = Leases::new(alloc, 8).create(&mut masters, &modes, 1, true, &[1], 2);
     assert!(rt; shape == Err(LeaseFault::Denied(Rule::LeaseShape)));
     let mut masters = Masters::new(alloc, 4, 4);
-    let Ok(_first) = masters.on_open(1, 1) else { panic!(rt; "refused") };
+    let Ok(_first) = masters.on_open(1, 1) else {
+        panic!(rt; "refused")
+    };
     let mut leases = Leases::new(alloc, 8);
-    let Ok(leased) = leases.create(&mut masters, &modes, 1, true, &[1, 3, 7], 2) else { panic!(rt; "refused") };
-    assert!(rt; leases.nth_grant(0) == Some(Grant { master: 2, mode_object: 1 }));
+    let Ok(leased) = leases.create(&mut masters, &modes, 1, true, &[1, 3, 7], 2) else {
+        panic!(rt; "refused")
+    };
+    assert!(rt;
+        leases.nth_grant(0)
+            == Some(Grant {
+                master: 2,
+                mode_object: 1
+            })
+    );
     let Leased { m, id, token } = leased;
     assert!(rt; id == 1 && token == 1 && matches!(masters.master(2), Some(row) if row.key == m));
 }
@@ -26,19 +40,26 @@ fn values(rt: HostRuntime) {
 #[test]
 fn leases(rt: HostRuntime) {
     let alloc = rt.alloc();
-    let Some(topology) = Topology::new(2, &[1, 2], &[3, 2], &[5, 6]) else { panic!(rt; "refused") };
+    let Some(topology) = Topology::new(2, &[1, 2], &[3, 2], &[5, 6]) else {
+        panic!(rt; "refused")
+    };
     let modes = Modes::new(alloc, topology, 4);
     let mut masters = Masters::new(alloc, 4, 4);
-    let Ok(_first) = masters.on_open(1, 1) else { panic!(rt; "refused") };
+    let Ok(_first) = masters.on_open(1, 1) else {
+        panic!(rt; "refused")
+    };
     let mut leases = Leases::new(alloc, 8);
-    let Ok(leased) = leases.create(&mut masters, &modes, 1, true, &[1, 3, 7], 2) else { panic!(rt; "refused") };
+    let Ok(leased) = leases.create(&mut masters, &modes, 1, true, &[1, 3, 7], 2) else {
+        panic!(rt; "refused")
+    };
     assert!(rt; Leases::new(alloc, 8).last_given().is_none());
     assert!(rt; leased.id == 1 && leased.token == 1);
     assert!(rt; leases.holds(leased.m, 1) && !leases.holds(leased.m, 2));
     assert!(rt; leases.controls(&masters, 1, 2) && !leases.controls(&masters, 2, 2));
-    let Some(owner) = masters.master(1) else { panic!(rt; "refused") };
+    let Some(owner) = masters.master(1) else {
+        panic!(rt; "refused")
+    };
     assert!(rt; leases.leased_out(&masters, owner.key, 3));
-    let Some(owner) = masters.master(1) else { panic!(rt; "refused") };
     assert!(rt; leases.list(&masters, owner.key).ids() == [1].as_slice());
     assert!(rt; leases.objects_of(leased.m).ids() == [1, 3, 7].as_slice());
     assert!(rt; leases.token_master(leased.token) == Some(leased.m));
@@ -49,26 +70,11 @@ fn leases(rt: HostRuntime) {
         leases.revoke(&mut masters, leased.m);
     }
     assert!(rt; leases.objects_of(leased.m).ids().is_empty());
-    let Some(owner) = masters.master(1) else { panic!(rt; "refused") };
+    let Some(owner) = masters.master(1) else {
+        panic!(rt; "refused")
+    };
     leases.revoke_below(&mut masters, owner.key);
     assert!(rt; leases.last_given() == Some(leased.token));
     assert!(rt; leases.nth(7, 0) == leases.nth_grant(0) && leases.nth(2, 0).is_none());
-}
-
-#[test]
-fn leases_from_nth_grant(rt: HostRuntime) {
-    let alloc = rt.alloc();
-    let Some(topology) = Topology::new(2, &[1, 2], &[3, 2], &[5, 6]) else { panic!(rt; "refused") };
-    let modes = Modes::new(alloc, topology, 4);
-    let mut masters = Masters::new(alloc, 4, 4);
-    let Ok(_first) = masters.on_open(1, 1) else { panic!(rt; "refused") };
-    let mut leases = Leases::new(alloc, 8);
-    let Ok(leased) = leases.create(&mut masters, &modes, 1, true, &[1, 3, 7], 2) else { panic!(rt; "refused") };
-    assert!(rt; leases.redeem(leased.token) == Some(leased.m));
-    if masters.of_key(leased.m).is_some() {
-        leases.revoke(&mut masters, leased.m);
-    }
-    let Some(owner) = masters.master(1) else { panic!(rt; "refused") };
-    leases.revoke_below(&mut masters, owner.key);
     assert!(rt; leases.nth_grant(0).is_none());
 }

@@ -10,8 +10,10 @@ fn values(rt: HostRuntime) {
     let limits = Limits { clients: 0, ..Limits::PROGRAM };
     let Err(fault) = Device::new(alloc, topology, limits) else { panic!(rt; "refused") };
     assert!(rt; fault == NewFault::BadLimits);
+    let Some(topology) = Topology::new(2, &[1, 2], &[3, 2], &[5, 6]) else { panic!(rt; "refused") };
     let Err(fault) = replay(alloc, topology, limits, &[]) else { panic!(rt; "refused") };
     assert!(rt; fault == ReplayFault::New(NewFault::BadLimits));
+    let Some(topology) = Topology::new(2, &[1, 2], &[3, 2], &[5, 6]) else { panic!(rt; "refused") };
     let events = [Event::Open(Opening::Render)];
     let Ok(device) = replay(alloc, topology, Limits::PROGRAM, &events) else { panic!(rt; "refused") };
     assert!(rt; device.journal() == events.as_slice());

@@ -76,6 +76,7 @@ fn values_from_serve_many(rt: HostRuntime) {
     let hello = [14, 0, 0, 0, 0, 1, 1, 0, 0, 0, 0, 0, 0, 0, 0, 0, 0, 0];
     let mut sink = ToWrite::new(Vec::new(alloc));
     let card = Class::Card;
+    let Some(topology) = Topology::new(2, &[1, 2], &[3, 2], &[5, 6]) else { panic!(rt; "refused") };
     let Ok(fresh) = Device::new(alloc, topology, Limits::PROGRAM) else { panic!(rt; "refused") };
     let Ok((shared, mut participant)) = SharedDevice::new(alloc, fresh) else { panic!(rt; "refused") };
     let jobs: Vec<Job<NoGate, FromRead<&[u8]>, ToWrite<Vec<u8>>>> = Vec::new(alloc);
@@ -89,10 +90,10 @@ fn values_from_serve_many(rt: HostRuntime) {
 #[test]
 fn values_from_served(rt: HostRuntime) {
     let alloc = rt.alloc();
-    let Some(topology) = Topology::new(2, &[1, 2], &[3, 2], &[5, 6]) else { panic!(rt; "refused") };
     let hello = [14, 0, 0, 0, 0, 1, 1, 0, 0, 0, 0, 0, 0, 0, 0, 0, 0, 0];
     let mut sink = ToWrite::new(Vec::new(alloc));
     let card = Class::Card;
+    let Some(topology) = Topology::new(2, &[1, 2], &[3, 2], &[5, 6]) else { panic!(rt; "refused") };
     let Ok(fresh) = Device::new(alloc, topology, Limits::PROGRAM) else { panic!(rt; "refused") };
     let Ok((shared, mut participant)) = SharedDevice::new(alloc, fresh) else { panic!(rt; "refused") };
     let mut source = FromRead::new(hello.as_slice());
@@ -105,10 +106,10 @@ fn values_from_served(rt: HostRuntime) {
 #[test]
 fn values_from_serve_through(rt: HostRuntime) {
     let alloc = rt.alloc();
-    let Some(topology) = Topology::new(2, &[1, 2], &[3, 2], &[5, 6]) else { panic!(rt; "refused") };
     let hello = [14, 0, 0, 0, 0, 1, 1, 0, 0, 0, 0, 0, 0, 0, 0, 0, 0, 0];
     let mut sink = ToWrite::new(Vec::new(alloc));
     let card = Class::Card;
+    let Some(topology) = Topology::new(2, &[1, 2], &[3, 2], &[5, 6]) else { panic!(rt; "refused") };
     let Ok(fresh) = Device::new(alloc, topology, Limits::PROGRAM) else { panic!(rt; "refused") };
     let Ok((shared, mut participant)) = SharedDevice::new(alloc, fresh) else { panic!(rt; "refused") };
     let mut source = FromRead::new(hello.as_slice());

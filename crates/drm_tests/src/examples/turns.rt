@@ -13,6 +13,8 @@ fn values(rt: HostRuntime) {
     assert!(rt; shared.call(&rt, &mut participant, Event::Open(Opening::Render)).is_ok());
     let note = shared.note(&mut participant);
     shared.meet(&mut participant, note);
+    let Some(topology) = Topology::new(2, &[1, 2], &[3, 2], &[5, 6]) else { panic!(rt; "refused") };
+    let Ok(device) = Device::new(alloc, topology, Limits::PROGRAM) else { panic!(rt; "refused") };
     let (second, its_participant) = match SharedDevice::new(alloc, device) {
         Ok(made) => made,
         Err((_device, NoMemory)) => panic!(rt; "refused"),
