@@ -104,7 +104,7 @@ def expect_each(folder: pathlib.Path, crate: str, *modules: str) -> None:
 
 def expect_requests_refused():
     """Prints how many requests were refused, and fails if none was."""
-    program_of("drm_part_tests")  # where that isn't there, nothing was tried
+    program_of("drm_array_tests")  # where that isn't there, nothing was tried
     print(f"refused {refusals['all']} requests for memory, of which {refusals['own']} were a test's own", flush=True)
     expect("requests that were refused and asked again", refusals["all"] > refusals["own"], True)
 
@@ -115,49 +115,49 @@ class GrowthsTests(FolderCase):
     def test_arrays_and_numbers(self):
         """`IndexArray::insert`; `IdTable::add` and `add_cyclic`; `Groups::note`."""
         folder = self.folder
-        expect_each(folder, "drm_part_tests", "arrays", "number_tables", "number_groups")
+        expect_each(folder, "drm_array_tests", "arrays", "number_tables", "number_groups")
 
     def test_files_and_objects(self):
         """`Files::open` and `add_handle`; `Objects::create`."""
         folder = self.folder
-        expect_each(folder, "drm_part_tests", "handles", "objects")
+        expect_each(folder, "drm_buffer_tests", "handles", "objects")
 
     def test_names_and_tokens(self):
         """`Names::give`; `Tokens::export`."""
         folder = self.folder
-        expect_each(folder, "drm_part_tests", "sharing")
+        expect_each(folder, "drm_buffer_tests", "sharing")
 
     def test_masters(self):
         """`Masters::on_open`, `on_redeem`, `set`, `magic` and `make_lessee`."""
         folder = self.folder
-        expect_each(folder, "drm_part_tests", "masters")
+        expect_each(folder, "drm_lease_tests", "masters")
 
     def test_framebuffers(self):
         """`Modes::addfb`."""
         folder = self.folder
-        expect_each(folder, "drm_part_tests", "modes")
+        expect_each(folder, "drm_lease_tests", "modes")
 
     def test_leases(self):
         """`Leases::create`, and `Masters::on_redeem` by its tokens."""
         folder = self.folder
-        expect_each(folder, "drm_part_tests", "leases")
+        expect_each(folder, "drm_lease_tests", "leases")
 
     def test_shared_devices(self):
         """`SharedDevice::new` and `call`."""
         folder = self.folder
-        expect_each(folder, "drm_tests", "turns")
+        expect_each(folder, "drm_session_tests", "turns")
 
     def test_jobs(self):
         """`serve_many`, which is asked again for jobs of the same bytes."""
         folder = self.folder
-        expect_each(folder, "drm_tests", "many")
+        expect_each(folder, "drm_session_tests", "many")
 
     def test_replays(self):
         """`Device::new` and `replay`: a refusal for the device is told apart from one at an event."""
         folder = self.folder
         name = "replays::replays_stop_where_an_event_is_not_noted"
         said = ""
-        for at, ran in enumerate(refused_in_turn(folder, "drm_tests", name), start=1):
+        for at, ran in enumerate(refused_in_turn(folder, "drm_device_tests", name), start=1):
             expect_well(name, at, ran)
             said += ran.said
         for word in ("refused for the device", "refused at an event"):

@@ -201,8 +201,8 @@ class ToolsTests(FolderCase):
         ran = run(examples_in(folder, 20), "--check")
         expect("status and error output", (ran.returncode, ran.stderr), (1, ""))
         for told in (
-            "stale: crates/drm_tests/src/examples/sessions.rt",
-            "too long: crates/drm_tests/src/examples/sessions.rt: values",
+            "stale: crates/drm_session_tests/src/examples/sessions.rt",
+            "too long: crates/drm_session_tests/src/examples/sessions.rt: values",
         ):
             expect(told, told in ran.stdout.splitlines(), True)
         expect("status", run(examples_in(folder, 20)).returncode, 0)

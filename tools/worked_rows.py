@@ -1,9 +1,9 @@
 #!/usr/bin/env python3
-"""Writes what is made from the worked rows: lemmas of drm_model, files of examples/rows, and tables of drm_tests.
+"""Writes what is made from the worked rows: lemmas of drm_model, files of examples/rows, and tables of drm_device_tests.
 
 tools/worked_rows.txt has the rows, and describes their form. From each row the tool makes a lemma, which the check of
 drm_model refuses if the definitions give other answers; a file for `drm_server check`; and a row of a table that
-drm_tests runs, with the names and the errnos of denials.
+drm_device_tests runs, with the names and the errnos of denials.
 
 Exit status:
   0  the files were written, or are up to date
@@ -25,7 +25,7 @@ REPOSITORY = pathlib.Path(__file__).resolve().parent.parent
 SOURCE = REPOSITORY / "tools/worked_rows.txt"
 CRATES = REPOSITORY / "crates"
 PROOFS = CRATES / "drm_model/proofs"
-TABLES = CRATES / "drm_tests/src/rows"
+TABLES = CRATES / "drm_device_tests/src/rows"
 SCRIPTS = REPOSITORY / "examples/rows"
 # all files that are made
 MADE = ((PROOFS, "Worked*.antt"), (TABLES, "*.rt"), (SCRIPTS, "*.script"))
@@ -353,7 +353,7 @@ def table_row(row: Row, known: Definitions) -> str:
 
 
 def table(group: Group, known: Definitions) -> str:
-    """The table of a group's rows for drm_tests."""
+    """The table of a group's rows for drm_device_tests."""
     rows = "".join(table_row(row, known) for row in group.rows)
     return f"""//! Made by tools/worked_rows.py: worked rows with their answers.
 

@@ -1,5 +1,5 @@
-//! The tests of the program as a library: what it lists, what it serves, and what it tells of ends and faults. They stand apart from those
-//! of `drm_tests`, which don't wait for the program.
+//! The tests of the program as a library: what it lists, what it serves, and what it reports of ends and faults. They are apart from those
+//! of `drm_device_tests` and `drm_session_tests`, which don't wait for the program.
 #![tactic(auto)]
 
 #[cfg(test)]

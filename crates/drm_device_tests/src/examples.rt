@@ -1,0 +1,3 @@
+//! The examples of doc comments, made by `tools/doc_examples`.
+
+mod device;

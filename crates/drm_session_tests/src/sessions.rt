@@ -1,0 +1,682 @@
+//! Whole sessions, byte for byte, over sources and sinks that end, fail and interrupt.
+
+use crate::comparing::same;
+use drm_device::Device;
+use drm_sessions::{Access, Class, Gate, NoGate, Session, SessionEnd, serve, serve_alone};
+use drm_streams::{FromRead, Source, ToWrite};
+use drm_table::{Answer, Apart, Event, Limits, Rule};
+use drm_test_devices::{Trial, try_on_new};
+use drm_test_streams::{Cut, sink_of, source_of};
+use std::alloc::{AllocError, Global};
+use std::cell::Cell;
+use std::io::{self, Read, Write};
+use std::net::{Net, Shutdown};
+use std::os::unix::net::UnixStream;
+use std::process::Abort;
+use std::test::Fail;
+use std::thread;
+use std::thread::Threads;
+
+/// A hello for a node, and VERSION.
+const HELLO_VERSION: &[u8] = b"\x0e\0\0\0\0\x01\x01\0\0\0\0\0\0\0\0\0\0\0\x02\0\0\0\0\0";
+
+/// Client 1 was opened, and the version is 1.0.0.
+const ANSWERS: &[u8] = b"\x06\0\0\0\x01\x10\x01\0\0\0\x0e\0\0\0\x02\x10\x01\0\0\0\0\0\0\0\0\0\0\0";
+
+/// The answer to the hello alone.
+const OPENED: &[u8] = b"\x06\0\0\0\x01\x10\x01\0\0\0";
+
+/// Client 1 was opened, and the journal is full.
+const OPENED_AND_FULL: &[u8] =
+    b"\x06\0\0\0\x01\x10\x01\0\0\0\x0a\0\0\0\x01\x20\x32\0\0\0\x1c\0\0\0";
+
+/// A hello by the lease token 0, which no lease has, and then VERSION.
+const BY_TOKEN: &[u8] = b"\x0e\0\0\0\0\x01\x01\0\0\0\x01\0\0\0\0\0\0\0\x02\0\0\0\0\0";
+
+/// The answer to that hello.
+const NO_LEASE_TOKEN: &[u8] = b"\x0a\0\0\0\0\x20\x2a\0\0\0\x02\0\0\0";
+
+/// A hello of version 2 for a node, and SET_CLIENT_CAP of universal planes.
+const HELLO_2_AND_CAPABILITY: &[u8] =
+    b"\x0e\0\0\0\0\x01\x02\0\0\0\0\0\0\0\0\0\0\0\x12\0\0\0\x0d\0\x02\0\0\0\0\0\0\0\x01\0\0\0\0\0\0\0";
+
+/// Client 1 was opened, and the capability is set.
+const OPENED_AND_DONE: &[u8] = b"\x06\0\0\0\x01\x10\x01\0\0\0\x02\0\0\0\0\x10";
+
+/// The same with a version that there is not.
+const HELLO_3: &[u8] =
+    b"\x0e\0\0\0\0\x01\x03\0\0\0\0\0\0\0\0\0\0\0\x12\0\0\0\x0d\0\x02\0\0\0\0\0\0\0\x01\0\0\0\0\0\0\0";
+
+const MANY_TURNS: u64 = 1_000_000;
+
+const PIECES: [usize; 4] = [1, 2, 3, 7];
+
+/// What a client sends in pieces of so many bytes, how its session ends after so many steps, and what is written, of which the
+/// sink takes so many bytes at once.
+#[derive(Clone, Copy)]
+struct Case<'a> {
+    class: Class,
+    input: &'a [u8],
+    piece: usize,
+    taken: usize,
+    source: Cut,
+    sink: Cut,
+    turns: u64,
+    end: SessionEnd,
+    steps: u64,
+    written: &'a [u8],
+    /// How many calls of the source are made, where it matters.
+    takes: Option<u64>,
+}
+
+/// The hello and VERSION of a card client.
+const WHOLE: Case<'static> = Case {
+    class: Class::Card,
+    input: HELLO_VERSION,
+    piece: 7,
+    taken: 64,
+    source: Cut::Never,
+    sink: Cut::Never,
+    turns: MANY_TURNS,
+    end: SessionEnd::Ended,
+    steps: 3,
+    written: ANSWERS,
+    takes: None,
+};
+
+/// An opening by a lease token that isn't there.
+const REFUSED: Case<'static> = Case {
+    input: BY_TOKEN,
+    end: SessionEnd::OpenRefused(Rule::NoLeaseToken),
+    steps: 1,
+    written: NO_LEASE_TOKEN,
+    ..WHOLE
+};
+
+/// A session that makes no step, and is written nothing.
+const NOTHING: Case<'static> = Case {
+    steps: 0,
+    written: b"",
+    ..WHOLE
+};
+
+const CASES: [Case<'static>; 26] = [
+    WHOLE,
+    Case {
+        input: HELLO_2_AND_CAPABILITY,
+        written: OPENED_AND_DONE,
+        ..WHOLE
+    },
+    Case {
+        input: HELLO_3,
+        end: SessionEnd::BadHello,
+        ..NOTHING
+    },
+    Case {
+        class: Class::Render,
+        ..WHOLE
+    },
+    Case {
+        class: Class::Root,
+        ..WHOLE
+    },
+    REFUSED,
+    Case {
+        class: Class::Root,
+        ..REFUSED
+    },
+    Case {
+        class: Class::Render,
+        input: BY_TOKEN,
+        end: SessionEnd::BadHello,
+        ..NOTHING
+    },
+    Case {
+        input: b"",
+        end: SessionEnd::Ended,
+        ..NOTHING
+    },
+    // both frames come by one take, and the next take finds the end
+    Case {
+        piece: 64,
+        turns: 4,
+        takes: Some(2),
+        ..WHOLE
+    },
+    Case {
+        piece: 64,
+        turns: 3,
+        end: SessionEnd::TurnsUsed,
+        ..WHOLE
+    },
+    Case {
+        piece: 1,
+        turns: 17,
+        end: SessionEnd::TurnsUsed,
+        ..NOTHING
+    },
+    Case {
+        piece: 1,
+        turns: 18,
+        end: SessionEnd::TurnsUsed,
+        steps: 2,
+        ..NOTHING
+    },
+    Case {
+        piece: 1,
+        turns: 19,
+        end: SessionEnd::TurnsUsed,
+        steps: 2,
+        written: OPENED,
+        ..WHOLE
+    },
+    Case {
+        piece: 1,
+        taken: 1,
+        turns: 28,
+        end: SessionEnd::TurnsUsed,
+        steps: 2,
+        written: OPENED,
+        ..WHOLE
+    },
+    Case {
+        piece: 64,
+        turns: 2,
+        end: SessionEnd::TurnsUsed,
+        steps: 3,
+        written: OPENED,
+        ..WHOLE
+    },
+    // interruptions are asked again, 1,000 in a row are a fault
+    Case {
+        piece: 1,
+        source: Cut::Interruptions(999),
+        ..WHOLE
+    },
+    Case {
+        piece: 1,
+        source: Cut::Interrupted(1000, 18),
+        end: SessionEnd::ReadFault,
+        steps: 2,
+        written: OPENED,
+        ..WHOLE
+    },
+    Case {
+        sink: Cut::Interrupted(1000, 10),
+        end: SessionEnd::WriteFault,
+        written: OPENED,
+        ..WHOLE
+    },
+    Case {
+        sink: Cut::End(0),
+        end: SessionEnd::WriteFault,
+        steps: 2,
+        written: b"",
+        ..WHOLE
+    },
+    // nothing is read behind an end
+    Case {
+        piece: 18,
+        takes: Some(1),
+        ..REFUSED
+    },
+    Case {
+        piece: 1,
+        takes: Some(18),
+        ..REFUSED
+    },
+    Case {
+        input: b"\x02\0\0\0\0\0\x02\0\0\0\0\0",
+        piece: 6,
+        end: SessionEnd::BadHello,
+        takes: Some(1),
+        ..NOTHING
+    },
+    Case {
+        input: b"\x01\0\0\0\0\0\0\0",
+        piece: 4,
+        end: SessionEnd::TooLong,
+        takes: Some(1),
+        ..NOTHING
+    },
+    Case {
+        input: b"\x01\0\0\0\0\0\0\0",
+        piece: 1,
+        end: SessionEnd::TooLong,
+        takes: Some(4),
+        ..NOTHING
+    },
+    Case {
+        input: b"\xff\x03\0",
+        end: SessionEnd::Truncated,
+        ..NOTHING
+    },
+];
+
+/// What comes in place of the hello, and how the session ends.
+const IN_PLACE_OF_HELLO: [(&[u8], SessionEnd); 5] = [
+    (b"\x02\0\0\0\0\0", SessionEnd::BadHello),
+    (b"\0\0\0\0", SessionEnd::TooLong),
+    (b"\x01\0\0\0", SessionEnd::TooLong),
+    (b"\x01\x04\0\0", SessionEnd::TooLong),
+    (b"\xff\xff\xff\xff", SessionEnd::TooLong),
+];
+
+/// What comes behind the hello, how the session ends after so many steps, and what is written behind the hello's answer.
+const AFTER_HELLO: [(&[u8], SessionEnd, u64, &[u8]); 12] = [
+    (b"\x02\0\0\0\0", SessionEnd::Truncated, 2, b""),
+    (b"\0\0\0\0", SessionEnd::TooLong, 2, b""),
+    (b"\x01\0\0\0", SessionEnd::TooLong, 2, b""),
+    (b"\x01\x04\0\0", SessionEnd::TooLong, 2, b""),
+    (b"\xff\xff\xff\xff", SessionEnd::TooLong, 2, b""),
+    (
+        b"\x04\0\0\0\0\0\0\0",
+        SessionEnd::Ended,
+        3,
+        b"\x0a\0\0\0\0\x20\x02\0\0\0\x16\0\0\0",
+    ),
+    // GEM_CLOSE with two bytes too many
+    (
+        b"\x08\0\0\0\x09\0\x01\0\0\0\0\0",
+        SessionEnd::Ended,
+        3,
+        b"\x0a\0\0\0\0\x20\x02\0\0\0\x16\0\0\0",
+    ),
+    // MODE_CREATE_LEASE of more ids than there are
+    (
+        b"\x06\0\0\0\xc6\0\xff\xff\xff\xff",
+        SessionEnd::Ended,
+        3,
+        b"\x0a\0\0\0\0\x20\x02\0\0\0\x16\0\0\0",
+    ),
+    // MODE_CREATE_LEASE of 33 ids
+    (
+        b"\x8a\0\0\0\xc6\0\x21\0\0\0\
+            \x01\0\0\0\x01\0\0\0\x01\0\0\0\x01\0\0\0\x01\0\0\0\x01\0\0\0\x01\0\0\0\x01\0\0\0\x01\0\0\0\x01\0\0\0\x01\0\0\0\
+            \x01\0\0\0\x01\0\0\0\x01\0\0\0\x01\0\0\0\x01\0\0\0\x01\0\0\0\x01\0\0\0\x01\0\0\0\x01\0\0\0\x01\0\0\0\x01\0\0\0\
+            \x01\0\0\0\x01\0\0\0\x01\0\0\0\x01\0\0\0\x01\0\0\0\x01\0\0\0\x01\0\0\0\x01\0\0\0\x01\0\0\0\x01\0\0\0\x01\0\0\0",
+        SessionEnd::Ended,
+        3,
+        b"\x0a\0\0\0\0\x20\x02\0\0\0\x16\0\0\0",
+    ),
+    // AUDIT of a kind that there is not
+    (
+        b"\x0a\0\0\0\x45\0\x0b\0\0\0\0\0\0\0",
+        SessionEnd::Ended,
+        3,
+        b"\x0a\0\0\0\0\x20\x02\0\0\0\x16\0\0\0",
+    ),
+    // a hello as a later frame is a number without a row
+    (
+        b"\x0e\0\0\0\0\x01\x01\0\0\0\0\0\0\0\0\0\0\0",
+        SessionEnd::Ended,
+        3,
+        b"\x0a\0\0\0\0\x20\x01\0\0\0\x16\0\0\0",
+    ),
+    (b"", SessionEnd::Ended, 2, b""),
+];
+
+/// Sessions that are served one after the other.
+#[derive(Clone, Copy)]
+struct Sessions<'a>(&'a [Case<'a>]);
+
+impl<R: Abort> Trial<R> for Sessions<'_> {
+    fn run(&self, rt: &R, alloc: Global, device: &mut Device) -> Result<(), Fail> {
+        let mut noted = 0usize;
+        for case in self.0 {
+            serves_one(rt, device, case);
+            noted = noted.wrapping_add(case.steps as usize);
+            same(rt, &device.journal().len(), &noted, "events");
+        }
+        Ok(())
+    }
+}
+
+/// Serves a session, and compares how it ends and what is written.
+fn serves_one(rt: &impl Abort, device: &mut Device, case: &Case<'_>) {
+    let mut source = source_of(case.input, case.piece, case.source);
+    let mut sink = sink_of(case.taken, case.sink);
+    let turns = case.turns.min(MANY_TURNS);
+    let session = serve_alone(
+        device,
+        &mut NoGate,
+        case.class,
+        &mut source,
+        &mut sink,
+        turns,
+    );
+    let ended = Session {
+        end: case.end,
+        client: if case.steps < 2 { 0 } else { 1 },
+        steps: case.steps,
+    };
+    same(rt, &session, &ended, "session");
+    same(rt, &sink.written(), &case.written, "written");
+    same(
+        rt,
+        &source.calls(),
+        &case.takes.unwrap_or(source.calls()),
+        "takes",
+    );
+}
+
+/// Serves these on a new device within these limits.
+fn serves(rt: &impl Abort, alloc: Global, limits: Limits, cases: &[Case<'_>]) -> Result<(), Fail> {
+    try_on_new(rt, alloc, limits, &Sessions(cases))
+}
+
+/// Serves this session in pieces of several sizes.
+fn serves_in_pieces(rt: &impl Abort, alloc: Global, case: Case<'_>) -> Result<(), Fail> {
+    for piece in PIECES {
+        let case = Case {
+            piece,
+            taken: piece,
+            ..case
+        };
+        serves(rt, alloc, Limits::PROGRAM, &[case])?;
+    }
+    Ok(())
+}
+
+/// Serves each on a new device.
+fn serves_each(rt: &impl Abort, alloc: Global, cases: &[Case<'_>]) -> Result<(), Fail> {
+    for case in cases {
+        serves(rt, alloc, Limits::PROGRAM, &[*case])?;
+    }
+    Ok(())
+}
+
+#[test]
+fn sessions_and_their_ends(rt: HostRuntime) -> Result<(), Fail> {
+    serves_each(&rt, rt.alloc(), &CASES)
+}
+
+/// An opening that a full journal refuses ends its session, and the device goes on.
+#[test]
+fn sessions_of_a_full_journal(rt: HostRuntime) -> Result<(), Fail> {
+    let limits = Limits {
+        journal: 2,
+        ..Limits::PROGRAM
+    };
+    let first = Case {
+        steps: 2,
+        written: OPENED_AND_FULL,
+        ..WHOLE
+    };
+    let full = Case {
+        end: SessionEnd::Apart(Apart::JournalFull),
+        steps: 0,
+        written: &OPENED_AND_FULL[10..],
+        ..WHOLE
+    };
+    serves(&rt, rt.alloc(), limits, &[first, full])
+}
+
+/// Two texts, one behind the other.
+fn joined(alloc: Global, front: &[u8], back: &[u8]) -> Result<Vec<u8>, AllocError> {
+    let mut text = Vec::new(alloc);
+    text.extend_from_slice(front)?;
+    text.extend_from_slice(back)?;
+    Ok(text)
+}
+
+#[test]
+fn frames_in_place_of_the_hello(rt: HostRuntime) -> Result<(), Fail> {
+    for (input, end) in IN_PLACE_OF_HELLO {
+        let case = Case {
+            input,
+            end,
+            ..NOTHING
+        };
+        serves_in_pieces(&rt, rt.alloc(), case)?;
+    }
+    Ok(())
+}
+
+#[test]
+fn frames_after_the_hello(rt: HostRuntime) -> Result<(), Fail> {
+    for (more, end, steps, written) in AFTER_HELLO {
+        let input = joined(rt.alloc(), &HELLO_VERSION[..18], more)?;
+        let written = joined(rt.alloc(), OPENED, written)?;
+        let case = Case {
+            input: input.as_slice(),
+            end,
+            steps,
+            written: written.as_slice(),
+            ..WHOLE
+        };
+        serves_in_pieces(&rt, rt.alloc(), case)?;
+    }
+    Ok(())
+}
+
+/// A session whose input is cut at this byte.
+fn cut_at(at: usize) -> Case<'static> {
+    let (steps, written) = match at {
+        0..18 => (0, b"".as_slice()),
+        18..24 => (2, OPENED),
+        _ => (3, ANSWERS),
+    };
+    let end = match at {
+        0 | 18 | 24 => SessionEnd::Ended,
+        _ => SessionEnd::Truncated,
+    };
+    Case {
+        source: Cut::End(at),
+        end,
+        steps,
+        written,
+        ..WHOLE
+    }
+}
+
+#[test]
+fn sessions_are_cut_at_each_byte(rt: HostRuntime) -> Result<(), Fail> {
+    for at in 0..25usize {
+        let ended = cut_at(at);
+        serves_in_pieces(&rt, rt.alloc(), ended)?;
+        let failed = Case {
+            source: Cut::Fault(at),
+            end: SessionEnd::ReadFault,
+            ..ended
+        };
+        serves_in_pieces(&rt, rt.alloc(), failed)?;
+    }
+    for at in 0..28usize {
+        let unwritten = Case {
+            sink: Cut::Fault(at),
+            end: SessionEnd::WriteFault,
+            steps: if at < 10 { 2 } else { 3 },
+            written: &ANSWERS[..at],
+            ..WHOLE
+        };
+        serves_in_pieces(&rt, rt.alloc(), unwritten)?;
+    }
+    Ok(())
+}
+
+/// What a session called, a digit each: 1 the gate before a request of client 1, 2 an opening, 3 a request, 4 a closing, and 5
+/// the gate before another client's.
+type Calls = Cell<u64>;
+
+/// Notes one call more.
+fn note(calls: &Calls, call: u64) {
+    calls.set(calls.get().wrapping_mul(10).wrapping_add(call));
+}
+
+/// A gate that notes its calls.
+#[derive(Drop)]
+struct NotedGate<'a>(&'a Calls);
+
+impl Gate for NotedGate<'_> {
+    ghost use Rattle.std.specs.Prelude.{⊤};
+
+    ghost passes = { λ before client after. ⊤ };
+
+    fn before(&mut self, client: u32) {
+        note(self.0, if client == 1 { 1 } else { 5 });
+    }
+}
+
+/// An access that notes its calls and opens each client as client 1.
+#[derive(Drop)]
+struct Noted<'a> {
+    calls: &'a Calls,
+    closing: Result<Answer, Apart>,
+}
+
+impl Access for Noted<'_> {
+    ghost use Rattle.std.specs.Prelude.{⊤};
+
+    ghost answers = { λ before event outcome after. ⊤ };
+
+    fn call(&mut self, event: Event) -> Result<Answer, Apart> {
+        match event {
+            Event::Open(_) => {
+                note(self.calls, 2);
+                Ok(Answer::Opened { client: 1 })
+            }
+            Event::Ask(_, _) => {
+                note(self.calls, 3);
+                Ok(Answer::Done)
+            }
+            Event::Close(_) => {
+                note(self.calls, 4);
+                match self.closing {
+                    Ok(_) => Ok(Answer::Closed),
+                    Err(apart) => Err(apart),
+                }
+            }
+        }
+    }
+}
+
+/// Serves the hello and VERSION twice, and gives the session with the calls that it made.
+fn noted_calls(alloc: Global, closing: Result<Answer, Apart>) -> Result<(Session, u64), Fail> {
+    let input = joined(alloc, HELLO_VERSION, &HELLO_VERSION[18..])?;
+    let calls = Cell::new(0);
+    let mut access = Noted {
+        calls: &calls,
+        closing,
+    };
+    let mut gate = NotedGate(&calls);
+    let mut source = FromRead::new(input.as_slice());
+    let mut sink = ToWrite::new(Vec::new(alloc));
+    let session = serve(
+        &mut access,
+        &mut gate,
+        Class::Card,
+        &mut source,
+        &mut sink,
+        MANY_TURNS,
+    );
+    Ok((session, calls.get()))
+}
+
+/// The gate stands before each request and nothing else; a closing for which there is no turn left is the end.
+#[test]
+fn gates_and_closings(rt: HostRuntime) -> Result<(), Fail> {
+    let rows: [(Result<Answer, Apart>, SessionEnd, u64); 3] = [
+        (Ok(Answer::Closed), SessionEnd::Ended, 4),
+        (Err(Apart::Worn), SessionEnd::Apart(Apart::Worn), 3),
+        (Err(Apart::JournalFull), SessionEnd::Ended, 3),
+    ];
+    for (closing, end, steps) in rows {
+        let (session, calls) = noted_calls(rt.alloc(), closing)?;
+        let ended = Session {
+            end,
+            client: 1,
+            steps,
+        };
+        same(&rt, &(session, calls), &(ended, 213_134), "calls");
+    }
+    Ok(())
+}
+
+/// Sends the hello and VERSION, closes its writing side, and gives what came back.
+fn client(alloc: Global, mut stream: UnixStream) -> io::Result<Vec<u8>> {
+    stream.write_all(HELLO_VERSION)?;
+    stream.shutdown(Shutdown::Write)?;
+    let mut answers = Vec::new(alloc);
+    stream.read_to_end(&mut answers)?;
+    Ok(answers)
+}
+
+/// Serves one client over the stream, which is closed at the end.
+fn serves_stream(device: &mut Device, stream: UnixStream) -> Session {
+    let mut source = FromRead::new(&stream);
+    let mut sink = ToWrite::new(&stream);
+    serve_alone(
+        device,
+        &mut NoGate,
+        Class::Card,
+        &mut source,
+        &mut sink,
+        MANY_TURNS,
+    )
+}
+
+/// A client and its server, each in a thread of its own.
+#[derive(Drop)]
+struct Streamed<'a, R> {
+    rt: &'a R,
+}
+
+impl<A: Abort, R: Net + Threads> Trial<A> for Streamed<'_, R> {
+    fn run(&self, rt: &A, alloc: Global, device: &mut Device) -> Result<(), Fail> {
+        let (ours, theirs) = UnixStream::pair(self.rt)?;
+        let (answers, session) = thread::join(
+            self.rt,
+            || client(alloc, theirs),
+            || serves_stream(device, ours),
+        );
+        same(
+            rt,
+            &(session.end, session.steps),
+            &(SessionEnd::Ended, 3),
+            "session",
+        );
+        same(rt, &answers?.as_slice(), &ANSWERS, "answers");
+        Ok(())
+    }
+}
+
+#[test]
+fn stream_is_served(rt: HostRuntime) -> Result<(), Fail> {
+    try_on_new(&rt, rt.alloc(), Limits::PROGRAM, &Streamed { rt: &rt })
+}
+
+/// What is told of the ends of sessions.
+const ENDS: [(SessionEnd, &str); 9] = [
+    (SessionEnd::Ended, "the input ended between frames"),
+    (SessionEnd::Truncated, "the input ended inside a frame"),
+    (SessionEnd::TooLong, "a frame's length is out of range"),
+    (
+        SessionEnd::BadHello,
+        "the first frame is no hello that this listener allows",
+    ),
+    (
+        SessionEnd::OpenRefused(Rule::NoLeaseToken),
+        "the opening was denied: 42 NoLeaseToken",
+    ),
+    (SessionEnd::ReadFault, "the connection could not be read"),
+    (
+        SessionEnd::WriteFault,
+        "the connection could not be written",
+    ),
+    (SessionEnd::TurnsUsed, "all reads and writes were used up"),
+    (
+        SessionEnd::Apart(Apart::JournalFull),
+        "the opening or the closing was answered: 50 JournalFull",
+    ),
+];
+
+#[test]
+fn ends_in_words(rt: HostRuntime) -> Result<(), Fail> {
+    let alloc: Global = rt.alloc();
+    for (end, text) in ENDS {
+        let told = format!(in alloc; "{end}")?;
+        same(&rt, &told.as_str(), &text, text);
+    }
+    Ok(())
+}

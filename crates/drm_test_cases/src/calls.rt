@@ -1,0 +1,92 @@
+//! Calls of a part as data, which are asked one after the other.
+
+use drm_table::Rule;
+
+/// A call of a part.
+pub trait Call<P> {
+    /// Makes the call, and returns what the part answers.
+    fn ask(self, part: &mut P) -> Told;
+}
+
+/// What a part answers: nothing, numbers, or a refusal. `Unasked` is for a call that may not be made.
+#[derive(Clone, Copy, PartialEq, Eq, Debug)]
+pub enum Told {
+    Unasked,
+    Nothing,
+    Done,
+    Whether(bool),
+    Number(u32),
+    Length(usize),
+    Two(u32, u32),
+    Three(u32, u32, u32),
+    /// A value that the call returns.
+    Back(u32),
+    /// An object that the call destroys.
+    Gone { birth: u32, size: u64 },
+    Denied(Rule),
+    Full,
+    NoMemory,
+}
+
+impl Told {
+    /// Returns the answer of a call that returns a number or none.
+    pub fn of(number: Option<u32>) -> Told {
+        match number {
+            Some(number) => Told::Number(number),
+            None => Told::Nothing,
+        }
+    }
+}
+
+/// Asks this, and once more where memory was refused, as it is where a test's requests for memory are refused in turn: nothing has
+/// changed then, as what is asked after it shows.
+fn answer<P, C: Call<P> + Copy>(part: &mut P, call: C) -> Told {
+    let told = call.ask(part);
+    if told == Told::NoMemory {
+        return call.ask(part);
+    }
+    told
+}
+
+/// An answer that is not the expected one, with the place of its call in a table.
+#[derive(Clone, Copy, PartialEq, Eq, Debug)]
+pub struct Difference {
+    pub place: usize,
+    pub told: Told,
+    pub expected: Told,
+}
+
+/// Asks each, and returns the first answer that differs from the expected one.
+pub fn check<P, C: Call<P> + Copy>(part: &mut P, cases: &[(C, Told)]) -> Option<Difference> {
+    for (place, (call, expected)) in cases.iter().enumerate() {
+        let told = answer(part, *call);
+        if told != *expected {
+            return Some(Difference {
+                place,
+                told,
+                expected: *expected,
+            });
+        }
+    }
+    None
+}
+
+/// Asks both, and returns the first answer of the part that differs from that of the plain one.
+pub fn compare<P, Q, C: Call<P> + Call<Q> + Copy>(
+    part: &mut P,
+    plain: &mut Q,
+    calls: &[C],
+) -> Option<Difference> {
+    for (place, call) in calls.iter().enumerate() {
+        let told = Call::<P>::ask(*call, part);
+        let expected = Call::<Q>::ask(*call, plain);
+        if told != expected {
+            return Some(Difference {
+                place,
+                told,
+                expected,
+            });
+        }
+    }
+    None
+}

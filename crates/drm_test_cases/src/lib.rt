@@ -1,0 +1,8 @@
+//! What tables of cases share: lists in calls and answers, and the calls of a part as data.
+#![tactic(auto)]
+
+mod calls;
+mod lists;
+
+pub use calls::{Call, Difference, Told, check, compare};
+pub use lists::{list_of, named, page_of, resources_of, row, shown};

@@ -1,5 +1,0 @@
-//! The examples of doc comments, made by `tools/doc_examples`.
-
-mod device;
-mod sessions;
-mod turns;
