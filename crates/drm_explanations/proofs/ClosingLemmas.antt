@@ -4,8 +4,8 @@ use Rattle.std.proofs.lemmas.List.{get_or-drop}
 use Rattle.drm_history.specs.History.{AnsweredEvent}
 use Rattle.drm_authority.specs.Closings.{closes, has_closed}
 use Rattle.drm_authority.specs.Effects.{effect}
-use Rattle.drm_rights.specs.Steps.{entry_of, followed_by, history_of}
-use Rattle.drm_rights.specs.declared.steps.Step.{Step}
+use Rattle.drm_trails.specs.Steps.{entry_of, followed_by, history_of}
+use Rattle.drm_trails.specs.declared.steps.Step.{Step}
 
 or_right : (b c : Bool) → c ≡ true → (b || c) ≡ true
 or_right true c h = refl

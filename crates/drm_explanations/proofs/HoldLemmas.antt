@@ -10,11 +10,11 @@ use Rattle.drm_history.specs.Holds.{Has}
 use Rattle.drm_lists.specs.Orders.{InOrder}
 use Rattle.drm_lists.proofs.Lists.{all_append, all_weaker, list_any_left, list_any_right, some_passing}
 use Rattle.drm_lists.proofs.Orders.{in_order_append}
-use Rattle.drm_rights.specs.Chains.{HasNone, IsOfDevice}
-use Rattle.drm_rights.specs.Handles.{is_given_at, is_held_since}
-use Rattle.drm_rights.specs.Searches.{last_gift}
-use Rattle.drm_rights.specs.declared.handles.Held.{Held}
-use Rattle.drm_rights.proofs.ObjectLemmas.{had_is_given, had_once}
+use Rattle.drm_trails.specs.Chains.{HasNone, IsOfDevice}
+use Rattle.drm_trails.specs.Handles.{is_given_at, is_held_since}
+use Rattle.drm_trails.specs.Searches.{last_gift}
+use Rattle.drm_trails.specs.declared.handles.Held.{Held}
+use Rattle.drm_trails.proofs.ObjectLemmas.{had_is_given, had_once}
 use Rattle.drm_explanations.specs.Rows.{is_shown}
 use Rattle.drm_explanations.specs.declared.rows.HandleRow.{HandleRow}
 

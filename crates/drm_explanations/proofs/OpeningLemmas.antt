@@ -1,9 +1,9 @@
 -- The clients that have rows, step by step.
 use Rattle.std.proofs.Common.{◌≡◌, ℕ, ◌+◌, ◌<◌, List, [], ◌∷◌, ◌++◌, length, get_or, map, take, Option, None, Some, option_to_list, refl, sym, ap, ◌∙◌, append-nil}
 use Rattle.std.specs.Option.{option_map}
-use Rattle.drm_rights.specs.Steps.{entry_of, followed_by, history_of}
-use Rattle.drm_rights.specs.declared.steps.Step.{Step}
-use Rattle.drm_rights.proofs.PassingLemmas.{history-more}
+use Rattle.drm_trails.specs.Steps.{entry_of, followed_by, history_of}
+use Rattle.drm_trails.specs.declared.steps.Step.{Step}
+use Rattle.drm_trails.proofs.PassingLemmas.{history-more}
 use Rattle.drm_explanations.specs.Rows.{clients_in, opens, with_row}
 use Rattle.drm_explanations.specs.declared.rows.ClientRow.{ClientRow}
 

@@ -19,8 +19,8 @@ use Rattle.drm_authority.specs.MasterState.{caller_master_in, lease_in}
 use Rattle.drm_authority.specs.Lessees.{ends}
 use Rattle.drm_rights.specs.Leases.{ended_at, leases_in, new_lease}
 use Rattle.drm_rights.specs.Ledgers.{authenticated_by, authentication_of, authentications_in, capabilities_in, capability_of, is_named_noted, master_state_of, new_authentication, new_capability, new_master_state, noted, opened, standings_in}
-use Rattle.drm_rights.specs.Steps.{entry_of, followed_by, history_of}
-use Rattle.drm_rights.specs.declared.steps.Step.{Step}
+use Rattle.drm_trails.specs.Steps.{entry_of, followed_by, history_of}
+use Rattle.drm_trails.specs.declared.steps.Step.{Step}
 use Rattle.drm_rights.specs.declared.notes.Authentication.{Authentication}
 use Rattle.drm_rights.specs.declared.notes.Capability.{Capability}
 use Rattle.drm_rights.specs.declared.notes.Lease.{Lease}

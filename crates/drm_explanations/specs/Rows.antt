@@ -19,10 +19,10 @@ use Rattle.drm_authority.specs.Effects.{effect}
 use Rattle.drm_authority.specs.Magics.{is_root_in, known}
 use Rattle.drm_authority.specs.MasterState.{is_master_in, master_in}
 use Rattle.drm_authority.specs.Shown.{is_universal_in}
-use Rattle.drm_rights.specs.Chains.{IsOfDevice}
+use Rattle.drm_trails.specs.Chains.{IsOfDevice}
 use Rattle.drm_rights.specs.Leases.{ended_at, lent_in}
 use Rattle.drm_rights.specs.Ledgers.{authentication_of, authentications_in, capabilities_in, capability_of, is_current_in, controls_in, lease_client_in, master_state_of, standings_in}
-use Rattle.drm_rights.specs.Passing.{first_step_after}
+use Rattle.drm_trails.specs.Passing.{first_step_after}
 use Rattle.drm_rights.specs.declared.notes.Authentication.{Authentication}
 use Rattle.drm_rights.specs.declared.notes.Lease.{Lease}
 use Rattle.drm_rights.specs.declared.notes.MasterState.{MasterState}

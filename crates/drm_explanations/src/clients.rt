@@ -3,7 +3,7 @@
 ghost use Rattle.std.specs.Prelude.{◌≡◌, ◌++◌, [], ◌∷◌, if◌then◌else◌, Some, All, IfOk, IfSome, map, option_to_list};
 ghost use Rattle.std.specs.Option.{option_map};
 ghost use Rattle.drm_modes.specs.Topology as fixed;
-ghost use Rattle.drm_rights.specs.Steps.{entry_of};
+ghost use Rattle.drm_trails.specs.Steps.{entry_of};
 ghost use Rattle.drm_explanations.specs.Rows as rows;
 
 use crate::fronts::Fronts;

@@ -8,7 +8,7 @@ ghost use Rattle.drm_authority.specs.Closings as closings;
 ghost use Rattle.drm_authority.specs.Closings.{has_closed};
 ghost use Rattle.drm_authority.specs.Effects.{effect};
 ghost use Rattle.drm_authority.specs.Shown.{is_universal_in};
-ghost use Rattle.drm_rights.specs.Steps.{entry_of, history_of};
+ghost use Rattle.drm_trails.specs.Steps.{entry_of, history_of};
 ghost use Rattle.drm_explanations.specs.Rows as rows;
 
 use crate::fronts::Fronts;

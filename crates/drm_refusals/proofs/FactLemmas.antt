@@ -3,11 +3,11 @@ use Rattle.std.proofs.Common.{◌≡◌, ℕ, ◌+◌, ◌<◌, List, length, ta
 use Rattle.drm_history.specs.History.{AnsweredEvent}
 use Rattle.drm_history.specs.Holds.{Has}
 use Rattle.drm_history.specs.Steps.{Key}
-use Rattle.drm_rights.specs.Searches.{last_sharing, sharings_at}
-use Rattle.drm_rights.specs.Steps.{history_of}
-use Rattle.drm_rights.specs.declared.searches.LastPublishing.{LastPublishing}
-use Rattle.drm_rights.specs.declared.steps.Step.{Step}
-use Rattle.drm_rights.proofs.HistoryLemmas.{next_number-take}
+use Rattle.drm_trails.specs.Searches.{last_sharing, sharings_at}
+use Rattle.drm_trails.specs.Steps.{history_of}
+use Rattle.drm_trails.specs.declared.searches.LastPublishing.{LastPublishing}
+use Rattle.drm_trails.specs.declared.steps.Step.{Step}
+use Rattle.drm_trails.proofs.HistoryLemmas.{next_number-take}
 use Rattle.drm_refusals.specs.Facts.{WasNamed, publisher}
 
 pub published_by : (steps : List Step) (history : List AnsweredEvent) (key : Key) (found : LastPublishing) → history_of steps ≡ history → found.past < length steps → sharings_at steps (Some found) ≡ last_sharing (history_of steps) key

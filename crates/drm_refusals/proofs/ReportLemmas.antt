@@ -14,9 +14,9 @@ use Rattle.drm_history.specs.History as past
 use Rattle.drm_history.specs.History.{AnsweredEvent}
 use Rattle.drm_history.proofs.Histories.{history_grows}
 use Rattle.drm_history.proofs.Told.{none_some}
-use Rattle.drm_rights.specs.Steps.{entry_of, followed_by, history_of}
-use Rattle.drm_rights.specs.declared.steps.Step.{Step}
-use Rattle.drm_rights.proofs.PassingLemmas.{history-more}
+use Rattle.drm_trails.specs.Steps.{entry_of, followed_by, history_of}
+use Rattle.drm_trails.specs.declared.steps.Step.{Step}
+use Rattle.drm_trails.proofs.PassingLemmas.{history-more}
 use Rattle.drm_explanations.specs.declared.rows.At.{At}
 use Rattle.drm_explanations.proofs.WithinLemmas.{step_reported, steps_of}
 use Rattle.drm_refusals.specs.Reports.{denied_by, last_number, last_rule}

@@ -12,15 +12,15 @@ use Rattle.drm_authority.specs.Lessees.{granted}
 use Rattle.drm_authority.specs.Magics.{magic_in}
 use Rattle.drm_authority.specs.MasterState.{master_in}
 use Rattle.drm_authority.specs.Shown.{is_universal_in}
-use Rattle.drm_rights.specs.Handles.{is_given_at, is_held_since}
+use Rattle.drm_trails.specs.Handles.{is_given_at, is_held_since}
 use Rattle.drm_rights.specs.Leases.{lease_of_token, leases_in}
 use Rattle.drm_rights.specs.Ledgers.{authentication_of, authentications_in, controls_in}
-use Rattle.drm_rights.specs.Passing.{first_step_after, last_step}
-use Rattle.drm_rights.specs.Searches.{Sharing, last_gift, last_sharing}
-use Rattle.drm_rights.specs.Steps.{key_of}
+use Rattle.drm_trails.specs.Passing.{first_step_after, last_step}
+use Rattle.drm_trails.specs.Searches.{Sharing, last_gift, last_sharing}
+use Rattle.drm_trails.specs.Steps.{key_of}
 use Rattle.drm_rights.specs.declared.notes.Lease.{Lease}
 use Rattle.drm_rights.specs.declared.notes.Authentication.{Authentication}
-use Rattle.drm_rights.specs.declared.handles.Held.{Held}
+use Rattle.drm_trails.specs.declared.handles.Held.{Held}
 use Rattle.drm_explanations.specs.Rows.{closed_step}
 use Rattle.drm_explanations.specs.declared.rows.At.{At}
 use Rattle.drm_refusals.specs.Leases.{lease_meant}

@@ -4,7 +4,7 @@ use Rattle.std.specs.Option.{is_some}
 use Rattle.drm_history.specs.History.{AnsweredEvent}
 use Rattle.drm_history.specs.Steps.{given, takes}
 use Rattle.drm_model.specs.Rows.{is_option}
-use Rattle.drm_rights.specs.Searches.{source_for}
+use Rattle.drm_trails.specs.Searches.{source_for}
 use Rattle.drm_explanations.specs.Rows as rows
 use Rattle.drm_refusals.specs.declared.searching.Search.{Search}
 use Rattle.drm_refusals.specs.declared.searching.Search.TheVariants.{Gives, Takes, Opens}

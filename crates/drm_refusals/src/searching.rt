@@ -1,8 +1,8 @@
 //! The last step that did something to a client or its handle.
 
 ghost use Rattle.std.specs.Prelude.{◌≡◌};
-ghost use Rattle.drm_rights.specs.Passing.{last_step};
-ghost use Rattle.drm_rights.specs.Steps.{entry_of, history_of};
+ghost use Rattle.drm_trails.specs.Passing.{last_step};
+ghost use Rattle.drm_trails.specs.Steps.{entry_of, history_of};
 ghost use Rattle.drm_refusals.specs.Searches as specs;
 
 use drm_rights::Step;

@@ -1,8 +1,8 @@
 //! Steps that took back what a client had.
 
 ghost use Rattle.std.specs.Prelude.{◌≡◌, ◌<◌, ◌+◌, length};
-ghost use Rattle.drm_rights.specs.Passing.{first_step_after};
-ghost use Rattle.drm_rights.specs.Steps.{entry_of, history_of, key_of};
+ghost use Rattle.drm_trails.specs.Passing.{first_step_after};
+ghost use Rattle.drm_trails.specs.Steps.{entry_of, history_of, key_of};
 ghost use Rattle.drm_refusals.specs.Withdrawals as specs;
 
 use drm_rights::{Key, LastPublishing, Step};

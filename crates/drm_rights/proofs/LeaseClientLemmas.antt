@@ -12,7 +12,7 @@ use Rattle.drm_authority.specs.MasterState.{lease_in, master_state}
 use Rattle.drm_authority.proofs.Falls.{lease_up}
 use Rattle.drm_rights.specs.Ledgers.{is_redemption, new_master_state, noted, opened, redeemed_by, lease_client_in, standings_in}
 use Rattle.drm_rights.specs.declared.notes.MasterState.{MasterState}
-use Rattle.drm_rights.proofs.LeaseLemmas.{find-append}
+use Rattle.std.proofs.lemmas.List.Folds.{find-append}
 use Rattle.std.proofs.Math.Bool.{and-false}
 
 abbrev pub client_of : Option MasterState → Option ℕ

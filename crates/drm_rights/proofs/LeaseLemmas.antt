@@ -5,6 +5,7 @@ use Rattle.std.specs.List.{AllByRecursion}
 use Rattle.std.specs.Option.{is_some, option_or}
 use Rattle.std.proofs.lemmas.Bool.{eqb-true}
 use Rattle.std.proofs.lemmas.Bool.Decides.{nat_tests}
+use Rattle.std.proofs.lemmas.List.Folds.{find-append}
 use Rattle.drm_lists.specs.Chains.{is_under}
 use Rattle.drm_lists.proofs.Lists.{all_append, all_weaker}
 use Rattle.drm_lists.proofs.Found.{find-same}
@@ -21,7 +22,7 @@ use Rattle.drm_authority.proofs.Falls.{UpTo, master_up, lessee_born, under_still
 use Rattle.drm_rights.specs.Leases.{lease_at, lease_of_token, lease_of_id, if_older, lessor_noted, master_of_lease, is_ended_by, new_lease, leases_in, end_with, ends_in, ended_at, LeasesRise, EndsRise}
 use Rattle.drm_rights.specs.declared.notes.Lease.{Lease}
 use Rattle.drm_rights.specs.declared.notes.End.{End}
-use Rattle.drm_rights.proofs.NoteLemmas.{find-newest, append-none}
+use Rattle.drm_trails.proofs.NoteLemmas.{find-newest, append-none}
 use Rattle.drm_authority.proofs.SeesNothing.{ended_up}
 
 abbrev pub note_of : List AnsweredEvent → ℕ → ℕ → ℕ → Lease
@@ -169,10 +170,6 @@ ends_still : (step : AnsweredEvent) (past : List AnsweredEvent) (m : ℕ) → fi
 ends_still step past m =
     find-same (ended_told (step ∷ past) m) (ended_told past m) (ends_in past)
     (all_weaker (λ (e : End). e.step ≤ length past) (λ (e : End). ended_told (step ∷ past) m e ≡ ended_told past m e) (told_still step past m) (ends_in past) (ends_born past))
-
-pub find-append : {X : Type 0} (p : X → Bool) (xs ys : List X) → find p (xs ++ ys) ≡ option_or (find p xs) (find p ys)
-find-append p [] ys = refl
-find-append p (x ∷ xs) ys = (elim (p x) as (λ b. cond b (Some x) (find p (xs ++ ys)) ≡ option_or (cond b (Some x) (find p xs)) (find p ys)) [ true ↦ refl | false ↦ find-append p xs ys ])
 
 abbrev pub step_of : Option End → Option ℕ
 step_of found = option_map (λ (e : End). e.step) found

@@ -19,7 +19,7 @@ use Rattle.drm_rights.specs.declared.notes.End.{End}
 use Rattle.drm_rights.specs.declared.notes.Magic.{Magic}
 use Rattle.drm_rights.specs.declared.notes.Authentication.{Authentication}
 use Rattle.drm_rights.specs.declared.notes.Capability.{Capability}
-use Rattle.drm_rights.proofs.NoteLemmas.{find-newest, any-newest, append-none}
+use Rattle.drm_trails.proofs.NoteLemmas.{find-newest, any-newest, append-none}
 
 -- ---- master states
 

@@ -26,16 +26,16 @@ use Rattle.drm_authority.specs.MasterState.{master_in}
 use Rattle.drm_authority.specs.Lessees.{lessor_in, ended_by, ends, has_ended, is_plane_of, is_controlled, is_lent, granted}
 use Rattle.drm_authority.specs.Shown.{is_universal_in}
 use Rattle.drm_authority.proofs.Falls.{UpTo, none_up, master_up, lessor_still}
-use Rattle.drm_rights.specs.Effects.{leased_by}
-use Rattle.drm_rights.specs.Steps.{entry_of, history_of}
+use Rattle.drm_trails.specs.Effects.{leased_by}
+use Rattle.drm_trails.specs.Steps.{entry_of, history_of}
 use Rattle.drm_rights.specs.Leases.{lease_at, if_older, new_lease, leases_in, ended_at, listed_by, listed_in, lent_in, is_ended_before, had_to_lend, comes_along, lent_by}
-use Rattle.drm_rights.specs.declared.steps.Step.{Step}
+use Rattle.drm_trails.specs.declared.steps.Step.{Step}
 use Rattle.drm_rights.specs.declared.notes.Lease.{Lease}
-use Rattle.drm_rights.proofs.NoteLemmas.{append-none, among-filter}
-use Rattle.drm_rights.proofs.HistoryLemmas.{followed_by-append, next_number-take}
+use Rattle.drm_trails.proofs.NoteLemmas.{append-none, among-filter}
+use Rattle.drm_trails.proofs.HistoryLemmas.{followed_by-append, next_number-take}
 use Rattle.drm_authority.proofs.SeesNothing.{ended_up}
 use Rattle.drm_rights.proofs.LeaseLemmas.{note_of, at-newest, ends_none, not_ended, has_ended_at, lessor_told}
-use Rattle.drm_rights.proofs.HandleLemmas.{and_true}
+use Rattle.drm_trails.proofs.HandleLemmas.{and_true}
 
 abbrev is_next : List AnsweredEvent → ℕ → Bool
 is_next past m = m == next_number past

@@ -1,10 +1,2 @@
-pub mod Steps
-pub mod Answers
-pub mod Searches
-pub mod Handles
-pub mod Objects
-pub mod Passing
-pub mod Chains
-pub mod Effects
 pub mod Leases
 pub mod Ledgers

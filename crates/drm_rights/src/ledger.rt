@@ -4,22 +4,20 @@ ghost use Rattle.std.specs.Prelude.{◌≡◌, ◌&&◌, ◌∷◌, ◌++◌, �
 ghost use Rattle.std.specs.List.Sorted.{IsNonDecreasing};
 ghost use Rattle.std.specs.Option.{is_some, option_map_or};
 ghost use Rattle.drm_lists.specs.Numbers as numbers;
-ghost use Rattle.drm_rights.specs.Effects.{effect_of};
-ghost use Rattle.drm_rights.specs.Steps.{history_of};
+ghost use Rattle.drm_trails.specs.Effects.{effect_of};
+ghost use Rattle.drm_trails.specs.Steps.{history_of};
 ghost use Rattle.drm_rights.specs.Leases as lending;
 ghost use Rattle.drm_rights.specs.Leases.{end_with, ended_at, leases_in, lent_in, listed_in, new_lease};
 ghost use Rattle.drm_rights.specs.Ledgers as ledgers;
 ghost use Rattle.drm_rights.specs.Ledgers.{authentication_of, authentications_in, capabilities_in, capability_of, controls_in, is_current_in, is_same_master, new_capability, new_root, owner_since_in, lease_client_in, master_state_of, standings_in};
 
-use crate::effects::Effect;
 use crate::notes::{
     Authentication, Capability, End, Lease, Magic, MasterState, first_authentication, first_end,
     first_redemption, is_named, is_root, last_capability, last_magic, last_master_state, lease_at,
-    lease_of_id, lease_of_token, lessor_of, top_of, with_item,
+    lease_of_id, lease_of_token, lessor_of, top_of,
 };
-use crate::steps::Step;
-use crate::trail::Trail;
 use drm_modes::Topology;
+use drm_trails::{Effect, Step, Trail, with_item};
 use std::alloc::{AllocError, Global};
 use std::marker::Model;
 
@@ -44,7 +42,7 @@ pub struct Ledger {
 impl Model for Ledger {
     ghost use Rattle.std.specs.Prelude.{List};
     ghost use Rattle.drm_history.specs.History.{AnsweredEvent};
-    ghost use Rattle.drm_rights.specs.Steps.{history_of};
+    ghost use Rattle.drm_trails.specs.Steps.{history_of};
     ghost use Rattle.drm_rights.specs.Ledgers.{IsLedger};
 
     ghost Value = { List AnsweredEvent };
@@ -63,7 +61,7 @@ impl Ledger {
     ghost use Rattle.drm_authority.specs.Lessees as lessees;
     ghost use Rattle.drm_authority.specs.Lessees.{granted, has_ended, lessee_in, lessor_in, top_in};
     ghost use Rattle.drm_rights.specs.Ledgers.{new_authentication, new_magic, new_master_state};
-    ghost use Rattle.drm_rights.specs.Steps.{entry_of, history_of};
+    ghost use Rattle.drm_trails.specs.Steps.{entry_of, history_of};
 
     /// No step yet.
     pub fn new(alloc: Global) -> Ledger

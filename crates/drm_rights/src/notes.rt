@@ -1,15 +1,13 @@
 //! What is noted of the steps of a history, and look-ups in it. Nothing that was noted is taken out: where there are several of
 //! one kind, the last counts.
 
-ghost use Rattle.std.specs.Prelude.{◌≡◌, ◌<◌, ◌≤◌, ◌++◌, find, length, option_to_list, IfOk, IfSome};
+ghost use Rattle.std.specs.Prelude.{◌≡◌, ◌<◌, ◌≤◌, find, length, IfSome};
 ghost use Rattle.std.specs.List.{AllWithin};
 ghost use Rattle.drm_lists.specs.Chains as chains;
 ghost use Rattle.drm_rights.specs.Ledgers as ledgers;
 ghost use Rattle.drm_rights.specs.Ledgers.{authentication_of, capability_of, is_named_noted, is_root_noted, magic_of, master_state_of};
 ghost use Rattle.drm_rights.specs.Leases as lending;
 ghost use Rattle.drm_rights.specs.Leases.{is_ended_by, lessor_noted};
-
-use std::alloc::AllocError;
 
 /// How a client stands to masters from a step on: whether it is one of its own, and which is its master, its own or one that it
 /// joined.
@@ -69,17 +67,6 @@ pub struct Capability {
     pub step: u64,
     pub client: u64,
     pub universal: bool,
-}
-
-/// The list with one item more, if there is one.
-pub(crate) fn with_item<T: Drop>(list: Vec<T>, item: Option<T>) -> Result<Vec<T>, AllocError>
-    ensures { IfOk result (λ longer. longer.items ≡ list.items ++ option_to_list item) }
-{
-    let mut list = list;
-    if let Some(item) = item {
-        list.push(item)?;
-    }
-    Ok(list)
 }
 
 /// The last step that said whether a client has universal planes on.

@@ -1,7 +1,7 @@
 use Rattle.std.proofs.Common.{◌≡◌, All, IfSome, List, None, Some, map, option_to_list, sym, ap, subst, ◌∙◌}
 use Rattle.std.specs.Option.{option_map}
 use Rattle.std.proofs.lemmas.List.Elements.{All-nil, All-push}
-use Rattle.drm_rights.specs.Steps.{entry_of}
+use Rattle.drm_trails.specs.Steps.{entry_of}
 use Rattle.drm_explanations.specs.Rows as rows
 use Rattle.drm_explanations.specs.declared.rows.ClientRow.{ClientRow}
 use Rattle.drm_explanations.proofs.OpeningLemmas.{client_of, none_opened, with_none, with_one}

@@ -1,5 +1,5 @@
 use Rattle.std.proofs.Common.{◌≡◌, All, map, take}
-use Rattle.drm_rights.specs.Steps.{history_of}
+use Rattle.drm_trails.specs.Steps.{history_of}
 use Rattle.drm_explanations.specs.Rows as rows
 use Rattle.drm_explanations.proofs.OpeningLemmas.{client_of}
 use Rattle.drm_explanations.proofs.clients.client_rows.Given as goal

@@ -5,9 +5,9 @@ use Rattle.std.specs.List.{slice_range}
 use Rattle.drm_authority.specs.Closings.{closes}
 use Rattle.drm_authority.specs.Effects.{effect}
 use Rattle.drm_history.specs.History.{AnsweredEvent}
-use Rattle.drm_rights.specs.Passing.{first_step_after}
-use Rattle.drm_rights.specs.Steps.{history_of}
-use Rattle.drm_rights.proofs.PassingLemmas.{first_step-early, first_step-found, first_step-passed}
+use Rattle.drm_trails.specs.Passing.{first_step_after}
+use Rattle.drm_trails.specs.Steps.{history_of}
+use Rattle.drm_trails.proofs.PassingLemmas.{first_step-early, first_step-found, first_step-passed}
 use Rattle.drm_explanations.proofs.ClosingLemmas.{closed_behind}
 use Rattle.drm_explanations.proofs.reasons.closed_at.Goals as goal
 

@@ -1,8 +1,8 @@
 use Rattle.std.proofs.Common.{◌≡◌, ◌+◌, drop, take, None}
 use Rattle.drm_authority.specs.Closings.{closes}
 use Rattle.drm_authority.specs.Effects.{effect}
-use Rattle.drm_rights.specs.Passing.{first_step_after}
-use Rattle.drm_rights.specs.Steps.{history_of}
+use Rattle.drm_trails.specs.Passing.{first_step_after}
+use Rattle.drm_trails.specs.Steps.{history_of}
 use Rattle.drm_explanations.proofs.reasons.closed_at.Given as goal
 
 abbrev pub invariant-loop-place : goal.invariant-loop-place

@@ -5,12 +5,12 @@ use Rattle.std.proofs.lemmas.List.{take_all}
 use Rattle.std.proofs.lemmas.Option.{get_or_from_slice_get, slice_get-get_or}
 use Rattle.drm_history.specs.History.{AnsweredEvent}
 use Rattle.drm_history.specs.Holds.{Has}
-use Rattle.drm_rights.specs.Chains.{HasNone, IsOfDevice}
-use Rattle.drm_rights.specs.Handles.{is_given_at, is_held_since}
-use Rattle.drm_rights.specs.Searches.{last_gift}
-use Rattle.drm_rights.specs.Steps.{history_of}
-use Rattle.drm_rights.specs.declared.handles.Held.{Held}
-use Rattle.drm_rights.specs.declared.steps.Step.{Step}
+use Rattle.drm_trails.specs.Chains.{HasNone, IsOfDevice}
+use Rattle.drm_trails.specs.Handles.{is_given_at, is_held_since}
+use Rattle.drm_trails.specs.Searches.{last_gift}
+use Rattle.drm_trails.specs.Steps.{history_of}
+use Rattle.drm_trails.specs.declared.handles.Held.{Held}
+use Rattle.drm_trails.specs.declared.steps.Step.{Step}
 use Rattle.drm_explanations.specs.declared.rows.HandleRow.{HandleRow}
 use Rattle.drm_explanations.proofs.HoldLemmas.{AreRows, IsShown, all_rows, no_rows, with_row, without_row}
 use Rattle.drm_explanations.proofs.reasons.holds_of.Goals as goal

@@ -1,4 +1,4 @@
-use Rattle.drm_rights.specs.Steps.{history_of}
+use Rattle.drm_trails.specs.Steps.{history_of}
 use Rattle.drm_explanations.proofs.HoldLemmas.{AreRows}
 use Rattle.drm_explanations.proofs.reasons.holds_of.Given as goal
 

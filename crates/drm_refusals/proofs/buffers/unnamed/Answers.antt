@@ -1,7 +1,7 @@
 use Rattle.std.proofs.Common.{◌+◌, take, sym, ◌∙◌, ap, subst}
 use Rattle.drm_history.specs.Holds.{Has}
-use Rattle.drm_rights.specs.Steps.{history_of, key_of}
-use Rattle.drm_rights.specs.declared.steps.Key.TheVariants.{Name}
+use Rattle.drm_trails.specs.Steps.{history_of, key_of}
+use Rattle.drm_trails.specs.declared.steps.Key.TheVariants.{Name}
 use Rattle.drm_refusals.specs.Facts.{IsNamed}
 use Rattle.drm_refusals.proofs.FactLemmas.{named_of, published_by}
 use Rattle.drm_refusals.proofs.buffers.unnamed.Goals as goal

@@ -1,6 +1,6 @@
 use Rattle.std.proofs.Common.{◌+◌, Some, sym, ◌∙◌, ap}
-use Rattle.drm_rights.specs.Passing.{first_step_after}
-use Rattle.drm_rights.specs.Steps.{key_of}
+use Rattle.drm_trails.specs.Passing.{first_step_after}
+use Rattle.drm_trails.specs.Steps.{key_of}
 use Rattle.drm_refusals.specs.Withdrawals.{withdraws}
 use Rattle.drm_refusals.proofs.FactLemmas.{published_by}
 use Rattle.drm_refusals.proofs.publications.publication.Goals as goal

@@ -1,7 +1,7 @@
 use Rattle.std.proofs.Common.{◌+◌, cond, Some, sym, ap, ◌∙◌}
-use Rattle.drm_rights.specs.Passing.{last_step}
-use Rattle.drm_rights.specs.Steps.{history_of}
-use Rattle.drm_rights.proofs.PassingLemmas.{last_step-more, last_step-none}
+use Rattle.drm_trails.specs.Passing.{last_step}
+use Rattle.drm_trails.specs.Steps.{history_of}
+use Rattle.drm_trails.proofs.PassingLemmas.{last_step-more, last_step-none}
 use Rattle.drm_refusals.specs.Searches.{passes}
 use Rattle.drm_refusals.proofs.searching.last.Goals as goal
 use Rattle.drm_refusals.proofs.searching.last.Goals.{then-passes, else-passes}

@@ -1,6 +1,6 @@
 use Rattle.std.proofs.Common.{◌≡◌, take}
-use Rattle.drm_rights.specs.Passing.{last_step}
-use Rattle.drm_rights.specs.Steps.{history_of}
+use Rattle.drm_trails.specs.Passing.{last_step}
+use Rattle.drm_trails.specs.Steps.{history_of}
 use Rattle.drm_refusals.specs.Searches.{passes}
 use Rattle.drm_refusals.proofs.searching.last.Given as goal
 

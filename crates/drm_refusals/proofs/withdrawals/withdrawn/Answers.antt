@@ -1,8 +1,8 @@
 use Rattle.std.proofs.Common.{◌≡◌, ◌+◌, ◌-◌, ◌<◌, ◌≤◌, length, get_or, take, drop, arith, sym, ap, ◌∙◌, add-zero}
 use Rattle.std.proofs.lemmas.List.{get_or-drop, length-drop}
-use Rattle.drm_rights.specs.Passing.{first_step_after}
-use Rattle.drm_rights.specs.Steps.{history_of, key_of}
-use Rattle.drm_rights.proofs.PassingLemmas.{first_step-early, first_step-found, first_step-passed}
+use Rattle.drm_trails.specs.Passing.{first_step_after}
+use Rattle.drm_trails.specs.Steps.{history_of, key_of}
+use Rattle.drm_trails.proofs.PassingLemmas.{first_step-early, first_step-found, first_step-passed}
 use Rattle.drm_refusals.specs.Withdrawals.{withdraws}
 use Rattle.drm_refusals.proofs.withdrawals.withdrawn.Goals as goal
 

@@ -1,6 +1,6 @@
 use Rattle.std.proofs.Common.{◌≡◌, ◌+◌, drop, take, None}
-use Rattle.drm_rights.specs.Passing.{first_step_after}
-use Rattle.drm_rights.specs.Steps.{history_of, key_of}
+use Rattle.drm_trails.specs.Passing.{first_step_after}
+use Rattle.drm_trails.specs.Steps.{history_of, key_of}
 use Rattle.drm_refusals.specs.Withdrawals.{withdraws}
 use Rattle.drm_refusals.proofs.withdrawals.withdrawn.Given as goal
 

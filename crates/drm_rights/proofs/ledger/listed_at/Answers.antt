@@ -1,6 +1,6 @@
 use Rattle.std.proofs.Common.{inl, inr, sym, ◌∙◌, arith}
-use Rattle.drm_rights.specs.Steps.{history_of}
-use Rattle.drm_rights.proofs.HistoryLemmas.{length-history_of}
+use Rattle.drm_trails.specs.Steps.{history_of}
+use Rattle.drm_trails.proofs.HistoryLemmas.{length-history_of}
 use Rattle.drm_rights.proofs.LendingLemmas.{listed_at, listed_none}
 use Rattle.drm_rights.proofs.ledger.listed_at.Goals as goal
 use Rattle.drm_rights.proofs.ledger.listed_at.Goals.{then-number-eq0-via-then-number-eq0, then-number-eq0-via-else-number-eq0+then-number-steps}

@@ -1,7 +1,7 @@
 use Rattle.std.proofs.Common.{find, sym, subst, ◌∙◌, ap}
 use Rattle.std.specs.Option.{is_some}
 use Rattle.drm_rights.specs.Leases.{leases_in, ends_in, is_ended_by, LeasesRise, EndsRise}
-use Rattle.drm_rights.specs.Steps.{history_of}
+use Rattle.drm_trails.specs.Steps.{history_of}
 use Rattle.drm_rights.proofs.LeaseLemmas.{leases_rise, ends_rise, step_of, end_noted, has_ended_at}
 use Rattle.drm_rights.proofs.ledger.Ledger.ended.Goals as goal
 

@@ -3,7 +3,7 @@ use Rattle.drm_authority.specs.Lessees.{has_ended}
 use Rattle.drm_rights.specs.Leases.{lent_in}
 use Rattle.drm_rights.proofs.LendingLemmas.{granted_was_lent, none_of}
 use Rattle.drm_rights.proofs.ledger.Ledger.is_granted.Goals as goal
-use Rattle.drm_rights.proofs.HandleLemmas.{and_true}
+use Rattle.drm_trails.proofs.HandleLemmas.{and_true}
 
 pub returns-then-is_none : goal.returns-then-is_none
 returns-then-is_none c =

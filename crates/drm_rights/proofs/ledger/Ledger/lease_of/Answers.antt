@@ -2,7 +2,7 @@ use Rattle.std.proofs.Common.{◌∙◌, ap}
 use Rattle.drm_rights.specs.Leases.{leases_in, lease_at}
 use Rattle.std.proofs.Common.{subst, sym}
 use Rattle.drm_rights.specs.Leases.{LeasesRise}
-use Rattle.drm_rights.specs.Steps.{history_of}
+use Rattle.drm_trails.specs.Steps.{history_of}
 use Rattle.drm_rights.proofs.LeaseLemmas.{leases_rise}
 use Rattle.drm_rights.proofs.ledger.Ledger.lease_of.Goals as goal
 

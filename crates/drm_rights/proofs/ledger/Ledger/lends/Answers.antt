@@ -5,7 +5,7 @@ use Rattle.drm_authority.proofs.Falls.{lessor_falls}
 use Rattle.drm_rights.specs.Leases.{lent_in, lent_by, comes_along, is_ended_before}
 use Rattle.drm_rights.proofs.LendingLemmas.{lends_by, lent_told, none_of}
 use Rattle.drm_rights.proofs.ledger.Ledger.lends.Goals as goal
-use Rattle.drm_rights.proofs.HandleLemmas.{and_true}
+use Rattle.drm_trails.proofs.HandleLemmas.{and_true}
 
 pub returns-in_default : goal.returns-in_default
 returns-in_default c =

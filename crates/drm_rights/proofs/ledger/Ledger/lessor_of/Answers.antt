@@ -3,7 +3,7 @@ use Rattle.drm_rights.specs.Leases.{leases_in, lessor_noted}
 use Rattle.drm_rights.proofs.LeaseLemmas.{lessor_told}
 use Rattle.std.proofs.Common.{subst, sym}
 use Rattle.drm_rights.specs.Leases.{LeasesRise}
-use Rattle.drm_rights.specs.Steps.{history_of}
+use Rattle.drm_trails.specs.Steps.{history_of}
 use Rattle.drm_rights.proofs.LeaseLemmas.{leases_rise}
 use Rattle.drm_rights.proofs.ledger.Ledger.lessor_of.Goals as goal
 

@@ -1,5 +1,5 @@
 use Rattle.std.proofs.Common.{ap}
-use Rattle.drm_rights.specs.Steps.{followed_by, history_of}
+use Rattle.drm_trails.specs.Steps.{followed_by, history_of}
 use Rattle.drm_rights.proofs.LedgerLemmas.{no_ledger}
 use Rattle.drm_rights.proofs.ledger.Ledger.new.Goals as goal
 

@@ -5,11 +5,11 @@ use Rattle.drm_authority.specs.Effects.{effect}
 use Rattle.drm_authority.specs.MasterState.{lease_in, caller_master_in, owner_in, master_state, transition}
 use Rattle.drm_authority.specs.Lessees.{ended_by}
 use Rattle.drm_authority.specs.Magics.{magic_in}
-use Rattle.drm_rights.specs.Effects.{effect_of, leased_by}
-use Rattle.drm_rights.specs.Steps.{entry_of, history_of}
+use Rattle.drm_trails.specs.Effects.{effect_of, leased_by}
+use Rattle.drm_trails.specs.Steps.{entry_of, history_of}
 use Rattle.drm_rights.specs.Leases.{new_lease, end_with}
 use Rattle.drm_rights.specs.Ledgers.{new_authentication, new_capability, new_magic, new_root, new_master_state, is_same_master, owner_since_in}
-use Rattle.drm_rights.proofs.HistoryLemmas.{followed_by-append}
+use Rattle.drm_trails.proofs.HistoryLemmas.{followed_by-append}
 use Rattle.drm_rights.proofs.LedgerLemmas.{ledger_after, ledger_along}
 use Rattle.drm_rights.proofs.ledger.Ledger.note.Goals as goal
 

@@ -1,0 +1,186 @@
+//! What a step means for masters, leases, authentication and capabilities, by its event and its answer alone (drm(7), masters and
+//! magics; drm-uapi, leases, render nodes and client capabilities).
+
+ghost use Rattle.std.specs.Prelude.{◌≡◌, ℕ, List};
+ghost use Rattle.drm_authority.specs.Effects as told;
+ghost use Rattle.drm_table.specs.declared.calls.Call.TheVariants.{CreateLease, GetMagic};
+ghost use Rattle.drm_table.specs.declared.events.Event.TheVariants.{Ask};
+ghost use Rattle.drm_trails.specs.Effects as effects;
+ghost use Rattle.drm_trails.specs.Effects.{effect_of, leased_by};
+
+use crate::steps::{Step, is_closed};
+use drm_table::{Answer, Call, Event, Opening};
+
+/// What a step did. A denial, and each call that is not told here, is nothing.
+#[derive(Clone, Copy, PartialEq, Eq, Debug)]
+pub enum Effect {
+    Nothing,
+    OpensPrimary {
+        root: bool,
+        universal: bool,
+    },
+    OpensRender,
+    Redeems {
+        token: u64,
+        root: bool,
+        universal: bool,
+    },
+    Closes {
+        client: u64,
+    },
+    GetsMagic {
+        client: u64,
+        magic: u64,
+    },
+    Authenticates {
+        client: u64,
+        magic: u64,
+    },
+    SetsMaster {
+        client: u64,
+    },
+    SetsUniversal {
+        client: u64,
+        on: bool,
+    },
+    DropsMaster,
+    Leases {
+        client: u64,
+        lessee: u64,
+        token: u64,
+    },
+    Revokes {
+        client: u64,
+        lessee: u64,
+    },
+}
+
+fn opening_effect(opening: Opening) -> Effect
+    ensures { (ids : List ℕ) → effect_of ids result ≡ told.opening_effect opening }
+{
+    match opening {
+        Opening::Primary { root, universal } => Effect::OpensPrimary { root, universal },
+        Opening::Render => Effect::OpensRender,
+        Opening::Lease {
+            token,
+            root,
+            universal,
+        } => Effect::Redeems {
+            token: u64::from(token),
+            root,
+            universal,
+        },
+    }
+}
+
+/// The magic that a call was told.
+fn magic_effect(client: u64, answer: &Answer) -> Effect
+    ensures { (ids : List ℕ) → effect_of ids result ≡ told.call_effect client GetMagic answer.now }
+{
+    match answer {
+        Answer::Number { value } => Effect::GetsMagic {
+            client,
+            magic: *value,
+        },
+        _ => Effect::Nothing,
+    }
+}
+
+/// A lease that was made.
+fn lease_effect(client: u64, answer: &Answer) -> Effect
+    ensures { (ids : List ℕ) → effect_of ids result ≡ told.call_effect client (CreateLease ids) answer.now }
+{
+    match answer {
+        Answer::Lease { id, token } => Effect::Leases {
+            client,
+            lessee: u64::from(*id),
+            token: u64::from(*token),
+        },
+        _ => Effect::Nothing,
+    }
+}
+
+/// What was done, if the call is done.
+fn if_done(answer: &Answer, effect: Effect) -> Effect
+    ensures { (ids : List ℕ) → effect_of ids result ≡ effects.if_done answer.now (effect_of ids effect) }
+{
+    match answer {
+        Answer::Done => effect,
+        _ => Effect::Nothing,
+    }
+}
+
+/// What a call did by its answer.
+fn call_effect(client: u64, call: &Call, answer: &Answer) -> Effect
+    ensures { effect_of (leased_by (Ask client call.now) answer.now) result ≡ told.call_effect client call.now answer.now }
+{
+    match call {
+        Call::GetMagic => magic_effect(client, answer),
+        Call::AuthMagic { magic } => {
+            let magic = u64::from(*magic);
+            if_done(answer, Effect::Authenticates { client, magic })
+        }
+        Call::SetMaster => if_done(answer, Effect::SetsMaster { client }),
+        Call::SetClientCap { value, .. } => {
+            let on = *value == 1;
+            if_done(answer, Effect::SetsUniversal { client, on })
+        }
+        Call::DropMaster => if_done(answer, Effect::DropsMaster),
+        Call::CreateLease { .. } => lease_effect(client, answer),
+        Call::RevokeLease { lessee } => {
+            let lessee = u64::from(*lessee);
+            if_done(answer, Effect::Revokes { client, lessee })
+        }
+        _ => Effect::Nothing,
+    }
+}
+
+fn is_opened(answer: &Answer) -> bool
+    ensures { result ≡ effects.is_opened answer.now }
+{
+    matches!(answer, Answer::Opened { .. })
+}
+
+impl Step {
+    ghost use Rattle.std.specs.Prelude.{◌≡◌};
+    ghost use Rattle.drm_authority.specs.Effects.{effect};
+    ghost use Rattle.drm_trails.specs.Effects.{effect_of, leased_by};
+    ghost use Rattle.drm_trails.specs.Steps.{entry_of};
+
+    /// What the step did.
+    #[tactic(auto, unfolding(drm_authority::specs::Effects::effect))]
+    pub fn effect(&self) -> Effect
+        ensures { effect_of (leased_by self.now.event self.now.answer) result ≡ effect (entry_of self.now) }
+    {
+        match &self.event {
+            Event::Open(opening) => {
+                if !is_opened(&self.answer) {
+                    return Effect::Nothing;
+                }
+                opening_effect(*opening)
+            }
+            Event::Ask(client, call) => call_effect(u64::from(*client), call, &self.answer),
+            Event::Close(client) => {
+                if !is_closed(&self.answer) {
+                    return Effect::Nothing;
+                }
+                Effect::Closes {
+                    client: u64::from(*client),
+                }
+            }
+        }
+    }
+
+    /// The mode objects that the step leases by name; none where it makes no lease.
+    pub fn listed(&self) -> &[u32]
+        ensures { result.now ≡ leased_by self.now.event self.now.answer }
+    {
+        match &self.event {
+            Event::Ask(_, Call::CreateLease { ids }) => match &self.answer {
+                Answer::Lease { .. } => ids.ids(),
+                _ => &[],
+            },
+            _ => &[],
+        }
+    }
+}

@@ -1,0 +1,16 @@
+//! Lists that take one item more.
+
+ghost use Rattle.std.specs.Prelude.{◌≡◌, ◌++◌, option_to_list, IfOk};
+
+use std::alloc::AllocError;
+
+/// Returns the list with one item more, if there is one. If memory is refused, the list is lost.
+pub fn with_item<T: Drop>(list: Vec<T>, item: Option<T>) -> Result<Vec<T>, AllocError>
+    ensures { IfOk result (λ longer. longer.items ≡ list.items ++ option_to_list item) }
+{
+    let mut list = list;
+    if let Some(item) = item {
+        list.push(item)?;
+    }
+    Ok(list)
+}

@@ -1,0 +1,286 @@
+//! The steps of a history, and what one says of handles.
+
+ghost use Rattle.std.specs.Prelude.{◌≡◌, ℕ, ◌-◌, ◌&&◌, nat_le, length, slice_get, IfSome, Some};
+ghost use Rattle.std.specs.Option.{is_some, option_map};
+ghost use Rattle.drm_table.specs.declared.events.Event.TheVariants.{Ask};
+ghost use Rattle.drm_history.specs.Steps as told;
+ghost use Rattle.drm_model.specs.Rows.{is_option};
+ghost use Rattle.drm_trails.specs.Answers as answers;
+ghost use Rattle.drm_trails.specs.Handles.{is_taken};
+ghost use Rattle.drm_trails.specs.Steps.{givings_of, key_of, publishings_of, source_of};
+
+use drm_table::{Answer, Call, Event};
+
+/// A step: what it was of, and what it was answered.
+#[derive(PartialEq, Eq, Debug, Drop)]
+pub struct Step {
+    pub event: Event,
+    pub answer: Answer,
+}
+
+/// The step of a number, from 1.
+pub fn step_at(steps: &[Step], number: u64) -> Option<&Step>
+    ensures step { IfSome result (λ step. slice_get steps.now (number - 1) ≡ Some step.now) }
+    ensures numbers { is_some result ≡ (nat_le 1 number && nat_le number (length steps.now)) }
+{
+    let place = usize::try_from(number.checked_sub(1)?).ok()?;
+    steps.get(place)
+}
+
+/// Under what an object is published: a global name (drm-gem(7)), a PRIME token (drm-mm; tokens are own), a framebuffer
+/// (drm-uapi).
+#[derive(Clone, Copy, PartialEq, Eq, Debug)]
+pub enum Key {
+    Name(u64),
+    Token(u64),
+    Framebuffer(u64),
+}
+
+/// Where the object of a handle comes from: the step makes it, or it was published under a key.
+#[derive(Clone, Copy, PartialEq, Eq, Debug)]
+pub enum Source {
+    Creation,
+    Transfer(Key),
+}
+
+/// A client is given a handle.
+#[derive(Clone, Copy, PartialEq, Eq, Debug)]
+pub struct Giving {
+    pub client: u64,
+    pub handle: u64,
+    pub source: Source,
+}
+
+/// A client publishes the object of its handle.
+#[derive(Clone, Copy, PartialEq, Eq, Debug)]
+pub struct Publishing {
+    pub key: Key,
+    pub client: u64,
+    pub handle: u64,
+}
+
+/// Which of a client's handles a step takes.
+#[derive(Clone, Copy, PartialEq, Eq, Debug)]
+pub(crate) enum Taken {
+    Nothing,
+    One(u64),
+    All,
+}
+
+/// The handle that a buffer's answer tells.
+fn buffer_in(answer: &Answer) -> Option<u64>
+    ensures { result ≡ answers.buffer_in answer.now }
+{
+    match answer {
+        Answer::Buffer { handle, .. } => Some(u64::from(*handle)),
+        _ => None,
+    }
+}
+
+/// The handle that a dumb buffer's answer tells.
+fn dumb_in(answer: &Answer) -> Option<u64>
+    ensures { result ≡ answers.dumb_in answer.now }
+{
+    match answer {
+        Answer::Dumb { handle, .. } => Some(u64::from(*handle)),
+        _ => None,
+    }
+}
+
+/// The handle that a framebuffer's answer tells; MODE_GETFB answers 0 where it gives none.
+fn framebuffer_in(answer: &Answer) -> Option<u64>
+    ensures { result ≡ answers.framebuffer_in answer.now }
+{
+    match answer {
+        Answer::Framebuffer { handle, .. } => {
+            if *handle == 0 {
+                None
+            } else {
+                Some(u64::from(*handle))
+            }
+        }
+        _ => None,
+    }
+}
+
+/// The number that an answer tells.
+fn number_in(answer: &Answer) -> Option<u64>
+    ensures { result ≡ answers.number_in answer.now }
+{
+    match answer {
+        Answer::Number { value } => Some(*value),
+        _ => None,
+    }
+}
+
+fn is_done(answer: &Answer) -> bool
+    ensures { result ≡ answers.is_done answer.now }
+{
+    matches!(answer, Answer::Done)
+}
+
+pub(crate) fn is_closed(answer: &Answer) -> bool
+    ensures { result ≡ answers.is_closed answer.now }
+{
+    matches!(answer, Answer::Closed)
+}
+
+/// A client is given the handle, if there is one.
+fn given_from(client: u64, handle: Option<u64>, source: Source) -> Option<Giving>
+    ensures { givings_of result ≡ answers.given_from client handle (source_of source) }
+{
+    match handle {
+        Some(handle) => Some(Giving {
+            client,
+            handle,
+            source,
+        }),
+        None => None,
+    }
+}
+
+/// A client publishes the object of its handle under a key, if there is one.
+fn published_under(key: Option<Key>, client: u64, handle: u64) -> Option<Publishing>
+    ensures { publishings_of result ≡ answers.published_under (option_map key_of key) client handle }
+{
+    match key {
+        Some(key) => Some(Publishing {
+            key,
+            client,
+            handle,
+        }),
+        None => None,
+    }
+}
+
+/// The handle that a call gives by its answer.
+#[tactic(auto, using(crate::proofs::StepLemmas::buffer_given, crate::proofs::StepLemmas::dumb_given, crate::proofs::StepLemmas::name_given, crate::proofs::StepLemmas::token_given, crate::proofs::StepLemmas::framebuffer_given))]
+fn given_by(client: u64, call: &Call, answer: &Answer) -> Option<Giving>
+    ensures { givings_of result ≡ told.given_by (Ask client call.now) answer.now }
+{
+    match call {
+        Call::BufCreate { .. } => given_from(client, buffer_in(answer), Source::Creation),
+        Call::CreateDumb { .. } => given_from(client, dumb_in(answer), Source::Creation),
+        Call::GemOpen { name } => {
+            let key = Key::Name(u64::from(*name));
+            given_from(client, buffer_in(answer), Source::Transfer(key))
+        }
+        Call::PrimeFdToHandle { token } => {
+            let key = Key::Token(u64::from(*token));
+            given_from(client, buffer_in(answer), Source::Transfer(key))
+        }
+        Call::GetFb { framebuffer } => {
+            let key = Key::Framebuffer(u64::from(*framebuffer));
+            given_from(client, framebuffer_in(answer), Source::Transfer(key))
+        }
+        _ => None,
+    }
+}
+
+/// What a call publishes by its answer.
+fn published_by(client: u64, call: &Call, answer: &Answer) -> Option<Publishing>
+    ensures { publishings_of result ≡ told.published_by (Ask client call.now) answer.now }
+{
+    match call {
+        Call::GemFlink { handle } => {
+            let key = number_in(answer).map(Key::Name);
+            published_under(key, client, u64::from(*handle))
+        }
+        Call::PrimeHandleToFd { handle } => {
+            let key = number_in(answer).map(Key::Token);
+            published_under(key, client, u64::from(*handle))
+        }
+        Call::AddFb { handle, .. } => {
+            let key = number_in(answer).map(Key::Framebuffer);
+            published_under(key, client, u64::from(*handle))
+        }
+        _ => None,
+    }
+}
+
+/// The handle that a call gives back where it is done.
+pub(crate) fn closed_by(call: &Call) -> Option<u64>
+    ensures { result ≡ answers.closed_by call.now }
+{
+    match call {
+        Call::GemClose { handle } => Some(u64::from(*handle)),
+        Call::DestroyDumb { handle } => Some(u64::from(*handle)),
+        _ => None,
+    }
+}
+
+/// Which handles a call takes that is done.
+fn taken_by(call: &Call) -> Taken
+    ensures { (h : ℕ) → is_taken h result ≡ is_option h (answers.closed_by call.now) }
+{
+    match closed_by(call) {
+        Some(handle) => Taken::One(handle),
+        None => Taken::Nothing,
+    }
+}
+
+impl Step {
+    ghost use Rattle.std.specs.Prelude.{◌≡◌, ℕ};
+    ghost use Rattle.drm_history.specs.Steps.{given, published, takes};
+    ghost use Rattle.drm_trails.specs.Handles.{is_taken};
+    ghost use Rattle.drm_trails.specs.Steps.{entry_of, givings_of, publishings_of};
+
+    /// The handle that the step gives.
+    #[tactic(auto, unfolding(drm_history::specs::Steps::given))]
+    pub fn given(&self) -> Option<Giving>
+        ensures { givings_of result ≡ given (entry_of self.now) }
+    {
+        match &self.event {
+            Event::Open(_) => None,
+            Event::Ask(client, call) => given_by(u64::from(*client), call, &self.answer),
+            Event::Close(_) => None,
+        }
+    }
+
+    /// What the step publishes.
+    #[tactic(auto, unfolding(drm_history::specs::Steps::published))]
+    pub fn published(&self) -> Option<Publishing>
+        ensures { publishings_of result ≡ published (entry_of self.now) }
+    {
+        match &self.event {
+            Event::Open(_) => None,
+            Event::Ask(client, call) => published_by(u64::from(*client), call, &self.answer),
+            Event::Close(_) => None,
+        }
+    }
+
+    /// Which handles of the client the step takes.
+    #[tactic(auto, unfolding(drm_history::specs::Steps::takes))]
+    pub(crate) fn taken_from(&self, client: u64) -> Taken
+        ensures { (h : ℕ) → is_taken h result ≡ takes (entry_of self.now) client h }
+    {
+        match &self.event {
+            Event::Open(_) => Taken::Nothing,
+            Event::Ask(caller, call) => {
+                if is_done(&self.answer) && u64::from(*caller) == client {
+                    taken_by(call)
+                } else {
+                    Taken::Nothing
+                }
+            }
+            Event::Close(closed) => {
+                if is_closed(&self.answer) && u64::from(*closed) == client {
+                    Taken::All
+                } else {
+                    Taken::Nothing
+                }
+            }
+        }
+    }
+
+    /// Whether the step takes the client's handle.
+    pub fn takes(&self, client: u64, handle: u64) -> bool
+        ensures { result ≡ takes (entry_of self.now) client handle }
+    {
+        match self.taken_from(client) {
+            Taken::Nothing => false,
+            Taken::One(taken) => taken == handle,
+            Taken::All => true,
+        }
+    }
+}

@@ -1,0 +1,156 @@
+//! The steps of a history, with an index of what they published.
+
+ghost use Rattle.std.specs.Prelude.{◌≡◌, ◌++◌, ◌∷◌, ℕ, [], take, IfOk, IfSome, IfNone};
+ghost use Rattle.drm_history.specs.Holds.{Has};
+ghost use Rattle.drm_trails.specs.Chains.{EndsChain, Explains, HasNone, IsExplained, IsOfDevice, LeadsTo, links_of};
+ghost use Rattle.drm_trails.specs.Objects as objects;
+ghost use Rattle.drm_trails.specs.Steps.{history_of, source_of};
+
+use crate::chains::{ChainEnd, Link, Marks, chain_end_in, chain_in};
+use crate::items::with_item;
+use crate::objects::{object_given, object_held};
+use crate::searches::{Publication, Touch, publication_of, touch_of};
+use crate::steps::{Giving, Step};
+use std::alloc::{AllocError, Global};
+use std::marker::Model;
+
+/// The steps of a history, the oldest first, and which of them published, gave or took a handle, so that a chain is found without the
+/// steps between; and the object of each handle that one gave. Contracts see the steps.
+#[derive(Drop)]
+pub struct Trail {
+    steps: Vec<Step>,
+    publications: Vec<Publication>,
+    touches: Vec<Touch>,
+    /// For each step, the object of the handle that it gave.
+    objects: Vec<Option<u64>>,
+}
+
+impl Model for Trail {
+    ghost use Rattle.std.specs.Prelude.{List};
+    ghost use Rattle.drm_trails.specs.declared.steps.Step.{Step};
+    ghost use Rattle.drm_trails.specs.Objects.{AreObjects};
+    ghost use Rattle.drm_trails.specs.Searches.{AreNoted, AreTouched};
+
+    ghost Value = { List Step };
+
+    ghost view = { λ t. t.steps.items };
+
+    ghost invariant = { λ t. AreNoted t.steps.items t.publications.items × AreTouched t.steps.items t.touches.items × AreObjects t.steps.items t.objects.items };
+}
+
+impl Trail {
+    /// No step yet.
+    pub fn new(alloc: Global) -> Trail
+        ensures { result ≡ [] }
+    {
+        Trail {
+            steps: Vec::new(alloc),
+            publications: Vec::new(alloc),
+            touches: Vec::new(alloc),
+            objects: Vec::new(alloc),
+        }
+    }
+
+    /// The steps with one more behind them. Where memory is refused there is no trail any more.
+    pub fn push(self, step: Step) -> Result<Trail, AllocError>
+        ensures { IfOk result (λ trail. trail ≡ self ++ step ∷ []) }
+    {
+        let past = self.steps.len();
+        let publication = publication_of(step.published(), past);
+        let touch = touch_of(&step, past);
+        let object = self.object_by(step.given());
+        Ok(Trail {
+            steps: with_item(self.steps, Some(step))?,
+            publications: with_item(self.publications, publication)?,
+            touches: with_item(self.touches, touch)?,
+            objects: with_item(self.objects, Some(object))?,
+        })
+    }
+
+    /// The object of the handle that the next step gives, if it does.
+    fn object_by(&self, given: Option<Giving>) -> Option<u64>
+        ensures { IfSome given (λ giving. result ≡ objects.object_given (history_of self.now) (source_of giving.source)) }
+    {
+        object_given(
+            &self.steps,
+            &self.publications,
+            &self.touches,
+            &self.objects,
+            given?.source,
+        )
+    }
+
+    /// Returns the object of a client's handle after the first `count` steps, by the number of the step that created it. It returns
+    /// `None` if the client has no such handle then. Does not allocate.
+    pub fn object_of(&self, count: usize, client: u64, handle: u64) -> Option<u64>
+        ensures object { IfSome result (Has (history_of (take count self.now)) client handle) }
+        ensures none { IfNone result (IsOfDevice (history_of (take count self.now)) → HasNone (history_of (take count self.now)) client handle) }
+    {
+        object_held(
+            &self.steps,
+            &self.touches,
+            &self.objects,
+            count,
+            client,
+            handle,
+        )
+    }
+
+    /// The steps, the oldest first.
+    pub fn steps(&self) -> &[Step]
+        ensures { result.now ≡ self.now }
+    {
+        &self.steps
+    }
+
+    /// By which steps a client came to have a handle after the first steps, so many, or after all where there are fewer: the step that
+    /// gave it, then the one that gave it to who published it for that step, and so on, down to the step that made the object. None
+    /// where the client has no such handle then.
+    pub fn chain_of(
+        &self,
+        alloc: Global,
+        count: usize,
+        client: u64,
+        handle: u64,
+    ) -> Result<Option<Vec<Link>>, AllocError>
+        ensures chain { IfOk result (λ found. IfSome found (λ links. (o : ℕ) × LeadsTo (history_of (take count self.now)) client handle o (links_of links.items))) }
+        ensures origins { IfOk result (λ found. IfSome found (λ links. (o : ℕ) × IsExplained (history_of (take count self.now)) o links.items)) }
+        ensures none { IfOk result (λ found. IfNone found (IsOfDevice (history_of (take count self.now)) → HasNone (history_of (take count self.now)) client handle)) }
+    {
+        chain_in(
+            alloc,
+            &self.steps,
+            &self.publications,
+            &self.touches,
+            count,
+            client,
+            handle,
+        )
+    }
+
+    /// Returns what `chain_of` does, without the links that the marks leave out. A chain without its first links is still found in time
+    /// that only grows with the others, so that the chains of all handles of a history are found in the time of its steps.
+    pub fn chain_end_of(
+        &self,
+        alloc: Global,
+        count: usize,
+        client: u64,
+        handle: u64,
+        marks: Marks<'_>,
+    ) -> Result<Option<ChainEnd>, AllocError>
+        ensures whole { IfOk result (λ found. IfSome found (λ end. IfNone end.left ((o : ℕ) × Explains (history_of (take count self.now)) client handle o end.links.items))) }
+        ensures front { IfOk result (λ found. IfSome found (λ end. IfSome end.left (λ left. EndsChain (history_of (take count self.now)) (history_of (take left.count self.now)) client handle left.client left.handle end.links.items))) }
+        ensures none { IfOk result (λ found. IfNone found (IsOfDevice (history_of (take count self.now)) → HasNone (history_of (take count self.now)) client handle)) }
+    {
+        chain_end_in(
+            alloc,
+            &self.steps,
+            &self.publications,
+            &self.touches,
+            count,
+            client,
+            handle,
+            marks,
+        )
+    }
+}
