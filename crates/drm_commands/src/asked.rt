@@ -1,6 +1,6 @@
 //! What the command line asks of scripts.
 
-/// A device as the command line asks for it.
+/// A device as the command line describes it (own).
 #[derive(Clone, Copy, Debug, PartialEq, Eq)]
 pub struct AskedDevice<'a> {
     /// The file of its topology.
@@ -15,7 +15,7 @@ pub struct Running<'a> {
     /// The file of the script, if it is not on standard input.
     pub path: Option<&'a str>,
     pub device: AskedDevice<'a>,
-    /// Where what was noted is written at the end.
+    /// The file to which the journal is written at the end.
     pub journal: Option<&'a str>,
 }
 
@@ -26,14 +26,14 @@ pub struct Checking<'a> {
     pub device: AskedDevice<'a>,
 }
 
-/// Which script to explain, of which client or line, and in which form.
+/// Which script to explain, of which client or line, and in which form (own).
 #[derive(Clone, Copy, Debug, PartialEq, Eq)]
 pub struct Explaining<'a> {
     pub path: &'a str,
     pub device: AskedDevice<'a>,
-    /// The client alone of which is told: a label or a number.
+    /// The only client that is explained: a label or a number.
     pub client: Option<&'a str>,
-    /// The line whose answer alone is told of.
+    /// The only line whose answer is explained.
     pub line: Option<u64>,
     pub is_json: bool,
 }

@@ -142,7 +142,7 @@ fn check_files<R: Input + Files + Print + AllocGlobal + Log>(
     Ok(totals)
 }
 
-/// Checks files, each on a device of its own.
+/// Checks files, each on a device of its own, and prints the differences and the totals (own). Returns what the program ends with.
 pub fn check<R: Input + Files + Print + AllocGlobal + Log>(
     rt: &R,
     alloc: Global,

@@ -15,7 +15,11 @@ use log::{Log, error};
 use std::alloc::Global;
 use std::rt::Files;
 
-/// The limits that the command line sets, or the program's.
+/// Returns the limits that the command line sets, or the program's (own). Does not allocate.
+///
+/// # Errors
+///
+/// `Fault::CommandLine`, which is logged, if they are not eight numbers in their ranges.
 pub fn asked_limits<R: Log>(rt: &R, numbers: Option<&str>) -> Result<Limits, Fault>
     ensures { IfOk result (λ limits. are_in_range limits ≡ true) }
 {
@@ -36,7 +40,11 @@ pub struct TopologyText<'a> {
     text: Vec<u8>,
 }
 
-/// Reads the file of the topology, if there is one. Limits that can't be used are refused before.
+/// Reads the file of the topology, if there is one (own). Limits that can't be used are refused before.
+///
+/// # Errors
+///
+/// `Fault::CommandLine` for the limits, `Fault::Read` if the file can't be read. Both are logged.
 pub fn read_asked<'a, R: Files + AllocGlobal + Log>(
     rt: &R,
     asked: AskedDevice<'a>,
@@ -80,7 +88,11 @@ pub(crate) fn asked_setup<R: Log>(
     Ok(Setup::new(topology, limits))
 }
 
-/// An empty device with these limits, and the topology of a file, or the test topology.
+/// Returns an empty device with these limits, and the topology of a file, or the test topology (own).
+///
+/// # Errors
+///
+/// `Fault::ScriptLine`, which is logged, if a line of the topology can't be used; `Fault::Memory` if memory is refused.
 pub fn asked_device<R: Log>(
     rt: &R,
     alloc: Global,

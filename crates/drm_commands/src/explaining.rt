@@ -212,7 +212,8 @@ fn record_and_tell<R: Input + Files + Print + AllocGlobal + Log>(
     })
 }
 
-/// Explains what the clients of a script have, or the answer of one of its lines, on standard output.
+/// Explains what the clients of a script have, or the answer of one of its lines, on standard output (own). Returns what the program ends
+/// with.
 pub fn explain_script<R: Input + Files + Print + AllocGlobal + Log>(
     rt: &R,
     alloc: Global,

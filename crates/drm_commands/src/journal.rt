@@ -74,7 +74,11 @@ pub(crate) fn create_journal<'a, R: Files + Log>(
     }
 }
 
-/// Creates the file of a journal, if there is to be one.
+/// Creates the file of a journal, or empties it, if there is to be one (own).
+///
+/// # Errors
+///
+/// `Fault::CommandLine` if it would replace a file that is read, `Fault::Write` if it can't be created. Both are logged.
 pub fn create_asked<'a, R: Files + Log>(
     rt: &R,
     path: Option<&'a str>,
@@ -109,8 +113,12 @@ fn write_journal<R: Log, F: Write + Drop>(
     Ok(())
 }
 
-/// Writes the events of a journal into its file, if there is one, with the answers of an empty device of the topology that is asked for
-/// and of the same limits.
+/// Writes the events of a journal into its file, if there is one, with the answers of an empty device of the same topology and limits
+/// (own).
+///
+/// # Errors
+///
+/// `Fault::Write`, which is logged, if the file can't be written; `Fault::Memory` if memory is refused; those of `asked_device`.
 pub fn write_noted<R: Files + AllocGlobal + Log>(
     rt: &R,
     alloc: Global,

@@ -39,7 +39,7 @@ pub fn outcome_of_fault(fault: Fault) -> Outcome
     }
 }
 
-/// What the program ends with by its fault, if it has one: else status 0 and no line (own).
+/// Returns what the program ends with by its fault, if it has one: else status 0 and no line (own). Does not allocate.
 pub fn outcome_by(fault: Option<Fault>) -> Outcome
     ensures status { result.status ≡ status_by fault }
     ensures line { result.line ≡ line_by fault }

@@ -91,7 +91,7 @@ fn run_asked<R: Input + Print + Files + AllocGlobal + Log>(
     }
 }
 
-/// Runs the script of a file, or of standard input.
+/// Runs the script of a file, or of standard input, and prints its answers (own). Returns what the program ends with.
 pub fn run<R: Input + Print + Files + AllocGlobal + Log>(
     rt: &R,
     alloc: Global,

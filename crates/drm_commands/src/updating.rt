@@ -51,7 +51,8 @@ fn update_files<R: Files + AllocGlobal + Log>(
     Ok(())
 }
 
-/// Updates each file, up to the first that can't be.
+/// Updates each file, up to the first that can't be updated (own). Returns what the program ends with. The files from that one on are
+/// unchanged.
 pub fn update<R: Files + AllocGlobal + Log>(
     rt: &R,
     alloc: Global,

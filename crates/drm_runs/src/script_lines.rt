@@ -12,7 +12,7 @@ pub struct ScriptLines {
     reader: LineReader,
     /// How many lines were read.
     number: u64,
-    /// Whether the input has ended behind the line that is held.
+    /// Whether the input has ended after the line that is held.
     is_last: bool,
 }
 
@@ -28,7 +28,7 @@ impl ScriptLines {
     ghost use Rattle.std.specs.Prelude.{◌≡◌, ◌<◌, ◌+◌, ◌^◌};
     ghost use Rattle.drm_runs.specs.LineSteps.{HoldsLast, ReadsNext, no_lines};
 
-    /// Returns the lines of a source of which nothing was read. Does not allocate.
+    /// Returns the lines of a source from which nothing was read. Does not allocate.
     pub fn new() -> ScriptLines
         ensures { result ≡ no_lines }
     {
@@ -53,7 +53,7 @@ impl ScriptLines {
         self.number
     }
 
-    /// Counts what stands behind the last line end as a line, if anything does.
+    /// Counts what is after the last line end as a line, if there is anything.
     fn hold_last(&mut self) -> Option<Stop>
         requires number { self.old.number + 1 < 2 ^ 64 }
         ensures { HoldsLast self.old self.new result }

@@ -63,7 +63,7 @@ impl Stop {
         }
     }
 
-    /// How a script ends after a text was put: it goes on if it was put whole.
+    /// Returns how a script ends after a text was written: not at all if it was written whole.
     pub fn of_writing(written: Written) -> Option<Stop>
         ensures { result ≡ end_of_writing written }
     {
