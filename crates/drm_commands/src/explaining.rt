@@ -5,7 +5,7 @@ use crate::checking::{INPUT, fault_of, open, tell_end};
 use crate::devices::{TopologyText, asked_setup, asked_topology, read_asked};
 use crate::faults::{Fault, FaultLine};
 use crate::files::LoggedRead;
-use crate::outcomes::{Outcome, outcome_of_fault};
+use crate::outcomes::{Outcome, outcome_by, outcome_of_fault};
 use crate::recording::{Recording, record};
 use drm_connections::PROGRAM;
 use drm_explanations::{Explanation, Labels, explain, lines_of};
@@ -206,10 +206,7 @@ fn record_and_tell<R: Input + Files + Print + AllocGlobal + Log>(
     };
     let text = told_of(rt, alloc, explaining, topology, recording)?;
     write_text(rt, text.as_str())?;
-    Ok(Outcome {
-        status: 0,
-        line: FaultLine::empty(),
-    })
+    Ok(outcome_by(None))
 }
 
 /// Explains what the clients of a script have, or the answer of one of its lines, on standard output (own). Returns what the program ends

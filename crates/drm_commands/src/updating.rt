@@ -2,9 +2,9 @@
 
 use crate::asked::{AskedDevice, Checking};
 use crate::devices::{TopologyText, asked_setup, read_asked};
-use crate::faults::{Fault, FaultLine};
+use crate::faults::Fault;
 use crate::files::{read_whole, replace_text, write_fault};
-use crate::outcomes::{Outcome, outcome_of_fault};
+use crate::outcomes::{Outcome, outcome_by, outcome_of_fault};
 use drm_checks::{UpdateFault, update_script};
 use drm_connections::PROGRAM;
 use log::{Log, error};
@@ -59,10 +59,7 @@ pub fn update<R: Files + AllocGlobal + Log>(
     checking: &Checking<'_>,
 ) -> Outcome {
     match update_files(rt, alloc, checking) {
-        Ok(()) => Outcome {
-            status: 0,
-            line: FaultLine::empty(),
-        },
+        Ok(()) => outcome_by(None),
         Err(fault) => outcome_of_fault(fault),
     }
 }

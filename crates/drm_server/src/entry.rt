@@ -10,8 +10,9 @@ use crate::standard::open_standard;
 use crate::words::words_of;
 use clap::Error;
 use drm_commands::{
-    Fault, FaultLine, FilesRead, JournalFile, Outcome, TopologyText, asked_device, asked_limits,
-    check, create_asked, explain_script, outcome_of_fault, read_asked, run, update, write_noted,
+    Fault, FilesRead, JournalFile, Outcome, TopologyText, asked_device, asked_limits, check,
+    create_asked, explain_script, outcome_by, outcome_of_fault, read_asked, run, update,
+    write_noted,
 };
 use drm_connections::PROGRAM;
 use drm_device::{Device, Limits};
@@ -98,10 +99,7 @@ fn stop_at<R: Print + Eprint>(rt: &R, error: &Error) -> Outcome {
         return outcome_of_fault(Fault::CommandLine);
     }
     match printed {
-        Ok(()) => Outcome {
-            status: 0,
-            line: FaultLine::empty(),
-        },
+        Ok(()) => outcome_by(None),
         Err(_) => outcome_of_fault(Fault::Write),
     }
 }
