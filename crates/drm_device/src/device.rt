@@ -22,7 +22,12 @@ use std::marker::Model;
 /// A state machine over openings, requests and closings. Contracts see its topology, its limits and its journal, and as
 /// its rows those that the journal leaves of empty ones.
 ///
+/// # Examples
+///
 /// ```rust
+/// use drm_device::{Device, Limits, Topology};
+///
+/// let alloc = rt.alloc();
 /// let Some(topology) = Topology::new(2, &[1, 2], &[3, 2], &[5, 6]) else { return };
 /// let Ok(mut device) = Device::new(alloc, topology, Limits::PROGRAM) else { return };
 /// ```
@@ -59,11 +64,16 @@ impl Model for Device {
 
 /// Why there is no device.
 ///
+/// # Examples
+///
 /// ```rust
+/// use drm_device::{Device, Limits, NewFault, Topology};
+///
+/// let alloc = rt.alloc();
 /// let Some(topology) = Topology::new(2, &[1, 2], &[3, 2], &[5, 6]) else { return };
 /// let limits = Limits { clients: 0, ..Limits::PROGRAM };
 /// let Err(fault) = Device::new(alloc, topology, limits) else { return };
-/// assert!(fault == NewFault::BadLimits);
+/// assert!(rt; fault == NewFault::BadLimits);
 /// ```
 #[derive(Clone, Copy, PartialEq, Eq, Debug)]
 pub enum NewFault {
@@ -77,8 +87,15 @@ impl Device {
     /// Returns a device that no client has opened yet. The whole journal is reserved. Without memory, or where a limit
     /// is out of its range, there is no device.
     ///
+    /// # Examples
+    ///
     /// ```rust
-    /// assert!(device.journal().is_empty());
+    /// use drm_device::{Device, Limits, Topology};
+    ///
+    /// let alloc = rt.alloc();
+    /// let Some(topology) = Topology::new(2, &[1, 2], &[3, 2], &[5, 6]) else { return };
+    /// let Ok(mut device) = Device::new(alloc, topology, Limits::PROGRAM) else { return };
+    /// assert!(rt; device.journal().is_empty());
     /// ```
     pub fn new(alloc: Global, topology: Topology, limits: Limits) -> Result<Device, NewFault>
         ensures ok { IfOk result (λ device. device ≡ record { topology = topology; limits = limits; journal = [] }) }
@@ -113,10 +130,18 @@ impl Device {
     /// full journal (own) or refused memory, leaves the device unchanged and isn't recorded. The lists of an answer
     /// have at most 251 ids together, which one frame takes.
     ///
+    /// # Examples
+    ///
     /// ```rust
+    /// use drm_device::{Device, Limits, Topology};
+    /// use drm_table::{Answer, Call, Event, Opening};
+    ///
+    /// let alloc = rt.alloc();
+    /// let Some(topology) = Topology::new(2, &[1, 2], &[3, 2], &[5, 6]) else { return };
+    /// let Ok(mut device) = Device::new(alloc, topology, Limits::PROGRAM) else { return };
     /// let opening = Opening::Primary { root: false, universal: true };
-    /// assert!(device.step(Event::Open(opening)) == Ok(Answer::Opened { client: 1 }));
-    /// assert!(device.step(Event::Ask(1, Call::SetMaster)) == Ok(Answer::Done));
+    /// assert!(rt; device.step(Event::Open(opening)) == Ok(Answer::Opened { client: 1 }));
+    /// assert!(rt; device.step(Event::Ask(1, Call::SetMaster)) == Ok(Answer::Done));
     /// ```
     pub fn step(&mut self, event: Event) -> Result<Answer, Apart>
         ensures step { Step (rows_of self.old) event result (rows_of self.new) }
@@ -136,10 +161,21 @@ impl Device {
     /// Answers one event as [`step`](Device::step) does, and writes what resulted from it to a place of the caller's,
     /// so that an answer is moved less.
     ///
+    /// # Examples
+    ///
     /// ```rust
+    /// use drm_device::{Device, Limits, Topology};
+    /// use drm_table::{Answer, Call, Event, Opening};
+    ///
+    /// let alloc = rt.alloc();
+    /// let Some(topology) = Topology::new(2, &[1, 2], &[3, 2], &[5, 6]) else { return };
+    /// let Ok(mut device) = Device::new(alloc, topology, Limits::PROGRAM) else { return };
+    /// let opening = Opening::Primary { root: false, universal: true };
+    /// assert!(rt; device.step(Event::Open(opening)) == Ok(Answer::Opened { client: 1 }));
+    /// assert!(rt; device.step(Event::Ask(1, Call::SetMaster)) == Ok(Answer::Done));
     /// let mut outcome = Ok(Answer::Done);
     /// device.step_at(Event::Ask(1, Call::Version), &mut outcome);
-    /// assert!(outcome == Ok(Answer::Version { major: 1, minor: 0, patch: 0 }));
+    /// assert!(rt; outcome == Ok(Answer::Version { major: 1, minor: 0, patch: 0 }));
     /// ```
     pub fn step_at(&mut self, event: Event, outcome: &mut Result<Answer, Apart>)
         ensures step { Step (rows_of self.old) event outcome.new (rows_of self.new) }
@@ -180,8 +216,21 @@ impl Device {
 
     /// Returns the events that were carried out or denied, the oldest first.
     ///
+    /// # Examples
+    ///
     /// ```rust
-    /// assert!(device.journal() == [Event::Open(opening), Event::Ask(1, Call::SetMaster), Event::Ask(1, Call::Version)].as_slice());
+    /// use drm_device::{Device, Limits, Topology};
+    /// use drm_table::{Answer, Call, Event, Opening};
+    ///
+    /// let alloc = rt.alloc();
+    /// let Some(topology) = Topology::new(2, &[1, 2], &[3, 2], &[5, 6]) else { return };
+    /// let Ok(mut device) = Device::new(alloc, topology, Limits::PROGRAM) else { return };
+    /// let opening = Opening::Primary { root: false, universal: true };
+    /// assert!(rt; device.step(Event::Open(opening)) == Ok(Answer::Opened { client: 1 }));
+    /// assert!(rt; device.step(Event::Ask(1, Call::SetMaster)) == Ok(Answer::Done));
+    /// let mut outcome = Ok(Answer::Done);
+    /// device.step_at(Event::Ask(1, Call::Version), &mut outcome);
+    /// assert!(rt; device.journal() == [Event::Open(opening), Event::Ask(1, Call::SetMaster), Event::Ask(1, Call::Version)].as_slice());
     /// ```
     pub fn journal(&self) -> &[Event]
         ensures events { result.now ≡ self.now.journal }
@@ -194,8 +243,21 @@ impl Device {
 
     /// Up to 16 rows of a kind, after the first `from`, in the order of their numbers (own). Does not allocate.
     ///
+    /// # Examples
+    ///
     /// ```rust
-    /// assert!(device.audit(AuditKind::Client, 0).rows().len() == 1);
+    /// use drm_device::{Device, Limits, Topology};
+    /// use drm_table::{Answer, AuditKind, Call, Event, Opening};
+    ///
+    /// let alloc = rt.alloc();
+    /// let Some(topology) = Topology::new(2, &[1, 2], &[3, 2], &[5, 6]) else { return };
+    /// let Ok(mut device) = Device::new(alloc, topology, Limits::PROGRAM) else { return };
+    /// let opening = Opening::Primary { root: false, universal: true };
+    /// assert!(rt; device.step(Event::Open(opening)) == Ok(Answer::Opened { client: 1 }));
+    /// assert!(rt; device.step(Event::Ask(1, Call::SetMaster)) == Ok(Answer::Done));
+    /// let mut outcome = Ok(Answer::Done);
+    /// device.step_at(Event::Ask(1, Call::Version), &mut outcome);
+    /// assert!(rt; device.audit(AuditKind::Client, 0).rows().len() == 1);
     /// ```
     pub fn audit(&self, kind: AuditKind, from: u32) -> AuditPage
         ensures page { result ≡ audit_page (rows_of self.now) kind from }
@@ -206,8 +268,21 @@ impl Device {
 
     /// How many places the journal has left next to those kept for the closings of the open clients.
     ///
+    /// # Examples
+    ///
     /// ```rust
-    /// assert!(device.journal_left() < Limits::PROGRAM.journal);
+    /// use drm_device::{Device, Limits, Topology};
+    /// use drm_table::{Answer, Call, Event, Opening};
+    ///
+    /// let alloc = rt.alloc();
+    /// let Some(topology) = Topology::new(2, &[1, 2], &[3, 2], &[5, 6]) else { return };
+    /// let Ok(mut device) = Device::new(alloc, topology, Limits::PROGRAM) else { return };
+    /// let opening = Opening::Primary { root: false, universal: true };
+    /// assert!(rt; device.step(Event::Open(opening)) == Ok(Answer::Opened { client: 1 }));
+    /// assert!(rt; device.step(Event::Ask(1, Call::SetMaster)) == Ok(Answer::Done));
+    /// let mut outcome = Ok(Answer::Done);
+    /// device.step_at(Event::Ask(1, Call::Version), &mut outcome);
+    /// assert!(rt; device.journal_left() < Limits::PROGRAM.journal);
     /// ```
     pub fn journal_left(&self) -> u32
         ensures left { result + length self.now.journal + length (rows_of self.now).clients ≡ self.now.limits.journal }

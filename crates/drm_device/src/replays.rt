@@ -11,10 +11,16 @@ use std::alloc::Global;
 
 /// Why a replay returns no device.
 ///
+/// # Examples
+///
 /// ```rust
+/// use drm_device::{Limits, NewFault, ReplayFault, Topology, replay};
+///
+/// let alloc = rt.alloc();
+/// let limits = Limits { clients: 0, ..Limits::PROGRAM };
 /// let Some(topology) = Topology::new(2, &[1, 2], &[3, 2], &[5, 6]) else { return };
 /// let Err(fault) = replay(alloc, topology, limits, &[]) else { return };
-/// assert!(fault == ReplayFault::New(NewFault::BadLimits));
+/// assert!(rt; fault == ReplayFault::New(NewFault::BadLimits));
 /// ```
 #[derive(Clone, Copy, PartialEq, Eq, Debug)]
 pub enum ReplayFault {
@@ -54,11 +60,17 @@ fn step_each(device: Device, events: &[Event]) -> Result<Device, Unnoted>
 ///
 /// It stops at the first event that the journal has no place for, or that needs a row for which memory is refused.
 ///
+/// # Examples
+///
 /// ```rust
+/// use drm_device::{Limits, Topology, replay};
+/// use drm_table::{Event, Opening};
+///
+/// let alloc = rt.alloc();
 /// let Some(topology) = Topology::new(2, &[1, 2], &[3, 2], &[5, 6]) else { return };
 /// let events = [Event::Open(Opening::Render)];
 /// let Ok(device) = replay(alloc, topology, Limits::PROGRAM, &events) else { return };
-/// assert!(device.journal() == events.as_slice());
+/// assert!(rt; device.journal() == events.as_slice());
 /// ```
 pub fn replay(
     alloc: Global,

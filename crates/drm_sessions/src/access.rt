@@ -9,12 +9,19 @@ use drm_table::{Answer, Apart, Event};
 
 /// A device, alone or shared, that answers events one at a time.
 ///
+/// # Examples
+///
 /// ```rust
+/// use drm_device::{Device, Limits, Topology};
+/// use drm_sessions::{Access, Alone};
+/// use drm_table::{Answer, Event, Opening};
+///
+/// let alloc = rt.alloc();
 /// let Some(topology) = Topology::new(2, &[1, 2], &[3, 2], &[5, 6]) else { return };
 /// let Ok(mut device) = Device::new(alloc, topology, Limits::PROGRAM) else { return };
 /// let opening = Event::Open(Opening::Render);
 /// let opened = Alone(&mut device).call(opening);
-/// assert!(opened == Ok(Answer::Opened { client: 1 }));
+/// assert!(rt; opened == Ok(Answer::Opened { client: 1 }));
 /// ```
 pub trait Access {
     /// The values before and after a call with this event that returned this result.
@@ -40,7 +47,11 @@ pub trait Access {
 
 /// What is called before each request of a client is carried out.
 ///
+/// # Examples
+///
 /// ```rust
+/// use drm_sessions::{Gate, NoGate};
+///
 /// let mut gate = NoGate;
 /// gate.before(1);
 /// ```
@@ -57,13 +68,22 @@ pub trait Gate {
 
 /// A gate that does nothing.
 ///
+/// # Examples
+///
 /// ```rust
+/// use drm_device::{Device, Limits, Topology};
+/// use drm_frames::{FromRead, ToWrite};
+/// use drm_sessions::{Class, NoGate, SessionEnd, serve_alone};
+///
+/// let alloc = rt.alloc();
+/// let Some(topology) = Topology::new(2, &[1, 2], &[3, 2], &[5, 6]) else { return };
+/// let Ok(mut device) = Device::new(alloc, topology, Limits::PROGRAM) else { return };
 /// let hello = [14, 0, 0, 0, 0, 1, 1, 0, 0, 0, 0, 0, 0, 0, 0, 0, 0, 0];
 /// let mut source = FromRead::new(hello.as_slice());
 /// let mut sink = ToWrite::new(Vec::new(alloc));
 /// let card = Class::Card;
 /// let session = serve_alone(&mut device, &mut NoGate, card, &mut source, &mut sink, 1000);
-/// assert!(session.end == SessionEnd::Ended);
+/// assert!(rt; session.end == SessionEnd::Ended);
 /// ```
 #[derive(Clone, Copy, Debug)]
 pub struct NoGate;

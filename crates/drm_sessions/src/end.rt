@@ -6,10 +6,24 @@ use std::fmt::{Display, Formatter};
 
 /// Why a session ended (own).
 ///
+/// # Examples
+///
 /// ```rust
+/// use drm_device::{Device, Limits, Topology};
+/// use drm_frames::{FromRead, ToWrite};
+/// use drm_sessions::{Class, Gate, NoGate, SessionEnd, serve_alone};
+///
+/// let alloc = rt.alloc();
+/// let Some(topology) = Topology::new(2, &[1, 2], &[3, 2], &[5, 6]) else { return };
+/// let Ok(mut device) = Device::new(alloc, topology, Limits::PROGRAM) else { return };
+/// let mut gate = NoGate;
+/// gate.before(1);
+/// let hello = [14, 0, 0, 0, 0, 1, 1, 0, 0, 0, 0, 0, 0, 0, 0, 0, 0, 0];
+/// let mut sink = ToWrite::new(Vec::new(alloc));
+/// let card = Class::Card;
 /// let mut source = FromRead::new(&hello[..4]);
 /// let session = serve_alone(&mut device, &mut gate, card, &mut source, &mut sink, 1000);
-/// assert!(session.end == SessionEnd::Truncated);
+/// assert!(rt; session.end == SessionEnd::Truncated);
 /// ```
 #[derive(Clone, Copy, Debug, PartialEq, Eq)]
 pub enum SessionEnd {
@@ -63,9 +77,25 @@ impl Display for SessionEnd {
 
 /// A session that has ended.
 ///
+/// # Examples
+///
 /// ```rust
+/// use drm_device::{Device, Limits, Topology};
+/// use drm_frames::{FromRead, ToWrite};
+/// use drm_sessions::{Class, Gate, NoGate, Session, serve_alone};
+///
+/// let alloc = rt.alloc();
+/// let Some(topology) = Topology::new(2, &[1, 2], &[3, 2], &[5, 6]) else { return };
+/// let Ok(mut device) = Device::new(alloc, topology, Limits::PROGRAM) else { return };
+/// let mut gate = NoGate;
+/// gate.before(1);
+/// let hello = [14, 0, 0, 0, 0, 1, 1, 0, 0, 0, 0, 0, 0, 0, 0, 0, 0, 0];
+/// let mut sink = ToWrite::new(Vec::new(alloc));
+/// let card = Class::Card;
+/// let mut source = FromRead::new(&hello[..4]);
+/// let session = serve_alone(&mut device, &mut gate, card, &mut source, &mut sink, 1000);
 /// let Session { client, steps, .. } = session;
-/// assert!(client == 0 && steps == 0);
+/// assert!(rt; client == 0 && steps == 0);
 /// ```
 #[derive(Clone, Copy, Debug, PartialEq, Eq)]
 pub struct Session {

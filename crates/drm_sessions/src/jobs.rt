@@ -15,7 +15,17 @@ use std::thread::{Promise, PromisedHandle, Scope, Threads};
 
 /// A session that is to be served.
 ///
+/// # Examples
+///
 /// ```rust
+/// use drm_device::{Device, Limits, Topology};
+/// use drm_frames::{FromRead, ToWrite};
+/// use drm_sessions::{Class, Job, NoGate};
+/// use drm_turns::SharedDevice;
+///
+/// let alloc = rt.alloc();
+/// let hello = [14, 0, 0, 0, 0, 1, 1, 0, 0, 0, 0, 0, 0, 0, 0, 0, 0, 0];
+/// let card = Class::Card;
 /// let Some(topology) = Topology::new(2, &[1, 2], &[3, 2], &[5, 6]) else { return };
 /// let Ok(fresh) = Device::new(alloc, topology, Limits::PROGRAM) else { return };
 /// let Ok((shared, mut participant)) = SharedDevice::new(alloc, fresh) else { return };
@@ -38,12 +48,27 @@ pub struct Job<G, S, K> {
 
 /// A session that was served, with its source and its sink.
 ///
+/// # Examples
+///
 /// ```rust
+/// use drm_device::{Device, Limits, Topology};
+/// use drm_frames::{FromRead, ToWrite};
+/// use drm_sessions::{Class, Finished, Job, NoGate, serve_many};
+/// use drm_turns::SharedDevice;
+///
+/// let alloc = rt.alloc();
+/// let hello = [14, 0, 0, 0, 0, 1, 1, 0, 0, 0, 0, 0, 0, 0, 0, 0, 0, 0];
+/// let card = Class::Card;
+/// let Some(topology) = Topology::new(2, &[1, 2], &[3, 2], &[5, 6]) else { return };
+/// let Ok(fresh) = Device::new(alloc, topology, Limits::PROGRAM) else { return };
+/// let Ok((shared, mut participant)) = SharedDevice::new(alloc, fresh) else { return };
+/// let (from, into) = (FromRead::new(hello.as_slice()), ToWrite::new(Vec::new(alloc)));
+/// let job = Job { gate: NoGate, class: card, source: from, sink: into, turns: 1000 };
 /// let mut jobs = Vec::new(alloc);
 /// let Ok(()) = jobs.push(job) else { return };
 /// let Ok(served) = serve_many(&rt, alloc, &shared, &mut participant, jobs) else { return };
 /// let Some(Finished { session, .. }) = served.first() else { return };
-/// assert!(session.steps == 2);
+/// assert!(rt; session.steps == 2);
 /// ```
 #[derive(Drop)]
 pub struct Finished<S, K> {

@@ -17,7 +17,14 @@ use std::sync::Wait;
 
 /// A shared device as a session reaches it: each call is a call through the participant. Contracts see the participant.
 ///
+/// # Examples
+///
 /// ```rust
+/// use drm_device::{Device, Limits, Topology};
+/// use drm_sessions::Through;
+/// use drm_turns::SharedDevice;
+///
+/// let alloc = rt.alloc();
 /// let Some(topology) = Topology::new(2, &[1, 2], &[3, 2], &[5, 6]) else { return };
 /// let Ok(device) = Device::new(alloc, topology, Limits::PROGRAM) else { return };
 /// let Ok((shared, participant)) = SharedDevice::new(alloc, device) else { return };
@@ -45,9 +52,21 @@ impl<'a, R: Wait> Model for Through<'a, R> {
 impl<'a, R: Wait> Through<'a, R> {
     /// Returns the shared device, through this participant of it.
     ///
+    /// # Examples
+    ///
     /// ```rust
+    /// use drm_device::{Device, Limits, Topology};
+    /// use drm_sessions::{Access, Through};
+    /// use drm_table::{Answer, Event, Opening};
+    /// use drm_turns::SharedDevice;
+    ///
+    /// let alloc = rt.alloc();
+    /// let Some(topology) = Topology::new(2, &[1, 2], &[3, 2], &[5, 6]) else { return };
+    /// let Ok(device) = Device::new(alloc, topology, Limits::PROGRAM) else { return };
+    /// let Ok((shared, participant)) = SharedDevice::new(alloc, device) else { return };
+    /// let mut through = Through::new(&rt, &shared, participant);
     /// let opened = through.call(Event::Open(Opening::Render));
-    /// assert!(opened == Ok(Answer::Opened { client: 1 }));
+    /// assert!(rt; opened == Ok(Answer::Opened { client: 1 }));
     /// ```
     pub fn new(rt: &'a R, shared: &'a SharedDevice, participant: Seat) -> Through<'a, R>
         requires own { participant.table ≡ shared.now }
@@ -62,10 +81,23 @@ impl<'a, R: Wait> Through<'a, R> {
 
     /// Returns the participant back.
     ///
+    /// # Examples
+    ///
     /// ```rust
+    /// use drm_device::{Device, Limits, Topology};
+    /// use drm_sessions::{Access, Through};
+    /// use drm_table::{Event, Opening};
+    /// use drm_turns::SharedDevice;
+    ///
+    /// let alloc = rt.alloc();
+    /// let Some(topology) = Topology::new(2, &[1, 2], &[3, 2], &[5, 6]) else { return };
+    /// let Ok(device) = Device::new(alloc, topology, Limits::PROGRAM) else { return };
+    /// let Ok((shared, participant)) = SharedDevice::new(alloc, device) else { return };
+    /// let mut through = Through::new(&rt, &shared, participant);
+    /// let opened = through.call(Event::Open(Opening::Render));
     /// let participant = through.into_seat();
     /// let Ok(device) = shared.close(participant) else { return };
-    /// assert!(device.journal().len() == 1);
+    /// assert!(rt; device.journal().len() == 1);
     /// ```
     pub fn into_seat(self) -> Seat
         ensures participant { result ≡ self.entry }
@@ -90,12 +122,26 @@ impl<R: Wait> Access for Through<'_, R> {
 
 /// A session that was served through a participant.
 ///
+/// # Examples
+///
 /// ```rust
+/// use drm_device::{Device, Limits, Topology};
+/// use drm_frames::{FromRead, ToWrite};
+/// use drm_sessions::{Class, NoGate, Served, serve_through};
+/// use drm_turns::SharedDevice;
+///
+/// let alloc = rt.alloc();
+/// let hello = [14, 0, 0, 0, 0, 1, 1, 0, 0, 0, 0, 0, 0, 0, 0, 0, 0, 0];
+/// let mut sink = ToWrite::new(Vec::new(alloc));
+/// let card = Class::Card;
+/// let Some(topology) = Topology::new(2, &[1, 2], &[3, 2], &[5, 6]) else { return };
+/// let Ok(fresh) = Device::new(alloc, topology, Limits::PROGRAM) else { return };
+/// let Ok((shared, mut participant)) = SharedDevice::new(alloc, fresh) else { return };
 /// let mut source = FromRead::new(hello.as_slice());
 /// let mut gate = NoGate;
 /// let Served { session, participant } =
 ///     serve_through(&rt, &shared, participant, &mut gate, card, &mut source, &mut sink, 1000);
-/// assert!(session.steps == 2);
+/// assert!(rt; session.steps == 2);
 /// ```
 #[derive(Drop)]
 pub struct Served {
@@ -110,10 +156,28 @@ pub struct Served {
 /// Each call has a turn of the device, in the history that the participant then has seen. The participant's own entries
 /// are those that it had, and the recorded events of the session with their answers. The rest is as `serve` says.
 ///
+/// # Examples
+///
 /// ```rust
+/// use drm_device::{Device, Limits, Topology};
+/// use drm_frames::{FromRead, ToWrite};
+/// use drm_sessions::{Class, NoGate, Served, SessionEnd, serve_through};
+/// use drm_turns::SharedDevice;
+///
+/// let alloc = rt.alloc();
+/// let hello = [14, 0, 0, 0, 0, 1, 1, 0, 0, 0, 0, 0, 0, 0, 0, 0, 0, 0];
+/// let mut sink = ToWrite::new(Vec::new(alloc));
+/// let card = Class::Card;
+/// let Some(topology) = Topology::new(2, &[1, 2], &[3, 2], &[5, 6]) else { return };
+/// let Ok(fresh) = Device::new(alloc, topology, Limits::PROGRAM) else { return };
+/// let Ok((shared, mut participant)) = SharedDevice::new(alloc, fresh) else { return };
+/// let mut source = FromRead::new(hello.as_slice());
+/// let mut gate = NoGate;
+/// let Served { session, participant } =
+///     serve_through(&rt, &shared, participant, &mut gate, card, &mut source, &mut sink, 1000);
 /// let mut source = FromRead::new(hello.as_slice());
 /// let served = serve_through(&rt, &shared, participant, &mut gate, card, &mut source, &mut sink, 1000);
-/// assert!(served.session.end == SessionEnd::Ended);
+/// assert!(rt; served.session.end == SessionEnd::Ended);
 /// ```
 pub fn serve_through<R: Wait, G: Gate, S: Source, K: Sink>(
     rt: &R,

@@ -7,11 +7,18 @@ use std::marker::Model;
 
 /// The right of one thread to call a shared device, with what it has seen and made. Does not allocate.
 ///
+/// # Examples
+///
 /// ```rust
+/// use drm_device::{Device, Limits, Topology};
+/// use drm_table::{Event, Opening};
+/// use drm_turns::SharedDevice;
+///
+/// let alloc = rt.alloc();
 /// let Some(topology) = Topology::new(2, &[1, 2], &[3, 2], &[5, 6]) else { return };
 /// let Ok(device) = Device::new(alloc, topology, Limits::PROGRAM) else { return };
 /// let Ok((shared, mut participant)) = SharedDevice::new(alloc, device) else { return };
-/// assert!(shared.call(&rt, &mut participant, Event::Open(Opening::Render)).is_ok());
+/// assert!(rt; shared.call(&rt, &mut participant, Event::Open(Opening::Render)).is_ok());
 /// ```
 #[derive(Drop)]
 pub struct Seat {
@@ -32,7 +39,18 @@ impl Model for Seat {
 
 /// What a participant had seen, for another participant. Does not allocate.
 ///
+/// # Examples
+///
 /// ```rust
+/// use drm_device::{Device, Limits, Topology};
+/// use drm_table::{Event, Opening};
+/// use drm_turns::SharedDevice;
+///
+/// let alloc = rt.alloc();
+/// let Some(topology) = Topology::new(2, &[1, 2], &[3, 2], &[5, 6]) else { return };
+/// let Ok(device) = Device::new(alloc, topology, Limits::PROGRAM) else { return };
+/// let Ok((shared, mut participant)) = SharedDevice::new(alloc, device) else { return };
+/// assert!(rt; shared.call(&rt, &mut participant, Event::Open(Opening::Render)).is_ok());
 /// let note = shared.note(&mut participant);
 /// shared.meet(&mut participant, note);
 /// ```

@@ -47,7 +47,13 @@ const PATIENCE: u32 = 64;
 
 /// No memory for a shared device.
 ///
+/// # Examples
+///
 /// ```rust
+/// use drm_device::{Device, Limits, Topology};
+/// use drm_turns::{NoMemory, SharedDevice};
+///
+/// let alloc = rt.alloc();
 /// let Some(topology) = Topology::new(2, &[1, 2], &[3, 2], &[5, 6]) else { return };
 /// let Ok(device) = Device::new(alloc, topology, Limits::PROGRAM) else { return };
 /// let (second, its_participant) = match SharedDevice::new(alloc, device) {
@@ -60,9 +66,21 @@ pub struct NoMemory;
 
 /// A ticket was drawn that was not passed on.
 ///
+/// # Examples
+///
 /// ```rust
+/// use drm_device::{Device, Limits, Topology};
+/// use drm_turns::{NoMemory, SharedDevice, TurnOut};
+///
+/// let alloc = rt.alloc();
+/// let Some(topology) = Topology::new(2, &[1, 2], &[3, 2], &[5, 6]) else { return };
+/// let Ok(device) = Device::new(alloc, topology, Limits::PROGRAM) else { return };
+/// let (second, its_participant) = match SharedDevice::new(alloc, device) {
+///     Ok(made) => made,
+///     Err((_device, NoMemory)) => return,
+/// };
 /// match second.close(its_participant) {
-///     Ok(device) => assert!(device.journal().is_empty()),
+///     Ok(device) => assert!(rt; device.journal().is_empty()),
 ///     Err(TurnOut) => return,
 /// }
 /// ```
@@ -72,7 +90,13 @@ pub struct TurnOut;
 /// A device that threads share by reference. Each call has the device alone (own). Contracts see the name that it shares
 /// with its participants and notes.
 ///
+/// # Examples
+///
 /// ```rust
+/// use drm_device::{Device, Limits, Topology};
+/// use drm_turns::SharedDevice;
+///
+/// let alloc = rt.alloc();
 /// let Some(topology) = Topology::new(2, &[1, 2], &[3, 2], &[5, 6]) else { return };
 /// let Ok(device) = Device::new(alloc, topology, Limits::PROGRAM) else { return };
 /// let Ok((shared, mut participant)) = SharedDevice::new(alloc, device) else { return };
@@ -108,8 +132,21 @@ impl Model for SharedDevice {
 /// What threads share a device by. A function that starts threads takes it as a type parameter, so that what crosses to
 /// a thread is shown by a bound (`Sync`).
 ///
+/// # Examples
+///
 /// ```rust
-/// assert!(shared.device().peek_count() == 1);
+/// use drm_device::{Device, Limits, Topology};
+/// use drm_table::{Event, Opening};
+/// use drm_turns::{SharedDevice, Sharing};
+///
+/// let alloc = rt.alloc();
+/// let Some(topology) = Topology::new(2, &[1, 2], &[3, 2], &[5, 6]) else { return };
+/// let Ok(device) = Device::new(alloc, topology, Limits::PROGRAM) else { return };
+/// let Ok((shared, mut participant)) = SharedDevice::new(alloc, device) else { return };
+/// assert!(rt; shared.call(&rt, &mut participant, Event::Open(Opening::Render)).is_ok());
+/// let note = shared.note(&mut participant);
+/// shared.meet(&mut participant, note);
+/// assert!(rt; shared.device().peek_count() == 1);
 /// ```
 pub trait Sharing {
     ghost use Rattle.atomic_table.specs.Seated.{TableId};
@@ -302,8 +339,17 @@ impl SharedDevice {
     /// Shares the device, and returns the first participant, which has number 1 and has seen what the device had
     /// recorded. Without memory there is no shared device, and the device is returned.
     ///
+    /// # Examples
+    ///
     /// ```rust
-    /// assert!(shared.peek_count() == 0);
+    /// use drm_device::{Device, Limits, Topology};
+    /// use drm_turns::SharedDevice;
+    ///
+    /// let alloc = rt.alloc();
+    /// let Some(topology) = Topology::new(2, &[1, 2], &[3, 2], &[5, 6]) else { return };
+    /// let Ok(device) = Device::new(alloc, topology, Limits::PROGRAM) else { return };
+    /// let Ok((shared, mut participant)) = SharedDevice::new(alloc, device) else { return };
+    /// assert!(rt; shared.peek_count() == 0);
     /// ```
     pub fn new(alloc: Global, device: Device) -> Result<(SharedDevice, Seat), (Device, NoMemory)>
         ensures own { IfOk result (λ made. made.1.table ≡ made.0) }
@@ -346,9 +392,19 @@ impl SharedDevice {
     /// ticket for the turn the device isn't called. The first participant, if none is out of it, has no ticket only if
     /// it and those that it took in drew all 2^64 - 1.
     ///
+    /// # Examples
+    ///
     /// ```rust
+    /// use drm_device::{Device, Limits, Topology};
+    /// use drm_table::{Answer, Event, Opening};
+    /// use drm_turns::SharedDevice;
+    ///
+    /// let alloc = rt.alloc();
+    /// let Some(topology) = Topology::new(2, &[1, 2], &[3, 2], &[5, 6]) else { return };
+    /// let Ok(device) = Device::new(alloc, topology, Limits::PROGRAM) else { return };
+    /// let Ok((shared, mut participant)) = SharedDevice::new(alloc, device) else { return };
     /// let opening = Event::Open(Opening::Render);
-    /// assert!(shared.call(&rt, &mut participant, opening) == Ok(Answer::Opened { client: 1 }));
+    /// assert!(rt; shared.call(&rt, &mut participant, opening) == Ok(Answer::Opened { client: 1 }));
     /// ```
     pub fn call<R: Wait>(
         &self,
@@ -376,10 +432,22 @@ impl SharedDevice {
     /// Answers one event as [`call`](SharedDevice::call) does, and writes what resulted from it to a place of the
     /// caller's, so that an answer is moved less.
     ///
+    /// # Examples
+    ///
     /// ```rust
+    /// use drm_device::{Device, Limits, Topology};
+    /// use drm_table::{Answer, Apart, Call, Event, Opening};
+    /// use drm_turns::SharedDevice;
+    ///
+    /// let alloc = rt.alloc();
+    /// let Some(topology) = Topology::new(2, &[1, 2], &[3, 2], &[5, 6]) else { return };
+    /// let Ok(device) = Device::new(alloc, topology, Limits::PROGRAM) else { return };
+    /// let Ok((shared, mut participant)) = SharedDevice::new(alloc, device) else { return };
+    /// let opening = Event::Open(Opening::Render);
+    /// assert!(rt; shared.call(&rt, &mut participant, opening) == Ok(Answer::Opened { client: 1 }));
     /// let mut outcome = Err(Apart::Worn);
     /// shared.call_at(&rt, &mut participant, Event::Ask(1, Call::Version), &mut outcome);
-    /// assert!(outcome == Ok(Answer::Version { major: 1, minor: 0, patch: 0 }));
+    /// assert!(rt; outcome == Ok(Answer::Version { major: 1, minor: 0, patch: 0 }));
     /// ```
     pub fn call_at<R: Wait>(
         &self,
@@ -414,10 +482,24 @@ impl SharedDevice {
     /// Returns a further participant with a new number, which has seen as much. The participant that it is split off
     /// counts one more that is out, and is unchanged otherwise.
     ///
+    /// # Examples
+    ///
     /// ```rust
+    /// use drm_device::{Device, Limits, Topology};
+    /// use drm_table::{Answer, Apart, Call, Event, Opening};
+    /// use drm_turns::SharedDevice;
+    ///
+    /// let alloc = rt.alloc();
+    /// let Some(topology) = Topology::new(2, &[1, 2], &[3, 2], &[5, 6]) else { return };
+    /// let Ok(device) = Device::new(alloc, topology, Limits::PROGRAM) else { return };
+    /// let Ok((shared, mut participant)) = SharedDevice::new(alloc, device) else { return };
+    /// let opening = Event::Open(Opening::Render);
+    /// assert!(rt; shared.call(&rt, &mut participant, opening) == Ok(Answer::Opened { client: 1 }));
+    /// let mut outcome = Err(Apart::Worn);
+    /// shared.call_at(&rt, &mut participant, Event::Ask(1, Call::Version), &mut outcome);
     /// let mut other = shared.split(&mut participant);
     /// let closing = Event::Close(1);
-    /// assert!(shared.call(&rt, &mut other, closing) == Ok(Answer::Closed));
+    /// assert!(rt; shared.call(&rt, &mut other, closing) == Ok(Answer::Closed));
     /// ```
     pub fn split(&self, participant: &mut Seat) -> Seat
         requires own { participant.old.table ≡ self.now }
@@ -440,7 +522,24 @@ impl SharedDevice {
     /// Takes in another participant, which ends: what it had seen, its number, and the numbers that it had taken in. They all
     /// differ from each other. Where it was split off this participant, and none is out of it any more, one fewer is out.
     ///
+    /// # Examples
+    ///
     /// ```rust
+    /// use drm_device::{Device, Limits, Topology};
+    /// use drm_table::{Answer, Apart, Call, Event, Opening};
+    /// use drm_turns::SharedDevice;
+    ///
+    /// let alloc = rt.alloc();
+    /// let Some(topology) = Topology::new(2, &[1, 2], &[3, 2], &[5, 6]) else { return };
+    /// let Ok(device) = Device::new(alloc, topology, Limits::PROGRAM) else { return };
+    /// let Ok((shared, mut participant)) = SharedDevice::new(alloc, device) else { return };
+    /// let opening = Event::Open(Opening::Render);
+    /// assert!(rt; shared.call(&rt, &mut participant, opening) == Ok(Answer::Opened { client: 1 }));
+    /// let mut outcome = Err(Apart::Worn);
+    /// shared.call_at(&rt, &mut participant, Event::Ask(1, Call::Version), &mut outcome);
+    /// let mut other = shared.split(&mut participant);
+    /// let closing = Event::Close(1);
+    /// assert!(rt; shared.call(&rt, &mut other, closing) == Ok(Answer::Closed));
     /// shared.join(&mut participant, other);
     /// ```
     pub fn join(&self, participant: &mut Seat, other: Seat)
@@ -464,7 +563,25 @@ impl SharedDevice {
 
     /// What the participant has seen, for another participant. The participant counts one more that is out, and else stays as it is.
     ///
+    /// # Examples
+    ///
     /// ```rust
+    /// use drm_device::{Device, Limits, Topology};
+    /// use drm_table::{Answer, Apart, Call, Event, Opening};
+    /// use drm_turns::SharedDevice;
+    ///
+    /// let alloc = rt.alloc();
+    /// let Some(topology) = Topology::new(2, &[1, 2], &[3, 2], &[5, 6]) else { return };
+    /// let Ok(device) = Device::new(alloc, topology, Limits::PROGRAM) else { return };
+    /// let Ok((shared, mut participant)) = SharedDevice::new(alloc, device) else { return };
+    /// let opening = Event::Open(Opening::Render);
+    /// assert!(rt; shared.call(&rt, &mut participant, opening) == Ok(Answer::Opened { client: 1 }));
+    /// let mut outcome = Err(Apart::Worn);
+    /// shared.call_at(&rt, &mut participant, Event::Ask(1, Call::Version), &mut outcome);
+    /// let mut other = shared.split(&mut participant);
+    /// let closing = Event::Close(1);
+    /// assert!(rt; shared.call(&rt, &mut other, closing) == Ok(Answer::Closed));
+    /// shared.join(&mut participant, other);
     /// let note = shared.note(&mut participant);
     /// ```
     pub fn note(&self, participant: &mut Seat) -> Note
@@ -483,7 +600,26 @@ impl SharedDevice {
 
     /// Takes in what a note says. Where it was the participant's own, one fewer is out.
     ///
+    /// # Examples
+    ///
     /// ```rust
+    /// use drm_device::{Device, Limits, Topology};
+    /// use drm_table::{Answer, Apart, Call, Event, Opening};
+    /// use drm_turns::SharedDevice;
+    ///
+    /// let alloc = rt.alloc();
+    /// let Some(topology) = Topology::new(2, &[1, 2], &[3, 2], &[5, 6]) else { return };
+    /// let Ok(device) = Device::new(alloc, topology, Limits::PROGRAM) else { return };
+    /// let Ok((shared, mut participant)) = SharedDevice::new(alloc, device) else { return };
+    /// let opening = Event::Open(Opening::Render);
+    /// assert!(rt; shared.call(&rt, &mut participant, opening) == Ok(Answer::Opened { client: 1 }));
+    /// let mut outcome = Err(Apart::Worn);
+    /// shared.call_at(&rt, &mut participant, Event::Ask(1, Call::Version), &mut outcome);
+    /// let mut other = shared.split(&mut participant);
+    /// let closing = Event::Close(1);
+    /// assert!(rt; shared.call(&rt, &mut other, closing) == Ok(Answer::Closed));
+    /// shared.join(&mut participant, other);
+    /// let note = shared.note(&mut participant);
     /// shared.meet(&mut participant, note);
     /// ```
     pub fn meet(&self, participant: &mut Seat, note: Note)
@@ -511,9 +647,29 @@ impl SharedDevice {
     /// it or off them. Then the device has recorded what it had before, and the entries of the participant and of those
     /// that it took in, and nothing else.
     ///
+    /// # Examples
+    ///
     /// ```rust
+    /// use drm_device::{Device, Limits, Topology};
+    /// use drm_table::{Answer, Apart, Call, Event, Opening};
+    /// use drm_turns::SharedDevice;
+    ///
+    /// let alloc = rt.alloc();
+    /// let Some(topology) = Topology::new(2, &[1, 2], &[3, 2], &[5, 6]) else { return };
+    /// let Ok(device) = Device::new(alloc, topology, Limits::PROGRAM) else { return };
+    /// let Ok((shared, mut participant)) = SharedDevice::new(alloc, device) else { return };
+    /// let opening = Event::Open(Opening::Render);
+    /// assert!(rt; shared.call(&rt, &mut participant, opening) == Ok(Answer::Opened { client: 1 }));
+    /// let mut outcome = Err(Apart::Worn);
+    /// shared.call_at(&rt, &mut participant, Event::Ask(1, Call::Version), &mut outcome);
+    /// let mut other = shared.split(&mut participant);
+    /// let closing = Event::Close(1);
+    /// assert!(rt; shared.call(&rt, &mut other, closing) == Ok(Answer::Closed));
+    /// shared.join(&mut participant, other);
+    /// let note = shared.note(&mut participant);
+    /// shared.meet(&mut participant, note);
     /// let Ok(device) = shared.close(participant) else { return };
-    /// assert!(device.journal().len() == 3);
+    /// assert!(rt; device.journal().len() == 3);
     /// ```
     pub fn close(self, participant: Seat) -> Result<Device, TurnOut>
         requires own { participant.table ≡ self }
@@ -541,8 +697,28 @@ impl SharedDevice {
 
     /// Returns the length of the history at some moment. It waits for no client.
     ///
+    /// # Examples
+    ///
     /// ```rust
-    /// assert!(shared.peek_count() == 3);
+    /// use drm_device::{Device, Limits, Topology};
+    /// use drm_table::{Answer, Apart, Call, Event, Opening};
+    /// use drm_turns::SharedDevice;
+    ///
+    /// let alloc = rt.alloc();
+    /// let Some(topology) = Topology::new(2, &[1, 2], &[3, 2], &[5, 6]) else { return };
+    /// let Ok(device) = Device::new(alloc, topology, Limits::PROGRAM) else { return };
+    /// let Ok((shared, mut participant)) = SharedDevice::new(alloc, device) else { return };
+    /// let opening = Event::Open(Opening::Render);
+    /// assert!(rt; shared.call(&rt, &mut participant, opening) == Ok(Answer::Opened { client: 1 }));
+    /// let mut outcome = Err(Apart::Worn);
+    /// shared.call_at(&rt, &mut participant, Event::Ask(1, Call::Version), &mut outcome);
+    /// let mut other = shared.split(&mut participant);
+    /// let closing = Event::Close(1);
+    /// assert!(rt; shared.call(&rt, &mut other, closing) == Ok(Answer::Closed));
+    /// shared.join(&mut participant, other);
+    /// let note = shared.note(&mut participant);
+    /// shared.meet(&mut participant, note);
+    /// assert!(rt; shared.peek_count() == 3);
     /// ```
     pub fn peek_count(&self) -> u64 {
         self.table.shared.peek(COUNT)

@@ -23,27 +23,97 @@ fn values(rt: HostRuntime) {
     assert!(rt; opened == Ok(Answer::Opened { client: 1 }));
     let mut gate = NoGate;
     gate.before(1);
+    let Some(topology) = Topology::new(2, &[1, 2], &[3, 2], &[5, 6]) else {
+        panic!(rt; "refused")
+    };
+    let Ok(mut device) = Device::new(alloc, topology, Limits::PROGRAM) else {
+        panic!(rt; "refused")
+    };
     let hello = [14, 0, 0, 0, 0, 1, 1, 0, 0, 0, 0, 0, 0, 0, 0, 0, 0, 0];
     let mut source = FromRead::new(hello.as_slice());
     let mut sink = ToWrite::new(Vec::new(alloc));
     let card = Class::Card;
     let session = serve_alone(&mut device, &mut NoGate, card, &mut source, &mut sink, 1000);
     assert!(rt; session.end == SessionEnd::Ended);
+    let Some(topology) = Topology::new(2, &[1, 2], &[3, 2], &[5, 6]) else {
+        panic!(rt; "refused")
+    };
+    let Ok(mut device) = Device::new(alloc, topology, Limits::PROGRAM) else {
+        panic!(rt; "refused")
+    };
+    let mut gate = NoGate;
+    gate.before(1);
+    let hello = [14, 0, 0, 0, 0, 1, 1, 0, 0, 0, 0, 0, 0, 0, 0, 0, 0, 0];
+    let mut sink = ToWrite::new(Vec::new(alloc));
+    let card = Class::Card;
     let mut source = FromRead::new(hello.as_slice());
     let mut alone = Alone(&mut device);
     let session = serve_lent(&mut alone, &mut gate, card, &mut source, &mut sink, 1000);
     assert!(rt; session.steps == 2);
+}
+
+#[test]
+fn values_from_serve_lent(rt: HostRuntime) {
+    let alloc = rt.alloc();
+    let Some(topology) = Topology::new(2, &[1, 2], &[3, 2], &[5, 6]) else {
+        panic!(rt; "refused")
+    };
+    let Ok(mut device) = Device::new(alloc, topology, Limits::PROGRAM) else {
+        panic!(rt; "refused")
+    };
+    let mut gate = NoGate;
+    gate.before(1);
+    let hello = [14, 0, 0, 0, 0, 1, 1, 0, 0, 0, 0, 0, 0, 0, 0, 0, 0, 0];
+    let mut sink = ToWrite::new(Vec::new(alloc));
+    let card = Class::Card;
     let mut source = FromRead::new(hello.as_slice());
     let mut alone = Alone(&mut device);
     let session = serve_lent(&mut alone, &mut gate, card, &mut source, &mut sink, 1000);
     assert!(rt; session.end == SessionEnd::Ended);
+    let Some(topology) = Topology::new(2, &[1, 2], &[3, 2], &[5, 6]) else {
+        panic!(rt; "refused")
+    };
+    let Ok(mut device) = Device::new(alloc, topology, Limits::PROGRAM) else {
+        panic!(rt; "refused")
+    };
+    let mut gate = NoGate;
+    gate.before(1);
+    let hello = [14, 0, 0, 0, 0, 1, 1, 0, 0, 0, 0, 0, 0, 0, 0, 0, 0, 0];
+    let mut sink = ToWrite::new(Vec::new(alloc));
+    let card = Class::Card;
     let mut source = FromRead::new(hello.as_slice());
     let session = serve_alone(&mut device, &mut gate, card, &mut source, &mut sink, 1000);
     assert!(rt; session.end == SessionEnd::Ended && session.steps == 2);
+}
+
+#[test]
+fn values_from_class(rt: HostRuntime) {
+    let alloc = rt.alloc();
+    let Some(topology) = Topology::new(2, &[1, 2], &[3, 2], &[5, 6]) else {
+        panic!(rt; "refused")
+    };
+    let Ok(mut device) = Device::new(alloc, topology, Limits::PROGRAM) else {
+        panic!(rt; "refused")
+    };
+    let mut gate = NoGate;
+    gate.before(1);
+    let hello = [14, 0, 0, 0, 0, 1, 1, 0, 0, 0, 0, 0, 0, 0, 0, 0, 0, 0];
+    let mut sink = ToWrite::new(Vec::new(alloc));
     let mut source = FromRead::new(hello.as_slice());
     let root = Class::Root;
     let session = serve_alone(&mut device, &mut gate, root, &mut source, &mut sink, 1000);
     assert!(rt; session.end == SessionEnd::Ended);
+    let Some(topology) = Topology::new(2, &[1, 2], &[3, 2], &[5, 6]) else {
+        panic!(rt; "refused")
+    };
+    let Ok(mut device) = Device::new(alloc, topology, Limits::PROGRAM) else {
+        panic!(rt; "refused")
+    };
+    let mut gate = NoGate;
+    gate.before(1);
+    let hello = [14, 0, 0, 0, 0, 1, 1, 0, 0, 0, 0, 0, 0, 0, 0, 0, 0, 0];
+    let mut sink = ToWrite::new(Vec::new(alloc));
+    let card = Class::Card;
     let mut source = FromRead::new(&hello[..4]);
     let session = serve_alone(&mut device, &mut gate, card, &mut source, &mut sink, 1000);
     assert!(rt; session.end == SessionEnd::Truncated);
@@ -87,15 +157,40 @@ fn values_from_job(rt: HostRuntime) {
         panic!(rt; "refused")
     };
     assert!(rt; session.steps == 2);
+}
+
+#[test]
+fn values_from_many_fault(rt: HostRuntime) {
+    let alloc = rt.alloc();
+    let Some(topology) = Topology::new(2, &[1, 2], &[3, 2], &[5, 6]) else {
+        panic!(rt; "refused")
+    };
+    let Ok(fresh) = Device::new(alloc, topology, Limits::PROGRAM) else {
+        panic!(rt; "refused")
+    };
+    let Ok((shared, mut participant)) = SharedDevice::new(alloc, fresh) else {
+        panic!(rt; "refused")
+    };
     let none: Vec<Job<NoGate, FromRead<&[u8]>, ToWrite<Vec<u8>>>> = Vec::new(alloc);
     match serve_many(&rt, alloc, &shared, &mut participant, none) {
         Ok(served) => assert!(rt; served.is_empty()),
         Err(ManyFault::NoMemory | ManyFault::NoThread) => panic!(rt; "refused"),
     }
+    let Some(topology) = Topology::new(2, &[1, 2], &[3, 2], &[5, 6]) else {
+        panic!(rt; "refused")
+    };
+    let Ok(fresh) = Device::new(alloc, topology, Limits::PROGRAM) else {
+        panic!(rt; "refused")
+    };
+    let Ok((shared, mut participant)) = SharedDevice::new(alloc, fresh) else {
+        panic!(rt; "refused")
+    };
+    let jobs: Vec<Job<NoGate, FromRead<&[u8]>, ToWrite<Vec<u8>>>> = Vec::new(alloc);
+    assert!(rt; serve_many(&rt, alloc, &shared, &mut participant, jobs).is_ok());
 }
 
 #[test]
-fn values_from_serve_many(rt: HostRuntime) {
+fn values_from_serve(rt: HostRuntime) {
     let alloc = rt.alloc();
     let Some(topology) = Topology::new(2, &[1, 2], &[3, 2], &[5, 6]) else {
         panic!(rt; "refused")
@@ -108,17 +203,6 @@ fn values_from_serve_many(rt: HostRuntime) {
     let hello = [14, 0, 0, 0, 0, 1, 1, 0, 0, 0, 0, 0, 0, 0, 0, 0, 0, 0];
     let mut sink = ToWrite::new(Vec::new(alloc));
     let card = Class::Card;
-    let Some(topology) = Topology::new(2, &[1, 2], &[3, 2], &[5, 6]) else {
-        panic!(rt; "refused")
-    };
-    let Ok(fresh) = Device::new(alloc, topology, Limits::PROGRAM) else {
-        panic!(rt; "refused")
-    };
-    let Ok((shared, mut participant)) = SharedDevice::new(alloc, fresh) else {
-        panic!(rt; "refused")
-    };
-    let jobs: Vec<Job<NoGate, FromRead<&[u8]>, ToWrite<Vec<u8>>>> = Vec::new(alloc);
-    assert!(rt; serve_many(&rt, alloc, &shared, &mut participant, jobs).is_ok());
     let mut source = FromRead::new(hello.as_slice());
     let mut alone = Alone(&mut device);
     let session = serve(&mut alone, &mut gate, card, &mut source, &mut sink, 1000);
