@@ -1,4 +1,4 @@
--- What a device's history says of its rows.
+-- The facts that a device's history implies for its rows (own).
 use Rattle.std.specs.Prelude.{◌≡◌, ℕ, ◌==◌, ◌&&◌, true, false, List, Some, IfSome}
 use Rattle.std.specs.List.{AllByRecursion}
 use Rattle.drm_lists.specs.Orders.{InOrder}

@@ -1,4 +1,4 @@
--- What the functions of an audit promise.
+-- The contracts of the functions of an audit (own).
 use Rattle.std.specs.Prelude.{◌≡◌, ℕ, List, Option, slice_get}
 use Rattle.drm_table.specs.declared.audits.AuditKind.{AuditKind}
 use Rattle.drm_table.specs.declared.audits.AuditRow.{AuditRow}

@@ -1,4 +1,4 @@
--- What contracts see of a device, and what is true of its fields.
+-- The value of a device that contracts see, and the facts about its fields (own).
 use Rattle.std.specs.Prelude.{◌≡◌, ◌+◌, ◌≤◌, true, length}
 use Rattle.std.specs.Vec.{vec_len, vec_capacity}
 use Rattle.drm_table.specs.Limits.{are_in_range}

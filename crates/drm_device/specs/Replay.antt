@@ -1,4 +1,4 @@
--- What a replay returns.
+-- The result of a replay (own).
 use Rattle.std.specs.Prelude.{◌≡◌, ℕ, ◌+◌, ◌<◌, false, List, [], Result, Ok, Err, Some, slice_get, take, length}
 use Rattle.drm_table.specs.declared.apart.Apart.{Apart}
 use Rattle.drm_table.specs.declared.events.Event.{Event}

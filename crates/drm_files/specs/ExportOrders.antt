@@ -1,4 +1,5 @@
--- The handles of each object in the order of their exports: after each the next, and before each the previous one.
+-- The handles of each object in the order of their exports: after each the next, and before each the previous one
+-- (drm-mm, PRIME; the order is own).
 use Rattle.std.specs.Prelude.{◌≡◌, ℕ, ◌==◌, ◌≤◌, ◌&&◌, Bool, true, false, Option, Some, None}
 use Rattle.std.specs.Option.{option_and_then}
 use Rattle.std.specs.Ordering.{nat_cmp}

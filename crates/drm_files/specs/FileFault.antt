@@ -1,4 +1,4 @@
--- Why nothing was added.
+-- The reasons nothing was added (own).
 use Rattle.drm_files.specs.declared.faults.FileFault.{FileFault}
 use Rattle.drm_files.specs.declared.faults.FileFault.TheVariants.{Full, NoMemory}
 

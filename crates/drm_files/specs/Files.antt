@@ -1,4 +1,4 @@
--- The open clients and the handles that they hold, as flat lists.
+-- The open clients and the handles that they hold, as flat lists (drm-uapi, drm-gem(7)).
 use Rattle.std.specs.Prelude.{◌≡◌, ℕ, ◌==◌, ◌≤◌, ◌&&◌, ◌||◌, Bool, true, false, not, if◌then◌else◌, nat_lt, List, [], map, filter, find, slice_get, Option, None, Some, is_some, option_map}
 use Rattle.std.specs.List.{list_any, filter_map, AllByRecursion}
 use Rattle.std.specs.Option.{option_or, option_and_then, option_map_or}

@@ -1,4 +1,4 @@
--- The PRIME handles of one client, by the entries of its table.
+-- The PRIME handles of one client, by the entries of its table (drm-mm, PRIME; the order is own).
 use Rattle.std.specs.Prelude.{ℕ, ◌==◌, ◌&&◌, ◌||◌, Bool, false, if◌then◌else◌, nat_lt, List, filter, map as list_map, Option, None, option_map}
 use Rattle.std.specs.List.{filter_map}
 use Rattle.std.specs.Ordering.{nat_cmp}

@@ -1,4 +1,4 @@
--- The flat lists that the clients' records represent.
+-- The flat lists that the clients' records represent (own).
 use Rattle.std.specs.Prelude.{◌≡◌, ℕ, ◌≤◌, List, map as list_map, flat_map, Some, IsTrue}
 use Rattle.std.specs.Ordering.{nat_cmp}
 use Rattle.std.specs.FinMap as map

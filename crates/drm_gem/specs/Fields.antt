@@ -1,4 +1,4 @@
--- What the fields of the objects represent.
+-- The objects that the fields represent (own).
 use Rattle.std.specs.Prelude.{ℕ}
 use Rattle.std.specs.FinMap as map
 use Rattle.drm_keys.specs.Keys.{rows_in, IsKeyed}

@@ -1,4 +1,4 @@
--- What the rows of a device are, by its history.
+-- The rows of a device, by its history (own).
 use Rattle.std.specs.Prelude.{◌≡◌, ℕ, ◌==◌, Bool, true, false, ◌&&◌, ◌↔◌, List}
 use Rattle.std.specs.List.{list_any, AllByRecursion}
 use Rattle.drm_lists.specs.Orders.{InOrder}

@@ -1,5 +1,5 @@
--- What a step says of handles: which it grants and takes, and which object it publishes, by what it was of and what it
--- was answered.
+-- The effect of a step on handles, by its event and answer (drm-gem(7), drm-mm): which it grants and takes, and which
+-- object it publishes.
 use Rattle.std.specs.Prelude.{ℕ, ◌==◌, Bool, false, ◌&&◌, Option, None, Some, if◌then◌else◌}
 use Rattle.std.specs.Option.{option_map_or}
 use Rattle.drm_table.specs.declared.answers.Answer.{Answer}

@@ -1,4 +1,4 @@
--- What an addition that is refused hands back.
+-- The value in a refused addition (own).
 use Rattle.drm_id_alloc.specs.declared.faults.AddFault.{AddFault}
 use Rattle.drm_id_alloc.specs.declared.faults.AddFault.TheVariants.{Full, NoMemory}
 

@@ -1,4 +1,4 @@
--- Numbers that have one number each, found both ways.
+-- Numbers that have one number each, found both ways (own).
 use Rattle.std.specs.Prelude.{◌≡◌, ℕ, Some}
 use Rattle.std.specs.Ordering.{nat_cmp}
 use Rattle.std.specs.FinMap as map

@@ -1,4 +1,4 @@
--- The array that the numbers of a group are.
+-- The array that represents the numbers of a group (own).
 use Rattle.drm_index_array.specs.Indexed.{Indexed, empty_array, with_item}
 use Rattle.drm_id_alloc.specs.declared.numbers.Kept.{Kept}
 use Rattle.drm_id_alloc.specs.declared.numbers.Kept.TheVariants.{One, Many}

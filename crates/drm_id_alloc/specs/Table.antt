@@ -1,4 +1,5 @@
--- A table of values under numbers from `first` to `last`, and the number that was assigned last.
+-- A table of values under numbers from `first` to `last`, and the number that was allocated last (own; the kernel's
+-- IDR).
 use Rattle.std.specs.Prelude.{◌≡◌, ℕ, ◌+◌, ◌≤◌, Bool, not, IsTrue, IfSome, Option, Some, None, refl}
 use Rattle.std.specs.Ordering.{nat_cmp}
 use Rattle.std.specs.FinMap as map

@@ -1,4 +1,4 @@
--- What an edit makes of the entry at its index.
+-- The entry at the index of an edit, before and after it (own).
 use Rattle.std.specs.Prelude.{Result, Ok, Err, Some, Option, None, option_map}
 use Rattle.drm_index_array.specs.Marked.{Marked, unmarked, with_mark}
 use Rattle.drm_index_array.specs.declared.tree.Edit.{Edit}

@@ -1,4 +1,4 @@
--- A finite map from numbers, and three sets of its keys.
+-- A finite map from numbers, and three sets of its keys (own; the kernel's XArray has such marks).
 use Rattle.std.specs.Prelude.{ℕ, Bool, true, false, refl}
 use Rattle.std.specs.Ordering.{nat_cmp}
 use Rattle.std.specs.FinMap as map

@@ -1,4 +1,4 @@
--- What an insertion that is refused hands back.
+-- The value in a refused insertion (own).
 use Rattle.drm_index_array.specs.declared.faults.InsertFault.{InsertFault}
 use Rattle.drm_index_array.specs.declared.faults.InsertFault.TheVariants.{Taken, NoMemory}
 

@@ -1,4 +1,4 @@
--- The keys of a map from a number on, in rising order.
+-- The keys of a map from a number on, in rising order (own).
 use Rattle.std.specs.Prelude.{ℕ, List, nat_le, filter}
 use Rattle.std.specs.Ordering.{nat_cmp}
 use Rattle.std.specs.FinMap as map

@@ -1,4 +1,4 @@
--- The least number of a range that passes a test, and of a list. A range has both its ends.
+-- The lowest number of a range that passes a test, and of a list (own). A range has both its ends.
 use Rattle.std.specs.Prelude.{◌≡◌, ℕ, zero, suc, ◌+◌, ◌-◌, ◌<◌, ◌≤◌, ◌==◌, nat_le, Bool, true, false, if◌then◌else◌, List, [], ◌∷◌, Option, Some, None}
 use Rattle.std.specs.List.{list_any}
 

@@ -1,4 +1,4 @@
--- What an index array ends as, where a `&mut` to one of its values is returned.
+-- The index array after a `&mut` to one of its values is returned (own).
 use Rattle.std.specs.Prelude.{ℕ, Option}
 use Rattle.std.specs.Borrow.{Lends, LendsIf, Fml, RattleType, MutBor}
 use Rattle.std.specs.Box.{with_value}

@@ -1,4 +1,4 @@
--- A value with its three marks, and what a map of such values holds.
+-- A value with its three marks, and the map of such values (own).
 use Rattle.std.specs.Prelude.{ℕ, Bool, false, Option, Some, None, option_map, map as list_map, refl}
 use Rattle.std.specs.Option.{option_map_or}
 use Rattle.std.specs.Ordering.{nat_cmp}

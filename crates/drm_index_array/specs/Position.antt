@@ -1,4 +1,4 @@
--- The place of a number among those that pass a test.
+-- The place of a number among those that pass a test (own).
 use Rattle.std.specs.Prelude.{◌≡◌, ℕ, zero, suc, ◌+◌, ◌<◌, ◌≤◌, Bool, true, cond, Option, Some, None}
 
 -- how many of this many numbers from `from` on pass

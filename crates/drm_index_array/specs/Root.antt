@@ -1,4 +1,4 @@
--- A tree, or none.
+-- A tree, or none (own).
 use Rattle.std.specs.Prelude.{◌≡◌, ℕ, ◌<◌, ◌≤◌, IsTrue, Option, Some, None, Box}
 use Rattle.std.proofs.Common.{Global}
 use Rattle.std.specs.FinMap as map

@@ -1,4 +1,4 @@
--- Lists of rows that are in an order.
+-- Lists of rows that are in an order (own).
 use Rattle.std.specs.Prelude.{◌≡◌, Bool, true, not, List, [], ◌∷◌, ◌++◌, filter}
 use Rattle.std.specs.List.{AllByRecursion}
 

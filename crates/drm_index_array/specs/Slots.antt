@@ -1,4 +1,4 @@
--- One level of the tree, over the subtrees in its slots.
+-- One level of the tree, over the subtrees in its slots (own).
 use Rattle.std.specs.Prelude.{◌≡◌, ℕ, ◌+◌, ◌-◌, ◌/◌, ◌%◌, ◌<◌, ◌≤◌, Bool, Option, Some, None, is_some, List, [], ◌∷◌, length, slice_index_or}
 use Rattle.std.specs.FinMap as map
 use Rattle.drm_index_array.specs.Least.{least}

@@ -1,4 +1,4 @@
--- Each subtree is lower than the node that holds it.
+-- The heights of subtrees: each is lower than the node that holds it (own).
 use Rattle.std.specs.Prelude.{ℕ, ◌≤◌, List, [], ◌∷◌}
 use Rattle.std.proofs.Common.{arith}
 use denote.Param.Weighed.{most}

@@ -1,4 +1,4 @@
--- A subtree: how high it is, and what it maps, by indices from 0.
+-- A subtree: its height, and its map, by indices from 0 (own).
 use Rattle.std.specs.Prelude.{ℕ, zero, suc, ◌+◌, ◌*◌, ◌^◌, Bool, not, Option, Some, None, is_some, refl}
 use Rattle.std.specs.Option.{option_map_or}
 use Rattle.std.specs.Ordering.{nat_cmp}

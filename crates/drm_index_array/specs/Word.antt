@@ -1,4 +1,4 @@
--- A word as a set of places, and what the five words of a node say about its slots.
+-- A word as a set of places, and the five words of a node as facts about its slots (own).
 use Rattle.std.specs.Prelude.{ℕ, Bool, not, ◌==◌, ◌<◌, ◌^◌}
 use Rattle.std.specs.Int.{bit_at}
 use Rattle.drm_index_array.specs.declared.marks.Mark.TheVariants.{M0, M1, M2}

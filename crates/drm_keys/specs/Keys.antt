@@ -1,4 +1,4 @@
--- Records in a slab, by the keys of their step numbers.
+-- Records in a slab, by the keys of their step numbers (own).
 use Rattle.std.specs.Prelude.{◌≡◌, ℕ, List, map as list_map, Some, unwrap_or}
 use Rattle.std.specs.Ordering.{nat_cmp}
 use Rattle.std.specs.FinMap as map

@@ -1,4 +1,4 @@
--- What each call does.
+-- The effect of each call on leases (drm-uapi, leases; tokens are own).
 use Rattle.std.specs.Prelude.{◌≡◌, ℕ, ◌<◌, nat_lt, not, ◌&&◌, Bool, true, List, ◌++◌, None, Some, Result, Ok, Err, map, filter}
 use Rattle.std.specs.List.{AllByRecursion}
 use Rattle.drm_index_array.specs.Rows.{placed}

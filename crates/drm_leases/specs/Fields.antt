@@ -1,4 +1,4 @@
--- What the fields of the leases represent.
+-- The leases that the fields represent (own).
 use Rattle.drm_leases.specs.declared.leases.Leases.TheInside.{Inside}
 use Rattle.drm_leases.specs.Leases.{LeaseSet, AreLeases}
 use Rattle.drm_leases.specs.Masks.{grants_in, lendings_in}

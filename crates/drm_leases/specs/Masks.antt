@@ -1,4 +1,4 @@
--- Sets of fixed mode objects as words, and the leases that they represent.
+-- Sets of fixed mode objects as words, and the leases that they represent (own).
 use Rattle.std.specs.Prelude.{◌≡◌, ℕ, ◌≤◌, ◌-◌, ◌==◌, nat_le, nat_lt, Bool, true, false, ◌&&◌, List, [], ◌∷◌, map as list_map, filter, flat_map, unwrap_or}
 use Rattle.std.specs.List.{list_any}
 use Rattle.std.specs.Ordering.{nat_cmp}

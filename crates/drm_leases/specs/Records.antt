@@ -1,4 +1,4 @@
--- What the fields of the granted leases represent.
+-- The granted leases that the fields represent (own).
 use Rattle.std.specs.Prelude.{◌≡◌, ℕ, Some}
 use Rattle.std.specs.FinMap as map
 use Rattle.std.specs.List.{AllByRecursion}

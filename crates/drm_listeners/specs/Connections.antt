@@ -1,4 +1,4 @@
--- The sessions of the connections that a listener accepted.
+-- The sessions of the connections that a listener accepted (own).
 use Rattle.std.specs.Prelude.{◌≡◌, ℕ, ◌≤◌, All, List, [], Vec, length, map, Result, Ok, Err, ⊤}
 use Rattle.std.specs.Vec.{vec_capacity}
 use Rattle.atomic_table.specs.Seated.{TableId}

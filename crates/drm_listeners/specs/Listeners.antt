@@ -1,4 +1,4 @@
--- What resulted from three listeners.
+-- The results of three listeners (own).
 use Rattle.std.specs.Prelude.{◌≢◌, Vec, Result, Ok, Err}
 use Rattle.atomic_table.specs.Seated.{TableId}
 use Rattle.drm_turns.specs.Participants.{IsChild, ParticipantView, Same, Unchanged}

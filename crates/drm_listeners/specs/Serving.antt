@@ -1,4 +1,4 @@
--- The sessions of three listeners.
+-- The sessions of three listeners (own).
 use Rattle.std.specs.Prelude.{◌≡◌, ℕ, ◌+◌, All, List, length, take, drop}
 use Rattle.std.specs.List.{AllByRecursion}
 use Rattle.drm_model.specs.Run.{DeviceValue}

@@ -1,4 +1,4 @@
--- Listeners that accept connections until they are asked to end.
+-- Listeners that accept connections until they are asked to end (own).
 use Rattle.std.specs.Prelude.{◌≡◌, ◌≢◌, ◌+◌, All, List, Option, Result, Ok, Err, IfSome, IsSomeAnd, length}
 use Rattle.drm_model.specs.Run.{DeviceValue}
 use Rattle.drm_turns.specs.Participants.{HasTakenIn, IsChild, ParticipantView, Same, Unchanged}

@@ -1,4 +1,4 @@
--- Chains of numbers, where each may have one above it.
+-- Chains of numbers, where each may have one above it (own).
 use Rattle.std.specs.Prelude.{ℕ, zero, suc, Bool, List, [], ◌∷◌, length, drop, Option, None, Some}
 use Rattle.drm_lists.specs.Numbers.{is_among}
 

@@ -1,4 +1,4 @@
--- Lists of numbers.
+-- Lists of numbers (own).
 use Rattle.std.specs.Prelude.{ℕ, ◌==◌, Bool, List, length, filter}
 use Rattle.std.specs.List.{list_any}
 

@@ -1,4 +1,4 @@
--- Lists of rows up to their order, and in an order.
+-- Lists of rows up to their order, and in an order (own).
 use Rattle.std.specs.Prelude.{◌≡◌, Bool, List, [], ◌∷◌, length, filter, ⊤, if◌then◌else◌}
 use Rattle.std.specs.List.{AllByRecursion}
 

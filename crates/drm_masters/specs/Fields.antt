@@ -1,4 +1,4 @@
--- What the fields of the masters represent.
+-- The masters that the fields represent (own).
 use Rattle.std.specs.Prelude.{◌≡◌, ◌==◌, false}
 use Rattle.drm_lists.specs.Orders.{InOrder}
 use Rattle.drm_masters.specs.declared.rows.Master.{Master}

@@ -1,4 +1,4 @@
--- What the fields of the clients represent.
+-- The clients that the fields represent (own).
 use Rattle.drm_id_alloc.specs.Groups.{has, AreGroupsOf}
 use Rattle.drm_masters.specs.declared.members.Members.TheInside.{Inside}
 use Rattle.drm_masters.specs.declared.members.Membership.{Membership}

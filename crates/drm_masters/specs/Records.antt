@@ -1,4 +1,4 @@
--- What the fields of the table of masters represent.
+-- The table of masters that the fields represent (own).
 use Rattle.std.specs.Prelude.{List, ◌≤◌}
 use Rattle.std.specs.List.{AllByRecursion}
 use Rattle.std.specs.FinMap as map

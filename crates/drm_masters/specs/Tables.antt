@@ -1,4 +1,4 @@
--- The lists that the records of clients and masters represent.
+-- The lists that the records of clients and masters represent (own).
 use Rattle.std.specs.Prelude.{◌≡◌, ℕ, ◌==◌, ◌&&◌, ◌||◌, not, Option, List, map as list_map, None, false}
 use Rattle.std.specs.Ordering.{nat_cmp}
 use Rattle.std.specs.FinMap as map

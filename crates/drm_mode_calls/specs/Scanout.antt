@@ -1,4 +1,4 @@
--- What SETCRTC and SETPLANE ask, by what the device keeps.
+-- The rules of SETCRTC and SETPLANE, by the device's parts (drm-uapi, kernel mode setting).
 use Rattle.std.specs.Prelude.{ℕ, ◌==◌, Bool, ◌&&◌, ◌||◌, [], ◌∷◌, Option}
 use Rattle.drm_table.specs.declared.rules.Rule.{Rule}
 use Rattle.drm_table.specs.declared.rules.Rule.TheVariants.{NoModeObject, NoFb, BadRoute}

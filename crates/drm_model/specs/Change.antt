@@ -1,4 +1,4 @@
--- What an accepted event does to the rows, and which rows then go.
+-- The rows after an accepted event, and the rows that are then removed (drm-uapi, drm-mm, drm(7), drm-gem(7)).
 use Rattle.std.specs.Prelude.{ℕ, ◌+◌, ◌==◌, Bool, ◌&&◌, ◌||◌, Option, None, Some, filter}
 use Rattle.std.specs.List.{list_any}
 use Rattle.std.specs.Option.{is_some}

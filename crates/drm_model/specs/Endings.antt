@@ -1,4 +1,5 @@
--- What a closing leaves of its client and of what its master lent, and a revocation of the lessee.
+-- What remains of a client and of what its master lent after a closing, and of the lessee after a revocation (drm-uapi,
+-- leases).
 use Rattle.std.specs.Prelude.{◌≡◌, ℕ, ◌==◌, Bool, false, ◌&&◌}
 use Rattle.std.specs.List.{list_any}
 use Rattle.std.specs.Option.{is_some}

@@ -1,4 +1,4 @@
--- The parts of the rows.
+-- The parts of the rows (own).
 use Rattle.std.specs.Prelude.{ℕ, length}
 use Rattle.drm_model.specs.Rows.{Rows}
 

@@ -1,4 +1,4 @@
--- What the device answers.
+-- The answers of a device (drm-uapi; the form is own).
 use Rattle.std.specs.Prelude.{Option, None, Some}
 use Rattle.drm_table.specs.declared.answers.Answer.{Answer}
 use Rattle.drm_table.specs.declared.answers.Answer.TheVariants.{Opened, Closed, Denied}

@@ -1,4 +1,4 @@
--- What a list of events is answered where no memory is wanting, computed.
+-- The results of a list of events if no memory is refused, computed (own).
 use Rattle.std.specs.Prelude.{Bool, true, false, List, [], ◌∷◌, Result, Ok, Err}
 use Rattle.drm_table.specs.declared.answers.Answer.{Answer}
 use Rattle.drm_table.specs.declared.apart.Apart.{Apart}

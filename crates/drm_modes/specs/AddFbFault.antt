@@ -1,4 +1,4 @@
--- Why no framebuffer was made.
+-- The reasons a framebuffer was not created (own).
 use Rattle.drm_modes.specs.declared.faults.AddFbFault.{AddFbFault}
 use Rattle.drm_modes.specs.declared.faults.AddFbFault.TheVariants.{Full, NoMemory}
 

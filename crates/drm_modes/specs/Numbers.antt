@@ -1,4 +1,4 @@
--- Lists of numbers.
+-- Lists of numbers (own).
 use Rattle.std.specs.Prelude.{ℕ, ◌+◌, zero, suc, List, [], ◌∷◌}
 
 -- this many numbers, from the first on

@@ -1,4 +1,4 @@
--- The flat lists that the table and the scanouts represent.
+-- The flat lists that the table and the scanouts represent (own).
 use Rattle.std.specs.Prelude.{◌≡◌, ℕ, ◌+◌, ◌==◌, ◌≤◌, Bool, true, ◌||◌, List, length, map as list_map}
 use Rattle.std.specs.List.{AllByRecursion}
 use Rattle.std.specs.Ordering.{nat_cmp}

@@ -1,4 +1,4 @@
--- What a client asks, read from words.
+-- The calls of clients, as words spell them (own).
 use Rattle.std.specs.Prelude.{ℕ, List, Option, Some, codes, is_some, if◌then◌else◌}
 use Rattle.std.specs.Str.{bytes_eq}
 use Rattle.drm_table.specs.declared.calls.Call.{Call}

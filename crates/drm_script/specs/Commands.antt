@@ -1,4 +1,4 @@
--- What a line asks of the device, read from words.
+-- The commands of lines, as words spell them (own).
 use Rattle.std.specs.Prelude.{ℕ, Bool, List, Option, Some}
 use Rattle.drm_script.specs.declared.commands.Command.{Command}
 use Rattle.drm_script.specs.declared.commands.Command.TheVariants as commands

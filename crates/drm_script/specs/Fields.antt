@@ -1,4 +1,5 @@
--- The fields of a line, read one after another from its words. Each reader has what it read, and the words that are left.
+-- The fields of a line, read one after another from its words (own). Each reader returns what it read and the words
+-- that are left, or nothing.
 use Rattle.std.specs.Prelude.{◌≤◌, ℕ, ◌-◌, ◌^◌, List, [], ◌∷◌, ◌&&◌, min, nat_lt, nat_le, if◌then◌else◌, Option, Some, None, option_and_then, length, replicate}
 use Rattle.drm_table.specs.declared.fields.Width.{Width}
 use Rattle.drm_table.specs.declared.fields.Width.TheVariants as widths

@@ -1,4 +1,4 @@
--- What is read is what the grammar says, and an answer is one line.
+-- The laws of scripts (own): what is read is what the grammar says, and an answer is one line.
 use Rattle.std.specs.Prelude.{◌≡◌, ◌≢◌, ◌↔◌, ℕ, List, Some, None, Result, All}
 use Rattle.drm_table.specs.declared.answers.Answer.{Answer}
 use Rattle.drm_table.specs.declared.apart.Apart.{Apart}

@@ -1,4 +1,4 @@
--- The limits of the device, read from words.
+-- The limits of the device, as words spell them (own).
 use Rattle.std.specs.Prelude.{ℕ, Option, Some, None, if◌then◌else◌}
 use Rattle.drm_table.specs.declared.limits.Limits.{Limits}
 use Rattle.drm_table.specs.Limits.{are_in_range}

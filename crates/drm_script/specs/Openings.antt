@@ -1,4 +1,4 @@
--- How a client is opened, read from words.
+-- The openings of clients, as words spell them (own).
 use Rattle.std.specs.Prelude.{ℕ, List, Bool, true, false, Option, Some, codes, find}
 use Rattle.std.specs.Str.{bytes_eq}
 use Rattle.drm_table.specs.declared.events.Opening.{Opening}

@@ -1,4 +1,4 @@
--- What a line is read as.
+-- The reading of a line (own).
 use Rattle.std.specs.Prelude.{⊤, ℕ, List, [], ◌∷◌, Bool, true, false, ◌==◌, nat_lt, not, if◌then◌else◌, Option, Some, None, codes, find, length}
 use Rattle.std.specs.List.{list_all}
 use Rattle.std.specs.Str.{bytes_eq}

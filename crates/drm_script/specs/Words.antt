@@ -1,4 +1,4 @@
--- The words of a line.
+-- The words of a line (own).
 use Rattle.std.specs.Prelude.{◌≡◌, ◌≢◌, ◌<◌, ℕ, List, [], ◌∷◌, ◌++◌, length, Bool, true, false, ◌==◌, if◌then◌else◌}
 use Rattle.std.specs.List.{AllByRecursion}
 

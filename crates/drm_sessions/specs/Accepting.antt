@@ -1,4 +1,4 @@
--- The three ways in which an opening is answered.
+-- The three ways in which an opening is answered (own).
 use Rattle.std.specs.Prelude.{Ok, Err}
 use Rattle.drm_table.specs.declared.answers.Answer.TheVariants.{Opened, Denied}
 use Rattle.drm_frames.specs.Answers.{CallResult}

@@ -1,4 +1,4 @@
--- A session on a device that it has alone.
+-- A session on a device that no other session uses (own).
 use Rattle.std.specs.Prelude.{◌≡◌, ℕ, ◌⊎◌, List, [], ◌∷◌, ◌++◌, map, Option, Some, None, Ok, Err, ⊤}
 use Rattle.std.specs.List.{AllByRecursion}
 use Rattle.drm_table.specs.declared.events.Event.{Event}

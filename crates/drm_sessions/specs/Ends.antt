@@ -1,4 +1,4 @@
--- How the requests of a session end.
+-- The ends of a session's requests (own).
 use Rattle.std.specs.Prelude.{◌≡◌, ℕ, Bool, true, ◌+◌, ◌<◌, ◌⊎◌, List, [], ◌∷◌, ◌++◌, length, Err, ⊤}
 use Rattle.std.specs.Io.KnownBytes.{IsAtEnd}
 use Rattle.drm_table.specs.declared.events.Event.{Event}

@@ -1,4 +1,4 @@
--- A job, and what resulted from it.
+-- A job and its result (own).
 use Rattle.std.specs.Prelude.{ℕ, ◌+◌, ◌^◌, ◌<◌, List, map}
 use Rattle.drm_turns.specs.Participants.{IsSplitOff, ParticipantView}
 use Rattle.drm_streams.specs.Streams.{SourceTrace, SinkTrace}

@@ -1,4 +1,4 @@
--- Two lists of one length, whose members at each place are related.
+-- Two lists of one length, whose members at each place are related (own).
 use Rattle.std.specs.Prelude.{List, [], ◌∷◌, ⊤}
 
 abbrev pub Matched : {X Y : Type 0} → (X → Y → Type 0) → List X → List Y → Type 0

@@ -1,4 +1,4 @@
--- Which opening a hello asks for, and how an opening is answered.
+-- The opening that a hello requests, and its answers (own).
 use Rattle.std.specs.Prelude.{ℕ, ◌==◌, Bool, true, false, Option, Some, None, Ok, Err, ⊤}
 use Rattle.drm_table.specs.declared.events.Event.{Event}
 use Rattle.drm_table.specs.declared.events.Event.TheVariants.{Open}

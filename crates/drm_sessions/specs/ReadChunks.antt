@@ -1,4 +1,4 @@
--- When a session takes bytes.
+-- The times at which a session takes bytes (own).
 use Rattle.std.specs.Prelude.{◌≡◌, ℕ, Bool, true, false, ◌<◌, List, [], ◌∷◌, ◌++◌, length}
 use Rattle.drm_frames.specs.Grammar.{FrameValue, frame_text, IsPart}
 use Rattle.drm_streams.specs.Streams.{SourceTrace}

@@ -1,4 +1,4 @@
--- What reading takes from a source into the bytes that wait, and what writing one answer puts into a sink.
+-- The bytes that reading takes from a source into those that wait, and what writing one answer puts into a sink (own).
 use Rattle.std.specs.Prelude.{◌≡◌, ◌≢◌, ◌⊎◌, ℕ, ◌+◌, ◌<◌, ◌≤◌, List, [], ◌++◌, length, Result, Ok, Err, ⊤}
 use Rattle.std.specs.Io.KnownBytes.{Appends, IsAtEnd}
 use Rattle.drm_frames.specs.Grammar.{FrameValue, frame_text, IsFrame, IsPart, IsTooLong}

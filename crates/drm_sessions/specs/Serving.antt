@@ -1,4 +1,4 @@
--- A whole session.
+-- A whole session (own).
 use Rattle.std.specs.Prelude.{◌≡◌, ℕ, true, false, ◌⊎◌, ◌+◌, List, [], ◌∷◌, ◌++◌, map, Some, None, Ok, Err, ⊤}
 use Rattle.std.specs.List.{flat_map, AllByRecursion}
 use Rattle.std.specs.Io.KnownBytes.{Consumes}

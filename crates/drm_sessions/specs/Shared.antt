@@ -1,4 +1,4 @@
--- A session on a device that it shares with others.
+-- A session on a device that it shares with others (own).
 use Rattle.std.specs.Prelude.{◌≡◌, ℕ, ◌+◌, IfOk, IfErr, Ok, Err, List, [], ◌∷◌, ◌++◌, length}
 use Rattle.std.specs.List.{AllByRecursion, flat_map}
 use Rattle.drm_table.specs.declared.events.Event.{Event}

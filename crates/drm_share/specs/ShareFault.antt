@@ -1,4 +1,4 @@
--- Why nothing was assigned.
+-- The reasons nothing was allocated (own).
 use Rattle.drm_share.specs.declared.faults.ShareFault.{ShareFault}
 use Rattle.drm_share.specs.declared.faults.ShareFault.TheVariants.{Full, NoMemory}
 

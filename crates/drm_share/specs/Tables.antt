@@ -1,4 +1,4 @@
--- The flat lists that the tables represent.
+-- The flat lists that the tables represent (own).
 use Rattle.std.specs.Prelude.{◌≡◌, ℕ, List, map as list_map, Some}
 use Rattle.std.specs.Ordering.{nat_cmp}
 use Rattle.std.specs.FinMap as map

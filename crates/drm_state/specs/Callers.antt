@@ -1,4 +1,4 @@
--- A caller, as the device keeps it.
+-- A caller, by the device's parts (own).
 use Rattle.std.specs.Prelude.{◌≡◌, find, Some}
 use Rattle.std.specs.Option.{option_map}
 use Rattle.drm_files.specs.declared.rows.FileClient.{FileClient}

@@ -1,4 +1,4 @@
--- How the parts of the device fit together, and what the next step may rely on.
+-- The facts that relate the parts of the device, and those that the next step may depend on (own).
 use Rattle.std.specs.Prelude.{◌≡◌, ℕ, ◌≤◌, ◌<◌, ◌==◌, ◌||◌, true, false, List, ◌++◌, length, map, filter, find}
 use Rattle.std.specs.List.{AllByRecursion}
 use Rattle.std.specs.Option.{is_some}

@@ -1,4 +1,4 @@
--- The rows that the parts of the device represent.
+-- The rows that the parts of the device represent (own).
 use Rattle.std.specs.Prelude.{◌≡◌, ℕ, Bool, false, not, ◌&&◌, List, ◌++◌, Option, None, Some, find, filter, map, unwrap_or, if◌then◌else◌}
 use Rattle.std.specs.List.{filter_map}
 use Rattle.std.specs.Option.{option_map, option_map_or, option_and_then}

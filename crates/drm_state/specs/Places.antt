@@ -1,4 +1,4 @@
--- Answers that are written to a place.
+-- Answers that are written to a place (own).
 use Rattle.std.specs.Prelude.{Result, Ok, Err}
 use Rattle.std.specs.declared.alloc.AllocError.{AllocError}
 use Rattle.drm_table.specs.declared.answers.Answer.{Answer}

@@ -1,4 +1,4 @@
--- Which rows the state of the device represents, and how the function of each event refines the definitions.
+-- The rows that the state of the device represents, and how the function of each event refines the definitions (own).
 use Rattle.std.specs.Prelude.{◌≡◌, ℕ, ◌+◌, false, true, Option, None, Some, Result, Ok, Err}
 use Rattle.std.specs.declared.alloc.AllocError.{AllocError}
 use Rattle.drm_lists.specs.Orders.{SameRows}

@@ -1,4 +1,4 @@
--- Writing a text whole, or a front of it.
+-- Writing a text whole, or a front of it (own).
 use Rattle.std.specs.Prelude.{◌≡◌, ℕ, ◌<◌, List}
 use Rattle.std.specs.Borrow.{Bor}
 use Rattle.std.specs.List.{flat_map}

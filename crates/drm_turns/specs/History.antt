@@ -1,4 +1,4 @@
--- Histories of a shared device: what was asked, by the participant of which number, and what was answered.
+-- Histories of a shared device: what was asked, by the participant of which number, and what was answered (own).
 use Rattle.std.specs.Prelude.{◌≡◌, ◌⊎◌, ℕ, ◌==◌, false, List, [], ◌∷◌, ◌++◌, cond}
 use Rattle.drm_table.specs.declared.answers.Answer.{Answer}
 use Rattle.drm_table.specs.declared.events.Event.{Event}

@@ -1,4 +1,4 @@
--- What the fields of a participant and of a note represent.
+-- The participants and notes that the fields represent (own).
 use Rattle.std.specs.Prelude.{◌≡◌, ◌≢◌, [], ◌∷◌}
 use Rattle.drm_turns.specs.declared.seat.Seat.TheInside.{Inside}
 use Rattle.drm_turns.specs.declared.seat.Note.TheInside.{Inside as NoteInside}

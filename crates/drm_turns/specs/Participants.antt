@@ -1,4 +1,4 @@
--- What contracts see of a participant and of a note.
+-- The value of a participant and of a note that contracts see (own).
 use Rattle.std.specs.Prelude.{◌≡◌, ℕ, ◌-◌, ◌<◌, ◌^◌, true, false, List, [], ◌∷◌, ◌++◌, map, Result, Ok, Err, slice_index}
 use Rattle.std.specs.List.{AllByRecursion}
 use mathlib.Core.Option.{some}

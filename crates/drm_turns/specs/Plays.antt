@@ -1,4 +1,4 @@
--- What each step says: of the step, the participant before, the number found and the participant after.
+-- What each step says: of the step, the participant before, the number found and the participant after (own).
 use Rattle.std.specs.Prelude.{◌≡◌, ◌≢◌, ℕ, List, [], ◌∷◌, Some}
 use Rattle.atomic_table.specs.Table.{Step, rest}
 use Rattle.drm_turns.specs.declared.history.Entry.{Entry}

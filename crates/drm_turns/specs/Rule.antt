@@ -1,5 +1,4 @@
--- The rule of the turn. The words are the length of the history, the next ticket, and the ticket that is served. The one
--- slot has the device.
+-- The rule of the turn (own). The words are the length of the history, the next ticket, and the ticket that is served.
 use Rattle.std.specs.Prelude.{◌≡◌, ◌≢◌, ◌⊎◌, ℕ, suc, ◌+◌, ◌<◌, ◌≤◌, ◌^◌, Bool, true, false, List, [], ◌∷◌, length, Option, Some}
 use mathlib.Core.Option.{Option as maybe, some}
 use lib.ListN.{get_elem?}

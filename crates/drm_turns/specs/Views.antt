@@ -1,4 +1,4 @@
--- What a participant knows, from step to step.
+-- The knowledge of a participant, from step to step (own).
 use Rattle.std.specs.Prelude.{◌≡◌, ℕ, ◌+◌, ◌-◌, ◌==◌, ◌&&◌, cond, List, [], ◌∷◌, ◌++◌, length}
 use Rattle.drm_model.specs.Run.{DeviceValue}
 use Rattle.drm_turns.specs.declared.history.Entry.{Entry}
