@@ -223,6 +223,8 @@ fn id_list_lists(rt: HostRuntime) {
     let call = Call::CreateLease { ids };
     assert!(rt; call.number() == 0xC6);
     assert!(rt; IdList::new().ids().is_empty());
+    let mut ids = IdList::new();
+    ids.push(2);
     assert!(rt; ids.ids().len() == 1);
     assert!(rt; ids.ids() == [2].as_slice());
 }
