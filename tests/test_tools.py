@@ -364,6 +364,37 @@ class ToolsTests(FolderCase):
         expect("one crate", prose(folder, "--comments", "low").stdout.endswith(counted), True)
         expect_end(prose(folder, "--comments", "high"), 2, "prose: high is not the name of a crate\n", "")
 
+    def test_prose_of_listed_crates_is_checked(self):
+        folder = self.folder
+        for name, text in (*COMMENTED.items(), ("low/src/faults.rt", '#[error("it lacks a word")]\n')):
+            path = folder / "crates" / name
+            path.parent.mkdir(parents=True, exist_ok=True)
+            path.write_text(text.replace("LONG", "word"))
+        (folder / "page.md").write_text("One sentence.\n")
+        expect_end(prose(folder), 0, "", "")
+        (folder / "tools").mkdir()
+        crates = folder / "tools/prose-crates.txt"
+        crates.write_text("# a comment\nlower comments\nlow comments messages\n")
+        listed = COMMENTS_LISTED.splitlines(keepends=True)[1:3]
+        lacks = 'crates/low/src/faults.rt:1: "lacks": write is missing, has no\n'
+        expect_end(prose(folder), 1, "", "".join([*listed, lacks]))
+        expect_end(prose(folder, "page.md"), 0, "", "")
+        crates.write_text("low words\n")
+        expect_end(prose(folder), 2, "prose: tools/prose-crates.txt:1: malformed\n", "")
+
+    def test_prose_reads_the_crates_below_the_server(self):
+        listed = [line.split() for line in (REPOSITORY / "tools/prose-crates.txt").read_text().splitlines()]
+        clean = {name for name, *parts in listed if "comments" in parts}
+        layers = (REPOSITORY / "crates.txt").read_text().split("\n\n")
+        below = {
+            line.split(":")[0]
+            for layer in layers
+            if re.search(r"^# (parts|definitions|calls|device|wire|threads):", layer, re.MULTILINE)
+            for line in layer.splitlines()
+            if not line.startswith("#")
+        }
+        expect("crates that are not read", below - clean, set())
+
     def test_prose_has_exceptions_with_reasons(self):
         folder = self.folder
         (folder / "tools").mkdir()

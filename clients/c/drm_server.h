@@ -62,7 +62,7 @@ enum zirkoshe_rule_number {
     /* The shape or size is out of range. */
     ZIRKOSHE_RULE_BAD_SIZE = 39,
     /* The CRTC cannot drive the connector or plane, or only one of framebuffer and connector is
-     * given. */
+     * not 0. */
     ZIRKOSHE_RULE_BAD_ROUTE = 40,
     /* The capability does not exist. */
     ZIRKOSHE_RULE_BAD_CAP = 41,
@@ -74,11 +74,11 @@ enum zirkoshe_rule_number {
 
 /* The faults, which are outside the rules. */
 enum zirkoshe_apart_number {
-    /* The journal has no place for the step beside those kept for closings. */
+    /* The journal has no room for the step. The rest of its room is reserved for closings. */
     ZIRKOSHE_APART_JOURNAL_FULL = 50,
     /* Memory for a new row was refused. */
     ZIRKOSHE_APART_NO_MEMORY = 51,
-    /* No ticket is left for another turn of threads. */
+    /* The ticket counter is exhausted: no ticket is left for another turn of threads. */
     ZIRKOSHE_APART_WORN = 52,
 };
 
@@ -245,7 +245,7 @@ enum zirkoshe_audit_kind {
     ZIRKOSHE_AUDIT_TOKEN = 5,
     /* Handles: client, handle, object, export order. */
     ZIRKOSHE_AUDIT_HOLD = 6,
-    /* What leases hold: master, mode object. */
+    /* Leased objects: master, mode object. */
     ZIRKOSHE_AUDIT_GRANT = 7,
     /* Framebuffers: id, client, object. */
     ZIRKOSHE_AUDIT_FRAMEBUFFER = 8,
@@ -279,21 +279,21 @@ enum zirkoshe_client_cap {
 
 /* How much a served device holds at most. */
 enum zirkoshe_limit {
-    /* Clients open at once, of all classes. */
+    /* The most clients open at once, of all classes. */
     ZIRKOSHE_LIMIT_CLIENTS = 64,
-    /* Handles of one client. */
+    /* The most handles of one client. */
     ZIRKOSHE_LIMIT_HANDLES = 65535,
-    /* The greatest flink name. */
+    /* The highest flink name. */
     ZIRKOSHE_LIMIT_NAMES = 65535,
-    /* The greatest PRIME token, and the greatest lease token. */
+    /* The highest PRIME token, and the highest lease token. */
     ZIRKOSHE_LIMIT_TOKENS = 65535,
-    /* Objects. */
+    /* The most objects. */
     ZIRKOSHE_LIMIT_OBJECTS = 65535,
-    /* Framebuffers. */
+    /* The most framebuffers. */
     ZIRKOSHE_LIMIT_FRAMEBUFFERS = 64,
-    /* The greatest lessee id of one owner. */
+    /* The highest lessee id of one owner. */
     ZIRKOSHE_LIMIT_LESSEES = 64,
-    /* Steps that are noted. */
+    /* The most steps that the journal records. */
     ZIRKOSHE_LIMIT_JOURNAL = 100000,
 };
 

@@ -126,7 +126,7 @@ class Rule(enum.IntEnum):
     #: The shape or size is out of range.
     BAD_SIZE = 39
     #: The CRTC cannot drive the connector or plane, or only one of framebuffer and
-    #: connector is given.
+    #: connector is not 0.
     BAD_ROUTE = 40
     #: The capability does not exist.
     BAD_CAP = 41
@@ -139,11 +139,12 @@ class Rule(enum.IntEnum):
 class ApartNumber(enum.IntEnum):
     """The faults, which are outside the rules."""
 
-    #: The journal has no place for the step beside those kept for closings.
+    #: The journal has no room for the step. The rest of its room is reserved for
+    #: closings.
     JOURNAL_FULL = 50
     #: Memory for a new row was refused.
     NO_MEMORY = 51
-    #: No ticket is left for another turn of threads.
+    #: The ticket counter is exhausted: no ticket is left for another turn of threads.
     WORN = 52
 
 
@@ -162,7 +163,7 @@ class AuditKind(enum.IntEnum):
     TOKEN = 5
     #: Handles: client, handle, object, export order.
     HOLD = 6
-    #: What leases hold: master, mode object.
+    #: Leased objects: master, mode object.
     GRANT = 7
     #: Framebuffers: id, client, object.
     FRAMEBUFFER = 8

@@ -66,7 +66,7 @@ pub enum Rule {
     /// The shape or size is out of range.
     BadSize = 39,
     /// The CRTC cannot drive the connector or plane, or only one of framebuffer and connector is
-    /// given.
+    /// not 0.
     BadRoute = 40,
     /// The capability does not exist.
     BadCap = 41,
@@ -205,11 +205,11 @@ impl fmt::Display for Rule {
 #[non_exhaustive]
 #[repr(u32)]
 pub enum Fault {
-    /// The journal has no place for the step beside those kept for closings.
+    /// The journal has no room for the step. The rest of its room is reserved for closings.
     JournalFull = 50,
     /// Memory for a new row was refused.
     NoMemory = 51,
-    /// No ticket is left for another turn of threads.
+    /// The ticket counter is exhausted: no ticket is left for another turn of threads.
     Worn = 52,
 }
 
@@ -273,7 +273,7 @@ pub enum AuditKind {
     Token = 5,
     /// Handles: client, handle, object, export order.
     Hold = 6,
-    /// What leases hold: master, mode object.
+    /// Leased objects: master, mode object.
     Grant = 7,
     /// Framebuffers: id, client, object.
     Framebuffer = 8,
@@ -341,21 +341,21 @@ pub mod client_cap {
 
 /// How much a served device holds at most.
 pub mod limit {
-    /// Clients open at once, of all classes.
+    /// The most clients open at once, of all classes.
     pub const CLIENTS: u32 = 64;
-    /// Handles of one client.
+    /// The most handles of one client.
     pub const HANDLES: u32 = 65535;
-    /// The greatest flink name.
+    /// The highest flink name.
     pub const NAMES: u32 = 65535;
-    /// The greatest PRIME token, and the greatest lease token.
+    /// The highest PRIME token, and the highest lease token.
     pub const TOKENS: u32 = 65535;
-    /// Objects.
+    /// The most objects.
     pub const OBJECTS: u32 = 65535;
-    /// Framebuffers.
+    /// The most framebuffers.
     pub const FRAMEBUFFERS: u32 = 64;
-    /// The greatest lessee id of one owner.
+    /// The highest lessee id of one owner.
     pub const LESSEES: u32 = 64;
-    /// Steps that are noted.
+    /// The most steps that the journal records.
     pub const JOURNAL: u32 = 100000;
 }
 
