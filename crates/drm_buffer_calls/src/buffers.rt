@@ -24,7 +24,7 @@ pub struct Pixels {
     pub bpp: u32,
 }
 
-/// MODE_CREATE_DUMB: a new object, and a handle of it. Where memory is refused nothing changes.
+/// Creates a dumb buffer and a handle of it (MODE_CREATE_DUMB; drm-uapi). If memory is refused, nothing changes.
 pub fn create_dumb(
     state: &mut State,
     step_number: u32,
@@ -55,8 +55,8 @@ pub fn create_dumb(
     Ok(())
 }
 
-/// BUF_CREATE: a new object of this many bytes, rounded up to whole pages, and a handle of it. Where memory is refused
-/// nothing changes.
+/// Creates an object of this many bytes, rounded up to whole pages, and a handle of it (BUF_CREATE, own). If memory is
+/// refused, nothing changes.
 pub fn buf_create(
     state: &mut State,
     step_number: u32,

@@ -9,8 +9,8 @@ ghost use Rattle.drm_state.specs.Refinement.{RefinesReply};
 use drm_state::State;
 use drm_table::Answer;
 
-/// LIST_HANDLES: the caller's handles that are not below a number, rising, the first 64. Does not allocate and needs no
-/// limit.
+/// Returns the caller's handles from a number on, in rising order, 64 at most (LIST_HANDLES, own). Does not allocate
+/// and needs no limit.
 pub fn list_handles(state: &State, client: u32, from: u32, answer: &mut Answer)
     requires invariants { MeetsInvariants state.now }
     requires open_client { is_open_client state.now.files client ≡ true }

@@ -9,7 +9,7 @@ ghost use Rattle.drm_state.specs.Refinement.{RefinesReply};
 use drm_state::State;
 use drm_table::{Answer, Rule};
 
-/// STAMP_WRITE: the object of a handle has another stamp. Does not allocate and needs no limit.
+/// Sets the stamp of the object of a handle (STAMP_WRITE, own). Does not allocate and needs no limit.
 pub fn stamp_write(state: &mut State, client: u32, handle: u32, stamp: u64, answer: &mut Answer)
     requires invariants { MeetsInvariants state.old }
     requires open_client { is_open_client state.old.files client ≡ true }
@@ -24,7 +24,7 @@ pub fn stamp_write(state: &mut State, client: u32, handle: u32, stamp: u64, answ
     answer.set_done();
 }
 
-/// STAMP_READ: the stamp of the object of a handle. Does not allocate and needs no limit.
+/// Returns the stamp of the object of a handle (STAMP_READ, own). Does not allocate and needs no limit.
 pub fn stamp_read(state: &State, client: u32, handle: u32, answer: &mut Answer)
     requires invariants { MeetsInvariants state.now }
     requires open_client { is_open_client state.now.files client ≡ true }

@@ -12,7 +12,8 @@ use drm_table::{Answer, Rule};
 /// Primary and cursor planes are shown next to overlay planes (drm-uapi, `DRM_CLIENT_CAP_UNIVERSAL_PLANES`).
 const UNIVERSAL_PLANES: u64 = 2;
 
-/// SET_CLIENT_CAP: universal planes alone can be set, on by 1 and off by 0. Does not allocate.
+/// Turns the caller's universal planes on by 1 and off by 0 (SET_CLIENT_CAP; drm-uapi). No other capability can be set.
+/// Does not allocate.
 pub fn set_client_cap(state: &mut State, client: u32, cap: u64, value: u64, answer: &mut Answer)
     requires invariants { MeetsInvariants state.old }
     requires open_client { is_open_client state.old.files client ≡ true }

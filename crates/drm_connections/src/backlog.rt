@@ -90,7 +90,7 @@ impl Bytes {
 }
 
 impl Ahead {
-    /// Nothing was read ahead.
+    /// Creates an empty backlog.
     pub fn new(alloc: Global) -> Ahead {
         Ahead {
             read: RefCell::new(Bytes {

@@ -164,7 +164,7 @@ fn has_room() -> bool {
 }
 
 impl Notes {
-    /// No note waits yet. There is room for all that may.
+    /// Creates the place of notes, without a note. There is room for all notes that may wait.
     pub fn new(alloc: Global) -> Result<Notes, AllocError> {
         let notes = Vec::with_capacity(alloc, MOST)?;
         let said = Vec::with_capacity(alloc, MOST_ONCE)?;

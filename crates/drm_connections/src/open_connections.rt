@@ -205,7 +205,8 @@ impl OpenConnections {
         OpenConnections::with_room(alloc, connections, ended)
     }
 
-    /// None is open yet. There is room for [`MOST_AT_ONCE`] connections of each listener, and for the listeners.
+    /// Creates a table without open connections. There is room for [`MOST_AT_ONCE`] connections of each listener, and
+    /// for the listeners.
     pub fn until_ended(alloc: Global) -> Result<OpenConnections, AllocError> {
         OpenConnections::with_room(alloc, LISTENERS * MOST_AT_ONCE, None)
     }

@@ -28,7 +28,8 @@ use drm_table::{Answer, AuditKind, AuditPage, AuditRow};
 /// How many rows a page has at most.
 const PAGE: usize = 16;
 
-/// AUDIT: a page of rows, as they are before the step of this number. Does not allocate and needs no limit.
+/// Returns a page of rows, with the values before the step of this number (AUDIT, own). Does not allocate and needs no
+/// limit.
 pub fn audit(state: &State, step_number: u32, kind: AuditKind, from: u32, answer: &mut Answer)
     requires step_number { 1 ≤ step_number }
     requires invariants { MeetsInvariants state.now }

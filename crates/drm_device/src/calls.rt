@@ -17,7 +17,7 @@ use drm_state::{Caller, State};
 use drm_table::{Answer, Call, Family, Rule, permit};
 use std::alloc::AllocError;
 
-/// A request of a client: denied if it isn't admitted, and else answered by the call's own function.
+/// Answers a request of a client: with the first rule that denies it, or by the call's own function.
 pub fn ask(
     state: &mut State,
     step_number: u32,

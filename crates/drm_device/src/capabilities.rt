@@ -15,7 +15,7 @@ const DUMB_BUFFER: u64 = 0x1;
 /// Which directions of PRIME there are (drm-uapi, `DRM_CAP_PRIME`).
 const PRIME: u64 = 0x5;
 
-/// VERSION: the version of the interface.
+/// Returns the version of the interface (VERSION; drm-uapi).
 pub fn version(answer: &mut Answer)
     ensures { answer.new ≡ version_answer }
 {
@@ -26,7 +26,8 @@ pub fn version(answer: &mut Answer)
     };
 }
 
-/// GET_CAP: dumb buffers there are, and PRIME in both directions. Does not allocate and needs no limit.
+/// Returns a capability (GET_CAP; drm-uapi). There are dumb buffers, and PRIME in both directions. Does not allocate
+/// and needs no limit.
 pub fn get_cap(state: &State, client: u32, cap: u64, answer: &mut Answer)
     requires { MeetsInvariants state.now }
     ensures { RefinesReply state.now client (GetCap cap) answer.new state.now }

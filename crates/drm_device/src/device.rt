@@ -241,7 +241,7 @@ impl Device {
         &self.journal
     }
 
-    /// Up to 16 rows of a kind, after the first `from`, in the order of their numbers (own). Does not allocate.
+    /// Returns up to 16 rows of a kind, after the first `from`, in the order of their numbers (own). Does not allocate.
     ///
     /// # Examples
     ///
@@ -266,7 +266,8 @@ impl Device {
         page_of(&self.state, self.journal.len() as u32, kind, from)
     }
 
-    /// How many places the journal has left next to those kept for the closings of the open clients.
+    /// Returns the number of steps for which the journal has room, without the room that is reserved for the closings
+    /// of the open clients.
     ///
     /// # Examples
     ///

@@ -1,6 +1,6 @@
-//! Why an addition is refused.
+//! The reasons an addition is refused.
 
-/// Memory was refused, and all is unchanged.
+/// The error that memory was refused. The state is unchanged.
 ///
 /// # Examples
 ///
@@ -15,7 +15,7 @@
 #[derive(Clone, Copy, PartialEq, Eq, Debug)]
 pub struct NoMemory;
 
-/// Why nothing was added. Each hands the value back.
+/// The reason nothing was added, with the value that was not added.
 ///
 /// # Examples
 ///

@@ -45,7 +45,7 @@ impl Model for Groups {
 }
 
 impl Groups {
-    /// No group has a number. Does not allocate.
+    /// Creates a table in which no group has a number. Does not allocate.
     ///
     /// # Examples
     ///
@@ -64,7 +64,11 @@ impl Groups {
         }
     }
 
-    /// Notes a number of a group. One that the group has stays. Without memory nothing changes.
+    /// Adds a number to a group. If the group has it already, nothing changes.
+    ///
+    /// # Errors
+    ///
+    /// If memory is refused, nothing changes.
     ///
     /// # Examples
     ///
@@ -89,7 +93,7 @@ impl Groups {
         Ok(())
     }
 
-    /// Forgets a number of a group, if the group has it. Does not allocate.
+    /// Removes a number from a group, if the group has it. Does not allocate.
     ///
     /// # Examples
     ///
@@ -116,7 +120,7 @@ impl Groups {
         }
     }
 
-    /// Returns the least number of a group that is not below `from`.
+    /// Returns the lowest number of a group that is not below `from`.
     ///
     /// # Examples
     ///
@@ -137,8 +141,8 @@ impl Groups {
         self.groups.get(group)?.next(from)
     }
 
-    /// Returns the number at a place of a group's, rising, where 0 is the first; none past the last. A late place costs
-    /// what an early one does.
+    /// Returns the number at a position among those of a group, from 0, in rising order. The cost does not depend on
+    /// the position.
     ///
     /// # Examples
     ///
@@ -158,7 +162,7 @@ impl Groups {
         self.groups.get(group)?.nth(position)
     }
 
-    /// How many numbers a group has.
+    /// Returns the number of numbers in a group.
     ///
     /// # Examples
     ///
@@ -205,7 +209,7 @@ impl Groups {
     }
 }
 
-/// Takes a group out.
+/// Removes a group.
 fn take_out(groups: &mut IndexArray<Numbers>, group: u32)
     ensures { groups.new ≡ without_item groups.old group }
 {

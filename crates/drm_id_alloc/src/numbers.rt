@@ -37,7 +37,7 @@ impl Model for Numbers {
 }
 
 impl Numbers {
-    /// One number alone.
+    /// Returns a single number.
     pub fn one(number: u32) -> Numbers
         ensures { result ≡ with_item empty_array number tt }
     {
@@ -46,7 +46,7 @@ impl Numbers {
         }
     }
 
-    /// Adds a number, if it isn't there. Without memory nothing changes.
+    /// Adds a number, if it is missing. If memory is refused, nothing changes.
     pub fn note(&mut self, alloc: Global, number: u32) -> Result<(), NoMemory>
         ensures ok { OnOk result (IsNoted self.old number self.new) }
         ensures err { OnErr result (self.new ≡ self.old) }
@@ -64,7 +64,7 @@ impl Numbers {
         }
     }
 
-    /// Takes a number out, if it is there. Does not allocate, and one number that is left takes none.
+    /// Removes a number, if it is present. Does not allocate. A single number that is left needs no memory.
     pub fn forget(&mut self, alloc: Global, number: u32)
         ensures { IsForgotten self.old number self.new }
     {
@@ -83,7 +83,7 @@ impl Numbers {
         }
     }
 
-    /// Returns the least number that is not below `from`.
+    /// Returns the lowest number that is not below `from`.
     pub fn next(&self, from: u32) -> Option<u32>
         ensures least { result ≡ least (has_number self.now) from u32.MAX }
         ensures none_above { IfNone result ((n : ℕ) → from ≤ n → has_number self.now n ≡ false) }
@@ -99,7 +99,7 @@ impl Numbers {
         }
     }
 
-    /// Returns the number at a place of them, rising, where 0 is the first; none past the last.
+    /// Returns the number at a position, from 0, in rising order.
     pub fn nth(&self, position: usize) -> Option<u32>
         ensures { result ≡ slice_get (map.keys self.now.items) position }
     {
@@ -114,7 +114,7 @@ impl Numbers {
         }
     }
 
-    /// How many they are.
+    /// Returns the number of numbers.
     pub fn len(&self) -> usize
         ensures { result ≡ map.len self.now.items }
     {
@@ -124,7 +124,7 @@ impl Numbers {
         }
     }
 
-    /// Returns whether a number is there.
+    /// Returns whether a number is present.
     pub fn has(&self, number: u32) -> bool
         ensures { result ≡ has_number self.now number }
     {
@@ -135,7 +135,7 @@ impl Numbers {
     }
 }
 
-/// Two numbers that differ.
+/// Returns an array of two numbers that differ.
 fn both(alloc: Global, first: u32, second: u32) -> Result<IndexArray<()>, NoMemory>
     ensures { IfOk result (λ numbers. IsNoted (with_item empty_array first tt) second numbers) }
 {
@@ -145,7 +145,7 @@ fn both(alloc: Global, first: u32, second: u32) -> Result<IndexArray<()>, NoMemo
     Ok(numbers)
 }
 
-/// Adds a number, if it isn't there. Without memory nothing changes.
+/// Adds a number, if it is missing. If memory is refused, nothing changes.
 fn noted(numbers: &mut IndexArray<()>, number: u32) -> Result<(), NoMemory>
     ensures ok { OnOk result (IsNoted numbers.old number numbers.new) }
     ensures err { OnErr result (numbers.new ≡ numbers.old) }
@@ -157,7 +157,7 @@ fn noted(numbers: &mut IndexArray<()>, number: u32) -> Result<(), NoMemory>
     }
 }
 
-/// Returns the number that exists alone; none where there is none, or more than one.
+/// Returns the number, if there is exactly one.
 fn only_of(numbers: &IndexArray<()>) -> Option<u32>
     ensures { IfSome result (λ only. (n : ℕ) → has_number numbers.now n ≡ (n == only)) }
 {

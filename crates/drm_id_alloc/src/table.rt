@@ -12,7 +12,7 @@ use std::alloc::Global;
 use std::marker::Model;
 
 /// A table whose numbers are allocated from a range, with both its ends (as Linux's IDR). Contracts see the map from
-/// numbers to values, the range, and the number that `add_cyclic` returned last.
+/// numbers to values, the range, and the number that [`IdTable::add_cyclic`] returned last.
 ///
 /// # Examples
 ///
@@ -51,7 +51,7 @@ impl<T> Model for IdTable<T> {
 impl<T: Drop> IdTable<T> {
     ghost use Rattle.drm_id_alloc.specs.Table.{empty_table, least_free, next_cyclic, is_free, with_entry, without_entry};
 
-    /// Returns a table with nothing in it, which takes no memory. It keeps the allocator for the entries to come.
+    /// Creates an empty table. It keeps the allocator for later entries. Does not allocate.
     ///
     /// # Examples
     ///
@@ -164,7 +164,7 @@ impl<T: Drop> IdTable<T> {
         Some(id)
     }
 
-    /// Returns the number that `add_cyclic` returns next; none where no number is free.
+    /// Returns the number that [`IdTable::add_cyclic`] returns next, or `None` if no number is free.
     ///
     /// # Examples
     ///
@@ -265,8 +265,8 @@ impl<T: Drop> IdTable<T> {
         Ok(std::mem::replace(slot, value))
     }
 
-    /// Takes the value out, and the number is free. The last number given stays. Where the number has no value, the
-    /// table stays as it is.
+    /// Removes the value of a number, which is then free, and returns the value. If the number has no value, the table
+    /// is unchanged. The last number that was returned stays the last. Does not allocate.
     ///
     /// # Examples
     ///
@@ -289,7 +289,7 @@ impl<T: Drop> IdTable<T> {
         self.entries.remove(id)
     }
 
-    /// Returns the least number not below `from` that is in use.
+    /// Returns the lowest number not below `from` that is in use.
     ///
     /// # Examples
     ///
@@ -315,8 +315,8 @@ impl<T: Drop> IdTable<T> {
         self.entries.next(from)
     }
 
-    /// Returns the number at a place of the list of the numbers in use, rising, where 0 is the first. A late place
-    /// costs what an early one does.
+    /// Returns the number at a position among those in use, from 0, in rising order. The cost does not depend on the
+    /// position.
     ///
     /// # Examples
     ///
@@ -343,7 +343,7 @@ impl<T: Drop> IdTable<T> {
         self.entries.nth(position)
     }
 
-    /// Returns the number of in numbers use.
+    /// Returns the number of numbers in use.
     ///
     /// # Examples
     ///
@@ -388,7 +388,7 @@ impl<T: Drop> IdTable<T> {
         self.free_from(self.first).is_none()
     }
 
-    /// Returns the last number that `add_cyclic` returned; none before the first.
+    /// Returns the last number that [`IdTable::add_cyclic`] returned, or `None` before the first.
     ///
     /// # Examples
     ///

@@ -17,8 +17,8 @@ use crate::words::Sought;
 use std::alloc::Global;
 use std::marker::Model;
 
-/// A finite map from `u32`, whose entries carry three marks each (as Linux's XArray). Contracts see the map and, for
-/// each mark, the set of the indices whose entry carries it.
+/// A finite map from `u32`, whose entries have three marks each (as Linux's XArray). Contracts see the map and, for
+/// each mark, the set of the indices whose entry has it.
 ///
 /// # Examples
 ///
@@ -58,7 +58,7 @@ impl<T: Drop> IndexArray<T> {
     ghost use Rattle.drm_index_array.specs.Lends.{lends_get};
     ghost use Rattle.drm_index_array.specs.declared.marks.Mark.{Mark};
 
-    /// Returns an array with no entry, which takes no memory. It keeps the allocator for the entries to come.
+    /// Creates an empty array. It keeps the allocator for later entries. Does not allocate.
     ///
     /// # Examples
     ///
@@ -185,7 +185,8 @@ impl<T: Drop> IndexArray<T> {
         }
     }
 
-    /// Takes the entry out, with its marks. Where there is none, the array stays as it is.
+    /// Removes the entry with its marks, and returns its value. If there is none, the array is unchanged. Does not
+    /// allocate.
     ///
     /// # Examples
     ///
@@ -216,7 +217,7 @@ impl<T: Drop> IndexArray<T> {
         Some(value)
     }
 
-    /// Sets the mark of the entry at the index, and says whether there is one.
+    /// Sets the mark of the entry at the index, and returns whether there is one.
     ///
     /// # Examples
     ///
@@ -242,7 +243,7 @@ impl<T: Drop> IndexArray<T> {
         self.write_mark(index, mark, true)
     }
 
-    /// Takes the mark from the entry at the index, and says whether there is one.
+    /// Clears the mark of the entry at the index, and returns whether there is one.
     ///
     /// # Examples
     ///
@@ -284,7 +285,7 @@ impl<T: Drop> IndexArray<T> {
         true
     }
 
-    /// Returns whether the index has an entry that carries the mark.
+    /// Returns whether the index has an entry with the mark.
     ///
     /// # Examples
     ///
@@ -317,7 +318,7 @@ impl<T: Drop> IndexArray<T> {
         entry.has(mark)
     }
 
-    /// Returns the least index not below `from` that has an entry.
+    /// Returns the lowest index not below `from` that has an entry.
     ///
     /// # Examples
     ///
@@ -351,8 +352,8 @@ impl<T: Drop> IndexArray<T> {
         Some(found as u32)
     }
 
-    /// Returns the index at a place of the list of the indices that have an entry, rising, where 0 is the first. Whole
-    /// subtrees are passed over, so a late place costs what an early one does.
+    /// Returns the index at a position among those that have an entry, from 0, in rising order. The cost does not
+    /// depend on the position.
     ///
     /// # Examples
     ///
@@ -387,7 +388,7 @@ impl<T: Drop> IndexArray<T> {
         Some(found as u32)
     }
 
-    /// Returns the least index not below `from` whose entry carries the mark.
+    /// Returns the lowest index not below `from` whose entry has the mark.
     ///
     /// # Examples
     ///
@@ -421,7 +422,7 @@ impl<T: Drop> IndexArray<T> {
         Some(found as u32)
     }
 
-    /// Returns the least index not below `from` that has no entry.
+    /// Returns the lowest index not below `from` that has no entry.
     ///
     /// # Examples
     ///

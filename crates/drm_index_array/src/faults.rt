@@ -1,8 +1,8 @@
-//! Why an insertion is refused.
+//! The reasons an insertion is refused.
 
 ghost use Rattle.std.specs.Prelude.{◌≡◌};
 
-/// Why an insertion left the array unchanged. Each hands the value back.
+/// The reason an insertion left the array unchanged, with the value that was not stored.
 ///
 /// # Examples
 ///

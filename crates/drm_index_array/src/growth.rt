@@ -152,7 +152,7 @@ pub fn inserted<T: Drop>(
     }
 }
 
-/// Returns the tree with no entry at the index, and the value that existed. No memory is taken, and a tree that became
+/// Returns the tree with no entry at the index, and the value that was there. Does not allocate, and a tree that became
 /// empty is dropped.
 pub fn removed<T: Drop>(root: Option<Box<Node<T>>>, index: u64) -> (Option<Box<Node<T>>>, Option<T>)
     requires used { IsUsedRoot root }

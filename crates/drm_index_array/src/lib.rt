@@ -1,4 +1,6 @@
-//! A finite map from `u32`, whose entries carry three marks each.
+//! A finite map from `u32`, whose entries have three marks each.
+//!
+//! An example is the body of a function that has the runtime `rt`. If memory is refused, it returns.
 #![tactic(auto)]
 
 mod array;

@@ -1,6 +1,6 @@
 //! The marks.
 
-/// One of the three marks that an entry can carry. What each represents is the caller's choice.
+/// One of the three marks that an entry can have. The caller chooses the meaning of each.
 ///
 /// # Examples
 ///

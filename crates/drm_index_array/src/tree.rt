@@ -46,10 +46,10 @@ pub struct Node<T> {
     count: usize,
 }
 
-/// What a walk does to the entry at an index, if there is one.
+/// A change of the entry at an index, if there is one.
 #[derive(Clone, Copy, Debug)]
 pub enum Edit {
-    /// Takes it out.
+    /// Removes it.
     Remove,
     /// Sets the mark, or clears it.
     Write(Mark, bool),
@@ -160,7 +160,7 @@ fn any_below<T>(slot: &Slot<T>, height: u32, sought: Sought) -> bool
     }
 }
 
-/// How many entries lie below a slot.
+/// Returns the number of entries below a slot.
 fn count_below<T>(slot: &Slot<T>) -> usize
     ensures { (height : ℕ) → Fits height slot.now → result ≡ entries_below height slot.now }
 {
@@ -326,8 +326,8 @@ impl<T> Node<T> {
         }
     }
 
-    /// Returns the index at a place of the list of the indices that have an entry, rising, where 0 is the first. Whole
-    /// slots are passed over by how many entries lie below them.
+    /// Returns the index at a position among those that have an entry, from 0, in rising order. Whole slots are skipped
+    /// by the number of entries below them.
     pub fn nth(&self, position: usize) -> Option<u64>
         ensures placed { IsPlaced (map.contains_key self.now.items) (span self.now.height) position result }
         ensures past { (k : ℕ) → span self.now.height ≤ k → map.get self.now.items k ≡ None }
@@ -392,7 +392,7 @@ impl<T: Drop> Node<T> {
         })
     }
 
-    /// Adds an entry with no mark at an index that has none, or hands the value back.
+    /// Adds an entry with no mark at an index that has none, or returns the value.
     #[cycle(fill)]
     pub fn insert(&mut self, alloc: Global, index: u64, value: T) -> Result<(), InsertFault<T>>
         requires { index < span self.old.height }
@@ -414,7 +414,7 @@ impl<T: Drop> Node<T> {
         done
     }
 
-    /// Hangs a subtree into the first slot.
+    /// Puts a subtree into the first slot.
     pub fn hang(&mut self, child: Box<Node<T>>)
         requires lower { child.value.height + 1 ≡ self.old.height }
         requires used { 0 < map.len child.value.items }
@@ -427,7 +427,7 @@ impl<T: Drop> Node<T> {
         self.words = refreshed(&self.words, self.height, &self.slots[0], 0);
     }
 
-    /// Edits the entry at the index, if there is one. No memory is taken, and each node below that became empty is
+    /// Edits the entry at the index, if there is one. Does not allocate, and each node below that became empty is
     /// dropped.
     #[cycle(edit)]
     pub fn edit(&mut self, index: u64, edit: Edit) -> Option<T>

@@ -11,8 +11,8 @@ use drm_modes::{Kind, Modes};
 use drm_state::{PrimaryCaller, State};
 use drm_table::{Answer, ShownList};
 
-/// MODE_LIST_LESSEES (drm-uapi, leases; that they rise is own): the ids of the direct lessees of the caller's master
-/// whose lease isn't empty. Does not allocate.
+/// Returns the ids of the direct lessees of the caller's master whose lease is not empty (MODE_LIST_LESSEES; drm-uapi,
+/// leases), in rising order (own). Does not allocate.
 pub fn list_lessees(state: &State, caller: PrimaryCaller, answer: &mut Answer)
     requires invariants { MeetsInvariants state.now }
     requires caller { IsPrimaryCaller state.now caller }

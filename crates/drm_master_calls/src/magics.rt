@@ -9,7 +9,8 @@ ghost use Rattle.drm_state.specs.Refinement.{RefinesReply};
 use drm_state::{PrimaryCaller, State};
 use drm_table::Answer;
 
-/// GET_MAGIC: the caller's number under its master, and where it has none the lowest free one. Does not allocate.
+/// Returns the caller's number under its master (GET_MAGIC; drm(7)). A caller without a number gets the lowest free
+/// one. Does not allocate.
 pub fn get_magic(state: &mut State, caller: PrimaryCaller, answer: &mut Answer)
     requires invariants { MeetsInvariants state.old }
     requires caller { IsPrimaryCaller state.old caller }
@@ -23,7 +24,7 @@ pub fn get_magic(state: &mut State, caller: PrimaryCaller, answer: &mut Answer)
     answer.set_number(number as u64);
 }
 
-/// AUTH_MAGIC: the client that has this number under the caller's master is authenticated, and the number is spent.
+/// Authenticates the client that has this number under the caller's master (AUTH_MAGIC; drm(7)), and spends the number.
 /// Does not allocate.
 pub fn auth_magic(state: &mut State, caller: PrimaryCaller, number: u32, answer: &mut Answer)
     requires invariants { MeetsInvariants state.old }

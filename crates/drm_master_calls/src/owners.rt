@@ -12,8 +12,8 @@ use drm_state::{PrimaryCaller, State};
 use drm_table::Answer;
 use std::alloc::AllocError;
 
-/// SET_MASTER: who is current stays so, who is a master has its own set again, and any other gets a new one, which
-/// authenticates it. Where memory is refused nothing changes.
+/// Makes the caller current (SET_MASTER; drm-uapi). For a current client, nothing changes. For a master, its own master
+/// is set again. Any other client gets a new master, which authenticates it. If memory is refused, nothing changes.
 pub fn set_master(
     state: &mut State,
     step_number: u32,
@@ -52,7 +52,7 @@ pub fn set_master(
     }
 }
 
-/// DROP_MASTER: the device has no master, and the client's stays its own. Does not allocate.
+/// Leaves the device without a master (DROP_MASTER; drm(7)). The client keeps its own master. Does not allocate.
 pub fn drop_master(state: &mut State, caller: PrimaryCaller, answer: &mut Answer)
     requires invariants { MeetsInvariants state.old }
     requires caller { IsPrimaryCaller state.old caller }

@@ -16,9 +16,9 @@ use drm_state::{PrimaryCaller, State, bytes_per_pixel, is_dumb_shape, new_handle
 use drm_table::{Answer, Rule};
 use std::alloc::AllocError;
 
-/// MODE_GETFB: the shape of any client's framebuffer (drm-uapi, mode setting). A caller that is current or root gets a fresh
-/// handle of its object, any other 0. Where there is no such framebuffer, the caller has every handle or memory is refused,
-/// nothing changes.
+/// Returns the shape of any client's framebuffer (MODE_GETFB; drm-uapi, mode setting). A caller that is current or root
+/// gets a new handle of its object, any other 0. If the framebuffer does not exist, the caller has every handle or
+/// memory is refused, nothing changes.
 pub fn get_fb(
     state: &mut State,
     step_number: u32,

@@ -11,8 +11,8 @@ use drm_modes::Kind;
 use drm_state::{PrimaryCaller, State};
 use drm_table::{Answer, Rule};
 
-/// MODE_GETCRTC (drm-uapi, mode setting): the framebuffer that a CRTC shows, 0 where it is dark. It is denied where the
-/// caller sees no such CRTC, and takes no memory.
+/// Returns the framebuffer that a CRTC shows, or 0 if it is dark (MODE_GETCRTC; drm-uapi, mode setting). Denied if the
+/// caller sees no such CRTC. Does not allocate.
 pub fn get_crtc(state: &State, caller: PrimaryCaller, crtc: u32, answer: &mut Answer)
     requires invariants { MeetsInvariants state.now }
     requires caller { IsPrimaryCaller state.now caller }
@@ -25,8 +25,8 @@ pub fn get_crtc(state: &State, caller: PrimaryCaller, crtc: u32, answer: &mut An
     answer.set_number(state.modes.shown(crtc) as u64);
 }
 
-/// MODE_GETENCODER (drm-uapi, mode setting): the possible CRTCs of an encoder, as a mask over those that the caller sees. It
-/// is denied where there is no such encoder, and takes no memory.
+/// Returns the possible CRTCs of an encoder, as a mask over those that the caller sees (MODE_GETENCODER; drm-uapi, mode
+/// setting). Denied if the encoder does not exist. Does not allocate.
 pub fn get_encoder(state: &State, caller: PrimaryCaller, encoder: u32, answer: &mut Answer)
     requires invariants { MeetsInvariants state.now }
     requires caller { IsPrimaryCaller state.now caller }
@@ -39,8 +39,8 @@ pub fn get_encoder(state: &State, caller: PrimaryCaller, encoder: u32, answer: &
     answer.set_number(visible_mask(state, caller, encoder) as u64);
 }
 
-/// MODE_GETCONNECTOR (drm-uapi, mode setting; that a connector has one encoder is own): the encoder of a connector. It is
-/// denied where the caller sees no such connector, and takes no memory.
+/// Returns the encoder of a connector (MODE_GETCONNECTOR; drm-uapi, mode setting). That a connector has one encoder is
+/// own. Denied if the caller sees no such connector. Does not allocate.
 pub fn get_connector(state: &State, caller: PrimaryCaller, connector: u32, answer: &mut Answer)
     requires invariants { MeetsInvariants state.now }
     requires caller { IsPrimaryCaller state.now caller }
@@ -53,8 +53,8 @@ pub fn get_connector(state: &State, caller: PrimaryCaller, connector: u32, answe
     answer.set_number(state.modes.encoder_of(connector).unwrap_or(0) as u64);
 }
 
-/// MODE_GETPLANE (drm-uapi, mode setting): the framebuffer that a plane shows, 0 where it is dark, and its possible CRTCs, as
-/// a mask over those that the caller sees. It is denied where the caller sees no such plane, and takes no memory.
+/// Returns the framebuffer that a plane shows, or 0 if it is dark, and its possible CRTCs, as a mask over those that
+/// the caller sees (MODE_GETPLANE; drm-uapi, mode setting). Denied if the caller sees no such plane. Does not allocate.
 pub fn get_plane(state: &State, caller: PrimaryCaller, plane: u32, answer: &mut Answer)
     requires invariants { MeetsInvariants state.now }
     requires caller { IsPrimaryCaller state.now caller }

@@ -10,8 +10,8 @@ use drm_modes::Kind;
 use drm_state::{PrimaryCaller, State};
 use drm_table::Answer;
 
-/// MODE_GETRESOURCES (drm-uapi, mode setting): the CRTCs and connectors that the caller sees, all encoders, and its own
-/// framebuffers, each list rising. Does not allocate.
+/// Returns the CRTCs and connectors that the caller sees, all encoders, and its own framebuffers, each list in rising
+/// order (MODE_GETRESOURCES; drm-uapi, mode setting). Does not allocate.
 pub fn get_resources(state: &State, caller: PrimaryCaller, answer: &mut Answer)
     requires invariants { MeetsInvariants state.now }
     requires caller { IsPrimaryCaller state.now caller }
@@ -25,7 +25,8 @@ pub fn get_resources(state: &State, caller: PrimaryCaller, answer: &mut Answer)
     };
 }
 
-/// MODE_GETPLANERESOURCES (drm-uapi, mode setting): the planes that the caller sees, rising. Does not allocate.
+/// Returns the planes that the caller sees, in rising order (MODE_GETPLANERESOURCES; drm-uapi, mode setting). Does not
+/// allocate.
 pub fn get_plane_resources(state: &State, caller: PrimaryCaller, answer: &mut Answer)
     requires invariants { MeetsInvariants state.now }
     requires caller { IsPrimaryCaller state.now caller }

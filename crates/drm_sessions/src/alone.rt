@@ -52,9 +52,7 @@ impl Access for Alone<'_> {
     }
 }
 
-/// One session whose results are steps that the access was lent.
-///
-/// The rest is as `serve` says.
+/// Serves one session whose results are steps of the lent access. In the rest it is as [`serve`](crate::serve).
 ///
 /// # Examples
 ///
@@ -96,9 +94,8 @@ pub fn serve_lent<G: Gate, S: Source, K: Sink>(
     serve(alone, gate, class, source, sink, turns)
 }
 
-/// One session on a device that it has alone. The results are steps.
-///
-/// The rest is as `serve` says.
+/// Serves one session on a device that no other session uses. The results are steps. In the rest it is as
+/// [`serve`](crate::serve).
 ///
 /// # Examples
 ///

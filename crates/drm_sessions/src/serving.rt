@@ -135,11 +135,11 @@ fn run_session<A: Access, G: Gate, S: Source, K: Sink>(
     }
 }
 
-/// One session: its hello, its opening, its requests in the order of their frames, and one closing where the opening
-/// was accepted (own). Does not allocate.
+/// Serves one session: its hello, its opening, its requests in the order of their frames, and one closing if the
+/// opening was accepted (own). Does not allocate.
 ///
 /// At most `turns` calls are made of the source and the sink together. Each answer is written before the next frame is
-/// looked for; the closing's isn't written. Whichever read or write fails, the client is closed, and nothing more is
+/// looked for. The closing's answer isn't written. If a read or write fails, the client is closed, and nothing more is
 /// read or written. The gate is called once for each request, and for nothing else.
 ///
 /// # Examples

@@ -151,10 +151,11 @@ pub struct Served {
     pub participant: Seat,
 }
 
-/// One session through a participant of a shared device. It may wait for its turns.
+/// Serves one session through a participant of a shared device. It may wait for its turns.
 ///
 /// Each call has a turn of the device, in the history that the participant then has seen. The participant's own entries
-/// are those that it had, and the recorded events of the session with their answers. The rest is as `serve` says.
+/// are those that it had, and the recorded events of the session with their answers. In the rest it is as
+/// [`serve`](crate::serve).
 ///
 /// # Examples
 ///

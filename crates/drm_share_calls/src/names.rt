@@ -12,8 +12,8 @@ use drm_state::{State, new_handle};
 use drm_table::{Answer, Rule};
 use std::alloc::AllocError;
 
-/// GEM_FLINK: the object of a handle has a global name, which is the one that it had, or else the lowest free one. Where
-/// memory is refused nothing changes.
+/// Returns the global name of the object of a handle (GEM_FLINK; drm-gem(7)). An object without a name gets the lowest
+/// free one. If memory is refused, nothing changes.
 pub fn gem_flink(
     state: &mut State,
     step_number: u32,
@@ -46,7 +46,7 @@ pub fn gem_flink(
     Ok(())
 }
 
-/// GEM_OPEN: a fresh handle of the object that has a global name. Where memory is refused nothing changes.
+/// Creates a handle of the object that has a global name (GEM_OPEN; drm-gem(7)). If memory is refused, nothing changes.
 pub fn gem_open(
     state: &mut State,
     step_number: u32,

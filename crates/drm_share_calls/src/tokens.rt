@@ -12,8 +12,8 @@ use drm_state::{State, new_handle};
 use drm_table::{Answer, Rule};
 use std::alloc::AllocError;
 
-/// PRIME_HANDLE_TO_FD: a new token for the object of a handle, and an export order for the handle if it has none. Where memory
-/// is refused nothing changes.
+/// Creates a token for the object of a handle (PRIME_HANDLE_TO_FD; drm-mm). A handle without an export order gets one.
+/// If memory is refused, nothing changes.
 pub fn prime_export(
     state: &mut State,
     step_number: u32,
@@ -44,8 +44,8 @@ pub fn prime_export(
     Ok(())
 }
 
-/// PRIME_FD_TO_HANDLE: the caller's handle of a token's object, which is the one with the least export order, or else a fresh
-/// one with an order. Where memory is refused nothing changes.
+/// Returns the caller's handle of a token's object (PRIME_FD_TO_HANDLE; drm-mm). It is the one with the lowest export
+/// order. If there is none, it is a new handle with an order. If memory is refused, nothing changes.
 pub fn prime_import(
     state: &mut State,
     step_number: u32,

@@ -39,7 +39,8 @@ impl Caller {
         })
     }
 
-    /// What the flags of a call's row are tested against (`drm_ioctl_permit`). Does not allocate.
+    /// Returns the properties of the caller that the flags of a call's row are tested against (`drm_ioctl_permit`).
+    /// Does not allocate.
     pub fn credentials(self) -> Standing
         ensures { result ≡ record { root = self.flags.root; render = self.flags.render; authenticated = self.flags.authenticated; current = self.current } }
     {

@@ -561,7 +561,8 @@ impl SharedDevice {
         self.learn(place);
     }
 
-    /// What the participant has seen, for another participant. The participant counts one more that is out, and else stays as it is.
+    /// Creates a note of what the participant has seen, for another participant. The participant counts one more that
+    /// is out, and is unchanged otherwise.
     ///
     /// # Examples
     ///
