@@ -69,6 +69,6 @@ is_master_in history c = (master_state history).is_master c
 abbrev pub master_in : List AnsweredEvent → ℕ → Option ℕ
 master_in history c = (master_state history).master c
 
--- the same, and 0 where it has none
+-- the same, and 0 if it has none
 abbrev pub caller_master_in : List AnsweredEvent → ℕ → ℕ
 caller_master_in history c = unwrap_or (master_in history c) 0

@@ -46,7 +46,8 @@ first_set (step ∷ past) c = option_or (first_set past c) (set_by (effect step)
 abbrev pub has_become_master : List AnsweredEvent → ℕ → Bool
 has_become_master history c = (opened_in history c).is_master || is_some (first_set history c)
 
--- its master is its own from its opening on, where it was opened as one; else that of its first SET_MASTER, or else the one that it joined
+-- its master is its own from its opening on, if it was opened as one; else that of its first SET_MASTER, or else the
+-- one that it joined
 abbrev pub master_since : List AnsweredEvent → ℕ → Option ℕ
 master_since history c =
     if (opened_in history c).is_master then (opened_in history c).master else option_or (first_set history c) (opened_in history c).master

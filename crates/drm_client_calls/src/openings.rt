@@ -111,8 +111,8 @@ fn open_lease(
     })
 }
 
-/// Opens the file of a client that is newer than all; a master's opener is authenticated whether it is root or not. Where memory is
-/// refused nothing changes.
+/// Opens the file of a client that is newer than all; a master's opener is authenticated whether it is root or not. If
+/// memory is refused, nothing changes.
 fn open_file(
     files: &mut Files,
     number: u32,

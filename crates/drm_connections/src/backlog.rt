@@ -48,7 +48,7 @@ impl Bytes {
         count
     }
 
-    /// Reads a piece of what a client has sent. Where that can't be kept, the connection has failed.
+    /// Reads a piece of what a client has sent. If that can't be kept, the connection has failed.
     fn read_from(&mut self, stream: &UnixStream) -> io::Result<()> {
         let mut piece = [0; PIECE];
         let mut stream = stream;

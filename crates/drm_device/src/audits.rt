@@ -55,7 +55,7 @@ pub fn page_of(state: &State, steps: u32, kind: AuditKind, from: u32) -> AuditPa
     page
 }
 
-/// Returns the row of a kind at a place, from 0, in the order of the rows' numbers; none past the last.
+/// Returns the row of a kind at a place, from 0, in the order of the rows' numbers, or none past the last.
 fn row_at(state: &State, steps: u32, kind: AuditKind, position: usize) -> Option<AuditRow>
     requires { MeetsInvariants state.now }
     ensures { IsRowAt state.now steps kind position result }

@@ -13,7 +13,8 @@ use drm_state::State;
 use drm_table::{Answer, Apart, Event, Opening};
 use std::alloc::AllocError;
 
-/// Answers an opening. Where memory is refused nothing changes. It is a separate function, so that calls need not clear its place.
+/// Answers an opening. If memory is refused, nothing changes. It is a separate function, so that calls need not clear
+/// its place.
 fn opened(
     state: &mut State,
     step_number: u32,
@@ -28,7 +29,7 @@ fn opened(
     Ok(())
 }
 
-/// Answers an event for which the journal has room. Where memory is refused nothing changes.
+/// Answers an event for which the journal has room. If memory is refused, nothing changes.
 #[tactic(auto, using(drm_state::proofs::Refinements::is_done))]
 pub fn advance(
     state: &mut State,

@@ -63,7 +63,7 @@ pub fn device_call(
     }
 }
 
-/// Answers a call of masters and magics that is admitted. Where memory is refused nothing changes.
+/// Answers a call of masters and magics that is admitted. If memory is refused, nothing changes.
 #[tactic(auto, using(drm_state::proofs::Refinements::is_answered), unfolding(drm_table::specs::Table::family_of, drm_table::specs::Table::call_row, drm_table::specs::Table::kind_row))]
 pub fn master_call(
     state: &mut State,
@@ -96,7 +96,7 @@ pub fn master_call(
     }
 }
 
-/// Answers a call of buffers that is admitted. Where memory is refused nothing changes.
+/// Answers a call of buffers that is admitted. If memory is refused, nothing changes.
 #[tactic(auto, using(drm_state::proofs::Refinements::is_answered), unfolding(drm_table::specs::Table::family_of, drm_table::specs::Table::call_row, drm_table::specs::Table::kind_row))]
 pub fn buffer_call(
     state: &mut State,
@@ -145,7 +145,7 @@ pub fn buffer_call(
     }
 }
 
-/// Answers a call that shares objects and is admitted. Where memory is refused nothing changes.
+/// Answers a call that shares objects and is admitted. If memory is refused, nothing changes.
 #[tactic(auto, using(drm_state::proofs::Refinements::is_answered), unfolding(drm_table::specs::Table::family_of, drm_table::specs::Table::call_row, drm_table::specs::Table::kind_row))]
 pub fn share_call(
     state: &mut State,
@@ -237,7 +237,7 @@ pub fn mode_call(
     }
 }
 
-/// Answers a call of framebuffers that is admitted. Where memory is refused nothing changes.
+/// Answers a call of framebuffers that is admitted. If memory is refused, nothing changes.
 #[tactic(auto, using(drm_state::proofs::Refinements::is_answered), unfolding(drm_table::specs::Table::family_of, drm_table::specs::Table::call_row, drm_table::specs::Table::kind_row))]
 pub fn framebuffer_call(
     state: &mut State,
@@ -277,7 +277,7 @@ pub fn framebuffer_call(
     }
 }
 
-/// Answers a call of leases that is admitted. Where memory is refused nothing changes.
+/// Answers a call of leases that is admitted. If memory is refused, nothing changes.
 #[tactic(auto, using(drm_state::proofs::Refinements::is_answered), unfolding(drm_table::specs::Table::family_of, drm_table::specs::Table::call_row, drm_table::specs::Table::kind_row))]
 pub fn lease_call(
     state: &mut State,

@@ -44,7 +44,7 @@ pub record Publishing : Type 0 where
 abbrev pub publishing : Key → ℕ → ℕ → Option Publishing
 publishing key c handle = Some (record { key = key; client = c; handle = handle })
 
--- MODE_GETFB answers 0 where it returns no handle
+-- MODE_GETFB answers 0 if it returns no handle
 abbrev pub given_by : Event → Answer → Option Giving
 given_by (Ask c (BufCreate size)) (Buffer handle bytes) = giving c handle Creation
 given_by (Ask c (CreateDumb width height bpp)) (Dumb handle pitch size) = giving c handle Creation

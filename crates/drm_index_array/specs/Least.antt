@@ -7,11 +7,11 @@ unfoldable pub first_passing : (ℕ → Bool) → ℕ → ℕ → Option ℕ
 first_passing p from zero = None
 first_passing p from (suc count) = elim (p from) [ true ↦ Some from | false ↦ first_passing p (from + 1) count ]
 
--- the least number from `from` to `to` that passes
+-- the lowest number from `from` to `to` that passes
 unfoldable pub least : (ℕ → Bool) → ℕ → ℕ → Option ℕ
 least p from to = first_passing p from (to + 1 - from)
 
--- n is the least number of the range that passes
+-- n is the lowest number of the range that passes
 pub record IsLeast (p : ℕ → Bool) (from to n : ℕ) : Type 0 where
   pub at_least : from ≤ n
   pub at_most : n ≤ to
@@ -22,7 +22,7 @@ pub record IsLeast (p : ℕ → Bool) (from to n : ℕ) : Type 0 where
 abbrev pub NonePasses : (ℕ → Bool) → ℕ → ℕ → Type 0
 NonePasses p from to = (k : ℕ) → from ≤ k → k ≤ to → p k ≡ false
 
--- n is the least number from `from` on that passes
+-- n is the lowest number from `from` on that passes
 abbrev pub IsLeastFrom : (ℕ → Bool) → ℕ → ℕ → Type 0
 IsLeastFrom p from n = IsLeast p from n n
 
@@ -30,12 +30,12 @@ abbrev pub lesser : ℕ → Option ℕ → ℕ
 lesser n None = n
 lesser n (Some m) = if nat_le n m then n else m
 
--- the least number of a list, None where it is empty
+-- the lowest number of a list, None where it is empty
 abbrev pub least_of : List ℕ → Option ℕ
 least_of [] = None
 least_of (n ∷ ns) = Some (lesser n (least_of ns))
 
--- n is the least number of the list
+-- n is the lowest number of the list
 pub record IsLeastOf (ns : List ℕ) (n : ℕ) : Type 0 where
   pub among : list_any (λ x. x == n) ns ≡ true
   pub at_most : (k : ℕ) → list_any (λ x. x == k) ns ≡ true → n ≤ k

@@ -33,7 +33,6 @@ module _ (T : RattleType) where
   abbrev pub lends_node : MutBor (Tree T.Denot) → ℕ → Option (MutBor T.Denot) → Fml
   lends_node a i r = LendsIf (node.the_row T) T a r (tree_with_value a.now i) a.now
 
-  -- once the borrow r ends, the index has the last value written through r; at `None` the array
-  -- stays as it is
+  -- once the borrow r ends, the index has the last value written through r; at `None` the array is unchanged
   abbrev pub lends_get : MutBor (Indexed T.Denot) → ℕ → Option (MutBor T.Denot) → Fml
   lends_get a i r = LendsIf (array.the_row T) T a r (with_item a.now i) a.now

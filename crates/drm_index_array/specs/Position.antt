@@ -12,7 +12,7 @@ pub record IsAtPosition (p : ℕ → Bool) (end position n : ℕ) : Type 0 where
   pub passes : p n ≡ true
   pub before : passing p 0 n ≡ position
 
--- the number at a place of those below `end` that pass; none where they are not that many
+-- the number at a place of those below `end` that pass, or none if they are not that many
 abbrev pub IsPlaced : (ℕ → Bool) → ℕ → ℕ → Option ℕ → Type 0
 IsPlaced p end position None = passing p 0 end ≤ position
 IsPlaced p end position (Some n) = IsAtPosition p end position n

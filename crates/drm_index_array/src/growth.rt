@@ -11,7 +11,7 @@ use crate::faults::InsertFault;
 use crate::tree::{Edit, Node};
 use std::alloc::Global;
 
-/// Returns the least height of a node that covers the index.
+/// Returns the lowest height of a node that covers the index.
 fn height_for(index: u64) -> u32
     requires { index < 2 ^ 36 }
     ensures low { result ≤ 5 }
@@ -152,8 +152,8 @@ pub fn inserted<T: Drop>(
     }
 }
 
-/// Returns the tree with no entry at the index, and the value that was there. Does not allocate, and a tree that became
-/// empty is dropped.
+/// Returns the tree with no entry at the index, and its old value. Does not allocate, and a tree that became empty is
+/// dropped.
 pub fn removed<T: Drop>(root: Option<Box<Node<T>>>, index: u64) -> (Option<Box<Node<T>>>, Option<T>)
     requires used { IsUsedRoot root }
     ensures used { IsUsedRoot result.0 }

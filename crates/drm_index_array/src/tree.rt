@@ -243,7 +243,7 @@ impl<T> Node<T> {
         self.get(index)
     }
 
-    /// Returns the least index not below `from` that is sought, of those that lie below the node.
+    /// Returns the lowest index not below `from` that is sought, of those that lie below the node.
     pub fn first(&self, sought: Sought, from: u64) -> Option<u64>
         ensures first { result ≡ least (λ i. is_sought sought (map.get self.now.items i)) from (span self.now.height - 1) }
         ensures past { (k : ℕ) → span self.now.height ≤ k → map.get self.now.items k ≡ None }
@@ -254,7 +254,7 @@ impl<T> Node<T> {
         self.next(sought, from)
     }
 
-    /// Returns the least index not below `from` that has no entry, of all.
+    /// Returns the lowest index not below `from` that has no entry, of all.
     pub fn next_vacant(&self, from: u64) -> u64
         ensures { IsLeastFrom (λ i. not (map.contains_key self.now.items i)) from result }
     {
@@ -279,7 +279,7 @@ impl<T> Node<T> {
         }
     }
 
-    /// Returns the least index not below `from` that is sought.
+    /// Returns the lowest index not below `from` that is sought.
     #[cycle(search)]
     fn next(&self, sought: Sought, from: u64) -> Option<u64>
         requires { from < span self.now.height }

@@ -62,7 +62,7 @@ impl Words {
     }
 }
 
-/// Returns the place of the least 1 of a word, from a place on.
+/// Returns the place of the lowest 1 of a word, from a place on.
 pub fn first_one(word: u64, from: u32) -> Option<u32>
     requires { from < 64 }
     ensures { result ≡ least (has_bit word) from 63 }

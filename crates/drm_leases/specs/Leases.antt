@@ -108,7 +108,7 @@ token_of tokens m = option_map (λ (row : LeaseToken). row.token) (find (is_toke
 abbrev pub is_free : List LeaseToken → ℕ → Bool
 is_free tokens t = not (list_any (is_token t) tokens)
 
--- the lowest free token above the last one given or, where there is none, the lowest free one (the kernel's cyclic IDR;
+-- the lowest free token above the last one given or, if there is none, the lowest free one (the kernel's cyclic IDR;
 -- that tokens are assigned so is own)
 abbrev pub next_of : List LeaseToken → Option ℕ → ℕ → Option ℕ
 next_of tokens last_given last = or_else (least (is_free tokens) (unwrap_or last_given 0 + 1) last) (least (is_free tokens) 1 last)

@@ -53,7 +53,7 @@ master_before x y = nat_lt x.step_number y.step_number
 abbrev pub master_at : List Master → ℕ → Option Master
 master_at masters m = find (is_step_number m) masters
 
--- the master of a key; 0 where none has it
+-- the master of a key; 0 if none has it
 abbrev pub step_number_at : List Master → ℕ → ℕ
 step_number_at masters key = option_map_or (λ (x : Master). x.step_number) (find (is_key key) masters) 0
 
@@ -83,7 +83,7 @@ is_lessee masters m = is_some (lessor_of masters m)
 abbrev pub owner_of : List Master → ℕ → ℕ
 owner_of masters m = top_of (lessor_of masters) m
 
--- how many lessors are above a master: 0 where it has none, else one more than above its lessor (own)
+-- how many lessors are above a master: 0 if it has none, else one more than above its lessor (own)
 abbrev pub depth_of : List Master → ℕ → ℕ
 depth_of masters m = chains.depth_of (lessor_of masters) m
 
@@ -136,7 +136,7 @@ has_magic m n x = (x.master == m) && option_map_or (λ (g : Magic). g.number == 
 abbrev pub has_open_magic : ℕ → ℕ → Member → Bool
 has_open_magic m n x = (x.master == m) && option_map_or (λ (g : Magic). (g.number == n) && not g.spent) x.magic false
 
--- the least number that no client has under the master (drm(7); the kernel's IDR returns the least)
+-- the lowest number that no client has under the master (drm(7); the kernel's IDR returns the least)
 abbrev pub free_magic : MasterSet → ℕ → Option ℕ
 free_magic v m = least (λ n. not (list_any (has_magic m n) v.members)) 1 v.last_magic
 
@@ -150,7 +150,7 @@ is_lessee_of masters owner id x = is_some x.lessor && (x.lessee_id == id) && (ow
 abbrev pub lessee_of : List Master → ℕ → ℕ → Option Master
 lessee_of masters m id = find (is_lessee_of masters (owner_of masters m) id) masters
 
--- the least id that no lessee has under the owner of the master (drm-uapi, leases; ids own)
+-- the lowest id that no lessee has under the owner of the master (drm-uapi, leases; ids own)
 abbrev pub free_lessee : MasterSet → ℕ → Option ℕ
 free_lessee v m = least (λ id. not (list_any (is_lessee_of v.masters (owner_of v.masters m) id) v.masters)) 1 v.last_lessee
 

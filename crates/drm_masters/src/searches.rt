@@ -113,7 +113,7 @@ pub fn is_magic(members: &Members, master: u32, number: u32) -> bool
     false
 }
 
-/// Returns the least number up to the last that no client has under the master.
+/// Returns the lowest number up to the last that no client has under the master.
 pub fn free_magic(members: &Members, master: u32, last: u32) -> Option<u32>
     ensures { result ≡ least (λ n. not (list_any (sets.has_magic master n) members.now.items)) 1 last }
 {

@@ -231,7 +231,7 @@ fn unname(ids: &mut OwnerIds, owner: u32, lessor: Option<u32>, id: u32)
     }
 }
 
-/// Lists a master with its lessor's lessees, if it has one. Without memory nothing changes.
+/// Lists a master with its lessor's lessees, if it has one. If memory is refused, nothing changes.
 fn list(lessees: &mut Groups, lessor: Option<u32>, step_number: u32) -> Result<(), NoMemory>
     ensures ok { OnOk result (IsListed (has lessees.old) lessor step_number (has lessees.new)) }
     ensures err { OnErr result (lessees.new ≡ lessees.old) }

@@ -76,7 +76,7 @@ is_free_lease_token w token = not (list_any (λ (row : MasterRow). is_option tok
 abbrev pub next_lease_token : Rows → Option ℕ
 next_lease_token w = next_in_turn (is_free_lease_token w) w.last_lease_token w.limits.tokens
 
--- the id and the lease token of a new lessee; 0 where none is free
+-- the id and the lease token of a new lessee; 0 if none is free
 abbrev pub new_lessee_id : Rows → ℕ → ℕ
 new_lessee_id w m = unwrap_or (free_lessee w m) 0
 
@@ -137,7 +137,7 @@ get_lease w c = record (nothing w) { answer = ListIs (if is_lessee w c then risi
 abbrev pub lessee_row : Rows → ℕ → ℕ → Option MasterRow
 lessee_row w m id = find (is_lessee_of w.masters (owner_of w.masters m) id) w.masters
 
--- its step number; 0 where there is none
+-- its step number; 0 if there is none
 abbrev pub lessee_master : Rows → ℕ → ℕ → ℕ
 lessee_master w m id = unwrap_or (option_map (λ (row : MasterRow). row.master) (lessee_row w m id)) 0
 

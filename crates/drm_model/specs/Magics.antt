@@ -13,7 +13,7 @@ use Rattle.drm_model.specs.Meaning.{Meaning, nothing}
 
 -- ---- magics
 
--- the master of a client; 0 where it has none
+-- the master of a client; 0 if it has none
 abbrev pub caller_master : Rows → ℕ → ℕ
 caller_master w c = unwrap_or (master_of w c) 0
 

@@ -28,7 +28,7 @@ is_lessee w c = is_some (option_and_then (lessor_of w.masters) (master_of w c))
 abbrev pub owner_of : List MasterRow → ℕ → ℕ
 owner_of rows m = top_of (lessor_of rows) m
 
--- how many lessors are above a master: 0 where it has none, else one more than above its lessor (own)
+-- how many lessors are above a master: 0 if it has none, else one more than above its lessor (own)
 abbrev pub depth_of : List MasterRow → ℕ → ℕ
 depth_of rows m = chains.depth_of (lessor_of rows) m
 

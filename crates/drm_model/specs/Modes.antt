@@ -46,7 +46,7 @@ get_connector w c connector = record (nothing w) {
 
 -- ---- what is shown
 
--- the framebuffer that a CRTC or a plane shows; 0 where it is dark
+-- the framebuffer that a CRTC or a plane shows; 0 if it is dark
 abbrev pub shown_by : Rows → ℕ → ℕ
 shown_by w x = unwrap_or (option_map (λ (row : ShownRow). row.framebuffer) (find (λ (row : ShownRow). row.engine == x) w.shown)) 0
 
@@ -102,7 +102,7 @@ set_plane w c plane crtc f = record (nothing w) {
 abbrev pub gives_handle : Rows → ℕ → Bool
 gives_handle w c = (credentials_of w c).current || (credentials_of w c).root
 
--- the object of a framebuffer; 0 where it is not there
+-- the object of a framebuffer; 0 if it is not there
 abbrev pub framebuffer_object : Rows → ℕ → ℕ
 framebuffer_object w f = unwrap_or (option_map (λ (row : FramebufferRow). row.object) (framebuffer_row w f)) 0
 
@@ -131,7 +131,7 @@ is_free_framebuffer w f = not (is_among (map (λ (row : FramebufferRow). row.fra
 abbrev pub free_framebuffer : Rows → Option ℕ
 free_framebuffer w = least (is_free_framebuffer w) (first_framebuffer w.topology) (object_count w.topology + w.limits.framebuffers)
 
--- the id of a new framebuffer; 0 where none is free
+-- the id of a new framebuffer; 0 if none is free
 abbrev pub new_framebuffer : Rows → ℕ
 new_framebuffer w = unwrap_or (free_framebuffer w) 0
 

@@ -164,7 +164,7 @@ handle_row w c h = find (is_handle c h) w.holds
 abbrev pub has_handle : Rows → ℕ → ℕ → Bool
 has_handle w c h = is_some (handle_row w c h)
 
--- the object that the client's handle names; 0 where it has no such handle
+-- the object that the client's handle names; 0 if it has no such handle
 abbrev pub object_of : Rows → ℕ → ℕ → ℕ
 object_of w c h = unwrap_or (option_map (λ (row : HandleRow). row.object) (handle_row w c h)) 0
 

@@ -14,7 +14,7 @@ use Rattle.drm_model.specs.Rows.{Rows, HandleRow, ObjectRow, NameRow, TokenRow, 
 use Rattle.drm_model.specs.Meaning.{Meaning, nothing}
 use Rattle.drm_model.specs.Buffers.{new_handle}
 
--- the size of an object in bytes; 0 where it is not there
+-- the size of an object in bytes; 0 if it is not there
 abbrev pub size_of : Rows → ℕ → ℕ
 size_of w o = unwrap_or (option_map (λ (row : ObjectRow). row.size) (object_row w o)) 0
 
@@ -49,7 +49,7 @@ gem_flink w c handle = record {
   answer = Number (unwrap_or (flink_name w (object_of w c handle)) 0);
 }
 
--- the object that has a name, which the rule says is there; 0 where none has it
+-- the object that has a name, which the rule says is there; 0 if none has it
 abbrev pub object_named : Rows → ℕ → ℕ
 object_named w name = unwrap_or (named_object w name) 0
 
@@ -71,7 +71,7 @@ is_free_token w token = not (is_among (map (λ row. row.token) w.tokens) token)
 abbrev pub next_token : Rows → Option ℕ
 next_token w = next_in_turn (is_free_token w) w.last_token w.limits.tokens
 
--- the token of an export; 0 where none is free
+-- the token of an export; 0 if none is free
 abbrev pub new_token : Rows → ℕ
 new_token w = unwrap_or (next_token w) 0
 
@@ -120,7 +120,7 @@ imported w c o None = with_handle_row w c o (Some (step_number w))
 abbrev pub import_handle : Rows → ℕ → ℕ → Option ℕ
 import_handle w c o = option_or (prime_handle w c o) (free_handle w c)
 
--- the object of an open token, which the rule says is there; 0 where no token has the number
+-- the object of an open token, which the rule says is there; 0 if no token has the number
 abbrev pub object_exported : Rows → ℕ → ℕ
 object_exported w token = unwrap_or (exported_object w token) 0
 

@@ -13,7 +13,7 @@ use Rattle.drm_modes.specs.declared.rows.Framebuffer.{Framebuffer}
 use Rattle.drm_modes.specs.declared.rows.Shown.{Shown}
 
 -- The framebuffers rise by their ids, which end at `last`. `scanouts` has what each CRTC and then each plane shows, a
--- framebuffer or 0 where it is dark, so that the first is that of id 1.
+-- framebuffer or 0 if it is dark, so that the first is that of id 1.
 pub record ModeSet : Type 0 where
   pub topology : Topology
   pub framebuffers : List Framebuffer
@@ -61,7 +61,7 @@ has_framebuffer set f = list_any (is_framebuffer f) set.framebuffers
 abbrev pub is_free : ModeSet → ℕ → Bool
 is_free set f = not (is_among (map (λ row. row.framebuffer) set.framebuffers) f)
 
--- the least id that no framebuffer has (the kernel's IDR returns the least; the limit is own)
+-- the lowest id that no framebuffer has (the kernel's IDR returns the least; the limit is own)
 abbrev pub free_framebuffer : ModeSet → Option ℕ
 free_framebuffer set = least (is_free set) (first_framebuffer set.topology) set.last
 
@@ -79,7 +79,7 @@ without_framebuffer set f = record set { framebuffers = filter (λ row. not (is_
 abbrev pub can_show : ModeSet → ℕ → Bool
 can_show set f = (f == 0) || has_framebuffer set f
 
--- what a CRTC or a plane shows; 0 where it is dark, and of anything else
+-- what a CRTC or a plane shows; 0 if it is dark, and of anything else
 abbrev pub shown_by : ModeSet → ℕ → ℕ
 shown_by set x = if x == 0 then 0 else slice_index_or set.scanouts (x - 1) 0
 

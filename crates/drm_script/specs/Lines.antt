@@ -1,4 +1,4 @@
--- Where a line ends, and the line that each answer writes (own).
+-- The end of the first line of a text, and the line of each answer (own).
 use Rattle.std.specs.Prelude.{ℕ, ◌+◌, Bool, ◌==◌, if◌then◌else◌, Option, None, Some, take, drop, List, [], ◌∷◌, ◌++◌, codes, decimal, length, Result, Ok, Err}
 use Rattle.std.specs.List.{flat_map}
 use Rattle.drm_table.specs.declared.rules.Rule.{Rule}

@@ -8,8 +8,8 @@ ghost use Rattle.drm_sessions.specs.Device.{IsReadOut, OneBegins};
 ghost use Rattle.drm_sessions.specs.Runs.{outcomes};
 ghost use Rattle.drm_sessions.specs.declared.class.Class.{Class as AClass};
 
-/// Where no memory is wanting, the results of a session are computed from the device's rows, the
-/// class and the frames that were used.
+/// If no memory is refused, the results of a session are computed from the device's rows, the class and the frames that
+/// were used.
 pub fn results_follow_from_the_frames()
     ensures { (class : AClass) (one : DeviceSession class)
         → AllByRecursion HasMemory (outcomes one.did.answered)

@@ -31,7 +31,7 @@ struct Answered {
     wrote: Result<(), SessionEnd>,
 }
 
-/// Where the answers of a session are made, one after the other.
+/// The place in which the answers of a session are made, one after the other.
 #[derive(Drop)]
 struct Desk {
     outcome: Result<Answer, Apart>,

@@ -35,7 +35,7 @@ shared_name n k = record { name = n; object = k }
 abbrev pub name_of : NameList → ℕ → Option ℕ
 name_of list k = option_map (λ (row : SharedName). row.name) (find (names_object k) list.names)
 
--- the least number that is no name (the kernel's IDR returns the least; the limit is own)
+-- the lowest number that is no name (the kernel's IDR returns the least; the limit is own)
 abbrev pub free_name : NameList → Option ℕ
 free_name list = least (λ n. not (is_among (map (λ row. row.name) list.names) n)) 1 list.last
 

@@ -52,7 +52,7 @@ grant_row_of g = record { master = g.master; mode_object = g.mode_object }
 abbrev pub magic_row_of : Member → Option MagicRow
 magic_row_of x = option_map (λ (g : Magic). record { master = x.master; number = g.number; client = x.client; spent = g.spent }) x.magic
 
--- the number of the object of a key; 0 where none has it
+-- the number of the object of a key; 0 if none has it
 abbrev pub step_number_at : List Object → ℕ → ℕ
 step_number_at objects key = option_map_or (λ (x : Object). x.step_number) (find (is_key key) objects) 0
 

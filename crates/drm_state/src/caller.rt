@@ -24,7 +24,7 @@ pub struct Caller {
 }
 
 impl Caller {
-    /// Returns the client of this number, as it is kept now; none where it isn't open. Does not allocate.
+    /// Returns the client of this number, as it is kept now, or none if it isn't open. Does not allocate.
     pub fn of(state: &State, client: u32) -> Option<Caller>
         ensures client { IfSome result (λ caller. caller.client ≡ client) }
         ensures caller { IfSome result (λ caller. IsCaller state.now caller) }

@@ -12,8 +12,8 @@ use drm_files::FileFault;
 use drm_gem::ObjectKey;
 use std::alloc::AllocError;
 
-/// Returns a client a fresh handle of an object, and answers it; none where the client has every handle. Where memory
-/// is refused nothing changes.
+/// Creates a handle of an object for a client, and answers it, or none if the client has every handle. If memory is
+/// refused, nothing changes.
 pub fn new_handle(
     state: &mut State,
     step_number: u32,

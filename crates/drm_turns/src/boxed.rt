@@ -29,7 +29,7 @@ impl Model for BoxedDevice {
 }
 
 impl BoxedDevice {
-    /// Moves the device to the heap. Without memory it is returned.
+    /// Moves the device to the heap. If memory is refused, it returns the device.
     pub(crate) fn new(alloc: Global, device: Device) -> Result<BoxedDevice, Device>
         ensures ok { IfOk result (λ boxed. boxed ≡ device) }
         ensures err { IfErr result (λ refused. refused ≡ device) }

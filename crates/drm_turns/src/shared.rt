@@ -337,7 +337,7 @@ impl SharedDevice {
     }
 
     /// Shares the device, and returns the first participant, which has number 1 and has seen what the device had
-    /// recorded. Without memory there is no shared device, and the device is returned.
+    /// recorded. If memory is refused, there is no shared device, and the device is returned.
     ///
     /// # Examples
     ///
@@ -519,8 +519,9 @@ impl SharedDevice {
         Seat { place }
     }
 
-    /// Takes in another participant, which ends: what it had seen, its number, and the numbers that it had taken in. They all
-    /// differ from each other. Where it was split off this participant, and none is out of it any more, one fewer is out.
+    /// Takes in another participant, which ends: what it had seen, its number, and the numbers that it had taken in.
+    /// They all differ from each other. If it was split off this participant, and none is out of it any more, one fewer
+    /// is out.
     ///
     /// # Examples
     ///
@@ -599,7 +600,7 @@ impl SharedDevice {
         Note { place }
     }
 
-    /// Takes in what a note says. Where it was the participant's own, one fewer is out.
+    /// Takes in what a note says. If it was the participant's own, one fewer is out.
     ///
     /// # Examples
     ///
