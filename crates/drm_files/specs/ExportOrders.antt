@@ -14,6 +14,7 @@ use Rattle.drm_files.specs.Primes.{prime_at, is_before}
 abbrev pub Primes : Type 0
 Primes = ℕ → Option Prime
 
+-- whether one handle is after another
 abbrev pub is_after : Prime → Prime → Bool
 is_after y x = is_before x y
 
@@ -50,9 +51,11 @@ abbrev pub side_of : (Neighbours → Option ℕ) → ExportOrders → ℕ → Op
 side_of side orders object None = option_and_then side (map.get orders.ends.items object)
 side_of side orders object (Some h) = option_and_then side (map.get orders.links.items h)
 
+-- the next handle after one, or the first
 abbrev pub next_of : ExportOrders → ℕ → Option ℕ → Option ℕ
 next_of = side_of (λ (x : Neighbours). x.next)
 
+-- the previous handle before one, or the last
 abbrev pub previous_of : ExportOrders → ℕ → Option ℕ → Option ℕ
 previous_of = side_of (λ (x : Neighbours). x.previous)
 
@@ -76,6 +79,7 @@ is_same_place o None d (Some k) = false
 is_same_place o (Some h) d None = false
 is_same_place o (Some h) d (Some k) = k == h
 
+-- one of two values, by a condition
 abbrev pub choose : {X : Type 0} → Bool → X → X → X
 choose true x y = x
 choose false x y = y

@@ -18,15 +18,19 @@ pub record FileLists : Type 0 where
   pub clients : List FileClient
   pub holds : List FileHandle
 
+-- the lists without clients
 abbrev pub empty_files : ℕ → ℕ → FileLists
 empty_files limit last_handle = record { limit = limit; last_handle = last_handle; clients = []; holds = [] }
 
+-- whether the row is that of the client
 abbrev pub is_client : ℕ → FileClient → Bool
 is_client c row = row.client == c
 
+-- whether the client has the row's handle
 abbrev pub of_client : ℕ → FileHandle → Bool
 of_client c row = row.client == c
 
+-- whether the row is that of the client's handle
 abbrev pub is_handle : ℕ → ℕ → FileHandle → Bool
 is_handle c h row = (row.client == c) && (row.handle == h)
 
@@ -41,15 +45,19 @@ nth_row files kind i =
 abbrev pub is_open_client : FileLists → ℕ → Bool
 is_open_client files c = is_some (find (is_client c) files.clients)
 
+-- whether one row is before another: clients rise
 abbrev pub client_before : FileClient → FileClient → Bool
 client_before x y = nat_lt x.client y.client
 
+-- whether one row is before another: clients rise, then handles
 abbrev pub handle_before : FileHandle → FileHandle → Bool
 handle_before x y = nat_lt x.client y.client || ((x.client == y.client) && nat_lt x.handle y.handle)
 
+-- a row with a client and its flags
 abbrev pub client : ℕ → FileFlags → FileClient
 client c flags = record { client = c; flags = flags }
 
+-- a row with a client, a handle, an object and an export order
 abbrev pub hold : ℕ → ℕ → ℕ → Option ℕ → FileHandle
 hold c h object export_order = record { client = c; handle = h; object = object; export_order = export_order }
 
@@ -57,6 +65,7 @@ hold c h object export_order = record { client = c; handle = h; object = object;
 abbrev pub new_flags : Bool → Bool → Bool → FileFlags
 new_flags render root universal = record { render = render; root = root; authenticated = root; universal = universal }
 
+-- the row of the client, authenticated
 abbrev pub authenticated : FileClient → FileClient
 authenticated row = record row { flags = record row.flags { authenticated = true } }
 
@@ -68,6 +77,7 @@ universal on row = record row { flags = record row.flags { universal = on } }
 abbrev pub handles_of : FileLists → ℕ → List ℕ
 handles_of files c = map (λ row. row.handle) (filter (of_client c) files.holds)
 
+-- whether a number is in a list
 abbrev pub is_among : List ℕ → ℕ → Bool
 is_among numbers n = list_any (λ x. x == n) numbers
 
@@ -79,18 +89,22 @@ free_handle files c = least (λ h. not (is_among (handles_of files c) h)) 1 file
 abbrev pub left_by : FileLists → ℕ → List (ℕ × ℕ)
 left_by files c = map (λ row. (row.handle, row.object)) (filter (of_client c) files.holds)
 
+-- the lists with a client more
 abbrev pub with_client : FileLists → ℕ → FileFlags → FileLists
 with_client files c flags = record files { clients = placed client_before (client c flags) files.clients }
 
+-- the lists without a client and its handles
 abbrev pub without_client : FileLists → ℕ → FileLists
 without_client files c = record files {
   clients = filter (λ row. not (is_client c row)) files.clients;
   holds = filter (λ row. not (of_client c row)) files.holds;
 }
 
+-- the lists with a handle more
 abbrev pub with_handle_row : FileLists → FileHandle → FileLists
 with_handle_row files row = record files { holds = placed handle_before row files.holds }
 
+-- the lists without a handle
 abbrev pub without_handle_row : FileLists → ℕ → ℕ → FileLists
 without_handle_row files c h = record files { holds = filter (λ row. not (is_handle c h row)) files.holds }
 
@@ -98,9 +112,11 @@ without_handle_row files c h = record files { holds = filter (λ row. not (is_ha
 abbrev pub with_change : (FileClient → FileClient) → FileLists → ℕ → FileLists
 with_change change files c = record files { clients = map (λ row. if is_client c row then change row else row) files.clients }
 
+-- the lists with the client authenticated
 abbrev pub with_authenticated : FileLists → ℕ → FileLists
 with_authenticated files c = with_change authenticated files c
 
+-- the lists with the client's universal planes on or off
 abbrev pub with_universal : FileLists → ℕ → Bool → FileLists
 with_universal files c on = with_change (universal on) files c
 
@@ -112,6 +128,7 @@ is_handle_of c object row = (row.client == c) && (row.object == object)
 abbrev pub export_orders_of : FileLists → ℕ → ℕ → List ℕ
 export_orders_of files c object = filter_map (λ row. row.export_order) (filter (is_handle_of c object) files.holds)
 
+-- whether the row has the export order
 abbrev pub has_export_order : ℕ → FileHandle → Bool
 has_export_order export_order row = option_map_or (λ p. p == export_order) row.export_order false
 

@@ -8,6 +8,7 @@ use Rattle.drm_index_array.specs.Least.{least_of}
 use Rattle.drm_files.specs.declared.files.Held.{Held}
 use Rattle.drm_files.specs.declared.primes.Prime.{Prime}
 
+-- whether the entry is for the object
 abbrev pub is_for : ℕ → ℕ × Held → Bool
 is_for object entry = entry.1.object == object
 
@@ -15,6 +16,7 @@ is_for object entry = entry.1.object == object
 abbrev pub export_orders_in : ℕ → List (ℕ × Held) → List ℕ
 export_orders_in object entries = filter_map (λ entry. entry.1.export_order) (filter (is_for object) entries)
 
+-- whether the entry has the export order
 abbrev pub is_at : ℕ → ℕ × Held → Bool
 is_at export_order entry = option_map_or (λ p. p == export_order) entry.1.export_order false
 
@@ -34,5 +36,6 @@ prime_of object entry = if is_for object entry then option_map (λ export_order.
 abbrev pub prime_at : map.FinMap nat_cmp Held → ℕ → ℕ → Option Prime
 prime_at slots object h = option_and_then (λ held. prime_of object (h, held)) (map.get slots h)
 
+-- whether a handle received its export order first, or is the lower of two with one order
 abbrev pub is_before : Prime → Prime → Bool
 is_before y x = nat_lt y.export_order x.export_order || ((y.export_order == x.export_order) && nat_lt y.handle x.handle)

@@ -10,6 +10,7 @@ use Rattle.drm_files.specs.declared.rows.FileHandle.{FileHandle}
 use Rattle.drm_files.specs.declared.files.FileRecord.{FileRecord}
 use Rattle.drm_files.specs.declared.files.Held.{Held}
 
+-- the rows of all clients, in their order
 abbrev pub clients_in : List (ℕ × FileRecord) → List FileClient
 clients_in records = list_map (λ entry. client entry.0 entry.1.flags) records
 
@@ -17,9 +18,11 @@ clients_in records = list_map (λ entry. client entry.0 entry.1.flags) records
 abbrev pub rows_in : ℕ → List (ℕ × Held) → List FileHandle
 rows_in c entries = list_map (λ entry. hold c entry.0 entry.1.object entry.1.export_order) entries
 
+-- the rows of all handles, in their order
 abbrev pub holds_in : List (ℕ × FileRecord) → List FileHandle
 holds_in records = flat_map (λ entry. rows_in entry.0 (map.entries entry.1.handles.slots)) records
 
+-- the lists of the records
 abbrev pub lists_of : ℕ → ℕ → map.FinMap nat_cmp FileRecord → FileLists
 lists_of limit last_handle records = record {
   limit = limit;

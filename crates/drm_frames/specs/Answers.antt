@@ -112,6 +112,7 @@ refused (Some apart) = Some (Err apart)
 abbrev pub denied_in : List ℕ → Option CallResult
 denied_in fields = if nat_eq (length fields) 8 then denied (rule_of (u32_in fields) (u32_in (drop 4 fields))) else None
 
+-- the refusal that the bytes are: the number and errno of a fault, without a rest
 abbrev pub refused_in : List ℕ → Option CallResult
 refused_in fields = if nat_eq (length fields) 8 then refused (apart_of (u32_in fields) (u32_in (drop 4 fields))) else None
 

@@ -7,6 +7,7 @@ pub record FrameValue : Type 0 where
   pub number : ℕ
   pub fields : List ℕ
 
+-- a frame with a number and fields
 abbrev pub frame_value : ℕ → List ℕ → FrameValue
 frame_value number fields = record { number = number; fields = fields }
 

@@ -8,6 +8,7 @@ use Rattle.drm_frames.specs.Grammar.{FrameValue, frame_value, frame_text}
 abbrev pub is_version : ℕ → Bool
 is_version version = nat_eq version 1 || nat_eq version 2
 
+-- a hello with a version and a lease token
 abbrev pub hello : ℕ → Option ℕ → Hello
 hello version lease = record { version = version; lease = lease }
 

@@ -12,6 +12,7 @@ pub record ObjectSet : Type 0 where
   pub limit : ℕ
   pub objects : List Object
 
+-- whether the object has the key
 abbrev pub is_key : ℕ → Object → Bool
 is_key key x = x.key == key
 
@@ -19,6 +20,7 @@ is_key key x = x.key == key
 abbrev pub object_at : ObjectSet → ℕ → Option Object
 object_at set key = find (is_key key) set.objects
 
+-- whether an object has the key
 abbrev pub is_there : ObjectSet → ℕ → Bool
 is_there set key = is_some (object_at set key)
 
@@ -60,21 +62,27 @@ nth_row set kind i = if kind == 3 then slice_get set.objects i else None
 
 -- one handle, or one reference, more or fewer
 
+-- the object with one handle more
 abbrev pub held : Object → Object
 held x = record x { holds = x.holds + 1 }
 
+-- the object with one handle fewer
 abbrev pub unheld : Object → Object
 unheld x = record x { holds = x.holds - 1 }
 
+-- the object with one token or framebuffer more
 abbrev pub referred : Object → Object
 referred x = record x { refs = x.refs + 1 }
 
+-- the object with one token or framebuffer fewer
 abbrev pub unreferred : Object → Object
 unreferred x = record x { refs = x.refs - 1 }
 
+-- the object with another stamp
 abbrev pub stamped : ℕ → Object → Object
 stamped stamp x = record x { stamp = stamp }
 
+-- the freed object
 abbrev pub dead_of : Object → Dead
 dead_of x = record { birth = x.step_number; size = x.size }
 

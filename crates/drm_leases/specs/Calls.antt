@@ -28,6 +28,7 @@ pub record IsNewLessee (l : LeaseSet) (step_number : ℕ) : Type 0 where
   pub tokens : AllByRecursion (λ (row : LeaseToken). row.master < step_number) l.tokens
   pub grants : AllByRecursion (λ (g : Grant). g.master < step_number) l.grants
 
+-- a row with a lessee and a mode object
 abbrev pub grant : ℕ → ℕ → Grant
 grant m x = record { master = m; mode_object = x }
 
@@ -35,6 +36,7 @@ grant m x = record { master = m; mode_object = x }
 abbrev pub listed_objects : Topology → List ℕ → List ℕ
 listed_objects t ids = filter (is_among ids) (numbers_from 1 (object_count t))
 
+-- a row with a lessee, its lessor and its key
 abbrev pub lending : ℕ → ℕ → ℕ → Lending
 lending m lessor key = record { lessee = m; lessor = lessor; key = key }
 
@@ -55,6 +57,7 @@ with_lease t key m lessor objects l = record l {
   lendings = placed lending_before (lending m lessor key) l.lendings;
 }
 
+-- the set without a token
 abbrev pub without_token : ℕ → LeaseSet → LeaseSet
 without_token t l = record l { tokens = filter (λ (row : LeaseToken). not (is_token t row)) l.tokens }
 

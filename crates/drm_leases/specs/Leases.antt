@@ -26,6 +26,7 @@ pub record LeaseSet : Type 0 where
   pub grants : List Grant
   pub lendings : List Lending
 
+-- a set without leases
 abbrev pub no_leases : ℕ → LeaseSet
 no_leases last = record { last = last; last_given = None; tokens = []; grants = []; lendings = [] }
 
@@ -35,6 +36,7 @@ nth_row l kind i = if kind == 7 then slice_get l.grants i else None
 
 -- leases
 
+-- whether the row is the lessee's
 abbrev pub is_lease_of : ℕ → Lending → Bool
 is_lease_of m x = x.lessee == m
 
@@ -52,6 +54,7 @@ key_at lendings m = option_map (λ (x : Lending). x.key) (find (is_lease_of m) l
 
 -- what a lease has
 
+-- whether the grant is the lessee's
 abbrev pub is_grant_of : ℕ → Grant → Bool
 is_grant_of m g = g.master == m
 
@@ -87,9 +90,11 @@ controls grants masters m x = not (is_lessee masters m) || is_granted grants m x
 
 -- tokens
 
+-- whether the row has the token
 abbrev pub is_token : ℕ → LeaseToken → Bool
 is_token t row = row.token == t
 
+-- whether the row's token opens the lessee
 abbrev pub is_token_of : ℕ → LeaseToken → Bool
 is_token_of m row = row.master == m
 
@@ -105,6 +110,7 @@ token_master tokens t = option_map (λ (row : LeaseToken). row.master) (find (is
 abbrev pub token_of : List LeaseToken → ℕ → Option ℕ
 token_of tokens m = option_map (λ (row : LeaseToken). row.token) (find (is_token_of m) tokens)
 
+-- whether no row has the token
 abbrev pub is_free : List LeaseToken → ℕ → Bool
 is_free tokens t = not (list_any (is_token t) tokens)
 
@@ -113,11 +119,13 @@ is_free tokens t = not (list_any (is_token t) tokens)
 abbrev pub next_of : List LeaseToken → Option ℕ → ℕ → Option ℕ
 next_of tokens last_given last = or_else (least (is_free tokens) (unwrap_or last_given 0 + 1) last) (least (is_free tokens) 1 last)
 
+-- the token that is allocated next, if one is free
 abbrev pub next_token : LeaseSet → Option ℕ
 next_token l = next_of l.tokens l.last_given l.last
 
 -- what is so at all times
 
+-- one grant is before another: lessees rise, then mode objects
 abbrev pub grant_before : Grant → Grant → Type 0
 grant_before g h = (g.master < h.master) ⊎ ((g.master ≡ h.master) × (g.mode_object < h.mode_object))
 

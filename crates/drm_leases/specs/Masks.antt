@@ -18,9 +18,11 @@ IsFixed x = (1 ≤ x) × (x ≤ 64)
 abbrev pub has_object : ℕ → ℕ → Bool
 has_object mask x = (nat_le 1 x && nat_le x 64) && has_bit mask (x - 1)
 
+-- the mode objects of a mask, in rising order
 abbrev pub objects_in : ℕ → List ℕ
 objects_in mask = filter (has_object mask) (numbers_from 1 64)
 
+-- whether a list is empty
 abbrev pub is_empty : {X : Type 0} → List X → Bool
 is_empty [] = true
 is_empty (x ∷ xs) = false
@@ -31,6 +33,7 @@ is_empty (x ∷ xs) = false
 pub record LeaseRows : Type 0 where
   pub rows : List Lease
 
+-- a lease with these parts
 abbrev pub lease : ℕ → ℕ → ℕ → ℕ → Lease
 lease lessee lessor key objects = record { lessee = lessee; lessor = lessor; key = key; objects = objects }
 
@@ -38,21 +41,27 @@ lease lessee lessor key objects = record { lessee = lessee; lessor = lessor; key
 abbrev pub lease_before : Lease → Lease → Bool
 lease_before x y = nat_lt x.lessee y.lessee
 
+-- the lease of an entry
 abbrev pub lease_row : ℕ × LeaseRecord → Lease
 lease_row e = lease e.0 e.1.lessor e.1.key e.1.objects
 
+-- the leases of all entries, in their order
 abbrev pub leases_in : map.FinMap nat_cmp LeaseRecord → List Lease
 leases_in kept = list_map lease_row (map.entries kept)
 
+-- the grants of a lease
 abbrev pub grants_of : Lease → List Grant
 grants_of x = list_map (λ id. record { master = x.lessee; mode_object = id }) (objects_in x.objects)
 
+-- the grants of all leases, in their order
 abbrev pub grants_in : List Lease → List Grant
 grants_in rows = flat_map grants_of rows
 
+-- the row of a lease's lessee and lessor
 abbrev pub lending_of : Lease → Lending
 lending_of x = record { lessee = x.lessee; lessor = x.lessor; key = x.key }
 
+-- the rows of all leases' lessees and lessors
 abbrev pub lendings_in : List Lease → List Lending
 lendings_in rows = list_map lending_of rows
 

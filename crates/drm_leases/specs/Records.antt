@@ -8,6 +8,7 @@ use Rattle.drm_leases.specs.declared.granted.Granted.TheInside.{Inside}
 use Rattle.drm_leases.specs.declared.rows.LeaseRecord.{LeaseRecord}
 use Rattle.drm_leases.specs.Masks.{LeaseRows, has_object, leases_in, IsFull, is_lent, AreApart, mask_at}
 
+-- the rows in the fields
 abbrev pub rows_of : Inside → LeaseRows
 rows_of a = record { rows = leases_in a.leases.items }
 

@@ -12,9 +12,11 @@ use Rattle.drm_masters.specs.Masters.{MasterSet, depth_of, free_lessee}
 use Rattle.drm_leases.specs.declared.rows.Grant.{Grant}
 use Rattle.drm_leases.specs.Leases.{LeaseSet, controls, is_leased_out, next_token}
 
+-- whether a master may lease, by its depth
 abbrev pub may_lease : List Master → ℕ → Bool
 may_lease masters m = rules.may_lease (depth_of masters m)
 
+-- whether a client that controls a mode object sees it
 abbrev pub is_shown : Topology → Bool → ℕ → Bool
 is_shown t universal x = rules.is_shown t universal x
 
@@ -22,18 +24,23 @@ is_shown t universal x = rules.is_shown t universal x
 abbrev pub sees : List Grant → List Master → Topology → ℕ → Bool → ℕ → Bool
 sees grants masters t m universal x = rules.sees t (controls grants masters m x) universal x
 
+-- whether a client of the master sees the id
 abbrev pub is_seen : List Grant → List Master → ModeSet → ℕ → Bool → ℕ → Bool
 is_seen grants masters s m universal x = rules.is_seen s.topology (sees grants masters s.topology m universal x) (has_framebuffer s x) x
 
+-- whether an id may be leased
 abbrev pub is_leasable : ModeSet → ℕ → Bool
 is_leasable s x = rules.is_leasable s.topology (has_framebuffer s x) x
 
+-- whether an id occurs once
 abbrev pub stands_once : List ℕ → ℕ → Bool
 stands_once ids x = rules.stands_once ids x
 
+-- whether the ids are a lease
 abbrev pub is_lease : Topology → Bool → List ℕ → Bool
 is_lease t universal ids = rules.is_lease t universal ids
 
+-- the planes that are added to a lease
 abbrev pub brought_along : List Grant → List Master → Topology → ℕ → Bool → List ℕ → List ℕ
 brought_along grants masters t m universal ids = rules.brought_along t universal (controls grants masters m) ids
 

@@ -17,9 +17,11 @@ pub record TokenRows : Type 0 where
   pub last_given : Option ℕ
   pub rows : List LeaseToken
 
+-- a list without tokens
 abbrev pub no_tokens : ℕ → TokenRows
 no_tokens last = record { last = last; last_given = None; rows = [] }
 
+-- a row with a token and a lessee
 abbrev pub lease_token : ℕ → ℕ → LeaseToken
 lease_token t m = record { token = t; master = m }
 
@@ -27,12 +29,15 @@ lease_token t m = record { token = t; master = m }
 abbrev pub token_before : LeaseToken → LeaseToken → Bool
 token_before x y = nat_lt x.token y.token
 
+-- the row of a token's entry
 abbrev pub token_row : ℕ × ℕ → LeaseToken
 token_row e = lease_token e.0 e.1
 
+-- the rows of all tokens, in their order
 abbrev pub tokens_in : map.FinMap nat_cmp ℕ → List LeaseToken
 tokens_in slots = list_map token_row (map.entries slots)
 
+-- the rows in the fields
 abbrev pub rows_of : Inside → TokenRows
 rows_of a = record { last = a.lessees.last; last_given = a.lessees.last_given; rows = tokens_in a.lessees.slots }
 

@@ -31,9 +31,11 @@ IsFreeKey v key = find (is_key key) v.masters ≡ None
 
 -- rows as they are made
 
+-- a client's own master
 abbrev pub founded_master : ℕ → ℕ → Master
 founded_master key step_number = record { key = key; step_number = step_number; lessor = None; lessee_id = 0; kept = false }
 
+-- a lessee, which is kept
 abbrev pub lessee : ℕ → ℕ → ℕ → ℕ → Master
 lessee key step_number lessor id = record { key = key; step_number = step_number; lessor = Some lessor; lessee_id = id; kept = true }
 
@@ -49,6 +51,7 @@ non_master c m = record { client = c; once_master = false; is_master = false; ma
 abbrev pub lease_client : ℕ → ℕ → Member
 lease_client c m = record { client = c; once_master = false; is_master = true; master = m; magic = None }
 
+-- the master under another key
 abbrev pub keyed_as : ℕ → Master → Master
 keyed_as key x = record x { key = key }
 
@@ -62,9 +65,11 @@ with_member x v = record v { members = placed member_before x v.members }
 abbrev pub with_master : Master → MasterSet → MasterSet
 with_master x v = record v { masters = placed master_before x v.masters }
 
+-- the set with another device's master, or none
 abbrev pub with_device : Option ℕ → MasterSet → MasterSet
 with_device m v = record v { device_master = m }
 
+-- the set without a client
 abbrev pub without_member : ℕ → MasterSet → MasterSet
 without_member c v = record v { members = filter (λ (x : Member). not (is_client c x)) v.members }
 
@@ -72,6 +77,7 @@ without_member c v = record v { members = filter (λ (x : Member). not (is_clien
 abbrev pub changed_member : Member → MasterSet → MasterSet
 changed_member y v = record v { members = map (λ (x : Member). if is_client y.client x then y else x) v.members }
 
+-- the master, kept or not
 abbrev pub kept_as : Bool → Master → Master
 kept_as kept x = record x { kept = kept }
 
@@ -83,6 +89,7 @@ with_kept m kept v = record v { masters = map (λ (x : Master). if is_step_numbe
 abbrev pub released : (ℕ → Bool) → MasterSet → MasterSet
 released chosen v = record v { masters = map (λ (x : Master). if chosen x.step_number then kept_as false x else x) v.masters }
 
+-- the client with a number under its master
 abbrev pub with_magic : ℕ → Bool → Member → Member
 with_magic n spent x = record x { magic = Some (record { number = n; spent = spent }) }
 
@@ -93,6 +100,7 @@ abbrev pub Opened : MasterSet → ℕ → ℕ → Option ℕ → MasterSet → T
 Opened v c step_number None new = (key : ℕ) × IsFreeKey v key × (new ≡ with_device (Some step_number) (with_member (owner c step_number) (with_master (founded_master key step_number) v)))
 Opened v c step_number (Some m) new = new ≡ with_member (non_master c m) v
 
+-- the set with a client that redeemed a lessee
 abbrev pub redeemed : ℕ → ℕ → MasterSet → MasterSet
 redeemed c m v = with_kept m false (with_member (lease_client c m) v)
 
@@ -106,6 +114,7 @@ set_checks v x root =
     ∷ check IsLessee (is_current_member v x || not (x.is_master && is_lessee v.masters x.master))
     ∷ []
 
+-- the rules of DROP_MASTER, in order (drm-uapi)
 unfoldable pub drop_checks : MasterSet → Member → Bool → List Check
 drop_checks v x root =
     check MasterPerm (x.once_master || root)
@@ -129,6 +138,7 @@ SetOf v x root step_number (Ok done) new = (first_failing (set_checks v x root) 
 SetOf v x root step_number (Err (Denied rule)) new = (first_failing (set_checks v x root) ≡ Some rule) × (new ≡ v)
 SetOf v x root step_number (Err SetNoMemory) new = (first_failing (set_checks v x root) ≡ None) × (is_current_member v x ≡ false) × (x.is_master ≡ false) × (new ≡ v)
 
+-- the result of DROP_MASTER
 abbrev pub DroppedBy : MasterSet → Member → Bool → Result (Unit {0}) Rule → MasterSet → Type 0
 DroppedBy v x root (Ok u) new = (first_failing (drop_checks v x root) ≡ None) × (new ≡ with_device None v)
 DroppedBy v x root (Err rule) new = (first_failing (drop_checks v x root) ≡ Some rule) × (new ≡ v)
@@ -156,12 +166,14 @@ abbrev pub ClosedOf : MasterSet → Member → Bool → Option ℕ → MasterSet
 ClosedOf v x true own new = ((key : ℕ) × (own ≡ Some key) × IsKeyOf new.masters x.master key) × (new ≡ closed_own x.client x.master v)
 ClosedOf v x false own new = (own ≡ None) × (new ≡ swept (without_member x.client v))
 
+-- the result of a closing
 abbrev pub ClosedBy : MasterSet → Option Member → Option ℕ → MasterSet → Type 0
 ClosedBy v None own new = (own ≡ None) × (new ≡ v)
 ClosedBy v (Some x) own new = ClosedOf v x x.is_master own new
 
 -- lessees
 
+-- the result of creating a lessee
 abbrev pub MadeLessee : MasterSet → ℕ → ℕ → Result (ℕ × ℕ) LesseeFault → MasterSet → Type 0
 MadeLessee v m step_number (Ok made) new = IsFreeKey v made.0 × (free_lessee v m ≡ Some made.1) × (new ≡ with_master (lessee made.0 step_number m made.1) v)
 MadeLessee v m step_number (Err Full) new = (free_lessee v m ≡ None) × (new ≡ v)

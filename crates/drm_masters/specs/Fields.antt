@@ -5,6 +5,7 @@ use Rattle.drm_masters.specs.declared.rows.Master.{Master}
 use Rattle.drm_masters.specs.declared.masters.Masters.TheInside.{Inside}
 use Rattle.drm_masters.specs.Masters.{MasterSet, AreMasters}
 
+-- the set in the fields
 abbrev pub set_of : Inside → MasterSet
 set_of a = record {
   members = a.members.items;

@@ -16,12 +16,15 @@ Ids = ℕ → ℕ → Option ℕ
 abbrev pub IdMap : Type 0
 IdMap = map.FinMap nat_cmp (Indexed ℕ)
 
+-- the code of the map of ids
 abbrev pub id_code : Coded IdMap
 id_code = map.code coded_ℕ (indexed_code coded_ℕ)
 
+-- the lessee with an id in an owner's table
 abbrev pub id_in : Option (Indexed ℕ) → ℕ → Option ℕ
 id_in o i = option_and_then (λ (ids : Indexed ℕ). map.get ids.items i) o
 
+-- the lessees by owner and id
 abbrev pub id_at : IdMap → Ids
 id_at m o i = id_in (map.get m o) i
 

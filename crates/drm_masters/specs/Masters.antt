@@ -22,12 +22,14 @@ pub record MasterSet : Type 0 where
   pub last_magic : ℕ
   pub last_lessee : ℕ
 
+-- whether an option is a number
 abbrev pub is_option : ℕ → Option ℕ → Bool
 is_option n None = false
 is_option n (Some m) = m == n
 
 -- clients
 
+-- whether the row is the client's
 abbrev pub is_client : ℕ → Member → Bool
 is_client c x = x.client == c
 
@@ -35,14 +37,17 @@ is_client c x = x.client == c
 abbrev pub member_before : Member → Member → Bool
 member_before x y = nat_lt x.client y.client
 
+-- the row of a client, if it belongs to a master
 abbrev pub member_of : List Member → ℕ → Option Member
 member_of members c = find (is_client c) members
 
 -- masters
 
+-- whether the master has the step number
 abbrev pub is_step_number : ℕ → Master → Bool
 is_step_number m x = x.step_number == m
 
+-- whether the master has the key
 abbrev pub is_key : ℕ → Master → Bool
 is_key key x = x.key == key
 
@@ -50,6 +55,7 @@ is_key key x = x.key == key
 abbrev pub master_before : Master → Master → Bool
 master_before x y = nat_lt x.step_number y.step_number
 
+-- the master with a step number, if it exists
 abbrev pub master_at : List Master → ℕ → Option Master
 master_at masters m = find (is_step_number m) masters
 
@@ -69,6 +75,7 @@ IsKeyOf masters m key = option_map (λ (x : Master). x.step_number) (find (is_ke
 abbrev pub is_there : List Master → ℕ → Bool
 is_there masters key = is_some (find (is_key key) masters)
 
+-- the lessor of a master, if it is a lessee
 abbrev pub lessor_of : List Master → ℕ → Option ℕ
 lessor_of masters m = option_and_then (λ (x : Master). x.lessor) (master_at masters m)
 
@@ -76,6 +83,7 @@ lessor_of masters m = option_and_then (λ (x : Master). x.lessor) (master_at mas
 abbrev pub lessees_of : List Master → ℕ → List ℕ
 lessees_of masters m = map (λ (x : Master). x.step_number) (filter (λ (x : Master). is_option m x.lessor) masters)
 
+-- whether a master is a lessee
 abbrev pub is_lessee : List Master → ℕ → Bool
 is_lessee masters m = is_some (lessor_of masters m)
 
@@ -95,9 +103,11 @@ is_below masters top m = is_under (lessor_of masters) top m && not (m == top)
 abbrev pub is_current_among : List Master → Option ℕ → Member → Bool
 is_current_among masters device x = x.is_master && is_option (owner_of masters x.master) device
 
+-- whether a client is current, by its row (`drm_is_current_master`)
 abbrev pub is_current_member : MasterSet → Member → Bool
 is_current_member v x = is_current_among v.masters v.device_master x
 
+-- whether a client is current
 abbrev pub is_current : MasterSet → ℕ → Bool
 is_current v c = option_map_or (is_current_member v) (member_of v.members c) false
 

@@ -4,6 +4,7 @@ use Rattle.drm_masters.specs.declared.members.Members.TheInside.{Inside}
 use Rattle.drm_masters.specs.declared.members.Membership.{Membership}
 use Rattle.drm_masters.specs.Tables.{MemberRows, members_in}
 
+-- the rows in the fields
 abbrev pub rows_of : Inside → MemberRows
 rows_of a = record { items = members_in a.clients.items }
 

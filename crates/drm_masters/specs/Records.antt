@@ -9,9 +9,11 @@ use Rattle.drm_masters.specs.declared.table.MasterTable.TheInside.{Inside}
 use Rattle.drm_masters.specs.Tables.{MasterRows, nothing, AreLesseesOf}
 use Rattle.drm_masters.specs.Ids.{id_at, AreIdsOf}
 
+-- the masters in the fields, in the order of step numbers
 abbrev pub items_of : Inside → List Master
 items_of a = rows_in nothing a.kept (map.entries a.keys.items)
 
+-- the rows in the fields
 abbrev pub rows_of : Inside → MasterRows
 rows_of a = record { items = items_of a }
 

@@ -29,9 +29,11 @@ sees t controlled universal x = is_encoder t x || (controlled && is_shown t univ
 abbrev pub is_seen : Topology → Bool → Bool → ℕ → Bool
 is_seen t seen framebuffer x = (is_some (kind_of t x) && seen) || framebuffer
 
+-- whether an id may be leased: not an encoder's or a framebuffer's
 abbrev pub is_leasable : Topology → Bool → ℕ → Bool
 is_leasable t framebuffer x = not (is_encoder t x || framebuffer)
 
+-- whether an id occurs once
 abbrev pub stands_once : List ℕ → ℕ → Bool
 stands_once ids x = count ids x == 1
 

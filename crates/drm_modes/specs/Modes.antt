@@ -32,12 +32,15 @@ first_framebuffer t = object_count t + 1
 abbrev pub empty_modes : Topology → ℕ → ModeSet
 empty_modes t framebuffers = record { topology = t; framebuffers = []; scanouts = replicate (scanout_count t) 0; last = object_count t + framebuffers }
 
+-- whether the row has the id
 abbrev pub is_framebuffer : ℕ → Framebuffer → Bool
 is_framebuffer f row = row.framebuffer == f
 
+-- whether the client created the row's framebuffer
 abbrev pub is_made_by : ℕ → Framebuffer → Bool
 is_made_by c row = row.client == c
 
+-- whether the row has the id and the client created it
 abbrev pub is_framebuffer_of : ℕ → ℕ → Framebuffer → Bool
 is_framebuffer_of c f row = (row.framebuffer == f) && (row.client == c)
 
@@ -45,9 +48,11 @@ is_framebuffer_of c f row = (row.framebuffer == f) && (row.client == c)
 abbrev pub framebuffers_of : ModeSet → ℕ → List ℕ
 framebuffers_of set c = map (λ (row : Framebuffer). row.framebuffer) (filter (is_made_by c) set.framebuffers)
 
+-- whether one row is before another: the ids rise
 abbrev pub framebuffer_before : Framebuffer → Framebuffer → Bool
 framebuffer_before x y = nat_lt x.framebuffer y.framebuffer
 
+-- a row with an id, a client, a shape and an object
 abbrev pub framebuffer : ℕ → ℕ → Shape → ℕ → Framebuffer
 framebuffer f c shape k = record { framebuffer = f; client = c; shape = shape; object = k }
 
@@ -55,9 +60,11 @@ framebuffer f c shape k = record { framebuffer = f; client = c; shape = shape; o
 abbrev pub fb_of : Framebuffer → Fb
 fb_of row = record { client = row.client; shape = row.shape; object = row.object }
 
+-- whether a framebuffer has the id
 abbrev pub has_framebuffer : ModeSet → ℕ → Bool
 has_framebuffer set f = list_any (is_framebuffer f) set.framebuffers
 
+-- whether no framebuffer has the id
 abbrev pub is_free : ModeSet → ℕ → Bool
 is_free set f = not (is_among (map (λ row. row.framebuffer) set.framebuffers) f)
 
@@ -65,9 +72,11 @@ is_free set f = not (is_among (map (λ row. row.framebuffer) set.framebuffers) f
 abbrev pub free_framebuffer : ModeSet → Option ℕ
 free_framebuffer set = least (is_free set) (first_framebuffer set.topology) set.last
 
+-- the set with a framebuffer more
 abbrev pub with_framebuffer : ModeSet → Framebuffer → ModeSet
 with_framebuffer set row = record set { framebuffers = placed framebuffer_before row set.framebuffers }
 
+-- what is shown once a framebuffer is removed: 0 in its place
 abbrev pub dark_of : ℕ → ℕ → ℕ
 dark_of f scanout = if scanout == f then 0 else scanout
 
@@ -83,9 +92,11 @@ can_show set f = (f == 0) || has_framebuffer set f
 abbrev pub shown_by : ModeSet → ℕ → ℕ
 shown_by set x = if x == 0 then 0 else slice_index_or set.scanouts (x - 1) 0
 
+-- the set with a CRTC or plane that shows the framebuffer
 abbrev pub with_shown : ModeSet → ℕ → ℕ → ModeSet
 with_shown set x f = record set { scanouts = slice_set set.scanouts (x - 1) f }
 
+-- a row of a CRTC or plane and the framebuffer that it shows
 abbrev pub shown : ℕ → ℕ → Shown
 shown x f = record { engine = x; framebuffer = f }
 
@@ -94,9 +105,11 @@ abbrev pub scanout_rows : ℕ → List ℕ → List Shown
 scanout_rows x [] = []
 scanout_rows x (f ∷ fs) = shown x f ∷ scanout_rows (x + 1) fs
 
+-- whether the row shows a framebuffer
 abbrev pub is_lit : Shown → Bool
 is_lit row = not (row.framebuffer == 0)
 
+-- the rows that show a framebuffer, from an id on
 abbrev pub lit_rows : ℕ → List ℕ → List Shown
 lit_rows x scanouts = filter is_lit (scanout_rows x scanouts)
 
@@ -111,6 +124,7 @@ nth_row set kind i =
     else if kind == 9 then option_map ShownRow (slice_get (shown_rows set) i)
     else None
 
+-- the framebuffer's id is in the range
 pub record IsFramebufferFrom (first last : ℕ) (row : Framebuffer) : Type 0 where
   pub low : first ≤ row.framebuffer
   pub high : row.framebuffer ≤ last

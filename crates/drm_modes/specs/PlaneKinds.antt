@@ -14,6 +14,7 @@ crtc_of_kind Overlay = None
 crtc_of_kind (Primary crtc) = Some crtc
 crtc_of_kind (Cursor crtc) = Some crtc
 
+-- whether two planes are of the same kind, and for the same CRTC
 abbrev pub is_kind : PlaneKind → PlaneKind → Bool
 is_kind Overlay Overlay = true
 is_kind (Primary x) (Primary y) = x == y

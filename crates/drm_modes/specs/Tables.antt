@@ -10,9 +10,11 @@ use Rattle.drm_modes.specs.declared.rows.Framebuffer.{Framebuffer}
 use Rattle.drm_modes.specs.Topology.{Topology, IsTopology, object_count}
 use Rattle.drm_modes.specs.Modes.{ModeSet, framebuffer, scanout_count, first_framebuffer}
 
+-- the row of a framebuffer's entry
 abbrev pub framebuffer_row : ℕ × Fb → Framebuffer
 framebuffer_row entry = framebuffer entry.0 entry.1.client entry.1.shape entry.1.object
 
+-- the rows of all framebuffers, in their order
 abbrev pub framebuffers_in : map.FinMap nat_cmp Fb → List Framebuffer
 framebuffers_in slots = list_map framebuffer_row (map.entries slots)
 

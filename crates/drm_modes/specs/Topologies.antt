@@ -4,6 +4,7 @@ use Rattle.drm_modes.specs.declared.kinds.PlaneKind.{PlaneKind}
 use Rattle.drm_modes.specs.declared.kinds.PlaneKind.TheVariants.{Overlay}
 use Rattle.drm_modes.specs.Topology.{Topology}
 
+-- the topology with these parts
 abbrev pub topology_with : ℕ → List ℕ → List PlaneKind → List ℕ → List ℕ → Topology
 topology_with crtcs planes kinds encoders connectors = record { crtcs = crtcs; planes = planes; kinds = kinds; encoders = encoders; connectors = connectors }
 

@@ -19,36 +19,47 @@ pub record Topology : Type 0 where
   pub encoders : List ℕ
   pub connectors : List ℕ
 
+-- the id of the first plane
 abbrev pub first_plane : Topology → ℕ
 first_plane t = t.crtcs + 1
 
+-- the id of the first encoder
 abbrev pub first_encoder : Topology → ℕ
 first_encoder t = first_plane t + length t.planes
 
+-- the id of the first connector
 abbrev pub first_connector : Topology → ℕ
 first_connector t = first_encoder t + length t.encoders
 
+-- the ids of the CRTCs
 abbrev pub crtc_ids : Topology → List ℕ
 crtc_ids t = numbers_from 1 t.crtcs
 
+-- the ids of the planes
 abbrev pub plane_ids : Topology → List ℕ
 plane_ids t = numbers_from (first_plane t) (length t.planes)
 
+-- the ids of the encoders
 abbrev pub encoder_ids : Topology → List ℕ
 encoder_ids t = numbers_from (first_encoder t) (length t.encoders)
 
+-- the ids of the connectors
 abbrev pub connector_ids : Topology → List ℕ
 connector_ids t = numbers_from (first_connector t) (length t.connectors)
 
+-- whether an id is a CRTC's
 abbrev pub is_crtc : Topology → ℕ → Bool
 is_crtc t x = is_among (crtc_ids t) x
 
+-- whether an id is a plane's
 abbrev pub is_plane : Topology → ℕ → Bool
 is_plane t x = is_among (plane_ids t) x
 
+-- whether an id is an encoder's
 abbrev pub is_encoder : Topology → ℕ → Bool
 is_encoder t x = is_among (encoder_ids t) x
 
+-- whether an id is a connector's
 abbrev pub is_connector : Topology → ℕ → Bool
 is_connector t x = is_among (connector_ids t) x
 
@@ -56,6 +67,7 @@ is_connector t x = is_among (connector_ids t) x
 abbrev pub kind_of : Topology → ℕ → Option Kind
 kind_of t x = if is_crtc t x then Some Crtc else if is_plane t x then Some Plane else if is_encoder t x then Some Encoder else if is_connector t x then Some Connector else None
 
+-- whether an id is that of an object of the kind
 abbrev pub is_of_kind : Topology → Kind → ℕ → Bool
 is_of_kind t Crtc x = is_crtc t x
 is_of_kind t Plane x = is_plane t x

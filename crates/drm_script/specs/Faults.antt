@@ -113,6 +113,7 @@ KindFits _ ws = Unit {0}
 
 -- ---- the places of a line
 
+-- the places of a line of limits, after its word
 abbrev pub limit_places : List Place
 limit_places =
     Place.limit limits.Clients
@@ -136,6 +137,7 @@ abbrev pub opening_places : Words → List Place
 opening_places [] = Place.opening ∷ []
 opening_places (w ∷ ws) = Place.opening ∷ opening_fields (opening_word_of w)
 
+-- the place of a field, by its width
 abbrev pub width_place : Width → Place
 width_place widths.U32 = Place.number 32
 width_place widths.U64 = Place.number 64

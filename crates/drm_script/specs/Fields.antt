@@ -15,6 +15,7 @@ infixl 10 ◌>>=◌
 abbrev pub ◌>>=◌ : {A B : Type 0} → Option A → (A → Option B) → Option B
 o >>= f = option_and_then f o
 
+-- the words of a line
 abbrev pub Words : Type 0
 Words = List (List ℕ)
 

@@ -13,6 +13,7 @@ use Rattle.drm_table.specs.Audits.{kind_name}
 use Rattle.drm_table.specs.Fields.{number_in}
 use Rattle.drm_table.specs.Rules.{rule_number, rule_name, rule_errno, apart_number, apart_name, apart_errno}
 
+-- whether a byte is a line end
 abbrev pub is_line_end : ℕ → Bool
 is_line_end b = b == 10
 
@@ -21,6 +22,7 @@ abbrev pub line_before : Option ℕ → List ℕ → List ℕ
 line_before None text = text
 line_before (Some place) text = take place text
 
+-- the text after a line end at this place; none if no line ends
 abbrev pub text_behind : Option ℕ → List ℕ → List ℕ
 text_behind None text = []
 text_behind (Some place) text = drop (place + 1) text

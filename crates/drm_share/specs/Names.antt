@@ -12,9 +12,11 @@ pub record NameList : Type 0 where
   pub last : ℕ
   pub names : List SharedName
 
+-- a list without names
 abbrev pub empty_names : ℕ → NameList
 empty_names last = record { last = last; names = [] }
 
+-- whether the row has the name
 abbrev pub is_name : ℕ → SharedName → Bool
 is_name n row = row.name == n
 
@@ -22,12 +24,15 @@ is_name n row = row.name == n
 abbrev pub names_object : ℕ → SharedName → Bool
 names_object k row = row.object == k
 
+-- whether one row is before another: the names rise
 abbrev pub name_before : SharedName → SharedName → Bool
 name_before x y = nat_lt x.name y.name
 
+-- whether two rows are of different objects
 abbrev pub have_other_objects : SharedName → SharedName → Bool
 have_other_objects x y = not (x.object == y.object)
 
+-- a row with a name and an object
 abbrev pub shared_name : ℕ → ℕ → SharedName
 shared_name n k = record { name = n; object = k }
 
@@ -39,9 +44,11 @@ name_of list k = option_map (λ (row : SharedName). row.name) (find (names_objec
 abbrev pub free_name : NameList → Option ℕ
 free_name list = least (λ n. not (is_among (map (λ row. row.name) list.names) n)) 1 list.last
 
+-- the list with a name of an object more
 abbrev pub with_name : NameList → ℕ → ℕ → NameList
 with_name list n k = record list { names = placed name_before (shared_name n k) list.names }
 
+-- the list without the name of an object
 abbrev pub without_name_of : NameList → ℕ → NameList
 without_name_of list k = record list { names = filter (λ row. not (names_object k row)) list.names }
 
@@ -49,6 +56,7 @@ without_name_of list k = record list { names = filter (λ row. not (names_object
 abbrev pub nth_row : NameList → ℕ → ℕ → Option SharedName
 nth_row list kind i = if kind == 4 then slice_get list.names i else None
 
+-- the name is 1 to `last`
 pub record IsNameUpTo (last : ℕ) (row : SharedName) : Type 0 where
   pub low : 1 ≤ row.name
   pub high : row.name ≤ last

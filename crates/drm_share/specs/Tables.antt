@@ -11,21 +11,27 @@ use Rattle.drm_share.specs.declared.tokens.Export.{Export}
 use Rattle.drm_share.specs.Names.{NameList, shared_name}
 use Rattle.drm_share.specs.Tokens.{TokenList, token}
 
+-- the row of a name's entry
 abbrev pub name_row : ℕ × ℕ → SharedName
 name_row entry = shared_name entry.0 entry.1
 
+-- the rows of all names, in their order
 abbrev pub names_in : map.FinMap nat_cmp ℕ → List SharedName
 names_in slots = list_map name_row (map.entries slots)
 
+-- the list of names of a table
 abbrev pub name_list : Table ℕ → NameList
 name_list table = record { last = table.last; names = names_in table.slots }
 
+-- the row of a token's entry
 abbrev pub token_row : ℕ × Export → SharedToken
 token_row entry = token entry.0 entry.1.client entry.1.object
 
+-- the rows of all tokens, in their order
 abbrev pub tokens_in : map.FinMap nat_cmp Export → List SharedToken
 tokens_in slots = list_map token_row (map.entries slots)
 
+-- the list of tokens of a table
 abbrev pub token_list : Table Export → TokenList
 token_list table = record { last = table.last; last_given = table.last_given; tokens = tokens_in table.slots }
 

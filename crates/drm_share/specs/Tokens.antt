@@ -13,24 +13,31 @@ pub record TokenList : Type 0 where
   pub last_given : Option ℕ
   pub tokens : List SharedToken
 
+-- a list without tokens
 abbrev pub empty_tokens : ℕ → TokenList
 empty_tokens last = record { last = last; last_given = None; tokens = [] }
 
+-- whether the row has the token
 abbrev pub is_token : ℕ → SharedToken → Bool
 is_token t row = row.token == t
 
+-- whether the client exported the row's token
 abbrev pub is_exported_by : ℕ → SharedToken → Bool
 is_exported_by c row = row.client == c
 
+-- whether the row has the token and the client exported it
 abbrev pub is_token_of : ℕ → ℕ → SharedToken → Bool
 is_token_of c t row = (row.token == t) && (row.client == c)
 
+-- whether one row is before another: the tokens rise
 abbrev pub token_before : SharedToken → SharedToken → Bool
 token_before x y = nat_lt x.token y.token
 
+-- a row with a token, a client and an object
 abbrev pub token : ℕ → ℕ → ℕ → SharedToken
 token t c k = record { token = t; client = c; object = k }
 
+-- whether no row has the token
 abbrev pub is_free : TokenList → ℕ → Bool
 is_free list t = not (is_among (map (λ row. row.token) list.tokens) t)
 
@@ -39,9 +46,11 @@ is_free list t = not (is_among (map (λ row. row.token) list.tokens) t)
 abbrev pub next_token : TokenList → Option ℕ
 next_token list = or_else (least (is_free list) (unwrap_or list.last_given 0 + 1) list.last) (least (is_free list) 1 list.last)
 
+-- the list with a token more, which is the last one allocated
 abbrev pub with_token : TokenList → SharedToken → TokenList
 with_token list row = record list { last_given = Some row.token; tokens = placed token_before row list.tokens }
 
+-- the list without a token
 abbrev pub without_token : TokenList → ℕ → TokenList
 without_token list t = record list { tokens = filter (λ row. not (is_token t row)) list.tokens }
 
@@ -49,6 +58,7 @@ without_token list t = record list { tokens = filter (λ row. not (is_token t ro
 abbrev pub nth_row : TokenList → ℕ → ℕ → Option SharedToken
 nth_row list kind i = if kind == 5 then slice_get list.tokens i else None
 
+-- the token is 1 to `last`
 pub record IsTokenUpTo (last : ℕ) (row : SharedToken) : Type 0 where
   pub low : 1 ≤ row.token
   pub high : row.token ≤ last

@@ -29,18 +29,23 @@ pub record SinkTrace : Type 0 where
 
 -- ---- the counts after one call
 
+-- no call was made
 abbrev pub no_calls : Counts
 no_calls = record { calls = 0; ends = 0; faults = 0; failures = 0 }
 
+-- one more call
 abbrev pub one_call : Counts → Counts
 one_call c = record c { calls = c.calls + 1 }
 
+-- one more call, at which no byte is left
 abbrev pub one_end : Counts → Counts
 one_end c = record c { calls = c.calls + 1; ends = c.ends + 1 }
 
+-- one more call, which is interrupted
 abbrev pub one_interruption : Counts → Counts
 one_interruption c = record c { calls = c.calls + 1; faults = c.faults + 1 }
 
+-- one more call, which fails
 abbrev pub one_failure : Counts → Counts
 one_failure c = record c { calls = c.calls + 1; faults = c.faults + 1; failures = c.failures + 1 }
 

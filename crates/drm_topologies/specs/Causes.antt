@@ -70,6 +70,7 @@ crtcs_cause t ws =
     ∷ unless causes.CrtcCount (is_crtc_count (unwrap_or (only_number ws) 0))
     ∷ [])
 
+-- CRTCs of the topology, and room for one more object
 abbrev pub encoder_cause : Told → Words → Option Unfit
 encoder_cause t ws = first_cause (mask_cause t ws ∷ unless causes.TooMany (has_room t) ∷ [])
 

@@ -2,6 +2,7 @@
 use Rattle.drm_topologies.specs.declared.parts.Parts.{Parts}
 use Rattle.drm_topologies.specs.Told.{Told}
 
+-- the parts in the fields
 abbrev pub told_in : Parts → Told
 told_in parts = record {
   crtcs = parts.crtcs;

@@ -45,6 +45,7 @@ told lines = record {
   connectors = map encoder_place (behind words.Connector lines);
 }
 
+-- no line was read
 abbrev pub nothing_told : Told
 nothing_told = record { crtcs = None; planes = []; kinds = []; encoders = []; connectors = [] }
 
@@ -70,5 +71,6 @@ objects_told t = crtc_count t + length t.planes + length t.encoders + length t.c
 abbrev pub encoder_id : Told → ℕ → ℕ
 encoder_id t place = crtc_count t + length t.planes + place
 
+-- the topology with these parts
 abbrev pub topology_told : Told → Topology
 topology_told t = topology_with (crtc_count t) t.planes t.kinds t.encoders (map (encoder_id t) t.connectors)
