@@ -5,6 +5,7 @@ use Rattle.drm_table.specs.declared.events.Event.TheVariants.{Open, Ask, Close}
 use Rattle.drm_history.specs.History.{AnsweredEvent}
 use Rattle.drm_authority.specs.Effects.{Effect, Closes, effect, is_accepted}
 
+-- whether the step closes the client
 abbrev pub closes : Effect → ℕ → Bool
 closes (Closes client) c = client == c
 closes _ c = false

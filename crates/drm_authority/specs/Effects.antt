@@ -26,11 +26,13 @@ pub data Effect : Type 0 where
   Leases : (client : ℕ) (ids : List ℕ) (lessee token : ℕ) → Effect
   Revokes : (client lessee : ℕ) → Effect
 
+-- the effect of an accepted opening
 abbrev pub opening_effect : Opening → Effect
 opening_effect (Primary root universal) = OpensPrimary root universal
 opening_effect Render = OpensRender
 opening_effect (Lease token root universal) = Redeems token root universal
 
+-- the effect of a call, by its answer
 abbrev pub call_effect : ℕ → Call → Answer → Effect
 call_effect c GetMagic (Number magic) = GetsMagic c magic
 call_effect c (AuthMagic magic) Done = Authenticates c magic
@@ -41,6 +43,7 @@ call_effect c (CreateLease ids) (LeaseIs lessee token) = Leases c ids lessee tok
 call_effect c (RevokeLease lessee) Done = Revokes c lessee
 call_effect c _ _ = Nothing
 
+-- the effect of an event, by its answer
 abbrev pub effect_by : Event → Answer → Effect
 effect_by (Open opening) (Opened client) = opening_effect opening
 effect_by (Open opening) _ = Nothing

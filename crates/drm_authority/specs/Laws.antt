@@ -29,6 +29,7 @@ pub record ClientFollows (w : Rows) (history : List AnsweredEvent) (c : ℕ) : T
   pub is_master : is_master w c ≡ is_master_in history c
   pub master : master_of w c ≡ master_in history c
 
+-- each open client follows from the history
 abbrev pub ClientsFollow : Rows → List AnsweredEvent → Type 0
 ClientsFollow w history = (c : ℕ) → is_open w c ≡ true → ClientFollows w history c
 
@@ -89,6 +90,7 @@ OverlaysAlone t history = AllSteps (KeepsToOverlays t) history
 
 -- ---- all of these
 
+-- the owner, the clients, the masters, the leases and the magics follow from the history
 pub record AuthorityFollows (t : Topology) (w : Rows) (history : List AnsweredEvent) : Type 0 where
   pub owner : OwnerFollows w history
   pub clients : ClientsFollow w history

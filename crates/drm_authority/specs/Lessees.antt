@@ -10,6 +10,7 @@ use Rattle.drm_authority.specs.Effects.{Effect, Leases, Revokes, Closes, effect}
 use Rattle.drm_authority.specs.MasterState.{MasterState, master_state, is_master_in, master_in, caller_master_in}
 use Rattle.drm_authority.specs.Shown.{is_universal_in}
 
+-- the lessor of the lessee that a step creates
 abbrev pub lessor_by : Effect → MasterState → Option ℕ
 lessor_by (Leases c ids lessee token) s = s.master c
 lessor_by _ s = None
@@ -27,6 +28,7 @@ top_in history m = top_of (lessor_in history) m
 abbrev pub is_under_in : List AnsweredEvent → ℕ → ℕ → Bool
 is_under_in history top m = is_under (lessor_in history) top m
 
+-- the lessee with an id under an owner, after a step
 abbrev pub lessee_by : Effect → List AnsweredEvent → ℕ → ℕ → Option ℕ → Option ℕ
 lessee_by (Leases c ids lessee token) past owner id older = if (lessee == id) && (top_in past (caller_master_in past c) == owner) then Some (next_number past) else older
 lessee_by _ past owner id older = older
@@ -42,6 +44,7 @@ ended_by (Revokes c lessee) past = lessee_in past (top_in past (caller_master_in
 ended_by (Closes c) past = if is_master_in past c then master_in past c else None
 ended_by _ past = None
 
+-- whether a master is under the top, if there is one
 abbrev pub is_under_any : List AnsweredEvent → Option ℕ → ℕ → Bool
 is_under_any past None m = false
 is_under_any past (Some top) m = is_under_in past top m

@@ -22,9 +22,11 @@ pub record MasterState : Type 0 where
   pub is_master : ℕ → Bool
   pub master : ℕ → Option ℕ
 
+-- a function with another value for one client
 abbrev pub put : {X : Type 0} → ℕ → X → (ℕ → X) → ℕ → X
 put c x f d = if d == c then x else f d
 
+-- the state with a client, its master, and whether it is a master
 abbrev pub with_client : ℕ → Bool → Option ℕ → MasterState → MasterState
 with_client c is_master master s = record s { is_master = put c is_master s.is_master; master = put c master s.master }
 
@@ -44,6 +46,7 @@ owner_without true (Some m) owner = if is_option m owner then None else owner
 owner_without true None owner = owner
 owner_without false master owner = owner
 
+-- the state after an effect
 abbrev pub transition : Effect → ℕ → (ℕ → Option ℕ) → MasterState → MasterState
 transition (OpensPrimary root universal) number lease s = with_primary number s.owner s
 transition OpensRender number lease s = with_client number false None s
@@ -53,6 +56,7 @@ transition (SetsMaster c) number lease s = with_set number c (s.is_master c) s
 transition DropsMaster number lease s = record s { owner = None }
 transition _ number lease s = s
 
+-- the state after a history
 unfoldable pub master_state : List AnsweredEvent → MasterState
 master_state [] = record { owner = None; is_master = λ c. false; master = λ c. None }
 master_state (step ∷ past) = transition (effect step) (next_number past) (lease_in past) (master_state past)

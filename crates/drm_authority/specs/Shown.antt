@@ -12,6 +12,7 @@ use Rattle.drm_modes.specs.Topology.{Topology, is_primary_or_cursor}
 use Rattle.drm_history.specs.History.{AnsweredEvent, next_number}
 use Rattle.drm_authority.specs.Effects.{Effect, OpensPrimary, OpensRender, Redeems, SetsUniversal, effect, is_accepted}
 
+-- whether a client has universal planes on, after a step
 abbrev pub universal_by : Effect → ℕ → ℕ → Bool → Bool
 universal_by (OpensPrimary root universal) number c older = if number == c then universal else older
 universal_by OpensRender number c older = if number == c then true else older
@@ -31,6 +32,7 @@ ShowsOverlays t (SetPlane plane crtc framebuffer) answer = is_primary_or_cursor 
 ShowsOverlays t GetPlaneResources (ListIs planes) = AllByRecursion (λ x. is_primary_or_cursor t x ≡ false) planes
 ShowsOverlays t _ answer = Unit {0}
 
+-- the step's answer has only overlay planes if its client has universal planes off
 abbrev pub OverlaysFor : Topology → Event → Answer → List AnsweredEvent → Type 0
 OverlaysFor t (Ask c call) answer past = is_universal_in past c ≡ false → is_accepted answer ≡ true → ShowsOverlays t call answer
 OverlaysFor t (Open opening) answer past = Unit {0}

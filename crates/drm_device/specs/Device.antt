@@ -7,6 +7,7 @@ use Rattle.drm_device.specs.declared.device.Device.TheInside.{Inside}
 use Rattle.drm_state.specs.Invariants.{MeetsInvariants}
 use Rattle.drm_state.specs.Refinement.{Represents}
 
+-- the value of a device
 abbrev pub value_of : Inside → DeviceValue
 value_of d = record { topology = d.state.modes.topology; limits = d.limits; journal = d.journal.items }
 

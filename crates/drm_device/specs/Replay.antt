@@ -28,6 +28,7 @@ pub record StopsAt (first : DeviceValue) (events : List Event) (at : ℕ) (apart
   pub is_there : slice_get events index ≡ Some event
   pub refused : Step (rows_of (history_before first events index)) event (Err apart) (rows_of (history_before first events index))
 
+-- the result of a replay
 unfoldable pub IsReplay : Topology → Limits → List Event → Result DeviceValue ReplayFault → Type 0
 IsReplay topology limits events (Ok device) = device ≡ record { topology = topology; limits = limits; journal = events }
 IsReplay topology limits events (Err (New BadLimits)) = are_in_range limits ≡ false

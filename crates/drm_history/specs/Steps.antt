@@ -15,6 +15,7 @@ pub data Key : Type 0 where
   Token : (number : ℕ) → Key
   Framebuffer : (number : ℕ) → Key
 
+-- whether two keys are the same
 abbrev pub is_key : Key → Key → Bool
 is_key (Name m) (Name n) = m == n
 is_key (Token m) (Token n) = m == n
@@ -32,6 +33,7 @@ pub record Giving : Type 0 where
   pub handle : ℕ
   pub source : Source
 
+-- a handle that a client is assigned, with its source
 abbrev pub giving : ℕ → ℕ → Source → Option Giving
 giving c handle source = Some (record { client = c; handle = handle; source = source })
 
@@ -41,6 +43,7 @@ pub record Publishing : Type 0 where
   pub client : ℕ
   pub handle : ℕ
 
+-- what a client publishes by a handle under a key
 abbrev pub publishing : Key → ℕ → ℕ → Option Publishing
 publishing key c handle = Some (record { key = key; client = c; handle = handle })
 
@@ -68,6 +71,7 @@ taken_by event answer c h = false
 unfoldable pub takes : AnsweredEvent → ℕ → ℕ → Bool
 takes step c h = taken_by step.event step.answer c h
 
+-- what a step publishes, by its event and answer
 abbrev pub published_by : Event → Answer → Option Publishing
 published_by (Ask c (GemFlink handle)) (Number name) = publishing (Name name) c handle
 published_by (Ask c (PrimeHandleToFd handle)) (Number token) = publishing (Token token) c handle

@@ -11,6 +11,7 @@ use Rattle.drm_index_array.specs.Indexed.{Indexed, indexed_code}
 abbrev pub Groups : Type 0
 Groups = ℕ → ℕ → Bool
 
+-- the groups are unchanged
 abbrev pub AreSame : Groups → Groups → Type 0
 AreSame old new = (d u : ℕ) → new d u ≡ old d u
 
@@ -34,9 +35,11 @@ AreGroupsOf group m groups = (g n : ℕ) → groups g n ≡ option_map_or (λ x.
 abbrev pub GroupMap : Type 0
 GroupMap = map.FinMap nat_cmp (Indexed (Unit {0}))
 
+-- the code of the map of groups
 abbrev pub group_code : Coded GroupMap
 group_code = map.code coded_ℕ (indexed_code coded_unit)
 
+-- whether a group's numbers have n
 abbrev pub has_number : Indexed (Unit {0}) → ℕ → Bool
 has_number numbers n = map.contains_key numbers.items n
 

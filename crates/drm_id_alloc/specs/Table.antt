@@ -6,6 +6,7 @@ use Rattle.std.specs.FinMap as map
 use Rattle.std.specs.Coded.{Coded, code_by, coded×, coded_ℕ, coded_option}
 use Rattle.drm_index_array.specs.Least.{least}
 
+-- the values by their numbers, the range, and the last number that was allocated in rotation
 pub record Table (T : Type 0) : Type 0 where
   pub slots : map.FinMap nat_cmp T
   pub first : ℕ
@@ -36,6 +37,7 @@ pub record IsNumbered {T : Type 0} (table : Table T) : Type 0 where
   pub first_is : table.first ≡ 1
   pub within : IsWithin table.slots table.first table.last table.last_given
 
+-- the first of two options that is not empty
 abbrev pub or_else : Option ℕ → Option ℕ → Option ℕ
 or_else None other = other
 or_else (Some n) other = Some n

@@ -7,6 +7,7 @@ use Rattle.std.specs.Coded.{Coded, code_by, coded×, coded_ℕ}
 use Rattle.drm_index_array.specs.declared.marks.Mark.{Mark}
 use Rattle.drm_index_array.specs.declared.marks.Mark.TheVariants.{M0, M1, M2}
 
+-- a map from numbers, and for each mark the keys that have it
 pub record Indexed (T : Type 0) : Type 0 where
   pub items : map.FinMap nat_cmp T
   pub m0 : set.FinSet nat_cmp

@@ -26,6 +26,7 @@ NonePasses p from to = (k : ℕ) → from ≤ k → k ≤ to → p k ≡ false
 abbrev pub IsLeastFrom : (ℕ → Bool) → ℕ → ℕ → Type 0
 IsLeastFrom p from n = IsLeast p from n n
 
+-- the lower of two numbers, of which one may be missing
 abbrev pub lesser : ℕ → Option ℕ → ℕ
 lesser n None = n
 lesser n (Some m) = if nat_le n m then n else m

@@ -9,6 +9,7 @@ use Rattle.drm_index_array.specs.Indexed.{Indexed}
 use Rattle.drm_index_array.specs.declared.marks.Mark.{Mark}
 use Rattle.drm_index_array.specs.declared.marks.Mark.TheVariants.{M0, M1, M2}
 
+-- a value with its marks
 pub record Marked (T : Type 0) : Type 0 where
   pub value : T
   pub m0 : Bool
@@ -25,6 +26,7 @@ marked_code {T} code =
     (λ p. record { value = p.0; m0 = p.1.0; m1 = p.1.1.0; m2 = p.1.1.1 })
     (λ _. refl)
 
+-- a map from numbers to values with their marks
 abbrev pub MarkedMap : Type 0 → Type 0
 MarkedMap T = map.FinMap nat_cmp (Marked T)
 

@@ -26,6 +26,7 @@ pub record IsRooted {T : Type 0} (items : MarkedMap T) (count : ℕ) : Type 0 wh
   pub counted : count ≡ map.len items
   pub fit : (k : ℕ) → IsTrue (map.contains_key items k) → k ≤ 4294967295
 
+-- the facts about the root of an array
 pub record IsArray {T : Type 0} (root : Option (Box (Node T) Global)) (count : ℕ) : Type 0 where
   pub rooted : IsRooted (items_of root) count
   pub used : IsUsedRoot root

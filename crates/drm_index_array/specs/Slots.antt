@@ -66,6 +66,7 @@ module _ {T : Type 0} where
   abbrev pub has_below : ℕ → Slot T → Sought → Bool
   has_below height s x = is_some (least (λ r. is_sought x (below s r)) 0 (width height - 1))
 
+-- the facts about the slots of a node
 pub record IsSound {T : Type 0} (height : ℕ) (slots : List (Slot T)) (words : Words) : Type 0 where
   pub wide : length slots ≡ 64
   pub low : height ≤ 5

@@ -8,10 +8,12 @@ use Rattle.drm_index_array.specs.Marked.{Marked, MarkedMap, marked_code, mark_of
 use Rattle.drm_index_array.specs.declared.words.Sought.{Sought}
 use Rattle.drm_index_array.specs.declared.words.Sought.TheVariants.{Taken, Vacant, Marked as WithMark}
 
+-- a subtree: its height and its map
 pub record Tree (T : Type 0) : Type 0 where
   pub height : ℕ
   pub items : MarkedMap T
 
+-- the code of a subtree
 abbrev pub tree_code : {T : Type 0} → Coded T → Coded (Tree T)
 tree_code {T} code =
     code_by (ℕ × MarkedMap T) (coded× coded_ℕ (map.code coded_ℕ (marked_code code))) (λ t. (t.height, t.items)) (λ p. record { height = p.0; items = p.1 }) (λ _. refl)

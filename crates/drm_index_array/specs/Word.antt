@@ -18,6 +18,7 @@ tells_of w (Marked M0) i = has_bit w.m0 i
 tells_of w (Marked M1) i = has_bit w.m1 i
 tells_of w (Marked M2) i = has_bit w.m2 i
 
+-- each word is a number of 64 bits
 pub record AreWords (w : Words) : Type 0 where
   pub present : w.present < 2 ^ 64
   pub full : w.full < 2 ^ 64

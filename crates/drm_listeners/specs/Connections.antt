@@ -47,9 +47,11 @@ pub record SessionState : Type 0 where
   pub participant : ParticipantView
   pub session : Session
 
+-- the participants of sessions, in their order
 abbrev pub participants_in : List SessionState → List ParticipantView
 participants_in sittings = map (λ sitting. sitting.participant) sittings
 
+-- the sessions, in their order
 abbrev pub sessions_in : List SessionState → List Session
 sessions_in sittings = map (λ sitting. sitting.session) sittings
 

@@ -12,6 +12,7 @@ use Rattle.drm_listeners.specs.declared.listeners.FailedListeners.{FailedListene
 use Rattle.drm_listeners.specs.declared.serve_faults.ServeFault.TheVariants as faults
 use Rattle.drm_listeners.specs.Connections.{IsFresh, IsRoomFor, IsServed, Serves}
 
+-- the participants of the three listeners made nothing before
 pub record AreFresh (table : TableId) (participants : ByClass ParticipantView) : Type 0 where
   pub card : IsFresh table participants.card
   pub render : IsFresh table participants.render

@@ -19,9 +19,11 @@ connections counts = counts.cards + counts.renders + counts.roots
 abbrev pub card_sessions : {A : Type 0} → Counts → List A → List A
 card_sessions counts sessions = take counts.cards sessions
 
+-- the sessions of `render`
 abbrev pub render_sessions : {A : Type 0} → Counts → List A → List A
 render_sessions counts sessions = take counts.renders (drop counts.cards sessions)
 
+-- the sessions of `root`
 abbrev pub root_sessions : {A : Type 0} → Counts → List A → List A
 root_sessions counts sessions = drop (counts.cards + counts.renders) sessions
 

@@ -11,6 +11,7 @@ chain_within (suc steps) above n = n ∷ elim (above n) [ None ↦ [] | Some m �
 abbrev pub chain_of : (ℕ → Option ℕ) → ℕ → List ℕ
 chain_of above n = chain_within n above n
 
+-- the last number of a chain, or n if it is empty
 abbrev pub last_of : ℕ → List ℕ → ℕ
 last_of n [] = n
 last_of n (x ∷ xs) = last_of x xs

@@ -2,6 +2,7 @@
 use Rattle.std.specs.Prelude.{ℕ, ◌==◌, Bool, List, length, filter}
 use Rattle.std.specs.List.{list_any}
 
+-- whether a number is in a list
 abbrev pub is_among : List ℕ → ℕ → Bool
 is_among numbers n = list_any (λ x. x == n) numbers
 

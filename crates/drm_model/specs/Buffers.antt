@@ -12,6 +12,7 @@ use Rattle.drm_model.specs.Meaning.{Meaning, nothing}
 
 -- sizes (the ranges and the roundings are own)
 
+-- the lowest multiple of the unit that is not below n
 abbrev pub rounded_up : ℕ → ℕ → ℕ
 rounded_up unit n = (n + (unit - 1)) / unit * unit
 
@@ -20,6 +21,7 @@ abbrev pub is_dumb_shape : ℕ → ℕ → ℕ → Bool
 is_dumb_shape width height bpp =
     nat_le 1 width && nat_le width 65535 && nat_le 1 height && nat_le height 65535 && nat_le 1 bpp && nat_le bpp 64
 
+-- the bytes of a pixel with this number of bits
 abbrev pub bytes_per_pixel : ℕ → ℕ
 bytes_per_pixel bpp = (bpp + 7) / 8
 
@@ -35,6 +37,7 @@ dumb_size width height bpp = rounded_up 4096 (dumb_pitch width bpp * height)
 abbrev pub is_buffer_size : ℕ → Bool
 is_buffer_size size = nat_le 1 size && nat_le size 68719476736
 
+-- a size in bytes, rounded up to whole pages
 unfoldable pub buffer_size : ℕ → ℕ
 buffer_size size = rounded_up 4096 size
 
@@ -49,6 +52,7 @@ with_object w c size = record w {
 abbrev pub has_buffer_room : Rows → ℕ → Bool
 has_buffer_room w c = is_some (free_handle w c) && has_object_room w
 
+-- the handle of a new buffer; 0 if none is free
 abbrev pub new_handle : Rows → ℕ → ℕ
 new_handle w c = unwrap_or (free_handle w c) 0
 

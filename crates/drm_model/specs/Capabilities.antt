@@ -7,6 +7,7 @@ use Rattle.drm_table.specs.Permit.{check}
 use Rattle.drm_model.specs.Rows.{Rows, ClientRow, is_client}
 use Rattle.drm_model.specs.Meaning.{Meaning, nothing}
 
+-- the version of the interface
 abbrev pub version_answer : Answer
 version_answer = Version 1 0 0
 

@@ -60,6 +60,7 @@ ended_if w true (Some m) = record (ended w m) { device_master = if is_option m w
 ended_if w true None = w
 ended_if w false m = w
 
+-- the rows after a closing, for the row of its client
 abbrev pub ended_own : Rows → Option ClientRow → Rows
 ended_own w (Some row) = ended_if w row.is_master row.master
 ended_own w None = w

@@ -41,6 +41,7 @@ may_lease rows m = rules.may_lease (depth_of rows m)
 abbrev pub is_seen : Rows → ℕ → ℕ → Bool
 is_seen w c x = rules.is_seen w.topology (sees w c x) (is_framebuffer w x) x
 
+-- whether an id may be leased
 abbrev pub is_leasable : Rows → ℕ → Bool
 is_leasable w x = rules.is_leasable w.topology (is_framebuffer w x) x
 
@@ -80,6 +81,7 @@ next_lease_token w = next_in_turn (is_free_lease_token w) w.last_lease_token w.l
 abbrev pub new_lessee_id : Rows → ℕ → ℕ
 new_lessee_id w m = unwrap_or (free_lessee w m) 0
 
+-- the token of a new lease; 0 if none is free
 abbrev pub new_lease_token : Rows → ℕ
 new_lease_token w = unwrap_or (next_lease_token w) 0
 
@@ -87,6 +89,7 @@ new_lease_token w = unwrap_or (next_lease_token w) 0
 abbrev pub new_lessee : Rows → ℕ → MasterRow
 new_lessee w m = record { master = step_number w; lessor = Some m; lessee_id = new_lessee_id w m; lease_token = Some (new_lease_token w) }
 
+-- a row with a lessee and a mode object
 abbrev pub grant : ℕ → ℕ → GrantRow
 grant m x = record { master = m; mode_object = x }
 

@@ -72,6 +72,7 @@ auth_magic w c number = auth_under w (caller_master w c) number
 
 -- ---- masters
 
+-- whether a client is current (`drm_is_current_master`)
 abbrev pub is_current : Rows → ℕ → Bool
 is_current w c = (credentials_of w c).current
 

@@ -14,9 +14,11 @@ new_master m = record { master = m; lessor = None; lessee_id = 0; lease_token = 
 abbrev pub master_of : Rows → ℕ → Option ℕ
 master_of w c = option_and_then (λ row. row.master) (client_row w c)
 
+-- the row of a master, if it exists
 abbrev pub master_row : List MasterRow → ℕ → Option MasterRow
 master_row rows m = find (λ row. row.master == m) rows
 
+-- the lessor of a master, if it is a lessee
 abbrev pub lessor_of : List MasterRow → ℕ → Option ℕ
 lessor_of rows m = option_and_then (λ row. row.lessor) (master_row rows m)
 
@@ -51,5 +53,6 @@ abbrev pub credentials_in : Rows → Option ClientRow → Standing
 credentials_in w None = record { root = false; render = false; authenticated = false; current = false }
 credentials_in w (Some row) = record { root = row.root; render = row.render; authenticated = row.authenticated; current = is_current_row w row }
 
+-- the properties of a client that the flags of a call's row are tested against
 abbrev pub credentials_of : Rows → ℕ → Standing
 credentials_of w c = credentials_in w (client_row w c)

@@ -5,6 +5,7 @@ use Rattle.drm_table.specs.declared.answers.Answer.TheVariants.{Done}
 use Rattle.drm_table.specs.Permit.{Check}
 use Rattle.drm_model.specs.Rows.{Rows}
 
+-- the rules of a call, the rows after it, and its answer
 pub record Meaning : Type 0 where
   pub checks : List Check
   pub rows : Rows

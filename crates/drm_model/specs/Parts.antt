@@ -2,6 +2,7 @@
 use Rattle.std.specs.Prelude.{ℕ, length}
 use Rattle.drm_model.specs.Rows.{Rows}
 
+-- the parts: the bounds, and each list of rows
 pub data Part : Type 0 where
   Bounds : Part
   Clients : Part

@@ -14,10 +14,12 @@ abbrev pub result_by : Bool → Rows → Event → Result Answer Apart
 result_by true w event = Err JournalFull
 result_by false w event = Ok (reply w event)
 
+-- the rows after an event, unless it was answered by a fault
 abbrev pub rows_by : Bool → Rows → Event → Rows
 rows_by true w event = w
 rows_by false w event = after w event
 
+-- the results of a list of events
 unfoldable pub results : Rows → List Event → List (Result Answer Apart)
 results w [] = []
 results w (event ∷ events) = result_by (no_room w event) w event ∷ results (rows_by (no_room w event) w event) events

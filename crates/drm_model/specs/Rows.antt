@@ -131,12 +131,15 @@ is_option n (Some m) = m == n
 
 -- clients
 
+-- whether the row is the client's
 abbrev pub is_client : ℕ → ClientRow → Bool
 is_client c row = row.client == c
 
+-- the row of a client, if it is open
 abbrev pub client_row : Rows → ℕ → Option ClientRow
 client_row w c = find (is_client c) w.clients
 
+-- whether a client is open
 abbrev pub is_open : Rows → ℕ → Bool
 is_open w c = is_some (client_row w c)
 
@@ -150,17 +153,21 @@ has_client_room w = nat_lt (length w.clients) w.limits.clients
 
 -- magics
 
+-- the row of a client's magic, if it has one
 abbrev pub magic_row : Rows → ℕ → Option MagicRow
 magic_row w c = find (λ row. row.client == c) w.magics
 
 -- handles and objects
 
+-- whether the row is that of the client's handle
 abbrev pub is_handle : ℕ → ℕ → HandleRow → Bool
 is_handle c h row = (row.client == c) && (row.handle == h)
 
+-- the row of a client's handle, if it has it
 abbrev pub handle_row : Rows → ℕ → ℕ → Option HandleRow
 handle_row w c h = find (is_handle c h) w.holds
 
+-- whether a client has a handle
 abbrev pub has_handle : Rows → ℕ → ℕ → Bool
 has_handle w c h = is_some (handle_row w c h)
 
@@ -168,9 +175,11 @@ has_handle w c h = is_some (handle_row w c h)
 abbrev pub object_of : Rows → ℕ → ℕ → ℕ
 object_of w c h = unwrap_or (option_map (λ (row : HandleRow). row.object) (handle_row w c h)) 0
 
+-- the row of an object, if it exists
 abbrev pub object_row : Rows → ℕ → Option ObjectRow
 object_row w o = find (λ row. row.object == o) w.objects
 
+-- the handles of a client
 abbrev pub handles_of : Rows → ℕ → List ℕ
 handles_of w c = map (λ row. row.handle) (filter (λ row. row.client == c) w.holds)
 
@@ -189,8 +198,10 @@ with_handle_row w c o export_order = w.holds ++ record { client = c; handle = un
 
 -- framebuffers
 
+-- the row of a framebuffer, if it exists
 abbrev pub framebuffer_row : Rows → ℕ → Option FramebufferRow
 framebuffer_row w f = find (λ row. row.framebuffer == f) w.framebuffers
 
+-- whether an id is a framebuffer's
 abbrev pub is_framebuffer : Rows → ℕ → Bool
 is_framebuffer w f = is_some (framebuffer_row w f)

@@ -30,23 +30,29 @@ has_universal w c = client_has (λ row. row.universal) w c
 unfoldable pub sees : Rows → ℕ → ℕ → Bool
 sees w c x = rules.sees w.topology (controls w c x) (has_universal w c) x
 
+-- whether a client sees a CRTC with this id
 abbrev pub sees_crtc : Rows → ℕ → ℕ → Bool
 sees_crtc w c x = is_crtc w.topology x && sees w c x
 
+-- whether a client sees a plane with this id
 abbrev pub sees_plane : Rows → ℕ → ℕ → Bool
 sees_plane w c x = is_plane w.topology x && sees w c x
 
+-- whether a client sees a connector with this id
 abbrev pub sees_connector : Rows → ℕ → ℕ → Bool
 sees_connector w c x = is_connector w.topology x && sees w c x
 
 -- lists of what is seen, rising by id (own)
 
+-- the CRTCs that a client sees
 abbrev pub visible_crtcs : Rows → ℕ → List ℕ
 visible_crtcs w c = filter (sees w c) (crtc_ids w.topology)
 
+-- the planes that a client sees
 abbrev pub visible_planes : Rows → ℕ → List ℕ
 visible_planes w c = filter (sees w c) (plane_ids w.topology)
 
+-- the connectors that a client sees
 abbrev pub visible_connectors : Rows → ℕ → List ℕ
 visible_connectors w c = filter (sees w c) (connector_ids w.topology)
 

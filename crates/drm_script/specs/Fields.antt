@@ -70,7 +70,7 @@ unfoldable pub fields_at : Layout → Words → Option (List Field)
 fields_at (numbers ws) words = numbers_at ws words
 fields_at ids words = numbers_at (replicate (id_count words) widths.U32) words
 
--- So many fields are room for those of a layout.
+-- `room` is enough for the fields of a layout.
 abbrev pub IsRoomFor : Layout → ℕ → Type 0
 IsRoomFor (numbers ws) room = length ws ≤ room
 IsRoomFor ids room = 32 ≤ room

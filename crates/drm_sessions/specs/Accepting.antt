@@ -5,6 +5,7 @@ use Rattle.drm_frames.specs.Answers.{CallResult}
 use Rattle.drm_sessions.specs.declared.accepted.Accepted.{Accepted}
 use Rattle.drm_sessions.specs.declared.accepted.Accepted.TheVariants as accepted
 
+-- the result of an opening
 abbrev pub outcome_of : Accepted → CallResult
 outcome_of (accepted.Client client) = Ok (Opened client)
 outcome_of (accepted.Denied rule) = Ok (Denied rule)

@@ -36,6 +36,7 @@ pub record ServesAlone {G : Type 0} (passes : G → ℕ → G → Type 0) (class
 
 -- ---- where no memory is wanting, the results are computed from the rows and the frames
 
+-- the result is not that memory was refused
 abbrev pub HasMemory : CallResult → Type 0
 HasMemory (Err NoMemory) = ⊥
 HasMemory _ = ⊤
@@ -49,6 +50,7 @@ abbrev pub asks_after : CallResult → List FrameValue → List Event
 asks_after (Ok (Opened client)) frames = map (asked client) frames
 asks_after _ frames = []
 
+-- the results of a session, computed from the rows
 abbrev pub results_from : Rows → Option Opening → List FrameValue → List CallResult
 results_from w None frames = []
 results_from w (Some opening) frames = results w (Open opening ∷ asks_after (result_of w (Open opening)) frames)

@@ -37,6 +37,7 @@ opening_for Root universal lease = Some (node_or_lease true universal lease)
 opening_for Render universal None = Some RenderNode
 opening_for Render universal (Some token) = None
 
+-- the opening that a hello of a class requests, if there is one
 abbrev pub opening_by : Class → Option Hello → Option Opening
 opening_by class None = None
 opening_by class (Some hello) = opening_for class (hello.version == 1) hello.lease

@@ -15,11 +15,13 @@ InTurn waited [] waits = waits ≡ waited
 InTurn waited (Chunk bytes ∷ more) waits = IsPart waited × (0 < length bytes) × InTurn (waited ++ bytes) more waits
 InTurn waited (Used frame ∷ more) waits = (rest : List ℕ) × (waited ≡ frame_text frame ++ rest) × InTurn rest more waits
 
+-- the bytes of all chunks, in their order
 abbrev pub bytes_taken : List ReadChunk → List ℕ
 bytes_taken [] = []
 bytes_taken (Chunk bytes ∷ more) = bytes ++ bytes_taken more
 bytes_taken (Used frame ∷ more) = bytes_taken more
 
+-- the frames that were used, in their order
 abbrev pub frames_used : List ReadChunk → List FrameValue
 frames_used [] = []
 frames_used (Chunk bytes ∷ more) = frames_used more

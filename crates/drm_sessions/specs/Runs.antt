@@ -15,6 +15,7 @@ pub record RequestReply : Type 0 where
   pub event : Event
   pub outcome : CallResult
 
+-- a call with its result
 abbrev pub request_reply : Event → CallResult → RequestReply
 request_reply event outcome = record { event = event; outcome = outcome }
 
@@ -27,9 +28,11 @@ Runs {A = A} answers old (call ∷ log) new = (mid : A) × answers old call.even
 abbrev pub asked : ℕ → FrameValue → Event
 asked client frame = Ask client (request_of frame)
 
+-- the events of calls, in their order
 abbrev pub events : List RequestReply → List Event
 events log = map (λ call. call.event) log
 
+-- the results of calls, in their order
 abbrev pub outcomes : List RequestReply → List CallResult
 outcomes log = map (λ call. call.outcome) log
 
@@ -42,6 +45,7 @@ abbrev pub one_if_journaled : CallResult → ℕ
 one_if_journaled (Ok answer) = 1
 one_if_journaled (Err apart) = 0
 
+-- the number of results that the journal records
 abbrev pub journaled : List CallResult → ℕ
 journaled [] = 0
 journaled (result ∷ results) = one_if_journaled result + journaled results

@@ -61,10 +61,12 @@ EndsAfter (Ok (Denied rule)) closing later end = EndsRefused (ends.OpenRefused r
 EndsAfter (Err apart) closing later end = EndsRefused (ends.Apart apart) later end
 EndsAfter (Ok _) closing later end = ⊥
 
+-- the end of a session, by the results of its opening and its calls
 abbrev pub EndsAs : List RequestReply → List RequestReply → List ℕ → SessionEnd → Type 0
 EndsAs [] closing later end = EndsUnopened end
 EndsAs (first ∷ asks) closing later end = EndsAfter first.outcome closing later end
 
+-- the opening was accepted
 abbrev pub IsAccepted : CallResult → Type 0
 IsAccepted (Ok (Opened c)) = ⊤
 IsAccepted _ = ⊥

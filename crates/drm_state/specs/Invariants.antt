@@ -95,6 +95,7 @@ pub data Invariant : Type 0 where
   ObjectsCounted : Invariant
   NamesHeld : Invariant
 
+-- the state meets the invariant
 unfoldable pub meets_invariant : Invariant → State → Type 0
 meets_invariant MembersOpen s = AllByRecursion (λ (x : Member). is_open_client s.files x.client ≡ true) s.masters.members
 meets_invariant ClientsHave s = AllByRecursion (HasMaster s.masters) s.files.clients
@@ -109,6 +110,7 @@ meets_invariant HoldsRise s = InOrder (λ (x y : FileHandle). handle_before x y 
 meets_invariant ObjectsCounted s = AreCounted (keys_of s.files.holds) (referring_keys s) s.objects.objects
 meets_invariant NamesHeld s = AreNamed (keys_of s.files.holds) s.names.names
 
+-- the state meets all invariants
 abbrev pub MeetsInvariants : State → Type 0
 MeetsInvariants s = (invariant : Invariant) → meets_invariant invariant s
 

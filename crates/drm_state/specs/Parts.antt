@@ -38,6 +38,7 @@ client_row_by f m = record {
   universal = f.flags.universal;
 }
 
+-- the row of an open client
 abbrev pub client_row_of : List Member → FileClient → ClientRow
 client_row_of members f = client_row_by f (member_of members f.client)
 
@@ -45,6 +46,7 @@ client_row_of members f = client_row_by f (member_of members f.client)
 abbrev pub master_row_of : List LeaseToken → Master → MasterRow
 master_row_of tokens x = record { master = x.step_number; lessor = x.lessor; lessee_id = x.lessee_id; lease_token = token_of tokens x.step_number }
 
+-- the row of a grant
 abbrev pub grant_row_of : Grant → GrantRow
 grant_row_of g = record { master = g.master; mode_object = g.mode_object }
 
@@ -56,6 +58,7 @@ magic_row_of x = option_map (λ (g : Magic). record { master = x.master; number 
 abbrev pub step_number_at : List Object → ℕ → ℕ
 step_number_at objects key = option_map_or (λ (x : Object). x.step_number) (find (is_key key) objects) 0
 
+-- the row of a handle, with the step number of its object
 abbrev pub handle_row_by : FileHandle → ℕ → HandleRow
 handle_row_by x number = record { client = x.client; handle = x.handle; object = number; export_order = x.export_order }
 
@@ -63,9 +66,11 @@ handle_row_by x number = record { client = x.client; handle = x.handle; object =
 abbrev pub handle_row_of : List Object → FileHandle → HandleRow
 handle_row_of objects x = handle_row_by x (step_number_at objects x.object)
 
+-- the row of an object
 abbrev pub object_row_of : Object → ObjectRow
 object_row_of x = record { object = x.step_number; size = x.size; stamp = x.stamp }
 
+-- the row of a name, with the step number of its object
 abbrev pub name_row_by : SharedName → ℕ → NameRow
 name_row_by x number = record { name = x.name; object = number }
 
@@ -73,12 +78,15 @@ name_row_by x number = record { name = x.name; object = number }
 abbrev pub name_row_of : List Object → SharedName → NameRow
 name_row_of objects x = name_row_by x (step_number_at objects x.object)
 
+-- the row of a token, with the step number of its object
 abbrev pub token_row_by : SharedToken → ℕ → TokenRow
 token_row_by x number = record { token = x.token; client = x.client; object = number }
 
+-- the row of a token
 abbrev pub token_row_of : List Object → SharedToken → TokenRow
 token_row_of objects x = token_row_by x (step_number_at objects x.object)
 
+-- the row of a framebuffer, with the step number of its object
 abbrev pub framebuffer_row_by : Framebuffer → ℕ → FramebufferRow
 framebuffer_row_by x number = record {
   framebuffer = x.framebuffer;
@@ -90,39 +98,51 @@ framebuffer_row_by x number = record {
   bpp = x.shape.bpp;
 }
 
+-- the row of a framebuffer
 abbrev pub framebuffer_row_of : List Object → Framebuffer → FramebufferRow
 framebuffer_row_of objects x = framebuffer_row_by x (step_number_at objects x.object)
 
+-- the row of a CRTC or plane that shows a framebuffer
 abbrev pub shown_row_of : Shown → ShownRow
 shown_row_of x = record { engine = x.engine; framebuffer = x.framebuffer }
 
+-- the rows of clients
 abbrev pub clients_of : State → List ClientRow
 clients_of s = map (client_row_of s.masters.members) s.files.clients
 
+-- the rows of masters
 abbrev pub masters_of : State → List MasterRow
 masters_of s = map (master_row_of s.leases.tokens) s.masters.masters
 
+-- the rows of grants
 abbrev pub grants_of : State → List GrantRow
 grants_of s = map grant_row_of s.leases.grants
 
+-- the rows of magics
 abbrev pub magics_of : State → List MagicRow
 magics_of s = filter_map magic_row_of s.masters.members
 
+-- the rows of handles
 abbrev pub holds_of : State → List HandleRow
 holds_of s = map (handle_row_of s.objects.objects) s.files.holds
 
+-- the rows of objects
 abbrev pub objects_of : State → List ObjectRow
 objects_of s = map object_row_of s.objects.objects
 
+-- the rows of names
 abbrev pub names_of : State → List NameRow
 names_of s = map (name_row_of s.objects.objects) s.names.names
 
+-- the rows of tokens
 abbrev pub tokens_of : State → List TokenRow
 tokens_of s = map (token_row_of s.objects.objects) s.tokens.tokens
 
+-- the rows of framebuffers
 abbrev pub framebuffers_of : State → List FramebufferRow
 framebuffers_of s = map (framebuffer_row_of s.objects.objects) s.modes.framebuffers
 
+-- the rows of CRTCs and planes that show something
 abbrev pub shown_of : State → List ShownRow
 shown_of s = map shown_row_of (shown_rows s.modes)
 
@@ -150,6 +170,7 @@ framebuffer_keys framebuffers = map (λ (x : Framebuffer). x.object) framebuffer
 abbrev pub referring : List SharedToken → List Framebuffer → List ℕ
 referring tokens framebuffers = token_keys tokens ++ framebuffer_keys framebuffers
 
+-- the keys that tokens and framebuffers refer to
 abbrev pub referring_keys : State → List ℕ
 referring_keys s = referring s.tokens.tokens s.modes.framebuffers
 

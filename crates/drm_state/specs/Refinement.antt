@@ -82,6 +82,8 @@ unfoldable pub RefinesCall : State → ℕ → ℕ → Call → Result Answer Al
 RefinesCall old step_number c call result new =
     (w : Rows) → RepresentsAt old step_number w → first_failing (admission_checks w c call) ≡ None → IsRefined w (Ask c call) result new
 
+-- the answer is the reply of the definitions, and the state represents the rows after the call, whichever rows it
+-- represents
 unfoldable pub RefinesReply : State → ℕ → Call → Answer → State → Type 0
 RefinesReply old c call answer new =
     (w : Rows) → Represents old w → first_failing (admission_checks w c call) ≡ None → IsRefined w (Ask c call) (Ok answer) new
@@ -93,6 +95,7 @@ MadeBuffer w c size (Ok None) s = (has_buffer_room w c ≡ false) × Represents 
 MadeBuffer w c size (Ok (Some handle)) s = (has_buffer_room w c ≡ true) × (handle ≡ new_handle w c) × Represents s (swept (with_object w c size))
 MadeBuffer w c size (Err e) s = (has_buffer_room w c ≡ true) × Represents s w
 
+-- the state represents the rows after a buffer was created, whichever rows it represents
 unfoldable pub MakesBuffer : State → ℕ → ℕ → ℕ → Result (Option ℕ) AllocError → State → Type 0
 MakesBuffer old step_number c size result new = (w : Rows) → RepresentsAt old step_number w → MadeBuffer w c size result new
 

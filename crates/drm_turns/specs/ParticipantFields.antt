@@ -7,9 +7,11 @@ use Rattle.drm_turns.specs.History.{IsLegal, calls_by}
 use Rattle.drm_turns.specs.History.{AllDiffer}
 use Rattle.drm_turns.specs.Participants.{ParticipantView, Witness}
 
+-- the value of a participant
 abbrev pub participant_view_of : Inside → ParticipantView
 participant_view_of a = let v = a.place.me.0 in record { table = a.place.table_id; number = v.number; parent = v.parent; outstanding = v.outstanding; origin = v.origin; seen = v.seen; mine = v.mine; merged = v.kept; drawn = v.drawn; journaled = v.journaled; found = v.ticket }
 
+-- the facts about a participant's fields
 pub record IsSeated (a : Inside) : Type 0 where
   pub empty : a.place.me.1 ≡ []
   pub idle : a.place.me.0.stage ≡ Idle
@@ -19,9 +21,11 @@ pub record IsSeated (a : Inside) : Type 0 where
   pub apart : AllDiffer (a.place.me.0.number ∷ a.place.me.0.kept)
   pub own : calls_by a.place.me.0.number a.place.me.0.seen ≡ a.place.me.0.mine
 
+-- the value of a note
 abbrev pub witness_of : NoteInside → Witness
 witness_of a = let v = a.place.me.0 in record { table = a.place.table_id; parent = v.parent; origin = v.origin; seen = v.seen }
 
+-- the facts about a note's fields
 pub record IsNoted (a : NoteInside) : Type 0 where
   pub empty : a.place.me.1 ≡ []
   pub idle : a.place.me.0.stage ≡ Idle

@@ -45,6 +45,7 @@ pub record Witness : Type 0 where
   pub origin : DeviceValue
   pub seen : List Entry
 
+-- nothing but what was seen and made differs
 abbrev pub Same : ParticipantView → ParticipantView → Type 0
 Same s t = (t.table ≡ s.table) × (t.number ≡ s.number) × (t.origin ≡ s.origin)
 
@@ -119,6 +120,7 @@ pub record HasSeen (participant other : ParticipantView) : Type 0 where
   pub seen : StartsWith participant.seen other.seen
   pub own : calls_by other.number other.seen ≡ other.mine
 
+-- the numbers of participants
 abbrev pub numbers_of : List ParticipantView → List ℕ
 numbers_of participants = map (λ participant. participant.number) participants
 

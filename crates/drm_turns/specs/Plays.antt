@@ -7,6 +7,7 @@ use Rattle.drm_turns.specs.History.{AllDiffer, IsLegal, StartsWith, calls_by, de
 use Rattle.drm_turns.specs.Views.{counted, found_at, informed, numbered, passed, serving, waiting}
 use Rattle.drm_turns.specs.Rule.{Slot, Sat}
 
+-- a step of a participant
 abbrev pub Play : Type 1
 Play = Step Slot → Sat → ℕ → Sat → Type 0
 
@@ -19,6 +20,7 @@ Reads v seen = StartsWith seen v.seen × StartsWith seen v.told × IsLegal v.ori
 abbrev pub finds : Play
 finds st m r n = (n ≡ (found_at m.0 r, m.1)) × (m.0.number ≡ 1 → m.0.outstanding ≡ 0 → r ≡ m.0.drawn)
 
+-- draws a ticket
 abbrev pub draws : Play
 draws st m r n = (r ≡ st.first → n ≡ (waiting m.0 st.first, m.1)) × (r ≢ st.first → n ≡ m)
 
@@ -26,12 +28,15 @@ draws st m r n = (r ≡ st.first → n ≡ (waiting m.0 st.first, m.1)) × (r �
 abbrev pub IsServed : Sat → Sat → Type 0
 IsServed m n = (seen : List Entry) × (n ≡ (serving m.0 seen, (0, Some (device_at m.0.origin seen)) ∷ m.1)) × Reads m.0 seen
 
+-- looks at the ticket that is served
 abbrev pub looks : Play
 looks st m r n = (r ≡ m.0.ticket → IsServed m n) × (r ≢ m.0.ticket → n ≡ m)
 
+-- counts an entry
 abbrev pub counts : Entry → Play
 counts e st m r n = n ≡ (counted m.0 e, m.1)
 
+-- passes the turn on
 abbrev pub passes : Play
 passes st m r n = n ≡ (passed m.0, rest m.1)
 
@@ -39,11 +44,14 @@ passes st m r n = n ≡ (passed m.0, rest m.1)
 abbrev pub IsNumbered : Sat → Sat → Type 0
 IsNumbered m n = (number : ℕ) × (n ≡ (numbered m.0 number, m.1)) × (number ≢ 0) × (number ≢ m.0.parent) × (m.0.mine ≡ [] → calls_by number m.0.seen ≡ [])
 
+-- sets the number of a new participant
 abbrev pub settles : Play
 settles st m r n = IsNumbered m n
 
+-- the participant has seen the history
 abbrev pub IsInformed : Sat → Sat → Type 0
 IsInformed m n = (seen : List Entry) × (n ≡ (informed m.0 seen, m.1)) × Reads m.0 seen × (m.0.number ≢ 0 → AllDiffer (m.0.number ∷ m.0.kept))
 
+-- reads the history
 abbrev pub learns : Play
 learns st m r n = IsInformed m n

@@ -10,12 +10,15 @@ use Rattle.drm_turns.specs.declared.history.Stage.{Stage}
 use Rattle.drm_turns.specs.declared.history.Stage.TheVariants.{Idle, Waiting, Serving, Spent}
 use Rattle.drm_turns.specs.History.{AllDiffer, Has, IsLegal, StartsWith, calls_by, device_at}
 
+-- the slot of the device
 abbrev pub Slot : Type 0
 Slot = Option DeviceValue
 
+-- the state of the table
 abbrev pub Table : Type 0
 Table = State Slot View
 
+-- a participant's place in the table
 abbrev pub Sat : Type 0
 Sat = Me Slot View
 
@@ -42,6 +45,7 @@ pub record Fits (origin : DeviceValue) (log : List Entry) (id : ℕ) (v : View) 
   pub told : StartsWith log v.told
   pub mine : calls_by (suc id) log ≡ v.mine
 
+-- a participant's view fits the world, at its stage
 abbrev pub Knows : World → ℕ → View → Stage → Type 0
 Knows x id v Idle = Fits x.origin x.log id v
 Knows x id v Waiting = Fits x.origin x.log id v × (x.serving ≤ v.ticket) × (v.ticket < x.next)
@@ -60,6 +64,7 @@ abbrev pub Placed : Bool → World → List (maybe Slot) → List View → Type 
 Placed false x homes views = get_elem? homes 0 ≡ some (some (Some (device_at x.origin x.log)))
 Placed true x homes views = (id : ℕ) × (v : View) × (get_elem? views id ≡ some v) × (v.stage ≡ Serving)
 
+-- each view fits the world
 abbrev pub AllKnow : World → List View → Type 0
 AllKnow x views = (id : ℕ) (v : View) → get_elem? views id ≡ some v → Knows x id v v.stage
 
@@ -76,6 +81,7 @@ abbrev pub TicketsDiffer : List View → Type 0
 TicketsDiffer views = (i j : ℕ) (v w : View) → get_elem? views i ≡ some v → get_elem? views j ≡ some w
     → has_ticket v.stage ≡ true → has_ticket w.stage ≡ true → v.ticket ≡ w.ticket → i ≡ j
 
+-- a number without a view has no entries
 abbrev pub Unborn : List Entry → List View → Type 0
 Unborn log views = (id : ℕ) → length views ≤ id → calls_by (suc id) log ≡ []
 
@@ -103,6 +109,7 @@ pub record Lent (views : List View) : Type 0 where
   pub first : (u : View) → get_elem? views 0 ≡ some u → (u.stage ≡ Spent → ⊥) → u.parent ≡ 0
   pub count : (id : ℕ) (v : View) → get_elem? views id ≡ some v → (v.stage ≡ Spent → ⊥) → length (away id) ≤ v.outstanding
 
+-- the facts about the table
 pub record Orderly (s : Table) : Type 0 where
   pub world : World
   pub words : s.words ≡ length world.log ∷ world.next ∷ world.serving ∷ []

@@ -23,18 +23,23 @@ opening_view origin = record {
   stage = Idle;
 }
 
+-- the view after a number was found in TICKET
 abbrev pub found_at : View → ℕ → View
 found_at v ticket = record v { ticket = ticket; stage = Idle }
 
+-- the view after a ticket was drawn
 abbrev pub waiting : View → ℕ → View
 waiting v ticket = record v { ticket = ticket; stage = Waiting; drawn = v.drawn + 1 }
 
+-- the view after its ticket is served
 abbrev pub serving : View → List Entry → View
 serving v seen = record v { seen = seen; stage = Serving }
 
+-- the view after an entry was counted
 abbrev pub counted : View → Entry → View
 counted v e = record v { seen = v.seen ++ e ∷ []; mine = v.mine ++ e ∷ []; journaled = v.journaled + 1 }
 
+-- the view after the turn was passed on
 abbrev pub passed : View → View
 passed v = record v { stage = Idle }
 
@@ -59,6 +64,7 @@ child v = record {
   stage = Idle;
 }
 
+-- the view with a number
 abbrev pub numbered : View → ℕ → View
 numbered v number = record v { number = number }
 
@@ -67,6 +73,7 @@ numbered v number = record v { number = number }
 abbrev pub outstanding_after : ℕ → ℕ → ℕ → ℕ → ℕ
 outstanding_after number outstanding parent theirs = cond ((parent == number) && (theirs == 0)) (outstanding - 1) outstanding
 
+-- the view after another was merged into it
 abbrev pub told_of : View → View → View
 told_of v w = record v { told = w.seen; kept = v.kept ++ w.number ∷ w.kept; outstanding = outstanding_after v.number v.outstanding w.parent w.outstanding; drawn = v.drawn + w.drawn; journaled = v.journaled + w.journaled }
 
@@ -82,6 +89,7 @@ no_device = record {
   journal = [];
 }
 
+-- the view of a participant that ended
 abbrev pub spent_view : View
 spent_view = record {
   origin = no_device;
@@ -98,6 +106,7 @@ spent_view = record {
   stage = Spent;
 }
 
+-- the view after the history was read
 abbrev pub informed : View → List Entry → View
 informed v seen = record v { seen = seen; told = [] }
 
@@ -109,5 +118,6 @@ grown v more = record v { seen = v.seen ++ more; mine = v.mine ++ more; journale
 abbrev pub IsOwn : View → Type 0
 IsOwn v = IsLegal v.origin v.seen × (calls_by v.number v.seen ≡ v.mine)
 
+-- the view grew by entries, and they are its own
 abbrev pub Grows : View → View → Type 0
 Grows v w = ((more : List Entry) × (w ≡ grown v more)) × IsOwn w
