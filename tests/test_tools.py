@@ -211,6 +211,15 @@ class ToolsTests(FolderCase):
         expect("more tests", several["#[test]"] > whole["#[test]"], True)
         expect("lines that are lost", [line for line in whole - several if not line.startswith("use ")], [])
 
+    def test_examples_with_other_imports_are_listed(self):
+        folder = self.folder
+        tool = examples_in(folder, 40)
+        expect("status", run(tool).returncode, 0)
+        rules = folder / "crates/drm_table/src/rules.rt"
+        text = rules.read_text()
+        rules.write_text(text.replace("use drm_table::Rule;", "use drm_table::{Answer, Rule};", 1))
+        expect_end(run(tool, "--check"), 1, "", "other imports than it uses: drm_table::Rule\n")
+
     def test_error_numbers_are_those_of_this_system(self):
         found = table()["errnos"]
         expect("error numbers", found, {name: getattr(errno, name) for name in found})

@@ -1,4 +1,6 @@
 //! The device: a state machine over openings, requests and closings.
+//!
+//! An example is the body of a function that has the runtime `rt`. If memory is refused, it returns.
 #![tactic(auto)]
 
 mod audits;

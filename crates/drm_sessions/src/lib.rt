@@ -1,4 +1,6 @@
 //! One client's session, from its hello to its closing, over any source, sink and device.
+//!
+//! An example is the body of a function that has the runtime `rt`. If memory is refused, it returns.
 #![tactic(auto)]
 
 mod accepted;

@@ -1,4 +1,6 @@
 //! A device that threads share. Each call is one turn, and the calls of all threads are in one legal history.
+//!
+//! An example is the body of a function that has the runtime `rt`. If memory is refused, it returns.
 #![tactic(auto)]
 
 mod boxed;
