@@ -1,4 +1,4 @@
--- Who is authenticated, by the history alone (drm(7), magics).
+-- The clients that are authenticated, by the history alone (drm(7), magics).
 use Rattle.std.specs.Prelude.{ℕ, ◌==◌, Bool, false, ◌&&◌, ◌||◌, List, [], ◌∷◌, Option, None, Some, if◌then◌else◌}
 use Rattle.drm_model.specs.Rows.{is_option}
 use Rattle.drm_history.specs.History.{AnsweredEvent, next_number}

@@ -1,4 +1,4 @@
--- Who is a master, of which master each client is, and which is the device's, by the history alone (drm(7), masters; drm-uapi,
+-- The masters, the master of each client, and the device's master, by the history alone (drm(7), masters; drm-uapi,
 -- primary nodes, DRM master and authentication). A master is named by the number of the step that made it (own).
 use Rattle.std.specs.Prelude.{ℕ, ◌==◌, Bool, true, false, List, [], ◌∷◌, Option, None, Some, unwrap_or, if◌then◌else◌}
 use Rattle.std.specs.Option.{option_or}

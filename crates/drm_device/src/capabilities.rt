@@ -1,4 +1,4 @@
-//! What the device describes itself.
+//! The version and the capabilities of the device.
 
 ghost use Rattle.std.specs.Prelude.{◌≡◌};
 ghost use Rattle.drm_table.specs.declared.calls.Call.TheVariants.{GetCap};

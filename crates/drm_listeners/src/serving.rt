@@ -273,8 +273,8 @@ pub fn serve_until_told<R: Wait + Threads + Log + Sync>(
     }
 }
 
-/// Serves this many connections of three listeners, as `serve_until_told` does where no client says it (own). It may
-/// wait.
+/// Serves this many connections of three listeners, as [`serve_until_told`] does if `open` is not asked to end (own).
+/// It may wait.
 pub fn serve_all<R: Wait + Threads + Log + Sync>(
     rt: &R,
     alloc: Global,

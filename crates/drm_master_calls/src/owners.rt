@@ -1,4 +1,4 @@
-//! Who is the device's master.
+//! The device's master.
 
 ghost use Rattle.std.specs.Prelude.{◌≡◌, true};
 ghost use Rattle.drm_table.specs.declared.calls.Call.TheVariants.{DropMaster, SetMaster};

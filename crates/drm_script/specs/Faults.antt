@@ -179,7 +179,7 @@ abbrev pub line_places : Words → List Place
 line_places [] = []
 line_places (w ∷ ws) = Place.first_word ∷ places_behind (line_word_of w) ws
 
--- ---- what is reported of a line
+-- ---- the report of a line
 
 -- A byte of the line is at fault: the cause, the byte's column, from 1, and no word.
 pub record IsByteFault (reported : Malformation) (place : ℕ) (m : Malformed) : Type 0 where

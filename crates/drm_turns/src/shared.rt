@@ -168,11 +168,13 @@ impl Sharing for SharedDevice {
 }
 
 impl SharedDevice {
-    /// Sleeps until a turn is passed on, unless one was since this ticket was seen to be served. It may end for no reason.
+    /// Sleeps until a turn is passed on, unless one was since this ticket was seen to be served. It may end for no
+    /// reason.
     ///
-    /// No wake is lost: a call is counted among the sleepers before it sleeps, and a pass changes the served ticket before it
-    /// counts them. So either the pass sees the sleeper, and wakes, or the ticket has changed by then, and the call doesn't
-    /// sleep. Who is woken looks again: it draws, or another has drawn since, whose pass wakes again.
+    /// No wake is lost: a call is counted among the sleepers before it sleeps, and a pass changes the served ticket
+    /// before it counts them. So either the pass sees the sleeper, and wakes, or the ticket has changed by then, and
+    /// the call doesn't sleep. A call that is woken looks again: it draws, or another call has drawn since, which wakes
+    /// it when it passes the turn on.
     fn sleep<R: Wait>(&self, rt: &R, served: u64) {
         self.sleepers.fetch_add(1, Ordering::SeqCst);
         let low = (served % (1 << 32)) as u32;
