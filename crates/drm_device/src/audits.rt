@@ -25,7 +25,7 @@ use drm_modes::Modes;
 use drm_state::State;
 use drm_table::{Answer, AuditKind, AuditPage, AuditRow};
 
-/// How many rows a page has at most.
+/// The most rows of a page.
 const PAGE: usize = 16;
 
 /// Returns a page of rows, with the values before the step of this number (AUDIT, own). Does not allocate and needs no

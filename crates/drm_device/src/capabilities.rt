@@ -9,10 +9,10 @@ ghost use Rattle.drm_state.specs.Refinement.{RefinesReply};
 use drm_state::State;
 use drm_table::{Answer, Rule};
 
-/// Whether there are dumb buffers (drm-uapi, `DRM_CAP_DUMB_BUFFER`).
+/// The capability of dumb buffers (drm-uapi, `DRM_CAP_DUMB_BUFFER`).
 const DUMB_BUFFER: u64 = 0x1;
 
-/// Which directions of PRIME there are (drm-uapi, `DRM_CAP_PRIME`).
+/// The capability of PRIME, by its directions (drm-uapi, `DRM_CAP_PRIME`).
 const PRIME: u64 = 0x5;
 
 /// Returns the version of the interface (VERSION; drm-uapi).

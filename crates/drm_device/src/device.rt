@@ -62,7 +62,7 @@ impl Model for Device {
     ghost invariant = { IsDevice };
 }
 
-/// Why there is no device.
+/// The reason a device was not created.
 ///
 /// # Examples
 ///

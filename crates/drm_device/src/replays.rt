@@ -9,7 +9,7 @@ use drm_modes::Topology;
 use drm_table::{Apart, Event, Limits};
 use std::alloc::Global;
 
-/// Why a replay returns no device.
+/// The reason a replay returns no device.
 ///
 /// # Examples
 ///

@@ -26,10 +26,10 @@ use std::sync::Wait;
 use std::thread;
 use std::thread::{Promise, PromisedHandle, Scope, Threads};
 
-/// How many reads and writes the session of a connection makes at most.
+/// The most reads and writes of a connection's session.
 const MOST_TURNS: u64 = 1_000_000;
 
-/// A listener, and how many connections of which class it accepts.
+/// A listener, its class, and the number of connections that it accepts.
 #[derive(Drop)]
 pub(crate) struct Listener {
     pub(crate) socket: UnixListener,
@@ -44,7 +44,7 @@ pub(crate) struct ServedListener {
     pub(crate) participant: Seat,
 }
 
-/// Why a listener or a connection is not served, and its participant, which took in each that was split off it.
+/// The reason a listener or a connection is not served, and its participant, which took in each that was split off it.
 #[derive(Drop)]
 pub(crate) struct Failed {
     pub(crate) fault: ServeFault,
@@ -58,7 +58,7 @@ struct Started {
     failed: Option<Failed>,
 }
 
-/// That a thread serves a connection of this class through the participant, and returns that back.
+/// The job of a thread: it serves a connection of this class through the participant, and returns the participant.
 #[derive(Drop)]
 pub(crate) struct ConnectionServed {
     class: Class,

@@ -27,7 +27,7 @@ pub(crate) struct KeptListeners {
     pub(crate) fault: Option<ServeFault>,
 }
 
-/// That a thread serves a listener of this class through the participant.
+/// The job of a thread: it serves a listener of this class through the participant.
 #[derive(Drop)]
 struct ListenerKept {
     class: Class,

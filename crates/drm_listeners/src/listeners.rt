@@ -35,7 +35,7 @@ pub(crate) struct FailedListeners {
     pub(crate) participants: ByClass<Seat>,
 }
 
-/// That a thread serves a listener of this class through the participant, with this many connections.
+/// The job of a thread: it serves a listener of this class through the participant, with this many connections.
 #[derive(Drop)]
 struct ListenerServed {
     class: Class,

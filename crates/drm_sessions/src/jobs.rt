@@ -82,14 +82,14 @@ pub struct Finished<S, K> {
     pub participant: Snapshot<Seat>,
 }
 
-/// What a job's thread returns.
+/// The result of a job's thread.
 #[derive(Drop)]
 pub(crate) struct Returned<S, K> {
     pub(crate) finished: Finished<S, K>,
     pub(crate) participant: Seat,
 }
 
-/// That a thread serves the job that it was assigned, through the participant that it was assigned.
+/// The task of a thread: it serves its job through its participant.
 #[derive(Drop)]
 pub(crate) struct JobServed<G, S, K> {
     pub(crate) job: Snapshot<Job<G, S, K>>,

@@ -17,7 +17,7 @@ use drm_frames::AnswerText;
 use drm_streams::{Sink, Source};
 use drm_table::{Answer, Apart, Call, Event};
 
-/// How the requests ended, and how many were recorded.
+/// The end of the requests, and the number of those that were recorded.
 #[derive(Clone, Copy, Debug)]
 pub(crate) struct Stopped {
     pub(crate) end: SessionEnd,

@@ -1,17 +1,17 @@
-//! What happened to a shared device, and what a participant of it knows.
+//! The history of a shared device, and the knowledge of a participant.
 
 use drm_device::Device;
 use drm_table::{Answer, Event};
 use std::collections::LinkedList;
 
-/// One event of a history, as contracts speak of it.
+/// One event of a history, as contracts see it.
 #[derive(Drop)]
 pub struct Entry {
-    /// The number of the participant that made it, or 0 where the device had recorded it before it was shared (own).
+    /// The number of the participant that made it, or 0 if the device had recorded it before it was shared (own).
     pub by: u64,
-    /// What was asked.
+    /// The event.
     pub event: Event,
-    /// What was answered.
+    /// The answer.
     pub answer: Answer,
 }
 
@@ -27,7 +27,7 @@ pub enum Stage {
     Spent,
 }
 
-/// What a participant at the table knows. No value of it is made.
+/// The knowledge of a participant at the table. Only contracts use it.
 pub struct View {
     /// The device when it was shared.
     pub origin: Device,
@@ -35,19 +35,19 @@ pub struct View {
     pub number: u64,
     /// The number of the participant that this one was split from.
     pub parent: u64,
-    /// How many participants and notes that were split off it are not returned to it.
+    /// The number of participants and notes that were split off it and are not returned to it.
     pub outstanding: u64,
     /// The history, as far as it knows it.
     pub seen: LinkedList<Entry>,
     /// The entries that it made.
     pub mine: LinkedList<Entry>,
-    /// What a merged participant or a note had seen.
+    /// The history that a merged participant or a note had seen.
     pub told: LinkedList<Entry>,
     /// The numbers that were merged into it, with those that the merged participants kept.
     pub kept: LinkedList<u64>,
-    /// How many tickets it and those that it kept the numbers of drew.
+    /// The number of tickets that it and those whose numbers it kept drew.
     pub drawn: u64,
-    /// How many entries they made.
+    /// The number of entries that they made.
     pub journaled: u64,
     /// The number last found in the word of the next ticket.
     pub ticket: u64,

@@ -1,4 +1,4 @@
-//! What the rule of the turn says. Nothing calls these functions: the contract of each is a law.
+//! The laws of the rule of the turn. Nothing calls these functions: the contract of each is a law.
 
 ghost use Rattle.std.specs.Prelude.{◌≡◌, ◌≢◌, ◌⊎◌, ℕ, true, Some, List, slice_index};
 ghost use mathlib.Core.Option.{some};

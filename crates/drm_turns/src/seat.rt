@@ -1,4 +1,4 @@
-//! What returns the right to call a shared device.
+//! The rights to call a shared device.
 
 use crate::history::View;
 use crate::turn::Slot;
@@ -37,7 +37,7 @@ impl Model for Seat {
     ghost invariant = { IsSeated };
 }
 
-/// What a participant had seen, for another participant. Does not allocate.
+/// The history that a participant had seen, for another participant. Does not allocate.
 ///
 /// # Examples
 ///

@@ -42,10 +42,10 @@ const SERVING: usize = 2;
 /// is woken (own). All looks take about as long as a sleep and a wake, or as a few turns of others.
 const LOOKS: u32 = 500;
 
-/// How many turns of others a call waits for at most, before it draws a ticket though the device isn't free (own).
+/// The most turns of others that a call waits for, before it draws a ticket though the device isn't free (own).
 const PATIENCE: u32 = 64;
 
-/// No memory for a shared device.
+/// The error that memory for a shared device was refused.
 ///
 /// # Examples
 ///
@@ -103,7 +103,7 @@ pub struct TurnOut;
 /// ```
 pub struct SharedDevice {
     table: Table<Slot, View, Snapshot<Device>, InTurn, Global>,
-    /// How many calls sleep, or are about to.
+    /// The number of calls that sleep, or are about to.
     sleepers: AtomicU64,
 }
 
@@ -129,8 +129,8 @@ impl Model for SharedDevice {
     ghost invariant = { λ shared. (shared.table.shared.table_id.words ≡ 3) × (shared.table.shared.table_id.slots ≡ 1) };
 }
 
-/// What threads share a device by. A function that starts threads takes it as a type parameter, so that what crosses to
-/// a thread is shown by a bound (`Sync`).
+/// A handle of a shared device that threads can share. A function that starts threads takes it as a type parameter, so
+/// that what crosses to a thread is shown by a bound (`Sync`).
 ///
 /// # Examples
 ///
