@@ -6,3 +6,4 @@ pub mod Fields
 pub mod Masks
 pub mod Records
 pub mod Agreed
+pub mod Views

@@ -89,13 +89,13 @@ impl Granted {
         Some(self.leases.get(lessee)?.key)
     }
 
-    /// Returns whether the lease of a lessee has the mode object.
-    pub fn has(&self, lessee: u32, mode_object: u32) -> bool
-        ensures { result ≡ sets.is_granted (grants_in self.now.rows) lessee mode_object }
+    /// Returns a mask of the mode objects in the lease of a lessee. It is 0 if the lessee has no lease.
+    pub fn objects(&self, lessee: u32) -> u64
+        ensures { (x : ℕ) → has_object result x ≡ sets.is_granted (grants_in self.now.rows) lessee x }
     {
         match self.leases.get(lessee) {
-            Some(kept) => masks::has(kept.objects, mode_object),
-            None => false,
+            Some(kept) => kept.objects,
+            None => 0,
         }
     }
 

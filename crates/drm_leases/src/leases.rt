@@ -9,16 +9,19 @@ ghost use Rattle.drm_leases.specs.Calls as calls;
 ghost use Rattle.drm_leases.specs.Masks.{has_object, objects_in, is_empty};
 ghost use Rattle.drm_leases.specs.Rules as rules;
 ghost use Rattle.drm_leases.specs.Agreed.{AreAgreed};
+ghost use Rattle.drm_leases.specs.Views.{AreControlled};
 ghost use Rattle.drm_table.specs.Permit.{first_failing};
 
 use crate::endings::{end_leases, end_leases_below, release_open, release_open_below};
 use crate::faults::LeaseFault;
 use crate::granted::Granted;
 use crate::lists::passing;
+use crate::masks;
 use crate::rows::{Grant, Leased};
 use crate::rules::{are_leasable, are_seen, is_lease, may_lease, planes_along, stand_once};
-use crate::searches::{any_leased_out, controls, has_lease, is_leased_out, nth_grant};
+use crate::searches::{any_leased_out, controlled, has_lease, is_leased_out, nth_grant};
 use crate::tokens::LeaseTokens;
+use crate::views::View;
 use crate::writes::listed_mask;
 use drm_masters::{LesseeFault, MasterKey, Masters, NoMemory};
 use drm_modes::Modes;
@@ -191,13 +194,13 @@ impl Leases {
         ensures { result ≡ option_map_or (λ m. sets.is_granted self.now.grants m mode_object) (sets.lessee_at self.now.lendings master) false }
     {
         match self.granted.lessee(master) {
-            Some(lessee) => self.granted.has(lessee, mode_object),
+            Some(lessee) => masks::has(self.granted.objects(lessee), mode_object),
             None => false,
         }
     }
 
-    /// Returns whether a master controls a mode object (drm-uapi, leases). A master without a lessor controls all, a
-    /// lessee those of its lease. `master` is the number of the step that created it. Does not allocate.
+    /// Returns what a client of a master sees of the fixed mode objects (drm-uapi, leases and universal planes).
+    /// `master` is the number of the step that created it. Does not allocate.
     ///
     /// # Examples
     ///
@@ -213,12 +216,17 @@ impl Leases {
     /// let Ok(_first) = masters.on_open(1, 1) else { return };
     /// let mut leases = Leases::new(alloc, 8);
     /// let Ok(leased) = leases.create(&mut masters, &modes, 1, true, &[1, 3, 7], 2) else { return };
-    /// assert!(rt; leases.controls(&masters, 1, 2) && !leases.controls(&masters, 2, 2));
+    /// let lessee = leases.view(&masters, 2, true);
+    /// assert!(rt; leases.view(&masters, 1, true).sees(&modes, 2) && !lessee.sees(&modes, 2));
     /// ```
-    pub fn controls(&self, masters: &Masters, master: u32, mode_object: u32) -> bool
-        ensures { result ≡ sets.controls self.now.grants masters.now.masters master mode_object }
+    pub fn view(&self, masters: &Masters, master: u32, universal: bool) -> View
+        ensures controlled { AreControlled self.now.grants masters.now.masters master result.controlled }
+        ensures universal { result.universal ≡ universal }
     {
-        controls(&self.granted, masters, master, mode_object)
+        View {
+            controlled: controlled(&self.granted, masters, master),
+            universal,
+        }
     }
 
     /// Returns whether the lease of a direct lessee of the master has a mode object. Does not allocate.

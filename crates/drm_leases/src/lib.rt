@@ -15,8 +15,10 @@ mod rows;
 mod rules;
 mod searches;
 mod tokens;
+mod views;
 mod writes;
 
 pub use faults::LeaseFault;
 pub use leases::Leases;
 pub use rows::{Grant, Leased};
+pub use views::{Controlled, View};

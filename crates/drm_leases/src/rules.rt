@@ -7,9 +7,13 @@ ghost use Rattle.drm_modes.specs.Topology as topology;
 ghost use Rattle.drm_leases.specs.Leases as sets;
 ghost use Rattle.drm_leases.specs.Masks.{grants_in};
 ghost use Rattle.drm_leases.specs.Rules as rules;
+ghost use Rattle.drm_leases.specs.Views.{is_controlled, is_in_view};
+ghost use Rattle.drm_modes.specs.LeaseRules as lease_rules;
+ghost use Rattle.drm_modes.specs.Modes.{has_framebuffer};
 
 use crate::granted::Granted;
-use crate::searches::controls;
+use crate::searches::controlled;
+use crate::views::{Controlled, View};
 use drm_masters::Masters;
 use drm_modes::{Kind, Modes};
 use drm_table::ShownList;
@@ -36,31 +40,18 @@ pub fn are_seen(
 ) -> bool
     ensures { result ≡ list_all (rules.is_seen (grants_in granted.now.rows) masters.now.masters modes.now master universal) ids.now }
 {
-    ids.iter().all(|id| is_seen(granted, masters, modes, master, universal, *id))
+    let view = View {
+        controlled: controlled(granted, masters, master),
+        universal,
+    };
+    ids.iter().all(|id| is_seen(view, modes, *id))
 }
 
-fn is_seen(
-    granted: &Granted,
-    masters: &Masters,
-    modes: &Modes,
-    master: u32,
-    universal: bool,
-    id: u32,
-) -> bool
-    ensures { result ≡ rules.is_seen (grants_in granted.now.rows) masters.now.masters modes.now master universal id }
+/// Returns whether an id is that of a fixed mode object that is in a client's view, or of any client's framebuffer.
+fn is_seen(view: View, modes: &Modes, id: u32) -> bool
+    ensures { result ≡ lease_rules.is_seen modes.now.topology (is_in_view modes.now.topology view id) (has_framebuffer modes.now id) id }
 {
-    (modes.kind(id).is_some()
-        && (modes.is_of_kind(Kind::Encoder, id)
-            || (controls(granted, masters, master, id) && is_shown(modes, universal, id))))
-        || modes.fb(id).is_some()
-}
-
-/// Returns whether a client that controls a mode object sees it: primary and cursor planes only with universal planes
-/// on.
-fn is_shown(modes: &Modes, universal: bool, id: u32) -> bool
-    ensures { result ≡ rules.is_shown modes.now.topology universal id }
-{
-    modes.crtc_of_plane(id).is_none() || universal
+    (modes.kind(id).is_some() && view.sees(modes, id)) || modes.fb(id).is_some()
 }
 
 /// Returns the planes that are added to a lease. With universal planes off, these are the primary and the cursor plane
@@ -79,17 +70,17 @@ pub fn planes_along(
         return ShownList::new();
     }
     let planes = modes.planes_of(ids);
-    controlled(granted, masters, master, planes.ids())
+    passing_planes(controlled(granted, masters, master), planes.ids())
 }
 
-/// Returns the planes that a master controls.
-fn controlled(granted: &Granted, masters: &Masters, master: u32, planes: &[u32]) -> ShownList
+/// Returns the planes that are controlled.
+fn passing_planes(controlled: Controlled, planes: &[u32]) -> ShownList
     requires { length planes.now ≤ 64 }
-    ensures { result ≡ filter (sets.controls (grants_in granted.now.rows) masters.now.masters master) planes.now }
+    ensures { result ≡ filter (is_controlled controlled) planes.now }
 {
     let mut list = ShownList::new();
     for plane in planes {
-        if controls(granted, masters, master, *plane) {
+        if controlled.has(*plane) {
             list.push(*plane);
         }
     }

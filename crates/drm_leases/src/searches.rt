@@ -7,18 +7,22 @@ ghost use Rattle.drm_masters.specs.Masters as masters_sets;
 ghost use Rattle.drm_leases.specs.Leases as sets;
 ghost use Rattle.drm_leases.specs.Agreed.{IsAgreed};
 ghost use Rattle.drm_leases.specs.Masks.{grants_in, lendings_in};
+ghost use Rattle.drm_leases.specs.Views.{AreControlled};
 
 use crate::granted::Granted;
 use crate::masks;
 use crate::rows::Grant;
+use crate::views::Controlled;
 use drm_masters::Masters;
 
-/// Returns whether a master controls a mode object. A master without a lessor controls all, a lessee those of its
-/// lease.
-pub fn controls(granted: &Granted, masters: &Masters, master: u32, mode_object: u32) -> bool
-    ensures { result ≡ sets.controls (grants_in granted.now.rows) masters.now.masters master mode_object }
+/// Returns the mode objects that a master controls. A master without a lessor controls all, a lessee those of its lease.
+pub fn controlled(granted: &Granted, masters: &Masters, master: u32) -> Controlled
+    ensures { AreControlled (grants_in granted.now.rows) masters.now.masters master result }
 {
-    lessor_of(masters, master).is_none() || granted.has(master, mode_object)
+    if lessor_of(masters, master).is_none() {
+        return Controlled::All;
+    }
+    Controlled::Lease(granted.objects(master))
 }
 
 /// Returns whether one of the mode objects is in the lease of a direct lessee of the master.

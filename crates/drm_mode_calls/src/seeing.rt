@@ -1,36 +1,28 @@
 //! What a caller sees of the fixed mode objects.
 
-ghost use Rattle.std.specs.Prelude.{◌≡◌};
+ghost use Rattle.std.specs.Prelude.{◌≡◌, ◌≤◌, ℕ, filter, length};
+ghost use Rattle.drm_leases.specs.Views.{is_in_view};
 ghost use Rattle.drm_modes.specs.Topology.{mask_over};
 ghost use Rattle.drm_modes.specs.declared.kinds.Kind.TheVariants.{Crtc};
 ghost use Rattle.drm_state.specs.Seeing as views;
 
-use drm_modes::Kind;
+use drm_leases::View;
+use drm_modes::{Kind, Modes};
 use drm_state::{PrimaryCaller, State};
 use drm_table::ShownList;
 
-/// Returns whether a caller sees a fixed mode object (drm-uapi, leases and universal planes). All callers see an
-/// encoder. Of the rest a caller sees what it controls, but primary and cursor planes only with universal planes on.
-/// Does not allocate.
+/// Returns what a caller sees of the fixed mode objects. Does not allocate.
+fn view(state: &State, caller: PrimaryCaller) -> View
+    ensures { (x : ℕ) → is_in_view state.now.modes.topology result x ≡ views.sees state.now caller x }
+{
+    state.leases.view(&state.masters, caller.member.master, caller.flags.universal)
+}
+
+/// Returns whether a caller sees a fixed mode object (drm-uapi, leases and universal planes). Does not allocate.
 pub(crate) fn sees(state: &State, caller: PrimaryCaller, id: u32) -> bool
     ensures { result ≡ views.sees state.now caller id }
 {
-    if state.modes.is_of_kind(Kind::Encoder, id) {
-        return true;
-    }
-    if !controls(state, caller, id) {
-        return false;
-    }
-    state.modes.crtc_of_plane(id).is_none() || caller.flags.universal
-}
-
-/// Returns whether a caller's master controls a fixed mode object.
-fn controls(state: &State, caller: PrimaryCaller, id: u32) -> bool
-    ensures { result ≡ views.controls state.now caller id }
-{
-    state
-        .leases
-        .controls(&state.masters, caller.member.master, id)
+    view(state, caller).sees(&state.modes, id)
 }
 
 /// Returns whether an id is that of an object of a kind that the caller sees. Does not allocate.
@@ -40,19 +32,28 @@ pub(crate) fn sees_object(state: &State, caller: PrimaryCaller, kind: Kind, id: 
     state.modes.is_of_kind(kind, id) && sees(state, caller, id)
 }
 
-/// Returns the objects of a kind that a caller sees, rising (drm-uapi, leases; that they rise is own). Does not
-/// allocate.
-pub(crate) fn visible(state: &State, caller: PrimaryCaller, kind: Kind) -> ShownList
-    ensures { result ≡ views.visible state.now caller kind }
+/// Returns those of these objects that are in a view, in order. Does not allocate.
+fn in_view(view: View, modes: &Modes, ids: &[u32]) -> ShownList
+    requires { length ids.now ≤ 64 }
+    ensures { result ≡ filter (is_in_view modes.now.topology view) ids.now }
 {
-    let ids = state.modes.ids(kind);
     let mut seen = ShownList::new();
-    for id in ids.ids() {
-        if sees(state, caller, *id) {
+    for id in ids {
+        if view.sees(modes, *id) {
             seen.push(*id);
         }
     }
     seen
+}
+
+/// Returns the objects of a kind that a caller sees, rising (drm-uapi, leases; that they rise is own). Does not
+/// allocate.
+#[tactic(auto, using(std::proofs::lemmas::List::Elements::filter_agree))]
+pub(crate) fn visible(state: &State, caller: PrimaryCaller, kind: Kind) -> ShownList
+    ensures { result ≡ views.visible state.now caller kind }
+{
+    let ids = state.modes.ids(kind);
+    in_view(view(state, caller), &state.modes, ids.ids())
 }
 
 /// Returns the possible CRTCs of a plane or an encoder among those that the caller sees, as a mask. Bit i is the i-th

@@ -1,6 +1,6 @@
 //! The surface of `drm_leases`.
 
-use drm_leases::{Grant, LeaseFault, Leased, Leases};
+use drm_leases::{Controlled, Grant, LeaseFault, Leased, Leases, View};
 use drm_masters::{MasterKey, Masters};
 use drm_modes::Modes;
 use drm_table::{Rule, ShownList};
@@ -28,6 +28,9 @@ pub fn calls() {
     let _redeem: fn(&mut Leases, u32) -> Option<MasterKey> = Leases::redeem;
     let _last_given: fn(&Leases) -> Option<u32> = Leases::last_given;
     let _nth: fn(&Leases, u32, usize) -> Option<Grant> = Leases::nth;
+    let _view: fn(&Leases, &Masters, u32, bool) -> View = Leases::view;
+    let _sees: fn(View, &Modes, u32) -> bool = View::sees;
+    let _has: fn(Controlled, u32) -> bool = Controlled::has;
 }
 
 /// A lease that was created.

@@ -1,6 +1,6 @@
 //! The examples of `drm_leases`, made by `tools/doc_examples` of its doc comments.
 
-use drm_leases::{Grant, LeaseFault, Leased, Leases};
+use drm_leases::{Controlled, Grant, LeaseFault, Leased, Leases, View};
 use drm_masters::Masters;
 use drm_modes::{Modes, Topology};
 use drm_table::Rule;
@@ -55,7 +55,8 @@ fn leases(rt: HostRuntime) {
     assert!(rt; Leases::new(alloc, 8).last_given().is_none());
     assert!(rt; leased.id == 1 && leased.token == 1);
     assert!(rt; leases.holds(leased.m, 1) && !leases.holds(leased.m, 2));
-    assert!(rt; leases.controls(&masters, 1, 2) && !leases.controls(&masters, 2, 2));
+    let lessee = leases.view(&masters, 2, true);
+    assert!(rt; leases.view(&masters, 1, true).sees(&modes, 2) && !lessee.sees(&modes, 2));
     let Some(owner) = masters.master(1) else {
         panic!(rt; "refused")
     };
@@ -77,4 +78,29 @@ fn leases(rt: HostRuntime) {
     assert!(rt; leases.last_given() == Some(leased.token));
     assert!(rt; leases.nth(7, 0) == leases.nth_grant(0) && leases.nth(2, 0).is_none());
     assert!(rt; leases.nth_grant(0).is_none());
+}
+
+#[test]
+fn controlled_views(rt: HostRuntime) {
+    assert!(rt; Controlled::Lease(0b101).has(3) && !Controlled::Lease(0b101).has(2));
+    assert!(rt; Controlled::All.has(7));
+}
+
+#[test]
+fn view(rt: HostRuntime) {
+    let alloc = rt.alloc();
+    let Some(topology) = Topology::new(1, &[1], &[1], &[3]) else {
+        panic!(rt; "refused")
+    };
+    let modes = Modes::new(alloc, topology, 4);
+    let view = View {
+        controlled: Controlled::Lease(0b1),
+        universal: true,
+    };
+    assert!(rt; view.sees(&modes, 1) && !view.sees(&modes, 2));
+    let view = View {
+        controlled: Controlled::All,
+        universal: false,
+    };
+    assert!(rt; view.sees(&modes, 1) && !view.sees(&modes, 2));
 }
