@@ -309,6 +309,19 @@ class ToolsTests(FolderCase):
             lines = int(re.search(r"(\d+) lines", ran.stdout.splitlines()[-1])[1])
             expect(f"lines of definitions of {promise}", f"{lines:,}", counted)
 
+    def test_definitions_are_counted_in_the_page(self):
+        """In a copy whose page has another number, --update writes the page again."""
+        for name in ("tools", "crates"):
+            shutil.copytree(REPOSITORY / name, self.folder / name, ignore=shutil.ignore_patterns("out", "proofs"))
+        page = (REPOSITORY / "docs/PROMISES.md").read_text()
+        copy = self.folder / "docs/PROMISES.md"
+        copy.parent.mkdir()
+        copy.write_text(re.sub(r"(\| `drm_sessions::serve` \| )[\d,]+ \|", r"\g<1>7 |", page))
+        expect_end(run(self.folder / "tools/trusted", "--update"), 0, "", "")
+        expect("whether the page is as before", copy.read_text() == page, True)
+        for words in ((), ("--update", "drm_sessions::serve")):
+            expect(f"status of trusted {words}", run(self.folder / "tools/trusted", *words).returncode, 2)
+
     def test_promise_that_is_none(self):
         name = "drm_device::Device::leap"
         expect_end(
