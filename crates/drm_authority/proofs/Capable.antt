@@ -118,6 +118,7 @@ closed : (past : List AnsweredEvent) (w : Rows) (c : ℕ) → CapablesTold past 
 unfolding is_universal_in effect answer_of
 closed past w c a = clients_after w (CapableTold past) (Close c) (CapableTold past) (λ row h. h) tt a
 
+-- If the history says which clients have universal planes on, that is still so after an accepted event.
 pub capables_carried : (past : List AnsweredEvent) (w : Rows) (event : Event) → IsReached past w → CapablesTold past w → CapablesTold (carried w event ∷ past) (journaled (swept (changed w event)))
 capables_carried past w (Open (Primary root universal)) r a = opened_primary past w r root universal a
 capables_carried past w (Open Render) r a = opened_render past w r a
@@ -125,12 +126,13 @@ capables_carried past w (Open (Lease token root universal)) r a = opened_lease p
 capables_carried past w (Ask c call) r a = asked past w c call a
 capables_carried past w (Close c) r a = closed past w c a
 
+-- If the history says which clients have universal planes on, that is still so after a denial.
 pub capables_denied : (past : List AnsweredEvent) (w : Rows) (event : Event) (rule : Rule) → CapablesTold past w → CapablesTold (denied event rule ∷ past) (journaled w)
 unfolding is_universal_in
 capables_denied past w event rule a =
     all_weaker (CapableTold past) (CapableTold (denied event rule ∷ past)) (λ row h. h ∙ sym (ap (λ d. universal_by d (next_number past) row.client (is_universal_in past row.client)) (denied_nothing event rule))) w.clients a
 
--- what the history says of an open client
+-- An open client has universal planes on exactly if the history says so.
 pub capable_told : (past : List AnsweredEvent) (w : Rows) → CapablesTold past w → (c : ℕ) → is_open w c ≡ true → has_universal w c ≡ is_universal_in past c
 capable_told past w a c opened = by (client_row w c) refl opened
   where
@@ -173,6 +175,7 @@ accepted : (t : Topology) (w : Rows) (c : ℕ) (call : Call) (v : Option Rule) �
 accepted t w c call (Some rule) e f h = absurd (let n : false ≡ true = h in cc)
 accepted t w c call None e f h = f e
 
+-- A client with universal planes off gets no answer that names a primary or cursor plane.
 pub keeps_to_overlays : (past : List AnsweredEvent) (w : Rows) (event : Event) → CapablesTold past w → KeepsToOverlays w.topology (replied w event) past
 unfolding reply
 keeps_to_overlays past w (Open opening) a = tt

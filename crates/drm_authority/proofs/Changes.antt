@@ -23,12 +23,13 @@ use Rattle.drm_model.proofs.Changes.{client_stays, client_after, new_client_row,
 abbrev pub ForClient : (ClientRow → Type 0) → Rows → Event → Type 0
 ForClient R w event = IfSome (new_client_row w event) R
 
--- before the sweep
+-- All clients have a property after an event, before the sweep, if those that stay and the new one have it.
 pub changed-all : (w : Rows) (R : ClientRow → Type 0) (event : Event) → AllByRecursion (λ row. R (client_after w event row)) w.clients → ForClient R w event → AllByRecursion R (changed w event).clients
 changed-all w R event h new =
     subst (AllByRecursion R) (sym (ap (λ (v : Rows). v.clients) (each_edits w event)))
     (all_edited (client_stays w event) (client_after w event) (listed (new_client_row w event)) w.clients (λ row. R (client_after w event row)) R (λ row k _. k) (all_listed R (new_client_row w event) new) h)
 
+-- All clients have a property after an accepted event, if those that stay and the new one have it.
 pub clients_after : (w : Rows) (R : ClientRow → Type 0) (event : Event) (Q : ClientRow → Type 0) → ((row : ClientRow) → Q row → R (client_after w event row)) → ForClient R w event →
     AllByRecursion Q w.clients → AllByRecursion R (journaled (swept (changed w event))).clients
 unfolding swept
@@ -57,13 +58,14 @@ module _ (w : Rows) (Q R : MasterRow → Type 0) (stays : (row : MasterRow) → 
   new_one (Ask c call) new = tt
   new_one (Close c) new = tt
 
-  -- before the sweep
+  -- All masters have a property after an event, before the sweep, if those that stay and the new one have it.
   pub masters_changed : (event : Event) → AllByRecursion Q w.masters → ForMaster R w event → AllByRecursion R (changed w event).masters
   masters_changed event h new =
       subst (AllByRecursion R) (sym (ap (λ (v : Rows). v.masters) (each_edits w event)))
       (all_edited (λ row. true) (master_after w event) (listed (new_master_row w event)) w.masters Q R (λ row k _. either R (spends_token w event row) (record row { lease_token = None }) row (untokened row k) (stays row k))
       (all_listed R (new_master_row w event) (new_one event new)) h)
 
+  -- All masters have a property after an accepted event, if those that stay and the new one have it.
   pub masters_after : (event : Event) → AllByRecursion Q w.masters → ForMaster R w event → AllByRecursion R (journaled (swept (changed w event))).masters
   unfolding swept
   masters_after event h new = all_filter R (λ row. is_living (changed w event) row.master) (changed w event).masters (masters_changed event h new)
@@ -104,6 +106,7 @@ module _ (w : Rows) (Q R : MagicRow → Type 0) (spends : (row : MagicRow) → R
   spent_or_not (Open opening) row k = k
   spent_or_not (Close c) row k = k
 
+  -- All magics have a property after an accepted event, if those that stay and the new one have it.
   pub magics_after : (event : Event) → ((row : MagicRow) → Q row → LeftBy w event row → R row) → ForMagic R w event → AllByRecursion Q w.magics → AllByRecursion R (journaled (swept (changed w event))).magics
   unfolding swept
   magics_after event stays new h =

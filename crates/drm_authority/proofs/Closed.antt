@@ -50,7 +50,7 @@ closed-absent : (w : Rows) (c : ℕ) → IsAbsent c (changed w (Close c))
 unfolding changed closed
 closed-absent w c = none_left (is_client c) (is_client c) (λ row e. e) w.clients
 
--- a client that is open is of a step that was made
+-- An open client is of a step that was made.
 pub open_old : (w : Rows) (c : ℕ) → AllByRecursion (λ (row : ClientRow). row.client ≤ w.steps) w.clients → is_open w c ≡ true → c ≤ w.steps
 open_old w c old h =
     let it = some_passing (is_client c) (λ (row : ClientRow). row.client ≤ w.steps) w.clients old (sym (is_some-find (is_client c) w.clients) ∙ h) in
@@ -122,6 +122,7 @@ stays_closed : (past : List AnsweredEvent) (w : Rows) (event : Event) → AreGon
 unfolding reply
 stays_closed past w event gone c h e = refused w event (verdict w event) (λ v. not_carried w event c (gone c h).1 e v)
 
+-- In any history no event of a client is carried out after its accepted closing.
 pub closings_are_for_good : (h : DeviceValue) → ClosingsAreForGood (history_of h)
 unfolding has_closed
 closings_are_for_good h = at_each_step AreGone keeps_gone StaysClosed (λ past w event r gone. stays_closed past w event gone) h (λ c k. absurd (let e : false ≡ true = k in cc))

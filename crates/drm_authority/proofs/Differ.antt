@@ -19,7 +19,8 @@ use Rattle.drm_authority.proofs.Tokens.{TokenTold}
 use Rattle.drm_authority.proofs.Lessors.{IdTold}
 use Rattle.drm_authority.proofs.Few.{AreApart}
 
--- what two rows in an order have between them, where each is so
+-- If all items have a property, a relation between them in order may be replaced by one that follows with the
+-- property.
 pub in_order_so : {X : Type 0} (P : X → Type 0) (R S : X → X → Type 0) → ((x y : X) → P x → P y → R x y → S x y) → (xs : List X) → AllByRecursion P xs → InOrder R xs → InOrder S xs
 in_order_so P R S f [] p r = tt
 in_order_so P R S f (x ∷ xs) p r = (all_both P (R x) (S x) (λ y py ry. f x y p.0 py ry) xs p.1 r.0, in_order_so P R S f xs p.1 r.1)
@@ -31,6 +32,7 @@ abbrev pub IsOlder : MasterRow → MasterRow → Type 0
 IsOlder x y = x.master < y.master
 
 module _ (past : List AnsweredEvent) where
+  -- Two masters with the history's lease tokens have different ones.
   pub other_token : (x y : MasterRow) → TokenTold past x → TokenTold past y → IsOlder x y → HasOtherToken x y
   other_token x y h k less = by x.lease_token y.lease_token h k
     where
@@ -46,6 +48,7 @@ module _ (past : List AnsweredEvent) where
   of_some None P e h = absurd (let n : false ≡ true = e in cc)
   of_some (Some m) P e h = h
 
+  -- Two lessees below one owner, with the history's ids, have different ones.
   pub other_id : (masters : List MasterRow) (x y : MasterRow) → IdOwned masters x → IdOwned masters y → IsOlder x y → HasOtherId masters x y
   other_id masters x y h k less = by x.lessor h.0
     where
@@ -62,6 +65,7 @@ module _ (past : List AnsweredEvent) where
       by None told = tt
       by (Some m) told = false_from_ne_true (is_lessee_of masters (owner_of masters x.master) x.lessee_id y) (same told)
 
+  -- Two magics of different clients, as the history has them, differ in master or number.
   pub other_magic : (x y : MagicRow) → magic_in past x.master x.number ≡ Some x.client → magic_in past y.master y.number ≡ Some y.client → AreApart x y → IsOtherMagic x y
   other_magic x y h k apart =
       false_from_ne_true ((x.master == y.master) && (x.number == y.number))

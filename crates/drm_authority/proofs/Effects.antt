@@ -7,6 +7,7 @@ use Rattle.drm_table.specs.declared.rules.Rule.{Rule}
 use Rattle.drm_authority.specs.Effects.{Nothing, effect}
 use Rattle.drm_authority.proofs.Runs.{denied}
 
+-- A denied event has no effect.
 pub denied_nothing : (event : Event) (rule : Rule) → effect (denied event rule) ≡ Nothing
 unfolding effect
 denied_nothing (Open opening) rule = refl

@@ -18,15 +18,19 @@ use Rattle.drm_authority.specs.Lessees.{lessor_by, lessor_in, top_in, is_under_i
 abbrev pub UpTo : ℕ → Option ℕ → Type 0
 UpTo last o = (m : ℕ) → o ≡ Some m → m ≤ last
 
+-- No number is past the last, if there is none.
 pub none_up : (last : ℕ) → UpTo last None
 none_up last m e = absurd (let n : None ≡ Some m = e in cc)
 
+-- A number is up to the last if it is at most that.
 pub some_up : (last n : ℕ) → n ≤ last → UpTo last (Some n)
 some_up last n h m e = let same : n ≡ m = (let s : Some n ≡ Some m = e in cc) in omega (arith, h, same)
 
+-- What is up to the last step is up to the next one.
 pub later_up : (last : ℕ) (o : Option ℕ) → UpTo last o → UpTo (last + 1) o
 later_up last o h m e = let old = h m e in omega (arith, old)
 
+-- A choice between two options is up to the last if both are.
 pub if_up : (last : ℕ) (b : Bool) (x y : Option ℕ) → UpTo last x → UpTo last y → UpTo last (if b then x else y)
 if_up last true x y h k = h
 if_up last false x y h k = k
@@ -42,6 +46,7 @@ leased_up (Leases c ids lessee answered) token number older h = if_up number (an
 leased_up Nothing token number older h = h
 leased_up _ token number older h = h
 
+-- The lessee of a lease token is of a step that was made.
 pub lease_up : (past : List AnsweredEvent) (token : ℕ) → UpTo (length past) (lease_in past token)
 unfolding lease_in
 lease_up [] token m e = none_up 0 m e
@@ -89,6 +94,7 @@ master_state_up (step ∷ past) =
     let up = transition_up (effect step) (next_number past) (lease_in past) (master_state past) (λ token. later_up (length past) (lease_in past token) (lease_up past token)) (later_stands (length past) (master_state past) (master_state_up past)) in
     record { owner = λ m e. let le = up.owner m e in omega (arith, le); master = λ c m e. let le = up.master c m e in omega (arith, le) }
 
+-- The master of a client is of a step that was made.
 pub master_up : (past : List AnsweredEvent) (c : ℕ) → UpTo (length past) ((master_state past).master c)
 master_up past c = (master_state_up past).master c
 
@@ -99,7 +105,7 @@ lessor_by_up (Leases c ids lessee token) past = master_up past c
 lessor_by_up Nothing past = none_up (length past)
 lessor_by_up _ past = none_up (length past)
 
--- what is above a master is older
+-- By the history a lessor is older than its lessee.
 pub lessor_falls : (past : List AnsweredEvent) → IsFalling (lessor_in past)
 unfolding lessor_in
 lessor_falls [] n m e = absurd (let no_more : None ≡ Some m = e in cc)
@@ -109,7 +115,7 @@ lessor_falls (step ∷ past) n m e =
       | false ↦ λ is k. lessor_falls past n m k
     ]) refl e
 
--- a master with a lessor is of a step that was made
+-- By the history a master with a lessor is of a step that was made.
 pub lessee_born : (past : List AnsweredEvent) (n m : ℕ) → lessor_in past n ≡ Some m → n ≤ length past
 unfolding lessor_in
 lessee_born [] n m e = absurd (let no_more : None ≡ Some m = e in cc)
@@ -119,7 +125,7 @@ lessee_born (step ∷ past) n m e =
       | false ↦ λ is k. let old = lessee_born past n m k in omega (arith, old)
     ]) refl e
 
--- one more step leaves the lessors of those before
+-- One more step leaves the lessor of each earlier master.
 pub lessor_still : (step : AnsweredEvent) (past : List AnsweredEvent) (m : ℕ) → m ≤ length past → lessor_in (step ∷ past) m ≡ lessor_in past m
 unfolding lessor_in
 lessor_still step past m old = ap (λ b. if b then lessor_by (effect step) (master_state past) else lessor_in past m) (less-differ m (next_number past) (omega (arith, old)))
@@ -128,8 +134,10 @@ chain_still : (step : AnsweredEvent) (past : List AnsweredEvent) (s m : ℕ) →
 chain_still step past s m old =
     same_chain (λ n. n ≤ length past) (lessor_in past) (lessor_in (step ∷ past)) (λ n k. lessor_still step past n k) (λ n l k e. let lt = lessor_falls past n l e in omega (arith, lt, k)) s m old
 
+-- One more step leaves the top of each earlier master's chain.
 pub top_still : (step : AnsweredEvent) (past : List AnsweredEvent) (m : ℕ) → m ≤ length past → top_in (step ∷ past) m ≡ top_in past m
 top_still step past m old = ap (last_of m) (chain_still step past m m old)
 
+-- One more step leaves which masters an earlier master is under.
 pub under_still : (step : AnsweredEvent) (past : List AnsweredEvent) (top m : ℕ) → m ≤ length past → is_under_in (step ∷ past) top m ≡ is_under_in past top m
 under_still step past top m old = ap (λ chain. is_among chain top) (chain_still step past m m old)

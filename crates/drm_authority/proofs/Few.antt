@@ -74,7 +74,7 @@ module _ (w : Rows) (fit : MagicsFit w) (c : ℕ) (opened : is_open w c ≡ true
       let same = length-map (filter (λ (row : MagicRow). row.master == m) w.magics) (λ (row : MagicRow). row.number) in
       omega (arith, few, fits, fewer, same)
 
-  -- a magic of any master is free
+  -- If an open client has no magic, a magic of each master is free.
   pub magic_free : (m : ℕ) → is_some (free_magic w m) ≡ true
   magic_free m = by (free_magic w m) refl
     where

@@ -52,38 +52,48 @@ lending h = at_all_times (Lending h.topology) (keeps_lending h.topology) h (lend
 descended : (h : DeviceValue) → Descended (history_of h) (rows_of h)
 descended h = (lending h).0
 
+-- In the rows of any history the device's master is the one that the history says.
 pub owner_follows : (h : DeviceValue) → OwnerFollows (rows_of h) (history_of h)
 owner_follows h = (descended h).0.0.1.owner
 
+-- Each open client is a master exactly if the history says so, and has the master that it says.
 pub clients_follow : (h : DeviceValue) → ClientsFollow (rows_of h) (history_of h)
 clients_follow h c opened = let it = open_stands (history_of h) (rows_of h) (descended h).0.0.1 c opened in record { is_master = it.0; master = it.1 }
 
+-- Each open lease token is that of the last MODE_CREATE_LEASE that answered it.
 pub lease_tokens_follow : (h : DeviceValue) → LeaseTokensFollow (rows_of h) (history_of h)
 lease_tokens_follow h = (descended h).0.0.0
 
+-- Each master has the lessor that the history says.
 pub lessors_follow : (h : DeviceValue) → LessorsFollow (rows_of h) (history_of h)
 lessors_follow h = (descended h).1
 
+-- The owner of each master is the top of its chain of lessors by the history.
 pub owners_follow : (h : DeviceValue) → OwnersFollow (rows_of h) (history_of h)
 owners_follow h =
     let p = descended h in
     let w = rows_of h in
     all_weaker (λ (row : MasterRow). is_there w.masters row.master ≡ true) (λ (row : MasterRow). owner_of w.masters row.master ≡ top_in (history_of h) row.master) (λ row there. owner_same (history_of h) w p.1 p.0.1 row.master there) w.masters (row_there w.masters)
 
+-- Each lessee's id is that of the last MODE_CREATE_LEASE that answered it below the same owner.
 pub lessees_follow : (h : DeviceValue) → LesseesFollow (rows_of h) (history_of h)
 lessees_follow h = (descended h).2
 
+-- A lease has exactly the mode objects that the history says.
 pub grants_follow : (h : DeviceValue) → GrantsFollow h.topology (rows_of h) (history_of h)
 grants_follow h = (lending h).1
 
+-- In any history a client whose lease ended is answered nothing of CRTCs, connectors and planes.
 pub ended_lessees_see_nothing : (h : DeviceValue) → EndedLesseesSeeNothing (history_of h)
 ended_lessees_see_nothing h = at_each_step (Lending h.topology) (keeps_lending h.topology) KeepsSeeingNothing (λ past w event r p. keeps_seeing_nothing h.topology past w event p) h (lending_start h)
 
 -- ---- of capabilities
 
+-- An open client has universal planes on exactly if the history says so.
 pub capabilities_follow : (h : DeviceValue) → CapabilitiesFollow (rows_of h) (history_of h)
 capabilities_follow h c opened = capable_told (history_of h) (rows_of h) (lending h).2 c opened
 
+-- In any history a client with universal planes off is answered nothing of primary and cursor planes.
 pub overlays_alone : (h : DeviceValue) → OverlaysAlone h.topology (history_of h)
 overlays_alone h =
     at_each_step (Lending h.topology) (keeps_lending h.topology) (KeepsToOverlays h.topology)
@@ -106,9 +116,11 @@ authentic h =
     (λ past w event r v p. let stands = p.0.0.0.0.1 in (lending_carried h.topology past w event r v p.0, magical_carried past w event r v stands p.1, auths_carried past w r stands p.1 event v p.2)))
     h (authentic_start h)
 
+-- Each magic is that of the last GET_MAGIC that answered its number under its master.
 pub magics_follow : (h : DeviceValue) → MagicsFollow (rows_of h) (history_of h)
 magics_follow h = all_weaker (MagicTold (history_of h)) (λ (row : MagicRow). magic_in (history_of h) row.master row.number ≡ Some row.client) (λ row told. told.0) (rows_of h).magics (authentic h).1.1
 
+-- An open client is authenticated exactly if the history says so.
 pub authentication_follows : (h : DeviceValue) → AuthenticationFollows (rows_of h) (history_of h)
 authentication_follows h c opened = by (client_row (rows_of h) c) refl opened
   where
@@ -138,7 +150,7 @@ authority_follows h = record {
   overlays = overlays_alone h;
 }
 
--- whatever was answered
+-- Whatever a device answers to events, its rows follow from the history of its answers.
 pub authority_of_answers : (topology : Topology) (limits : Limits) (events : List Event) (results : List (Result Answer Apart)) (v : Rows) → Answers (empty_rows topology limits) events results v → AuthorityFollows topology v (with_journaled [] events results)
 unfolding rows_of
 authority_of_answers topology limits events results v k =

@@ -277,8 +277,10 @@ topology_stays w event v = ap (λ o. (after_verdict o w event).topology) (sym v)
 abbrev pub Lending : Topology → List AnsweredEvent → Rows → Type 0
 Lending t past w = Descended past w × GrantsTold t past w × CapablesTold past w × (w.topology ≡ t)
 
+-- If the history says what each lease has, that is still so after a denial.
 pub lending_denied : (t : Topology) (past : List AnsweredEvent) (w : Rows) (event : Event) (rule : Rule) → IsReached past w → Lending t past w → Lending t (denied event rule ∷ past) (journaled w)
 lending_denied t past w event rule r p = (descended_denied past w event rule r p.0, grants_denied t past w event rule p.1, capables_denied past w event rule p.2, p.3)
 
+-- If the history says what each lease has, that is still so after an accepted event.
 pub lending_carried : (t : Topology) (past : List AnsweredEvent) (w : Rows) (event : Event) → IsReached past w → verdict w event ≡ None → Lending t past w → Lending t (carried w event ∷ past) (journaled (swept (changed w event)))
 lending_carried t past w event r v p = (descended_carried past w event r v p.0, grants_carried t past w event r v p.0 p.2 p.3 p.1, capables_carried past w event r p.2, topology_stays w event v ∙ p.3)

@@ -70,10 +70,12 @@ Held w =
 
 -- ---- one option or row
 
+-- What is so of an option's value stays so, if the second property follows from the first.
 pub if_some : {X : Type 0} (P Q : X → Type 0) → ((x : X) → P x → Q x) → (o : Option X) → IfSome o P → IfSome o Q
 if_some P Q f None h = tt
 if_some P Q f (Some x) h = f x h
 
+-- An option that passes the test of a number holds that number.
 pub is_option-same : (n : ℕ) (o : Option ℕ) → is_option n o ≡ true → o ≡ Some n
 is_option-same n None h = absurd (let e : false ≡ true = h in cc)
 is_option-same n (Some m) h = ap Some (eqb-true m n h)
@@ -93,7 +95,7 @@ held_there w m there h = in_list w.clients there h
           | false ↦ λ is j. in_list rows k.1 j
         ]) refl e
 
--- the master of a grant is there
+-- If a lease token is open or a client is a master of it, the master exists.
 pub lease_there : (w : Rows) → Held w → (m : ℕ) → is_lease_held w m ≡ true → is_there w.masters m ≡ true
 lease_there w h m e =
     (elim (list_any (is_open_lease m) w.masters) as (λ b. list_any (is_open_lease m) w.masters ≡ b → (b || is_client_held w.clients m) ≡ true → is_there w.masters m ≡ true) [
@@ -101,7 +103,7 @@ lease_there w h m e =
       | false ↦ λ is k. held_there w m h.1 k
     ]) refl e
 
--- who is there stays there, before the sweep
+-- A master that exists still does after any event, before the sweep.
 pub there_still : (w : Rows) (event : Event) (m : ℕ) → is_there w.masters m ≡ true → is_there (changed w event).masters m ≡ true
 there_still w event m h =
     ap (λ (v : Rows). list_any (is_row_of m) v.masters) (each_edits w event)
@@ -117,7 +119,7 @@ found_has : {X : Type 0} (P : X → Type 0) (p : X → Bool) (xs : List X) → A
 found_has P p xs h None e = tt
 found_has P p xs h (Some x) e = (found p P x xs h e).1
 
--- the master of a client is there
+-- The master of a client exists.
 pub master_there : (w : Rows) (c : ℕ) → AllByRecursion (MasterThere w.masters) w.clients → IfSome (master_of w c) (λ m. is_there w.masters m ≡ true)
 master_there w c h = of_row (client_row w c) (found_has (MasterThere w.masters) (is_client c) w.clients h (client_row w c) refl)
   where
@@ -125,6 +127,7 @@ master_there w c h = of_row (client_row w c) (found_has (MasterThere w.masters) 
     of_row None k = tt
     of_row (Some row) k = k
 
+-- The master of a current client exists.
 pub own_there : (w : Rows) (c : ℕ) → Held w → is_current w c ≡ true → is_there w.masters (caller_master w c) ≡ true
 own_there w c h e = option_or_zero (master_of w c) (λ m. is_there w.masters m ≡ true) (current w c e).2 (master_there w c h.1)
 
@@ -137,6 +140,7 @@ lessor_there w (Open Render) v h = tt
 lessor_there w (Open (Lease token root universal)) v h = tt
 lessor_there w (Close c) v h = tt
 
+-- After an accepted event the lessor of each master exists.
 pub lessors_there : (w : Rows) (event : Event) → verdict w event ≡ None → Held w → AllByRecursion (LessorThere (changed w event).masters) (changed w event).masters
 lessors_there w event v h =
     let stays = λ (row : MasterRow) (k : LessorThere w.masters row). if_some (λ m. is_there w.masters m ≡ true) (λ m. is_there (changed w event).masters m ≡ true) (λ m e. there_still w event m e) row.lessor k in
@@ -144,6 +148,7 @@ lessors_there w event v h =
 
 -- ---- clients
 
+-- A master that is added exists.
 pub new_there : (rows : List MasterRow) (row : MasterRow) → is_there (rows ++ row ∷ []) row.master ≡ true
 new_there rows row = list_any_right (is_row_of row.master) rows (row ∷ []) (or_left (row.master == row.master) false (eq-eqb row.master row.master refl))
 
@@ -166,6 +171,7 @@ primary_there : (w : Rows) (root universal : Bool) (m : Option ℕ) → IfSome m
 primary_there w root universal None h = new_there w.masters (new_master (step_number w))
 primary_there w root universal (Some m) h = h
 
+-- Each master of a list exists in it.
 pub row_there : (rows : List MasterRow) → AllByRecursion (λ (row : MasterRow). is_there rows row.master ≡ true) rows
 row_there rows = all_weaker (λ (row : MasterRow). (row.master == row.master) ≡ true → is_there rows row.master ≡ true) (λ (row : MasterRow). is_there rows row.master ≡ true) (λ row f. f (eq-eqb row.master row.master refl)) rows (each_any (λ (x y : MasterRow). y.master == x.master) rows)
 
@@ -187,6 +193,7 @@ opened_there w (Open (Lease token root universal)) h = if_some (λ m. is_there w
 opened_there w (Ask c call) h = tt
 opened_there w (Close c) h = tt
 
+-- After any event the master of each client exists.
 pub clients_there : (w : Rows) (event : Event) → Held w → AllByRecursion (MasterThere (changed w event).masters) (changed w event).clients
 clients_there w event h =
     changed-all w (MasterThere (changed w event).masters) event
@@ -196,14 +203,16 @@ clients_there w event h =
 
 -- ---- who holds a master
 
+-- If each of two conditions implies another, one of the first implies one of the others.
 pub or_more : (a b x y : Bool) → (a ≡ true → x ≡ true) → (b ≡ true → y ≡ true) → (a || b) ≡ true → (x || y) ≡ true
 or_more true b x y f g h = or_left x y (f refl)
 or_more false b x y f g h = or_right x y (g h)
 
+-- By the history the client is no master, or its master is another.
 pub no_holder : (past : List AnsweredEvent) (c m : ℕ) → Type 0
 no_holder past c m = (master_state past).is_master c ≡ true → (master_state past).master c ≡ Some m → ⊥
 
--- who holds m is no client that doesn't
+-- A client that holds a master is another than one that by the history does not.
 pub apart : (past : List AnsweredEvent) (c m : ℕ) → no_holder past c m → (row : ClientRow) → ClientStands (master_state past) row → holds m row ≡ true → is_client c row ≡ false
 unfolding no_holder
 apart past c m none row stands h =
@@ -213,11 +222,11 @@ apart past c m none row stands h =
     none (ap (master_state past).is_master (sym same) ∙ sym stands.0 ∙ parts.0) (ap (master_state past).master (sym same) ∙ sym stands.1 ∙ is_option-same m row.master parts.1))
 
 module _ (past : List AnsweredEvent) (w : Rows) (a : StandsBy past w) (c m : ℕ) (none : no_holder past c m) where
-  -- another client's closing leaves the holder
+  -- A master that a client holds is still held after another client's closing.
   pub held_without : is_client_held w.clients m ≡ true → is_client_held (filter (λ row. not (is_client c row)) w.clients) m ≡ true
   held_without h = any_filter (ClientStands (master_state past)) (holds m) (λ row. not (is_client c row)) (λ row stands e. ap not (apart past c m none row stands e)) w.clients a.clients h
 
-  -- so does its getting a master
+  -- A master that a client holds is still held after another client has got a new master.
   pub held_mastered : (n : ℕ) → is_client_held w.clients m ≡ true → is_client_held (with_master c n w.clients) m ≡ true
   unfolding with_master
   held_mastered n h =
@@ -232,10 +241,12 @@ held_new w c n h =
     (λ (row : ClientRow) _ e. ap (λ b. holds n (if b then record row { authenticated = true; once_master = true; is_master = true; master = Some n } else row)) e ∙ eq-eqb n n refl)
     w.clients (all_each (λ (row : ClientRow). Unit {0}) (λ _. tt) w.clients) (sym (is_some-find (is_client c) w.clients) ∙ h)
 
+-- A client that holds a master still does if some clients become authenticated.
 pub held_authenticated : (test : ClientRow → Bool) (rows : List ClientRow) (m : ℕ) → is_client_held rows m ≡ true → is_client_held (map (λ (row : ClientRow). if test row then record row { authenticated = true } else row) rows) m ≡ true
 held_authenticated test rows m h =
     any_mapped (λ _. Unit {0}) (holds m) (holds m) _ (λ (row : ClientRow) _ e. either (λ (x : ClientRow). holds m x ≡ true) (test row) (record row { authenticated = true }) row e e) rows (all_each (λ (row : ClientRow). Unit {0}) (λ _. tt) rows) h
 
+-- A client that holds a master still does if universal planes are set for some clients.
 pub held_capable : (test : ClientRow → Bool) (on : Bool) (rows : List ClientRow) (m : ℕ) → is_client_held rows m ≡ true → is_client_held (map (λ (row : ClientRow). if test row then record row { universal = on } else row) rows) m ≡ true
 held_capable test on rows m h =
     any_mapped (λ _. Unit {0}) (holds m) (holds m) _ (λ (row : ClientRow) _ e. either (λ (x : ClientRow). holds m x ≡ true) (test row) (record row { universal = on }) row e e) rows (all_each (λ (row : ClientRow). Unit {0}) (λ _. tt) rows) h
@@ -266,14 +277,17 @@ set_device w c true master is opened h = h.2
 set_device w c false true is opened h = own_held w c is
 set_device w c false false is opened h = held_new w c (step_number w) opened
 
+-- A client of one master holds no other master.
 pub own_apart : (past : List AnsweredEvent) (w : Rows) (a : StandsBy past w) (c own m : ℕ) → (master_state past).master c ≡ Some own → (m == own) ≡ false → no_holder past c m
 unfolding no_holder
 own_apart past w a c own m e apart is k = let same : own ≡ m = (let s : Some own ≡ Some m = sym e ∙ k in cc) in let no_more : false ≡ true = sym apart ∙ eq-eqb m own (sym same) in cc
 
+-- A client that is no master holds none.
 pub non_master_apart : (past : List AnsweredEvent) (c m : ℕ) → (master_state past).is_master c ≡ false → no_holder past c m
 unfolding no_holder
 non_master_apart past c m e is k = let n : false ≡ true = sym e ∙ is in cc
 
+-- A client without a master holds none.
 pub lone_apart : (past : List AnsweredEvent) (c m : ℕ) → (master_state past).master c ≡ None → no_holder past c m
 unfolding no_holder
 lone_apart past c m e is k = let n : None ≡ Some m = sym e ∙ k in cc
@@ -302,6 +316,7 @@ asked_device past w c (AuthMagic magic) v h = if_some (λ m. is_client_held w.cl
 asked_device past w c (SetClientCap cap value) v h = if_some (λ m. is_client_held w.clients m ≡ true) (λ m. is_client_held (changed w (Ask c (SetClientCap cap value))).clients m ≡ true) (λ m e. held_capable (is_client c) (value == 1) w.clients m e) w.device_master h.2
 asked_device past w c call v h = h.2
 
+-- After an accepted event a client holds the device's master, if the device has one.
 pub device_held : (past : List AnsweredEvent) (w : Rows) (event : Event) → verdict w event ≡ None → StandsBy past w → Held w → DeviceHeld (changed w event)
 unfolding changed opened closed
 device_held past w (Open (Primary root universal)) v a h = primary_device w root universal w.device_master h

@@ -191,6 +191,7 @@ module _ (past : List AnsweredEvent) (w : Rows) (r : IsReached past w) (a : Stan
       (λ row k. elim (is_client c row) as (λ b. AuthTold past (if b then record row { universal = value == 1 } else row)) [ true ↦ k | false ↦ k ]) tt h
   asked c call v h = clients_after w (AuthTold (carried w (Ask c call) ∷ past)) (Ask c call) (AuthTold past) (λ row k. k) tt h
 
+  -- If the history says which clients are authenticated, that is still so after an accepted event.
   pub auths_carried : (event : Event) → verdict w event ≡ None → AuthsTold past w → AuthsTold (carried w event ∷ past) (journaled (swept (changed w event)))
   unfolding master_state is_root_in is_named_in effect answer_of
   auths_carried (Open (Primary root universal)) v h = open_primary root universal h
@@ -199,6 +200,7 @@ module _ (past : List AnsweredEvent) (w : Rows) (r : IsReached past w) (a : Stan
   auths_carried (Ask c call) v h = asked c call v h
   auths_carried (Close c) v h = clients_after w (AuthTold (carried w (Close c) ∷ past)) (Close c) (AuthTold past) (λ row k. k) tt h
 
+-- If the history says which clients are authenticated, that is still so after a denial.
 pub auths_denied : (past : List AnsweredEvent) (w : Rows) (event : Event) (rule : Rule) → AuthsTold past w → AuthsTold (denied event rule ∷ past) (journaled w)
 unfolding is_root_in is_named_in
 auths_denied past w event rule h =

@@ -256,7 +256,7 @@ module _ (v : Rows) (falls : IsFalling (lessor_of v.masters)) where
 lessor_told : (last : ℕ) (rows : List MasterRow) → MadeInTurn (λ (row : MasterRow). row.master) last rows → AllByRecursion (λ (row : MasterRow). row.lessor ≡ lessor_of rows row.master) rows
 lessor_told last rows h = all_weaker (λ (row : MasterRow). find (λ (other : MasterRow). other.master == row.master) rows ≡ Some row) (λ (row : MasterRow). row.lessor ≡ lessor_of rows row.master) (λ row e. sym (ap (option_and_then (λ (row : MasterRow). row.lessor)) e)) rows (all_found (λ (row : MasterRow). row.master) rows h.0)
 
--- what is above a master is older
+-- In rows that steps made, a lessor is older than its lessee.
 pub falling : (last : ℕ) (rows : List MasterRow) → AllByRecursion (IsMadeMaster last) rows → IsFalling (lessor_of rows)
 falling last rows made = λ n m e. lessor_there last n m (master_row rows n) (found.all_found (IsMadeMaster last) (λ row. row.master == n) rows made) (found.found_passes (λ row. row.master == n) rows) e
 
@@ -270,8 +270,10 @@ held_carried past w event r v p h =
 abbrev pub Rooted : List AnsweredEvent → Rows → Type 0
 Rooted past w = Ranked past w × Held w
 
+-- If masters follow from the history and those that rows name exist, that is still so after a denial.
 pub rooted_denied : (past : List AnsweredEvent) (w : Rows) (event : Event) (rule : Rule) → Rooted past w → Rooted (denied event rule ∷ past) (journaled w)
 rooted_denied past w event rule p = (ranks_denied past w event rule p.0, p.1)
 
+-- If masters follow from the history and those that rows name exist, that is still so after an accepted event.
 pub rooted_carried : (past : List AnsweredEvent) (w : Rows) (event : Event) → IsReached past w → verdict w event ≡ None → Rooted past w → Rooted (carried w event ∷ past) (journaled (swept (changed w event)))
 rooted_carried past w event r v p = (ranks_carried past w event r v p.0, held_carried past w event r v p.0 p.1)

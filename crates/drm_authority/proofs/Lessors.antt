@@ -67,6 +67,7 @@ module _ (past : List AnsweredEvent) (w : Rows) (told : LessorsTold past w) (h :
   row_at : (n : ℕ) → is_there w.masters n ≡ true → (row : MasterRow) × (master_row w.masters n ≡ Some row)
   row_at n there = some_found (master_row w.masters n) (is_some-find (is_row_of n) w.masters ∙ there)
 
+  -- A master that exists has the lessor that the history says.
   pub lessor_same : (n : ℕ) → is_there w.masters n ≡ true → lessor_of w.masters n ≡ lessor_in past n
   lessor_same n there = let row = row_at n there in (row_lessor n row.0 row.1).0
 
@@ -79,16 +80,17 @@ module _ (past : List AnsweredEvent) (w : Rows) (told : LessorsTold past w) (h :
   chain_same : (s n : ℕ) → is_there w.masters n ≡ true → chain_within s (lessor_of w.masters) n ≡ chain_within s (lessor_in past) n
   chain_same s n there = same_chain (λ n. is_there w.masters n ≡ true) (lessor_in past) (lessor_of w.masters) lessor_same lessor_higher s n there
 
-  -- of a master that exists
+  -- Which masters a master is under is the same by rows as by the history, if the master exists.
   pub under_same : (top n : ℕ) → is_there w.masters n ≡ true → is_under w.masters top n ≡ is_under_in past top n
   under_same top n there = ap (λ chain. is_among chain top) (chain_same n n there)
 
+  -- A master that exists has the owner that the history says.
   pub owner_same : (n : ℕ) → is_there w.masters n ≡ true → owner_of w.masters n ≡ top_in past n
   owner_same n there = ap (last_of n) (chain_same n n there)
 
 -- ---- the lessors along a history
 
--- the master of a caller
+-- The master of an open client is the one that the history says.
 pub own_told : (past : List AnsweredEvent) (w : Rows) → StandsBy past w → (c : ℕ) → is_open w c ≡ true → caller_master w c ≡ caller_master_in past c
 own_told past w a c opened = ap (λ o. unwrap_or o 0) (open_stands past w a c opened).1
 
@@ -230,8 +232,10 @@ ids_denied past w event rule r h = all_weaker (Aged IdTold past) (IdTold (denied
 abbrev pub Descended : List AnsweredEvent → Rows → Type 0
 Descended past w = Rooted past w × LessorsTold past w × IdsTold past w
 
+-- If lessors and the ids of lessees follow from the history, that is still so after a denial.
 pub descended_denied : (past : List AnsweredEvent) (w : Rows) (event : Event) (rule : Rule) → IsReached past w → Descended past w → Descended (denied event rule ∷ past) (journaled w)
 descended_denied past w event rule r p = (rooted_denied past w event rule p.0, lessors_denied past w event rule r p.1, ids_denied past w event rule r p.2)
 
+-- If lessors and the ids of lessees follow from the history, that is still so after an accepted event.
 pub descended_carried : (past : List AnsweredEvent) (w : Rows) (event : Event) → IsReached past w → verdict w event ≡ None → Descended past w → Descended (carried w event ∷ past) (journaled (swept (changed w event)))
 descended_carried past w event r v p = (rooted_carried past w event r v p.0, lessors_carried past w event r v p.0.0.1 p.1, ids_carried past w event r v p.0.0.1 p.0.1 p.1 p.2)

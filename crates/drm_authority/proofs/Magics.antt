@@ -50,6 +50,7 @@ no_magic_row : (o : Option MagicRow) → option_map (λ (row : MagicRow). row.nu
 no_magic_row None e = refl
 no_magic_row (Some row) e = absurd (let n : Some row.number ≡ None = e in cc)
 
+-- A client without a number of a magic has no row of one.
 pub none_of : (w : Rows) (c : ℕ) → magic_of w c ≡ None → magic_row w c ≡ None
 none_of w c e = no_magic_row (magic_row w c) e
 
@@ -88,7 +89,7 @@ still_few w (Open opening) v h = let lt = ltb-true (length w.clients) w.limits.c
 still_few w (Ask c call) v h = let same = asked-count w c call in omega (arith, h, same)
 still_few w (Close c) v h = let fewer = filter-shorter (λ (row : ClientRow). not (row.client == c)) w.clients in omega (arith, h, fewer)
 
--- a step keeps it that each open client has one magic at most, and that clients are few
+-- After an accepted event each open client still has one magic at most, and no more clients are open than allowed.
 pub fit_carried : (w : Rows) (event : Event) → verdict w event ≡ None → MagicsFit w → MagicsFit (journaled (swept (changed w event)))
 unfolding swept
 fit_carried w event v h =

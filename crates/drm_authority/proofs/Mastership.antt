@@ -228,6 +228,7 @@ mastered h =
     (λ past w event r v m. mastered_more past (carried w event) w w (caller_old past w event r v) m))
     h ((λ c. (refl, refl)), (λ c late. (refl, refl, refl)))).0
 
+-- In any history a client is a master exactly if it was opened as one or set itself one.
 pub masters_become : (h : DeviceValue) (c : ℕ) → MastersBecome (history_of h) c
 masters_become h c = let so = mastered h c in record { is_master = so.0; master = so.1 }
 
@@ -247,6 +248,7 @@ module _ (past : List AnsweredEvent) where
   closed_owner true None owner = refl
   closed_owner false master owner = refl
 
+-- The device's master after a step is the one that the step leaves.
 pub owner_is_left : (step : AnsweredEvent) (past : List AnsweredEvent) → owner_in (step ∷ past) ≡ owner_after (effect step) step past
 unfolding master_state
 owner_is_left step past = by (effect step) refl

@@ -189,7 +189,7 @@ magics_denied past w event rule h = all_weaker (MagicTold past) (MagicTold (deni
 
 -- ---- whom AUTH_MAGIC names
 
--- the client of an accepted AUTH_MAGIC
+-- The client that an accepted AUTH_MAGIC names is the one that the history says, and is of a step that was made.
 pub named_told : (past : List AnsweredEvent) (w : Rows) → StandsBy past w → MagicsTold past w → (c magic : ℕ) → verdict w (Ask c (AuthMagic magic)) ≡ None → (magic_client w (caller_master w c) magic ≡ magic_in past (caller_master_in past c) magic) × ((d : ℕ) → magic_in past (caller_master_in past c) magic ≡ Some d → d ≤ length past)
 unfolding meaning
 named_told past w a h c magic v =
@@ -234,8 +234,10 @@ named_denied past event rule d = ap (λ effect. is_named_by effect past d || is_
 abbrev pub Magical : List AnsweredEvent → Rows → Type 0
 Magical past w = MagicsFit w × MagicsTold past w × NamedBorn past
 
+-- If magics follow from the history and are few, that is still so after a denial.
 pub magical_denied : (past : List AnsweredEvent) (w : Rows) (event : Event) (rule : Rule) → Magical past w → Magical (denied event rule ∷ past) (journaled w)
 magical_denied past w event rule p = (p.0, magics_denied past w event rule p.1, λ d late. named_denied past event rule d ∙ p.2 d (omega (arith, late)))
 
+-- If magics follow from the history and are few, that is still so after an accepted event.
 pub magical_carried : (past : List AnsweredEvent) (w : Rows) (event : Event) → IsReached past w → verdict w event ≡ None → StandsBy past w → Magical past w → Magical (carried w event ∷ past) (journaled (swept (changed w event)))
 magical_carried past w event r v a p = (fit_carried w event v p.0, magics_told past w event r v a p.0 p.1, born_carried past w event v a p.1 p.2)

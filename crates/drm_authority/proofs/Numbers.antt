@@ -6,7 +6,7 @@ use Rattle.drm_index_array.specs.Least.{least}
 use Rattle.drm_index_array.proofs.Least.{least_some}
 use Rattle.drm_model.specs.Numbers.{next_in_turn}
 
--- the least that passes passes
+-- The lowest number that passes a test passes it.
 pub least_passes : (p : ℕ → Bool) (from to : ℕ) → is_some (least p from to) ≡ true → p (unwrap_or (least p from to) 0) ≡ true
 least_passes p from to h = by (least p from to) refl h
   where
@@ -14,7 +14,7 @@ least_passes p from to h = by (least p from to) refl h
     by None e k = absurd (let n : false ≡ true = k in cc)
     by (Some n) e k = (least_some p from to n e).passes
 
--- so does the next one after the other
+-- The next number in rotation that passes a test passes it.
 pub next_passes : (p : ℕ → Bool) (given last : ℕ) → is_some (next_in_turn p given last) ≡ true → p (unwrap_or (next_in_turn p given last) 0) ≡ true
 next_passes p given last h = by (least p (given + 1) last) refl h
   where

@@ -46,7 +46,7 @@ reached_start h = record { steps = refl; step_numbers = ((tt, tt), (tt, tt), (tt
 abbrev pub Keeps : (List AnsweredEvent → Rows → Type 0) → Type 0
 Keeps P = (past : List AnsweredEvent) (w : Rows) (event : Event) → IsReached past w → P past w → P (replied w event ∷ past) (after w event)
 
--- by what the verdict is
+-- What each denial and each accepted event keeps, each step keeps.
 pub by_verdict : (P : List AnsweredEvent → Rows → Type 0)
     → ((past : List AnsweredEvent) (w : Rows) (event : Event) (rule : Rule) → IsReached past w → P past w → P (denied event rule ∷ past) (journaled w))
     → ((past : List AnsweredEvent) (w : Rows) (event : Event) → IsReached past w → verdict w event ≡ None → P past w → P (carried w event ∷ past) (journaled (swept (changed w event))))
@@ -64,6 +64,7 @@ module _ (P : List AnsweredEvent → Rows → Type 0) (keeps : Keeps P) where
   run_keeps [] w past r p = p
   run_keeps (event ∷ events) w past r p = run_keeps events (after w event) (replied w event ∷ past) (reached_after past w event r) (keeps past w event r p)
 
+  -- What holds of the first rows and is kept by each step holds of the rows of any history.
   pub at_all_times : (h : DeviceValue) → P [] (start_of h) → P (history_of h) (rows_of h)
   unfolding history_of rows_of
   at_all_times h p = run_keeps h.journal (start_of h) [] (reached_start h) p
@@ -74,7 +75,7 @@ module _ (P : List AnsweredEvent → Rows → Type 0) (keeps : Keeps P) where
     run_steps [] w past r p q = q
     run_steps (event ∷ events) w past r p q = run_steps events (after w event) (replied w event ∷ past) (reached_after past w event r) (keeps past w event r p) (tells past w event r p, q)
 
-    -- each step of the history is so
+    -- What each step guarantees of its event and answer holds of each step of any history.
     pub at_each_step : (h : DeviceValue) → P [] (start_of h) → AllSteps Q (history_of h)
     unfolding history_of AllSteps
     at_each_step h p = run_steps h.journal (start_of h) [] (reached_start h) p tt

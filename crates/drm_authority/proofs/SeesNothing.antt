@@ -54,6 +54,7 @@ unfolding lessee_in
 lessee_up [] owner id m e = none_up 0 m e
 lessee_up (step ∷ past) owner id m e = let up = lessee_by_up (effect step) past owner id (lessee_in past owner id) (later_up (length past) (lessee_in past owner id) (lessee_up past owner id)) m e in omega (arith, up)
 
+-- A master that a step ends is of a step that was made.
 pub ended_up : (d : Effect) (past : List AnsweredEvent) → UpTo (length past) (ended_by d past)
 ended_up (Revokes c lessee) past = lessee_up past (top_in past (caller_master_in past c)) lessee
 ended_up (Closes c) past = if_up (length past) (is_master_in past c) (master_in past c) None (master_up past c) (none_up (length past))
@@ -170,6 +171,7 @@ accepted : (w : Rows) (c : ℕ) (call : Call) (v : Option Rule) → verdict w (A
 accepted w c call (Some rule) e f h = absurd (let n : false ≡ true = h in cc)
 accepted w c call None e f h = f e
 
+-- A client whose lease ended before gets no answer that describes a CRTC, a connector or a plane.
 pub keeps_seeing_nothing : (t : Topology) (past : List AnsweredEvent) (w : Rows) (event : Event) → Lending t past w → KeepsSeeingNothing (replied w event) past
 unfolding reply
 keeps_seeing_nothing t past w (Open opening) p = tt

@@ -66,7 +66,7 @@ older past w n r h = less-differ n (next_number past) (let steps = r.steps in om
 newest : (past : List AnsweredEvent) (w : Rows) → IsReached past w → step_number w ≡ next_number past
 newest past w r = ap (λ n. n + 1) r.steps
 
--- what the rows say of a client that is open
+-- The row of an open client says the same of its master as the history.
 pub row_stands : (s : MasterState) (w : Rows) (c : ℕ) (row : ClientRow) → AllByRecursion (ClientStands s) w.clients → client_row w c ≡ Some row → (row.is_master ≡ s.is_master c) × (row.master ≡ s.master c)
 row_stands s w c row h e =
     let it = found (is_client c) (ClientStands s) row w.clients h e in
@@ -125,7 +125,7 @@ module _ (past : List AnsweredEvent) (w : Rows) (r : IsReached past w) (a : Stan
       by None is k = absurd (let n : false ≡ true = is in cc)
       by (Some t) is k = sym k ∙ ap (lease_in past) (eqb-true t token is)
 
-  -- the client of a token is of the master that it was answered for
+  -- A client that redeems a lease token has the master that the history says.
   pub lease_told : TokensTold past w → (token : ℕ) (root universal : Bool) → verdict w (Open (Lease token root universal)) ≡ None → option_map (λ (row : MasterRow). row.master) (lease_master w token) ≡ lease_in past token
   unfolding checks opening_checks
   lease_told told token root universal v = redeemed told token (lease_master w token) refl (each_holds w (Open (Lease token root universal)) v).0
@@ -149,6 +149,7 @@ current_is : (w : Rows) (o : Option ClientRow) → (credentials_in w o).current 
 current_is w None h = absurd (let e : false ≡ true = h in cc)
 current_is w (Some row) h = let parts = and_parts row.is_master (is_owner w.masters w.device_master row.master) h in let ends = is_owner_some w.masters w.device_master row.master parts.1 in (parts.0, ends.0, ends.1)
 
+-- A current client is a master, and the device has one.
 pub current : (w : Rows) (c : ℕ) → is_current w c ≡ true → (is_master w c ≡ true) × (is_some w.device_master ≡ true) × (is_some (master_of w c) ≡ true)
 current w c h = current_is w (client_row w c) h
 
@@ -158,7 +159,7 @@ module _ (past : List AnsweredEvent) (w : Rows) (a : StandsBy past w) (c : ℕ) 
   told_of None e h = absurd (let n : false ≡ true = h in cc)
   told_of (Some row) e h = row_stands (master_state past) w c row a.clients e
 
-  -- it is a master exactly if the history says so, and has the master that it says
+  -- An open client is a master exactly if the history says so, and has the master that it says.
   pub open_stands : is_open w c ≡ true → (is_master w c ≡ (master_state past).is_master c) × (master_of w c ≡ (master_state past).master c)
   open_stands h = told_of (client_row w c) refl h
 
@@ -244,6 +245,7 @@ stands_carried past w (Open (Lease token root universal)) r v told a = open_leas
 stands_carried past w (Ask c call) r v told a = asked past w c call r v a
 stands_carried past w (Close c) r v told a = close past w c v a
 
+-- A denial leaves the history's masters unchanged.
 pub master_state_denied : (past : List AnsweredEvent) (event : Event) (rule : Rule) → master_state (denied event rule ∷ past) ≡ master_state past
 unfolding master_state
 master_state_denied past event rule = ap (λ d. transition d (next_number past) (lease_in past) (master_state past)) (denied_nothing event rule)
@@ -255,8 +257,10 @@ Ranked past w = TokensTold past w × StandsBy past w
 stands_denied : (past : List AnsweredEvent) (w : Rows) (event : Event) (rule : Rule) → StandsBy past w → StandsBy (denied event rule ∷ past) (journaled w)
 stands_denied past w event rule a = subst (λ s. Stands s (journaled w)) (sym (master_state_denied past event rule)) (record { owner = a.owner; clients = a.clients })
 
+-- If masters and lease tokens follow from the history, that is still so after a denial.
 pub ranks_denied : (past : List AnsweredEvent) (w : Rows) (event : Event) (rule : Rule) → Ranked past w → Ranked (denied event rule ∷ past) (journaled w)
 ranks_denied past w event rule p = (tokens_denied past w event rule p.0, stands_denied past w event rule p.1)
 
+-- If masters and lease tokens follow from the history, that is still so after an accepted event.
 pub ranks_carried : (past : List AnsweredEvent) (w : Rows) (event : Event) → IsReached past w → verdict w event ≡ None → Ranked past w → Ranked (carried w event ∷ past) (journaled (swept (changed w event)))
 ranks_carried past w event r v p = (tokens_carried past w event r v p.0, stands_carried past w event r v p.0 p.1)

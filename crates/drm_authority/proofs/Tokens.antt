@@ -34,7 +34,7 @@ TokenTold past row = IfSome row.lease_token (λ token. lease_in past token ≡ S
 abbrev pub TokensTold : List AnsweredEvent → Rows → Type 0
 TokensTold past w = AllByRecursion (TokenTold past) w.masters
 
--- an accepted MODE_CREATE_LEASE answers a token that no master has
+-- An accepted MODE_CREATE_LEASE answers a token that no master has.
 pub token_free : (w : Rows) (c : ℕ) (ids : List ℕ) → verdict w (Ask c (CreateLease ids)) ≡ None → AllByRecursion (λ (row : MasterRow). is_option (new_lease_token w) row.lease_token ≡ false) w.masters
 unfolding meaning
 token_free w c ids v =
@@ -58,7 +58,7 @@ tokens_leased past w c ids r v h =
     (all_both (λ (row : MasterRow). is_option fresh row.lease_token ≡ false) (TokenTold past) (λ row. (is_option fresh row.lease_token ≡ false) × TokenTold past row) (λ row e q. (e, q)) w.masters (token_free w c ids v) h)
     (ap (λ b. cond b (Some n) (lease_in past fresh)) (eq-eqb fresh fresh refl) ∙ ap (λ k. Some (k + 1)) (sym r.steps))
 
--- any other event answers none
+-- If lease tokens follow from the history, that is still so after an accepted event.
 pub tokens_carried : (past : List AnsweredEvent) (w : Rows) (event : Event) → IsReached past w → verdict w event ≡ None → TokensTold past w → TokensTold (carried w event ∷ past) (journaled (swept (changed w event)))
 unfolding lease_in effect answer_of meaning
 tokens_carried past w (Open (Primary root universal)) r v h = masters_after w (TokenTold past) (TokenTold (carried w (Open (Primary root universal)) ∷ past)) (λ row q. q) (λ row q. tt) (Open (Primary root universal)) h tt
@@ -76,5 +76,6 @@ still_told : (past : List AnsweredEvent) (event : Event) (rule : Rule) (token : 
 still_told past event rule None m h = tt
 still_told past event rule (Some t) m h = lease_denied past event rule t ∙ h
 
+-- If lease tokens follow from the history, that is still so after a denial.
 pub tokens_denied : (past : List AnsweredEvent) (w : Rows) (event : Event) (rule : Rule) → TokensTold past w → TokensTold (denied event rule ∷ past) (journaled w)
 tokens_denied past w event rule h = all_weaker (TokenTold past) (TokenTold (denied event rule ∷ past)) (λ row q. still_told past event rule row.lease_token row.master q) w.masters h

@@ -11,6 +11,7 @@ arrow_behind : (text rest : List ℕ) (place : ℕ) → 0 < length text → drop
 arrow_behind [] rest place some e h = absurd (omega (arith, some))
 arrow_behind (b ∷ bs) rest place some e h = otherwise (begins_with_arrow (b ∷ bs)) (Some place) (arrow_from (place + 1) bs) h ∙ ap (arrow_from (place + 1)) e
 
+-- A search for ` -> ` that does not find it at a place continues at the next place.
 pub arrow_next : (line : List ℕ) (place : ℕ) → place < length line → begins_with_arrow (drop place line) ≡ false
     → arrow_from place (drop place line) ≡ arrow_from (place + 1) (drop (place + 1) line)
 arrow_next line place below h =

@@ -33,6 +33,7 @@ few : (b : Bool) (d : Difference) → (if b then 1 else 0) + length (if b then [
 few true d = omega arith
 few false d = omega arith
 
+-- A line meets its expectation or adds one difference, or neither.
 pub one_at_most : (n : ℕ) (expected : Option (List ℕ)) (came : Option (Result Answer Apart)) → met expected came + length (unmet n expected came) ≤ 1
 one_at_most n None came = omega arith
 one_at_most n (Some expected) came = few (is_met expected came) (record { number = n; expected = expected; came = came })
@@ -45,6 +46,7 @@ cut-found file n ds true d is sent unsent e more = absurd (let none = ap (λ (l 
 cut-found file n ds false d is sent unsent e more =
     record { before = ds; last = d; sent = sent; unsent = unsent; whole = refl; number = is; parts = sym (append-nil (text_of file d)) ∙ e; more = more; text = refl }
 
+-- A report that stops within the last difference has written all the ones before.
 pub cut-last : (file : File) (n : ℕ) (ds : List Difference) (expected : Option (List ℕ)) (came : Option (Result Answer Apart)) (sent unsent : List ℕ) → differences_text file (unmet n expected came) ≡ sent ++ unsent → 0 < length unsent
     → IsCutInLast file n (ds ++ unmet n expected came) (differences_text file ds ++ sent)
 cut-last file n ds None came sent unsent e more = absurd (let none = ap (λ (l : List ℕ). length l) e in let all = length-append sent unsent in omega (arith, none, all, more))
@@ -83,6 +85,7 @@ module _ {setting : Setting} {s0 s : SourceTrace} {k0 k : SinkTrace} {read : Lis
     ends = h;
   }
 
+  -- A check without a further line ends with its counts so far.
   pub check_ends : (end : ScriptEnd) → IsEndOfLines end s0 s old.turns read lines → ChecksOn setting file s0 s k0 k turns (report_with end old.passed old.failed)
   check_ends ends.Done h = ended ends.Done [] h.0 (refl, h.1, refl)
   check_ends (ends.Malformed number) h =
@@ -155,6 +158,7 @@ module _ {setting : Setting} {s0 s : SourceTrace} {k0 k : SinkTrace} {read : Lis
           subst (λ (x : ScriptEnd). ChecksOn setting file s0 s k0 k' turns (report_with x new.passed new.failed)) (sym (some_end end ends.TurnsUsed e))
           (cut_by ends.TurnsUsed w.0 ((let a = w.0.pays.cost in let b = w.1 in omega (arith, a, b, cost)), inr (cut_front w.0, h.short_pending)))
 
+      -- After one more line was checked, each line so far was checked.
       pub so_far_used : WriteCost k k' (differences_text file found) old.turns new.turns → SoFar setting file s0 s k0 k' turns (record { lines = state; checker = new })
       so_far_used p = record {
         read = read;
@@ -167,6 +171,7 @@ module _ {setting : Setting} {s0 s : SourceTrace} {k0 k : SinkTrace} {read : Lis
         counted = grown_count;
       }
 
+    -- A check ends at a line that stops it, with the counts of the lines so far.
     pub stopped : (end : ScriptEnd) → ChecksLine old new file state k k' (Some end) → ChecksOn setting file s0 s k0 k' turns (report_with end new.passed new.failed)
     stopped end (used u) = stopped_used u end u.written u.writes u.end_is
     stopped (ends.Malformed number) (bad m st) =

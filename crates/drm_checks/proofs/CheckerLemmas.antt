@@ -19,6 +19,7 @@ use Rattle.drm_checks.specs.declared.checker.Checker.{Checker}
 abbrev pub interpreted : Checker → InterpreterState → Checker
 interpreted old interpreter = record { interpreter = interpreter; passed = old.passed; failed = old.failed; turns = old.turns }
 
+-- A line that was used is checked: its answer meets the expectation or adds a difference.
 pub used_line : (old new : Checker) (after : InterpreterState) (file : File) (lines : LinesState) (script : List ℕ) (expected : Option (List ℕ)) (came : Option (Result Answer Apart)) (sink sink' : SinkTrace) (end : Option ScriptEnd)
     → script ≡ script_part lines.held → expected ≡ expected_part lines.held → Uses old.interpreter.device old.interpreter.labels script (results_of came) after.device after.labels
     → Notes (interpreted old after) new file lines.number expected came sink sink' end → ChecksLine old new file lines sink sink' end
@@ -34,16 +35,17 @@ used_line old new after file lines script expected came sink sink' end s e u n =
       failed = n.failed ∙ ap (λ (x : Option (List ℕ)). old.failed + length (unmet lines.number x came)) e;
     })
 
--- a line that can't be used, and one that wants a device for which there was no memory
+-- A line out of place ends the check as malformed.
 pub bad_line : {old new : Checker} {file : File} {lines : LinesState} {sink sink' : SinkTrace} {end : ScriptEnd} → end ≡ ends.Malformed lines.number → IsMisplaced old.interpreter.device (script_part lines.held)
     → Stands old new sink sink' → ChecksLine old new file lines sink sink' (Some end)
 bad_line {old} {new} {file} {lines} {sink} {sink'} same m s = subst (λ (e : ScriptEnd). ChecksLine old new file lines sink sink' (Some e)) (sym same) (bad m s)
 
+-- A line that requires a device ends the check when there is no memory to make one.
 pub unmade_line : {old new : Checker} {file : File} {lines : LinesState} {sink sink' : SinkTrace} {end : ScriptEnd} → end ≡ ends.NoMemory → IsNowhere old.interpreter.device → WantsDevice (script_part lines.held)
     → Stands old new sink sink' → ChecksLine old new file lines sink sink' (Some end)
 unmade_line {old} {new} {file} {lines} {sink} {sink'} same none wants s = subst (λ (e : ScriptEnd). ChecksLine old new file lines sink sink' (Some e)) (sym same) (unmade none wants s)
 
--- the line that is held and its number, as they were read
+-- The line that is checked is the one that is held, with its number.
 pub as_held : {old new : Checker} {file : File} {sink sink' : SinkTrace} {end : Option ScriptEnd} (lines : LinesState) (line : List ℕ) (number : ℕ) → line ≡ lines.held → number ≡ lines.number
     → ChecksLine old new file (record lines { held = line; number = number }) sink sink' end → ChecksLine old new file lines sink sink' end
 as_held {old} {new} {file} {sink} {sink'} {end} lines line number e d c =

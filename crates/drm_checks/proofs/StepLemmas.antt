@@ -26,6 +26,7 @@ use Rattle.drm_checks.proofs.CheckLemmas.{report_with, one_at_most, check_ends, 
 abbrev pub with_turns : Checker → ℕ → Checker
 with_turns old has = record { interpreter = old.interpreter; passed = old.passed; failed = old.failed; turns = has }
 
+-- A check that begins has checked no line.
 pub first_so_far : (setting : Setting) (file : File) (check : Check) (source : SourceTrace) (sink : SinkTrace) (turns : ℕ) → check ≡ first_check setting turns → SoFar setting file source source sink sink turns check
 first_so_far setting file check source sink turns e =
     subst (SoFar setting file source source sink sink turns) (sym e)
@@ -42,6 +43,7 @@ wholly : (old new : Checker) (file : File) (lines : LinesState) (k k' : SinkTrac
 wholly old new file lines k k' (used u) = (u, pays_of u.written k k' _ _ _ u.writes u.end_is)
 
 module _ (file : File) (old : Check) (lines : LinesState) (source source' : SourceTrace) (sink : SinkTrace) (has : ℕ) where
+  -- A check ends when no further line is read.
   pub advances_end : (end : ScriptEnd) → ReadsNext old.lines lines source source' old.checker.turns has (Some end)
       → Advances old (record { lines = lines; checker = with_turns old.checker has }) file source source' sink sink (Some end)
   advances_end end r setting start first turns so =
@@ -69,13 +71,14 @@ module _ (file : File) (old : Check) (lines : LinesState) (source source' : Sour
           fuel = (let fuel = counted.1 in omega (arith, fuel, cost, calls));
         }
 
+    -- A check that read and checked one more line advances by it.
     pub advances_used : (end : Option ScriptEnd) → ChecksLine (with_turns old.checker has) new file lines sink sink' end → Advances old (record { lines = lines; checker = new }) file source source' sink sink' end
     advances_used None c = goes_on c
     advances_used (Some end) c = λ (setting : Setting) (start : SourceTrace) (first : SinkTrace) (turns : ℕ) (so : SoFar setting file start source first sink turns old).
         let all = r.reaches start so.read so.lines so.has_read in
         stopped file turns (with_turns old.checker has) all.1.so_far.given so.took (let a = r.cost in let b = so.cost in omega (arith, a, b)) so.checked so.counted all.1 new sink' end c
 
--- a check of the file by another name that is told to have ended as it did
+-- A check of a file ends the same under an equal name and end.
 pub ends_as : {setting : Setting} {file named : File} {s0 s : SourceTrace} {k0 k : SinkTrace} {turns passed failed : ℕ} {told end : ScriptEnd} → told ≡ end → named ≡ file
     → ChecksOn setting named s0 s k0 k turns (report_with end passed failed) → ChecksOn setting file s0 s k0 k turns (report_with told passed failed)
 ends_as {setting} {file} {named} {s0} {s} {k0} {k} {turns} {passed} {failed} {told} {end} same files c =

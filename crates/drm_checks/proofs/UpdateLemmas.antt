@@ -31,7 +31,7 @@ pub record FirstLine (text first behind : List ℕ) : Type 0 where
   pub lines : lines_of text ≡ first ∷ lines_of behind
   pub more : 0 < length text
 
--- the text isn't empty
+-- A text that is not empty has a first line and all that follows.
 pub first_of : (text first behind : List ℕ) (empty : Bool) → empty ≡ (length text == 0) → empty ≡ false → first ≡ line_before (position is_line_end text) text
     → behind ≡ text_behind (position is_line_end text) text → (text ≢ [] → lines_of text ≡ first ∷ lines_of behind) → FirstLine text first behind
 first_of text first behind empty is filled front rest lines =
@@ -42,6 +42,7 @@ first_of text first behind empty is filled front rest lines =
       more = some;
     }
 
+-- Each line of a text leaves less of the text.
 pub shorter : {text first behind : List ℕ} → FirstLine text first behind → length behind < length text
 shorter {text} f = rw f.rest (behind_shorter text (position is_line_end text) f.more)
 
@@ -58,6 +59,7 @@ pub record UpdatedSoFar (setting : Setting) (text rest updated : List ℕ) (numb
   pub counted : number ≡ length lines
   pub bounded : number + length rest ≤ length text
 
+-- An update that begins has used no line.
 pub none_so_far : (setting : Setting) (text updated : List ℕ) (interpreter : InterpreterState) → interpreter ≡ at_start setting → updated ≡ [] → UpdatedSoFar setting text text updated 0 interpreter
 none_so_far setting text updated interpreter at none = record {
   lines = [];
@@ -69,7 +71,7 @@ none_so_far setting text updated interpreter at none = record {
 
 module _ {setting : Setting} {text rest updated : List ℕ} {number : ℕ} {interpreter : InterpreterState} (so : UpdatedSoFar setting text rest updated number interpreter) where
   module _ (first behind : List ℕ) (f : FirstLine rest first behind) (next : InterpreterState) where
-    -- one line more was used, and put as it became
+    -- After one more line was used, each line so far is used and put as it became.
     pub one_more : (came : Option (Result Answer Apart)) (grown : List ℕ) → UsesLine interpreter next (number + 1) first (Ok came) → grown ≡ updated ++ ended (updated_line first came)
         → UpdatedSoFar setting text behind grown (number + 1) next
     one_more came grown u e = record {
@@ -94,7 +96,7 @@ module _ {setting : Setting} {text rest updated : List ℕ} {number : ℕ} {inte
       cause = cause;
     }
 
-    -- the line can't be used, or there was no memory
+    -- An update stops at a line out of place or without memory.
     pub fault_of_line : (fault : UpdateFault) → UsesLine interpreter next (number + 1) first (Err fault) → HasFault setting text fault
     fault_of_line (faults.Malformed told cause) u = subst (HasUnfitLine setting text) (sym u.0) (unfit_line u.1)
     fault_of_line faults.NoMemory u = tt

@@ -243,6 +243,7 @@ is_checked {setting} (line {device = device} {device' = device'} {labels = label
       short = All-push (λ (l : List ℕ). length l ≤ 255) so.lines put so.short p.short;
     }
 
+-- A file that was updated passes its check without a difference, and each of its lines is short enough.
 pub passes_check : {setting : Setting} {lines : List (List ℕ)} {updated : List ℕ} {device : Place} {labels : List ℕ} → Updated setting lines updated device labels
     → (passed : ℕ) × Checked setting (lines_of updated) passed [] device labels × All (λ (l : List ℕ). length l ≤ 255) (lines_of updated)
 passes_check {setting} {device = device} {labels = labels} u =

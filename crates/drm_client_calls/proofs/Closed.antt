@@ -31,13 +31,14 @@ use Rattle.drm_state.proofs.Ended.{none_released, none_ended, closed_released}
 none_ends : (v : MasterSet) (c : ℕ) → own_master (masters.member_of v.members c) ≡ None → ends_with v c ≡ (λ _. false)
 none_ends v c e = λ i m. is_below (e i) v.masters m
 
+-- A closing ends no lease if the client is no master.
 pub leases_stay : (v : MasterSet) (c : ℕ) (l : LeaseSet) → own_master (masters.member_of v.members c) ≡ None → l ≡ without_its_leases c v l
 leases_stay v c l e = sym ((λ i. ended (none_ends v c e i) l) ∙ none_ended l)
 
 unreleased : (v : MasterSet) (c : ℕ) → own_master (masters.member_of v.members c) ≡ None → v.masters ≡ released (ends_with v c) v.masters
 unreleased v c e = sym ((λ i. released (none_ends v c e i) v.masters) ∙ none_released v.masters)
 
--- a client that belongs to no master
+-- The masters are unchanged without a client that belongs to none.
 pub nobody_gone : (v : MasterSet) (c : ℕ) → AreMasters v → masters.member_of v.members c ≡ None → v ≡ without_its_master c v
 nobody_gone v c are none =
     let stay : filter (λ (x : Member). not (masters.is_client c x)) v.members ≡ v.members = filter_all (λ (x : Member). not (masters.is_client c x)) v.members (all_weaker (λ (x : Member). masters.is_client c x ≡ false) (λ (x : Member). not (masters.is_client c x) ≡ true) (λ x e. ap not e) v.members (none_found (masters.is_client c) v.members none)) in
@@ -100,6 +101,7 @@ module _ (v middle : MasterSet) (c : ℕ) (x : Member) (here : masters.member_of
       ∙ (λ i n. is_under (kept_above x.master v.masters i) x.master n)
       ∙ (λ i. is_below (sym (own_is v c x true here own) i) v.masters)
 
+  -- The masters are those without the client, once its own master and all below it are released.
   pub owner_gone : (new : MasterSet) → new ≡ swept (calls.released (is_under (masters.lessor_of middle.masters) x.master) middle) → new ≡ without_its_master c v
   owner_gone new f =
       let device : (if masters.is_option x.master v.device_master then None else v.device_master) ≡ device_without v c = ap (λ b. if b && masters.is_option x.master v.device_master then None else v.device_master) (sym own) ∙ device_is v c x here in
@@ -107,16 +109,18 @@ module _ (v middle : MasterSet) (c : ℕ) (x : Member) (here : masters.member_of
       f ∙ (λ i. swept (record middle { masters = released (below_is i) middle.masters })) ∙ (λ i. swept (record (is i) { masters = released (ends_with v c) (is i).masters }))
       ∙ (λ i. swept (record (without_member (number_is v c x here i) v) { masters = released_again (ends_with v c) x.master top v.masters i; device_master = device i }))
 
-  -- its leases agree with its master, which is kept
+  -- After the closing of a client with an own master, leases still agree with masters.
   pub owner_agrees : (l : LeaseSet) → AreMasters v → AreAgreed l v → AreAgreed l middle
   owner_agrees l are agreed =
       subst (AreAgreed l) (sym is) (subst (λ n. AreAgreed l (closed_own n x.master v)) (sym (number_is v c x here)) (agreed_closed_own v c x l.lendings are.members_rise here agreed))
 
+  -- The leases are those without the client, once its own master's leases and all below are ended.
   pub owner_leases : (l new : LeaseSet) → new ≡ leases.ended middle.masters x.master l → new ≡ without_its_leases c v l
   owner_leases l new f = f ∙ (λ i. ended (below_is i) l)
 
 -- ---- by what the closing returned back
 
+-- If a closing returned no key, the client had no own master, and the masters are those without the client.
 pub closed_without : (v new : MasterSet) (c : ℕ) → AreMasters v → ClosedBy v (masters.member_of v.members c) None new → (own_master (masters.member_of v.members c) ≡ None) × (new ≡ without_its_master c v)
 closed_without v new c are h = by_member (masters.member_of v.members c) refl h
   where
@@ -136,6 +140,7 @@ pub record Closing (v middle : MasterSet) (c key : ℕ) : Type 0 where
   pub is : middle ≡ closed_own row.client row.master v
   pub keyed : masters.IsKeyOf middle.masters row.master key
 
+-- If a closing returned a key, the client had an own master, which is kept, and the key is this master's.
 pub closed_with : (v middle : MasterSet) (c key : ℕ) → ClosedBy v (masters.member_of v.members c) (Some key) middle → Closing v middle c key
 closed_with v middle c key h = by_member (masters.member_of v.members c) refl h
   where
@@ -186,9 +191,11 @@ module _ (v middle : MasterSet) (c key : ℕ) (k : Closing v middle c key) (l : 
       by_test true h = h
       by_test false h = absurd (by_row (find (masters.is_key key) middle.masters) refl k.keyed h)
 
+  -- If the client's own master was freed, the masters are those after the release of all that end.
   pub spared_left : (v2 : MasterSet) → v2 ≡ swept (calls.released chosen middle) → masters.master_at v2.masters own ≡ None → v2 ≡ swept (calls.released below middle)
   spared_left v2 e gone = e ∙ same_left chosen (λ m other. refl) (there_or v2 e gone)
 
+  -- If the client's own master still existed, its release leaves the masters after the release of all that end.
   pub released_left : (v2 v3 : MasterSet) (its : ℕ) → v2 ≡ swept (calls.released chosen middle) → masters.step_number_at v2.masters its ≡ own → v3 ≡ swept (calls.with_kept (masters.step_number_at v2.masters its) false v2) → v3 ≡ swept (calls.released below middle)
   released_left v2 v3 its e number f =
       f ∙ ap (λ n. swept (calls.with_kept n false v2)) number ∙ ap (λ (u : MasterSet). swept (calls.with_kept own false u)) e

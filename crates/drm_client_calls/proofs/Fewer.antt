@@ -13,6 +13,6 @@ one_more : (keys refs fewer : List ℕ) (k n : ℕ) → SameRows refs (k ∷ few
 one_more keys refs fewer k n same e =
     among-append keys refs n ∙ ap (λ b. is_among keys n || b) (same-any (λ m. m == n) refs (k ∷ fewer) same) ∙ sym (among-append keys (k ∷ fewer) n) ∙ among-between keys fewer k n ∙ or_right (k == n) (is_among (keys ++ fewer) n) e
 
--- one step further
+-- Two parts that leave fewer references, one after the other, leave fewer together.
 pub further : (start : List Object) (set new : ObjectSet) (keys refs fewer : List ℕ) (k : ℕ) → SameRows refs (k ∷ fewer) → IsStep start keys refs set → IsStep set.objects keys fewer new → IsStep start keys fewer new
 further start set new keys refs fewer k same h step = record { invariants = step.invariants; named = named_trans start set.objects new.objects (keys ++ refs) (keys ++ fewer) (λ n e. one_more keys refs fewer k n same e) h.named step.named }

@@ -37,22 +37,24 @@ use Rattle.drm_client_calls.proofs.Files.{not_there}
 
 -- ---- that there is room
 
+-- If a count has not reached the limit, it is below it.
 pub not_full : (a b : ℕ) → nat_le a b ≡ false → b < a
 not_full a b h = grind (arith, nat_tests)
 
--- who belongs to masters is older than a client that is made now
+-- Clients that belong to masters are older than a client that is opened now.
 pub newer : (s : State) (b : ℕ) → MeetsInvariants s → IsLater s b → IsNewClient s.masters b
 newer s b t later = all_weaker (λ (x : Member). is_open_client s.files x.client ≡ true) (λ (x : Member). x.client < b) (λ x e. older x.client b s.files.clients later.clients e) s.masters.members (members_open s t)
 
 -- ---- a file that was opened is closed again
 
--- all is unchanged
+-- Files and masters that are unchanged leave the state unchanged.
 pub back : (P : State → Type 0) (s : State) (fs : FileLists) (set : MasterSet) → fs ≡ s.files → set ≡ s.masters → P s → P (record s { files = fs; masters = set })
 back P s fs set e f h = subst (λ l. P (record s { files = l; masters = set })) (sym e) (subst (λ l. P (record s { masters = l })) (sym f) h)
 
 abbrev pub with_file : FileLists → ℕ → FileFlags → FileLists
 with_file fs c flags = record fs { clients = fs.clients ++ record { client = c; flags = flags } ∷ [] }
 
+-- A file that is added and removed again leaves the files unchanged.
 pub closed_again : (fs : FileLists) (c : ℕ) (flags : FileFlags) → AreFiles fs → AllByRecursion (λ (g : FileClient). g.client < c) fs.clients → without_client (with_file fs c flags) c ≡ fs
 closed_again fs c flags are newest = λ i. record fs { clients = clients i; holds = holds i }
   where
@@ -84,6 +86,7 @@ have_more v set m e f h = ap (λ l. f.flags.render || is_some (masters.member_of
     by_render true k = refl
     by_render false k = is_some-find (masters.is_client f.client) (v.members ++ m ∷ []) ∙ list_any_left (masters.is_client f.client) v.members (m ∷ []) (sym (is_some-find (masters.is_client f.client) v.members) ∙ k)
 
+-- One client more, which belongs to a master, keeps all invariants.
 pub joined_invariants : (s : State) (flags : FileFlags) (m : Member) (set : MasterSet) (l : LeaseSet) → MeetsInvariants s → set.members ≡ s.masters.members ++ m ∷ [] → AreMasters set → AreLeases l → AreOfLessees l.tokens set.masters → AreKeptBy l.tokens set.masters → AreAgreed l set →
     set.last_magic ≡ s.masters.last_magic → (invariant : Invariant) → meets_invariant invariant (joined s m.client flags set l)
 unfolding meets_invariant
@@ -101,11 +104,12 @@ joined_invariants s flags m set l t e are leases lessees kept agreed last KeptHa
 joined_invariants s flags m set l t e are leases lessees kept agreed last LeasesAgree = agreed
 joined_invariants s flags m set l t e are leases lessees kept agreed last invariant = t invariant
 
+-- A client without a magic adds no row of magics.
 pub no_magic_more : (m : Member) → m.magic ≡ None → (xs : List Member) → filter_map magic_row_of (xs ++ m ∷ []) ≡ filter_map magic_row_of xs
 no_magic_more m e [] = ap (λ (g : Option Magic). cons_option (option_map (λ (d : Magic). record { master = m.master; number = d.number; client = m.client; spent = d.spent }) g) []) e
 no_magic_more m e (x ∷ xs) = ap (cons_option (magic_row_of x)) (no_magic_more m e xs)
 
--- a client that is no master
+-- The state with a client that is no master represents the rows with it.
 pub non_master_represents : (s : State) (w : Rows) (flags : FileFlags) (m : Member) (row : ClientRow) → MeetsInvariants s → IsLater s m.client → m.magic ≡ None → client_row_by (record { client = m.client; flags = flags }) (Some m) ≡ row → Represents s w →
     (part : Part) → represents_part part (joined s m.client flags (with_last_member m s.masters) s.leases) (record w { clients = w.clients ++ row ∷ [] })
 unfolding represents_part
@@ -114,7 +118,7 @@ non_master_represents s w flags m row t later none r h Clients =
 non_master_represents s w flags m row t later none r h Magics = subst (SameRows w.magics) (sym (no_magic_more m none s.masters.members)) (magics_are s w h)
 non_master_represents s w flags m row t later none r h part = h part
 
--- a master's opener
+-- The state with a client that opens a new master represents the rows with both.
 pub opener_represents : (s : State) (w : Rows) (flags : FileFlags) (m : Member) (z : Master) (row : ClientRow) (master : MasterRow) → MeetsInvariants s → IsLater s m.client → m.magic ≡ None → client_row_by (record { client = m.client; flags = flags }) (Some m) ≡ row → master_row_of s.leases.tokens z ≡ master → Represents s w →
     (part : Part) → represents_part part (joined s m.client flags (with_device (Some z.step_number) (with_last_member m (with_last_master z s.masters))) s.leases) (record w { masters = w.masters ++ master ∷ []; device_master = Some master.master; clients = w.clients ++ row ∷ [] })
 unfolding represents_part
@@ -134,6 +138,7 @@ rows_rendered s w c flags row t later r h Clients =
     ap (λ l. l ++ row ∷ []) (clients_are s w h) ∙ ap (λ x. clients_of s ++ x ∷ []) (sym r) ∙ sym (render_pushed (record { client = c; flags = flags }) s.files.clients s.masters.members later.clients (members_open s t))
 rows_rendered s w c flags row t later r h part = h part
 
+-- The state with one render client more represents the rows with it.
 pub rendered_represents : (s : State) (w : Rows) (fs : FileLists) (c : ℕ) (flags : FileFlags) (row : ClientRow) → MeetsInvariants s → IsLater s c → fs ≡ with_file s.files c flags → client_row_by (record { client = c; flags = flags }) None ≡ row → Represents s w →
     Represents (record s { files = fs }) (record w { clients = w.clients ++ row ∷ [] })
 rendered_represents s w fs c flags row t later e r h = subst (λ l. Represents (record s { files = l }) (record w { clients = w.clients ++ row ∷ [] })) (sym e) (rows_rendered s w c flags row t later r h)
@@ -144,10 +149,11 @@ ties_rendered s c flags render t MembersOpen = members_open_yet (record { client
 ties_rendered s c flags render t ClientsHave = all_append (HasMaster s.masters) s.files.clients (record { client = c; flags = flags } ∷ []) (clients_have s t) (ap (λ b. b || is_some (masters.member_of s.masters.members c)) render, tt)
 ties_rendered s c flags render t invariant = t invariant
 
+-- One render client more keeps all invariants.
 pub rendered_invariants : (s : State) (fs : FileLists) (c : ℕ) (flags : FileFlags) → flags.render ≡ true → MeetsInvariants s → fs ≡ with_file s.files c flags → MeetsInvariants (record s { files = fs })
 rendered_invariants s fs c flags render t e = subst (λ l. MeetsInvariants (record s { files = l })) (sym e) (ties_rendered s c flags render t)
 
--- no more clients belong to masters than are open
+-- No more clients belong to masters than are open.
 pub fewer_members : (ms : List Member) (fs : List FileClient) → InOrder (λ (x y : Member). x.client < y.client) ms → AllByRecursion (λ (x : Member). is_some (find (files.is_client x.client) fs) ≡ true) ms → length ms ≤ length fs
 fewer_members [] fs h there = omega arith
 fewer_members (m ∷ ms) fs h there =
@@ -157,6 +163,7 @@ fewer_members (m ∷ ms) fs h there =
     let lt = filter-fewer (files.is_client m.client) fs (sym (is_some-find (files.is_client m.client) fs) ∙ there.0) in
     omega (arith, rest, lt)
 
+-- If one more client may be open, one more may belong to masters.
 pub room_for : (s : State) → MeetsInvariants s → length s.files.clients < s.files.limit → length s.masters.members < s.masters.last_magic
 room_for s t lt =
     let few = fewer_members s.masters.members s.files.clients (masters_so s t).members_rise (members_open s t) in

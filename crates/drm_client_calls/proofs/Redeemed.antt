@@ -44,7 +44,7 @@ Apart tokens = InOrder (λ (x y : LeaseToken). (x.master == y.master) ≡ false)
 leased_by : (w : Rows) (tokens : List LeaseToken) (ms : List Master) (t : ℕ) → w.masters ≡ map (master_row_of tokens) ms → lease_master w t ≡ option_map (master_row_of tokens) (find (λ (x : Master). is_option t (token_of tokens x.step_number)) ms)
 leased_by w tokens ms t are = ap (find (λ (row : MasterRow). is_option t row.lease_token)) are ∙ find-map (λ (row : MasterRow). is_option t row.lease_token) (master_row_of tokens) ms
 
--- a token that isn't open
+-- A token that is not open has no master in the rows.
 pub not_leased : (w : Rows) (tokens : List LeaseToken) (ms : List Master) (t : ℕ) → w.masters ≡ map (master_row_of tokens) ms → find (is_token t) tokens ≡ None → lease_master w t ≡ None
 not_leased w tokens ms t are none =
     leased_by w tokens ms t are ∙ ap (option_map (master_row_of tokens)) (find_none (λ (x : Master). is_option t (token_of tokens x.step_number)) ms (all_each (λ (x : Master). is_option t (token_of tokens x.step_number) ≡ false) (λ x. other x.step_number) ms))
@@ -75,6 +75,7 @@ module _ (tokens : List LeaseToken) (t : ℕ) (row : LeaseToken) (is : find (is_
       (λ e. let it : r ≡ row = same_Some r row (sym g ∙ ap (λ n. find (is_token_of n) tokens) (eqb-true r.master row.master e) ∙ of_its_master) in eq-eqb r.token t (ap (λ (z : LeaseToken). z.token) it ∙ its_token)))
       tokens (all_found_apart (λ (r : LeaseToken). r.token) tokens differ) by_master
 
+  -- A master has the open token exactly if it is the token's lessee.
   pub option_is : (m : ℕ) → is_option t (token_of tokens m) ≡ (m == row.master)
   option_is m = by_row (find (is_token_of m) tokens) refl
     where
@@ -88,19 +89,19 @@ module _ (tokens : List LeaseToken) (t : ℕ) (row : LeaseToken) (is : find (is_
       by_row None e = not_it e
       by_row (Some r) e = let it = found (is_token_of m) (λ (r : LeaseToken). (r.token == t) ≡ (r.master == row.master)) r tokens each e in it.1 ∙ ap (λ n. n == row.master) (eqb-true r.master m it.0)
 
-  -- its lessee has the token
+  -- The lessee of an open token has this token.
   pub its_open : token_of tokens row.master ≡ Some t
   its_open = ap (option_map (λ (r : LeaseToken). r.token)) of_its_master ∙ ap Some its_token
 
-  -- the tokens without it are those of other lessees
+  -- The tokens without an open one are those of all other lessees.
   pub spent : filter (λ (r : LeaseToken). not (is_token t r)) tokens ≡ filter (λ (r : LeaseToken). not (r.master == row.master)) tokens
   spent = filter-same (λ (r : LeaseToken). not (is_token t r)) (λ (r : LeaseToken). not (r.master == row.master)) tokens (all_weaker (λ (r : LeaseToken). (r.token == t) ≡ (r.master == row.master)) (λ (r : LeaseToken). not (r.token == t) ≡ not (r.master == row.master)) (λ r e. ap not e) tokens each)
 
-  -- the row of its master
+  -- The rows find for an open token the row of its lessee.
   pub leased_is : (w : Rows) (ms : List Master) → w.masters ≡ map (master_row_of tokens) ms → lease_master w t ≡ option_map (master_row_of tokens) (master_at ms row.master)
   leased_is w ms are = leased_by w tokens ms t are ∙ ap (option_map (master_row_of tokens)) (find-same (λ (x : Master). is_option t (token_of tokens x.step_number)) (is_step_number row.master) ms (all_each (λ (x : Master). is_option t (token_of tokens x.step_number) ≡ (x.step_number == row.master)) (λ x. option_is x.step_number) ms))
 
-  -- the rows of masters without the token, which keeps its lessee no more
+  -- The rows of masters without a spent token are those without its lessee's token, which no longer keeps it.
   pub rows_spent : (ms : List Master) → map (λ (r : MasterRow). if is_option t r.lease_token then record r { lease_token = None } else r) (map (master_row_of tokens) ms) ≡ map (master_row_of (filter (λ (r : LeaseToken). not (is_token t r)) tokens)) (released (λ n. n == row.master) ms)
   rows_spent ms =
       let below : ℕ → Bool = λ n. n == row.master in
@@ -113,7 +114,7 @@ module _ (tokens : List LeaseToken) (t : ℕ) (row : LeaseToken) (is : find (is_
 
 -- ---- the lessee
 
--- a master of a key is the one of its step number
+-- A master of a key is the one of its step number.
 pub at_key : (ms : List Master) (m key : ℕ) → InOrder (λ (x y : Master). x.step_number < y.step_number) ms → IsKeyOf ms m key → (x : Master) × (find (is_key key) ms ≡ Some x) × (x.step_number ≡ m) × (master_at ms m ≡ Some x)
 at_key ms m key rise h = by_row (find (is_key key) ms) refl h
   where
@@ -123,7 +124,7 @@ at_key ms m key rise h = by_row (find (is_key key) ms) refl h
         let is : x.step_number ≡ m = same_Some x.step_number m k in
         (x, e, is, ap (master_at ms) (sym is) ∙ (found (is_key key) (λ (y : Master). find (is_step_number y.step_number) ms ≡ Some y) x ms (all_found (λ (y : Master). y.step_number) ms rise) e).1)
 
--- a lessee with an open token is kept
+-- A lessee with an open token is kept.
 pub unredeemed : (tokens : List LeaseToken) (ms : List Master) (m key : ℕ) → InOrder (λ (x y : Master). x.step_number < y.step_number) ms → AreKeptBy tokens ms → is_some (token_of tokens m) ≡ true → is_lessee ms m ≡ true → IsKeyOf ms m key →
     option_map_or (λ (x : Master). x.kept && is_some x.lessor) (find (is_key key) ms) false ≡ true
 unredeemed tokens ms m key rise kept opens lessee h =
@@ -134,6 +135,7 @@ unredeemed tokens ms m key rise kept opens lessee h =
 
 -- ---- the token that was looked up
 
+-- A token of no master is not open.
 pub no_token : (tokens : List LeaseToken) (t : ℕ) → token_master tokens t ≡ None → find (is_token t) tokens ≡ None
 no_token tokens t h = by_row (find (is_token t) tokens) h
   where
@@ -141,6 +143,7 @@ no_token tokens t h = by_row (find (is_token t) tokens) h
     by_row None e = refl
     by_row (Some row) e = absurd (let n : Some row.master ≡ None = e in cc)
 
+-- A token of a master is open, and the master is its lessee.
 pub open_token : (tokens : List LeaseToken) (t m : ℕ) → token_master tokens t ≡ Some m → (row : LeaseToken) × (find (is_token t) tokens ≡ Some row) × (row.master ≡ m)
 open_token tokens t m h = by_row (find (is_token t) tokens) refl h
   where
@@ -148,7 +151,7 @@ open_token tokens t m h = by_row (find (is_token t) tokens) refl h
     by_row None e k = absurd (let n : None ≡ Some m = k in cc)
     by_row (Some row) e k = (row, e, same_Some row.master m k)
 
--- it is a lessee's
+-- The master of an open token is a lessee.
 pub of_lessee : (tokens : List LeaseToken) (ms : List Master) (t m : ℕ) → AreOfLessees tokens ms → token_master tokens t ≡ Some m → is_lessee ms m ≡ true
 of_lessee tokens ms t m h e =
     let it = open_token tokens t m e in
@@ -163,6 +166,7 @@ lease_flags root universal = record { render = false; root = root; authenticated
 abbrev pub redeemed_last : ℕ → ℕ → MasterSet → MasterSet
 redeemed_last b m v = with_kept m false (with_last_member (lease_client b m) v)
 
+-- The client that redeems a lease is the last, since it is newer than all.
 pub last_redeemed : (b m : ℕ) (v : MasterSet) → IsNewClient v b → redeemed b m v ≡ redeemed_last b m v
 last_redeemed b m v newest = ap (with_kept m false) (newest_last v (lease_client b m) newest)
 
@@ -180,12 +184,14 @@ module _ (s : State) (t m : ℕ) (invariants : MeetsInvariants s) (is : token_ma
   its_master : row.master ≡ m
   its_master = (open_token s.leases.tokens t m is).2
 
+  -- The master of a token that was looked up has an open token.
   pub opens : is_some (token_of s.leases.tokens m) ≡ true
   opens = ap (λ n. is_some (token_of s.leases.tokens n)) (sym its_master) ∙ ap is_some (its_open s.leases.tokens t row found_row (tokens_differ s.leases.tokens (leases_so s invariants).tokens_rise) (leases_so s invariants).lessees_differ)
 
   spent_is : filter (λ (r : LeaseToken). not (is_token t r)) s.leases.tokens ≡ filter (λ (r : LeaseToken). not (r.master == m)) s.leases.tokens
   spent_is = spent s.leases.tokens t row found_row (tokens_differ s.leases.tokens (leases_so s invariants).tokens_rise) (leases_so s invariants).lessees_differ ∙ (λ i. filter (λ (r : LeaseToken). not (r.master == its_master i)) s.leases.tokens)
 
+  -- A client that spends a lease token keeps all invariants.
   pub redeemed_invariants : (b : ℕ) (root universal : Bool) → IsNewClient s.masters b → AreMasters (redeemed_last b m s.masters) → AreLeases (without_token t s.leases) → MeetsInvariants (with_lease_client s b t m root universal)
   redeemed_invariants b root universal newest are leases =
       let below : ℕ → Bool = λ n. n == m in
@@ -195,6 +201,7 @@ module _ (s : State) (t m : ℕ) (invariants : MeetsInvariants s) (is : token_ma
       (subst (AreAgreed s.leases) (last_redeemed b m s.masters newest) (agreed_redeemed b m s.masters s.leases.lendings (leases_agree s invariants))) refl
 
   module _ (w : Rows) (x : Master) (there : master_at s.masters.masters m ≡ Some x) (h : Represents s w) where
+    -- The rows find the lessee of a token that was looked up.
     pub its_row : lease_master w t ≡ Some (master_row_of s.leases.tokens x)
     its_row =
         leased_is s.leases.tokens t row found_row (tokens_differ s.leases.tokens (leases_so s invariants).tokens_rise) (leases_so s invariants).lessees_differ w s.masters.masters (masters_are s w h)
@@ -215,6 +222,7 @@ module _ (s : State) (t m : ℕ) (invariants : MeetsInvariants s) (is : token_ma
         ∙ rows_spent s.leases.tokens t row found_row (tokens_differ s.leases.tokens (leases_so s invariants).tokens_rise) (leases_so s invariants).lessees_differ s.masters.masters
         ∙ (λ i. map (master_row_of (without_token t s.leases).tokens) (released (λ n. n == its_master i) s.masters.masters))
 
+    -- The state with a client that spent a lease token represents the rows after this opening.
     pub redeemed_represents : (b : ℕ) (root universal : Bool) → IsLater s b → w.steps + 1 ≡ b → (part : Part) → represents_part part (with_lease_client s b t m root universal) (opened_lease w t root universal)
     unfolding represents_part
     redeemed_represents b root universal later e Clients =

@@ -32,6 +32,7 @@ module _ (s : State) (c : ℕ) (on : Bool) where
   abbrev pub shown : State
   shown = record s { files = with_universal s.files c on }
 
+  -- A client's universal planes on or off keep all invariants.
   pub shown_invariants : MeetsInvariants s → (invariant : Invariant) → meets_invariant invariant shown
   unfolding meets_invariant
   shown_invariants t MembersOpen = all_weaker (λ (z : Member). is_open_client s.files z.client ≡ true) (λ (z : Member). is_open_client (with_universal s.files c on) z.client ≡ true) (λ z e. open_client_yet s.files c z.client on ∙ e) s.masters.members (members_open s t)
@@ -51,6 +52,7 @@ module _ (s : State) (c : ℕ) (on : Bool) where
   unfolding model.with_universal
   clients_now w h = ap (map (λ (row : ClientRow). if row.client == c then record row { universal = on } else row)) (clients_are s w h) ∙ each s.files.clients
 
+  -- A client's universal planes on or off represent the rows with the same change.
   pub shown_represents : (w : Rows) → Represents s w → (part : Part) → represents_part part shown (record w { clients = model.with_universal c on w.clients })
   unfolding represents_part
   shown_represents w h Clients = clients_now w h

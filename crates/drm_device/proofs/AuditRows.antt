@@ -47,10 +47,12 @@ before-less x y h = grind (arith, nat_tests)
 by_number : {X : Type 0} (f : X → AuditRow) (rows : List X) (last : ℕ) → MadeInTurn (λ x. (f x).a) last rows → rising_rows (map f rows) ≡ map f rows
 by_number f rows last h = sorted-as_is is_before (map f rows) (in_order_map (λ x y. is_before x y ≡ true) f rows (in_order_weaker _ _ (λ x y k. before-less (f x) (f y) k) rows h.0))
 
+-- An audit of clients lists the rows of the state, in the order of their numbers.
 pub client_rows : (s : State) (steps : ℕ) (w : Rows) → RepresentsAfter s steps w → rising_rows (audit_rows w kinds.Client) ≡ map (λ f. client_audit w (client_row_of s.masters.members f)) s.files.clients
 unfolding audit_rows
 client_rows s steps w h = by_number (client_audit w) w.clients w.steps h.step_numbers.0 ∙ ap (map (client_audit w)) (clients_are s w h.rows) ∙ map-map (client_audit w) (client_row_of s.masters.members) s.files.clients
 
+-- An audit of masters lists the rows of the state, in the order of their numbers.
 pub master_rows : (s : State) (steps : ℕ) (w : Rows) → RepresentsAfter s steps w → rising_rows (audit_rows w kinds.Master) ≡ map (λ (x : Master). master_audit (master_row_of s.leases.tokens x)) s.masters.masters
 unfolding audit_rows
 master_rows s steps w h = by_number master_audit w.masters w.steps h.step_numbers.1 ∙ ap (map master_audit) (masters_are s w h.rows) ∙ map-map master_audit (master_row_of s.leases.tokens) s.masters.masters
@@ -59,7 +61,7 @@ object_rows : (s : State) (steps : ℕ) (w : Rows) → RepresentsAfter s steps w
 unfolding audit_rows
 object_rows s steps w h = by_number (object_audit w) w.objects w.steps h.step_numbers.2 ∙ ap (map (object_audit w)) (objects_are s w h.rows) ∙ map-map (object_audit w) object_row_of s.objects.objects
 
--- the row at a place, by the item there
+-- The row of an audit at a place is that of the item there.
 pub row_of_item : {X : Type 0} (f : X → AuditRow) (xs : List X) (rows : List AuditRow) (position : ℕ) (found : Option X) → rows ≡ map f xs → found ≡ slice_get xs position → option_map f found ≡ slice_get rows position
 row_of_item f xs rows position found e h = ap (option_map f) h ∙ sym (slice_get-map f xs position) ∙ ap (λ ys. slice_get ys position) (sym e)
 
@@ -82,7 +84,7 @@ object_is s w position x steps t h e =
     let others : reference_count w x.step_number ≡ x.refs = references_counted w x.step_number ∙ references_by w s.objects.objects s.tokens.tokens s.modes.framebuffers (tokens_are s w h.rows) (framebuffers_are s w h.rows) (λ n. n == x.step_number) ∙ numbers refs (λ n k. among-right keys refs n k) ∙ sym counts.1 in
     ap (λ m. audit_row x.step_number x.size m x.refs) (sym holds) ∙ ap (audit_row x.step_number x.size (handle_count w x.step_number)) (sym others)
 
--- the row of the object at a place
+-- The row of an audit at an object's place has its size and its counts.
 pub object_row_at : (s : State) (w : Rows) (position : ℕ) (found : Option Object) (steps : ℕ) → MeetsInvariants s → RepresentsAfter s steps w → found ≡ slice_get s.objects.objects position →
     option_map (λ (x : Object). audit_row x.step_number x.size x.holds x.refs) found ≡ slice_get (rising_rows (audit_rows w kinds.Object)) position
 object_row_at s w position None steps t h e = row_of_item (λ (x : Object). object_audit w (object_row_of x)) s.objects.objects _ position None (object_rows s steps w h) e
@@ -105,6 +107,7 @@ audit_of s x = handle_audit (handle_row_of s.objects.objects x)
 hold-rises : (s : State) (x y : FileHandle) → handle_before x y ≡ true → RisesTo is_before (audit_of s x) (audit_of s y)
 hold-rises s x y h = (grind (arith, nat_tests), grind (arith, nat_tests))
 
+-- An audit of handles lists the rows of the state, by client and handle.
 pub hold_rows : (s : State) (steps : ℕ) (w : Rows) → MeetsInvariants s → RepresentsAfter s steps w → rising_rows (audit_rows w kinds.Hold) ≡ map handle_audit (holds_of s)
 unfolding audit_rows
 hold_rows s steps w t h =
@@ -113,6 +116,7 @@ hold_rows s steps w t h =
 name-rises : (s : State) (x y : SharedName) → name_before x y ≡ true → RisesTo is_before (name_audit (name_row_of s.objects.objects x)) (name_audit (name_row_of s.objects.objects y))
 name-rises s x y h = (grind (arith, nat_tests), grind (arith, nat_tests))
 
+-- An audit of names lists the rows of the state, in the order of their numbers.
 pub name_rows : (s : State) (steps : ℕ) (w : Rows) → AreNames s.names → RepresentsAfter s steps w → rising_rows (audit_rows w kinds.Name) ≡ map name_audit (names_of s)
 unfolding audit_rows
 name_rows s steps w are h =
@@ -121,6 +125,7 @@ name_rows s steps w are h =
 token-rises : (s : State) (x y : SharedToken) → token_before x y ≡ true → RisesTo is_before (token_audit (token_row_of s.objects.objects x)) (token_audit (token_row_of s.objects.objects y))
 token-rises s x y h = (grind (arith, nat_tests), grind (arith, nat_tests))
 
+-- An audit of tokens lists the rows of the state, in the order of their numbers.
 pub token_rows : (s : State) (steps : ℕ) (w : Rows) → AreTokens s.tokens → RepresentsAfter s steps w → rising_rows (audit_rows w kinds.Token) ≡ map token_audit (tokens_of s)
 unfolding audit_rows
 token_rows s steps w are h =
@@ -129,6 +134,7 @@ token_rows s steps w are h =
 framebuffer-rises : (s : State) (x y : Framebuffer) → framebuffer_before x y ≡ true → RisesTo is_before (framebuffer_audit (framebuffer_row_of s.objects.objects x)) (framebuffer_audit (framebuffer_row_of s.objects.objects y))
 framebuffer-rises s x y h = (grind (arith, nat_tests), grind (arith, nat_tests))
 
+-- An audit of framebuffers lists the rows of the state, in the order of their ids.
 pub framebuffer_rows : (s : State) (steps : ℕ) (w : Rows) → MeetsInvariants s → RepresentsAfter s steps w → rising_rows (audit_rows w kinds.Framebuffer) ≡ map framebuffer_audit (framebuffers_of s)
 unfolding audit_rows
 framebuffer_rows s steps w t h =
@@ -152,6 +158,7 @@ lit_rise x (f ∷ fs) =
 shown-rises : (x y : Shown) → x.engine < y.engine → RisesTo is_before (shown_audit (shown_row_of x)) (shown_audit (shown_row_of y))
 shown-rises x y h = (grind (arith, nat_tests), grind (arith, nat_tests))
 
+-- An audit of what is shown lists the rows of the state, by CRTC or plane.
 pub shown_audits : (s : State) (steps : ℕ) (w : Rows) → RepresentsAfter s steps w → rising_rows (audit_rows w kinds.Shown) ≡ map shown_audit (shown_of s)
 unfolding audit_rows
 shown_audits s steps w h = rising_by shown_audit shown_row_of (λ x y. x.engine < y.engine) shown-rises w.shown (shown_rows s.modes) (lit_rise 1 s.modes.scanouts) (shown_are s w h.rows)
@@ -160,16 +167,19 @@ grant-rises : (g h : Grant) → grant_before g h → RisesTo is_before (grant_au
 grant-rises g h (inl lt) = (grind (arith, nat_tests), grind (arith, nat_tests))
 grant-rises g h (inr k) = let same = k.0 in let lt = k.1 in (grind (arith, nat_tests), grind (arith, nat_tests))
 
+-- An audit of grants lists the rows of the state, by lessee and mode object.
 pub grant_rows : (s : State) (steps : ℕ) (w : Rows) → MeetsInvariants s → RepresentsAfter s steps w → rising_rows (audit_rows w kinds.Grant) ≡ map grant_audit (grants_of s)
 unfolding audit_rows
 grant_rows s steps w t h = rising_by grant_audit grant_row_of grant_before grant-rises w.grants s.leases.grants (leases_so s t).grants_rise (grants_are s w h.rows)
 
+-- An audit of the device has one row: its master, the last tokens and the number of steps.
 pub device_rows : (s : State) (steps : ℕ) (w : Rows) → RepresentsAfter s steps w → rising_rows (audit_rows w kinds.Device) ≡ audit_row (or_zero s.masters.device_master) (or_zero s.tokens.last_given) (or_zero s.leases.last_given) steps ∷ []
 unfolding audit_rows sorted_by
 device_rows s steps w h = rw (device_master_is s w h.rows, last_token_is s w h.rows, last_lease_token_is s w h.rows, h.steps_are) refl
 
 -- ---- of a handle at a place
 
+-- The key of the handle at a place is among the keys that handles name.
 pub among_at : (hs : List FileHandle) (i : ℕ) (x : FileHandle) → slice_get hs i ≡ Some x → is_among (keys_of hs) x.object ≡ true
 among_at [] i x h = absurd (let e : None ≡ Some x = h in cc)
 among_at (y ∷ ys) zero x h = let same : y ≡ x = let e : Some y ≡ Some x = h in cc in or_left (y.object == x.object) _ (eq-eqb y.object x.object (ap (λ (z : FileHandle). z.object) same))
@@ -179,13 +189,14 @@ step_number_of : (o : Option Object) (n : ℕ) → option_map (λ (x : Object). 
 step_number_of None n h = absurd (let e : None ≡ Some n = h in cc)
 step_number_of (Some x) n h = let e : Some x.step_number ≡ Some n = h in cc
 
+-- The row of an audit at a handle's place is that of the handle.
 pub hold_there : (objects : List Object) (hs : List FileHandle) (i : ℕ) (x : FileHandle) (n position : ℕ) → slice_get hs i ≡ Some x → option_map (λ (x : Object). x.step_number) (find (is_key x.object) objects) ≡ Some n → position ≡ or_zero x.export_order →
     Some (audit_row x.client x.handle n position) ≡ slice_get (map handle_audit (map (handle_row_of objects) hs)) i
 hold_there objects hs i x n position e k p =
     ap (λ m. Some (audit_row x.client x.handle m position)) (sym (step_number_of (find (is_key x.object) objects) n k)) ∙ ap (λ d. Some (audit_row x.client x.handle (step_number_at objects x.object) d)) p
     ∙ sym (slice_get-map handle_audit (map (handle_row_of objects) hs) i ∙ ap (option_map handle_audit) (slice_get-map (handle_row_of objects) hs i ∙ ap (option_map (handle_row_of objects)) e))
 
--- ---- of a name, a token, a framebuffer or what is shown at a place
+-- ---- the same for names, tokens, framebuffers, shown rows and grants: the audit's row at a place is that of the item
 
 pub name_there : (objects : List Object) (ns : List SharedName) (i : ℕ) (x : SharedName) (n : ℕ) → slice_get ns i ≡ Some x → option_map (λ (x : Object). x.step_number) (find (is_key x.object) objects) ≡ Some n →
     Some (audit_row x.name n 0 0) ≡ slice_get (map name_audit (map (name_row_of objects) ns)) i

@@ -17,5 +17,6 @@ inside_send =
     inside.the_type.to_one
     (struct_send (shape inside.the_type) (limits.the_field_send, (Vec-send _ event.the_send, (state_send, tt))))
 
+-- A device may be sent to another thread.
 pub device_send : IsSend device.the_row
 device_send = view_send inside.the_row _ _ _ _ inside_send

@@ -56,7 +56,7 @@ use Rattle.drm_state.proofs.Represented.{bounds_are, clients_are, masters_are, h
 use Rattle.drm_state.proofs.Refinements.{represented_count}
 use Rattle.drm_state.proofs.Lookups.{is_open_is}
 
--- the state of a device represents its rows
+-- The state of a device represents the rows of its history.
 pub stands : (d : Inside) (n : ℕ) → IsDevice d → n ≡ vec_len d.journal → RepresentsAt d.state (n + 1) (rows_of (value_of d))
 stands d n h e = record {
   rows = h.rows;
@@ -64,7 +64,7 @@ stands d n h e = record {
   step_number_is = ap (λ n. n + 1) (rows_of-steps (value_of d) ∙ sym d.journal.ok.0 ∙ sym e);
 }
 
--- in the rows' own words, the journal has places for the closings of the open clients
+-- The journal has a place for the closing of each open client.
 pub fits : (d : Inside) → IsDevice d → (rows_of (value_of d)).steps + length (rows_of (value_of d)).clients ≤ (rows_of (value_of d)).limits.journal
 fits d h =
     let steps = rows_of-steps (value_of d) in
@@ -72,7 +72,7 @@ fits d h =
     let limit : (rows_of (value_of d)).limits.journal ≡ d.limits.journal = ap (λ (l : Limits). l.journal) (rows_of-limits (value_of d)) in
     omega (arith, h.places, d.journal.ok.0)
 
--- after an event that has room
+-- After an event that found room the journal has a place for the closing of each open client.
 pub fits_after : (d : Inside) (event : Event) → IsDevice d → no_room (rows_of (value_of d)) event ≡ false → vec_len d.journal + 1 + length (after (rows_of (value_of d)) event).clients ≤ d.limits.journal
 fits_after d event h room =
     let enough = room_after (rows_of (value_of d)) event (fits d h) room in
@@ -81,30 +81,34 @@ fits_after d event h room =
     let limit : (rows_of (value_of d)).limits.journal ≡ d.limits.journal = ap (λ (l : Limits). l.journal) (rows_of-limits (value_of d)) in
     omega (arith, d.journal.ok.0)
 
+-- The journal is within its limit after an event that found room.
 pub within_after : (d : Inside) (event : Event) (journal : Vec Event) → IsDevice d → no_room (rows_of (value_of d)) event ≡ false →
     vec_len journal ≡ vec_len d.journal + 1 → length journal.items ≤ d.limits.journal
 within_after d event journal h room len = omega (arith, fits_after d event h room, journal.ok.0)
 
+-- The journal has memory for an event that found room.
 pub has_room_for : (d : Inside) (event : Event) → IsDevice d → no_room (rows_of (value_of d)) event ≡ false → vec_len d.journal < vec_capacity d.journal
 has_room_for d event h room = omega (arith, fits_after d event h room, h.reserved)
 
--- the fields after an event that was recorded
+-- After a recorded event the history of the device has this event more.
 pub next_history : (d : Inside) (event : Event) (journal : Vec Event) (s : State) → journal.items ≡ d.journal.items ++ event ∷ [] → s.modes.topology ≡ d.state.modes.topology →
     value_of (record { limits = d.limits; journal = journal; state = s }) ≡ journaled_in (value_of d) event
 next_history d event journal s e fixed = λ i. record { topology = fixed i; limits = d.limits; journal = e i }
 
+-- The rows after a recorded event are those of the event after the rows before.
 pub next_rows : (d : Inside) (event : Event) (journal : Vec Event) (s : State) → journal.items ≡ d.journal.items ++ event ∷ [] → s.modes.topology ≡ d.state.modes.topology →
     rows_of (value_of (record { limits = d.limits; journal = journal; state = s })) ≡ after (rows_of (value_of d)) event
 next_rows d event journal s e fixed = ap rows_of (next_history d event journal s e fixed) ∙ rows_journaled (value_of d) event
 
--- the same history, of another state
+-- Another state with the same mode objects leaves the history of the device.
 pub same_history : (d : Inside) (s : State) → s.modes.topology ≡ d.state.modes.topology → value_of (record { limits = d.limits; journal = d.journal; state = s }) ≡ value_of d
 same_history d s fixed = λ i. record { topology = fixed i; limits = d.limits; journal = d.journal.items }
 
--- the fixed mode objects stay
+-- The state keeps the fixed mode objects.
 pub topology_same : (d : Inside) (s : State) (w : Rows) → Represents s w → w.topology ≡ (rows_of (value_of d)).topology → s.modes.topology ≡ d.state.modes.topology
 topology_same d s w r e = (bounds_are s w r).7 ∙ e ∙ rows_of-topology (value_of d)
 
+-- No event changes the fixed mode objects of the state.
 pub topology_after : (d : Inside) (event : Event) (s : State) → Represents s (after (rows_of (value_of d)) event) → s.modes.topology ≡ d.state.modes.topology
 topology_after d event s r = topology_same d s (after (rows_of (value_of d)) event) r (after-topology (rows_of (value_of d)) event)
 
@@ -113,6 +117,7 @@ next_room : (d : Inside) (event : Event) → IsDevice d → no_room (rows_of (va
 unfolding rows_of
 next_room d event h room = found_room_push (start_of (value_of d)) d.journal.items event h.found_room room
 
+-- A device is one after a recorded event too: the invariants hold and the state represents the new rows.
 pub next_device : (d : Inside) (event : Event) (journal : Vec Event) (s : State) → IsDevice d → no_room (rows_of (value_of d)) event ≡ false →
     journal.items ≡ d.journal.items ++ event ∷ [] → vec_len journal ≡ vec_len d.journal + 1 → vec_capacity journal ≡ vec_capacity d.journal →
     MeetsInvariants s → Represents s (after (rows_of (value_of d)) event) → IsDevice (record { limits = d.limits; journal = journal; state = s })
@@ -130,7 +135,7 @@ next_device d event journal s h room items len capacity t r =
       journal_fits = h.journal_fits;
     }
 
--- the fields after an event for which memory was short
+-- A device is one after refused memory too: its history is unchanged.
 pub same_device : (d : Inside) (s : State) → IsDevice d → MeetsInvariants s → Represents s (rows_of (value_of d)) → IsDevice (record { limits = d.limits; journal = d.journal; state = s })
 same_device d s h t r =
     let now = represented_count s (rows_of (value_of d)) r in
@@ -168,22 +173,28 @@ framebuffers_between limits h =
     let before_lessees = (and_parts _ _ before_journal).0 in
     (and_parts _ (is_between 1 64 limits.framebuffers) before_lessees).1
 
+-- Limits in their ranges allow 64 lessees at most.
 pub few_lessees_allowed : (limits : Limits) → are_in_range limits ≡ true → limits.lessees ≤ 64
 unfolding are_in_range
 few_lessees_allowed limits h = at_most 1 64 limits.lessees (and_parts _ (is_between 1 64 limits.lessees) (and_parts _ _ h).0).1
 
+-- Limits in their ranges allow a framebuffer at least.
 pub some_framebuffers : (limits : Limits) → are_in_range limits ≡ true → 1 ≤ limits.framebuffers
 some_framebuffers limits h = at_least 1 64 limits.framebuffers (framebuffers_between limits h)
 
+-- Limits in their ranges allow 64 framebuffers at most.
 pub few_framebuffers_allowed : (limits : Limits) → are_in_range limits ≡ true → limits.framebuffers ≤ 64
 few_framebuffers_allowed limits h = at_most 1 64 limits.framebuffers (framebuffers_between limits h)
 
+-- Limits in their ranges allow a token at least.
 pub some_tokens : (limits : Limits) → are_in_range limits ≡ true → 1 ≤ limits.tokens
 some_tokens limits h = at_least 1 65535 limits.tokens (and_parts _ (is_between 1 65535 limits.tokens) (before_objects limits h)).1
 
+-- Limits in their ranges allow a name at least.
 pub some_names : (limits : Limits) → are_in_range limits ≡ true → 1 ≤ limits.names
 some_names limits h = at_least 1 65535 limits.names (and_parts _ (is_between 1 65535 limits.names) (and_parts _ _ (before_objects limits h)).0).1
 
+-- Limits in their ranges allow a handle at least.
 pub some_handles : (limits : Limits) → are_in_range limits ≡ true → 1 ≤ limits.handles
 some_handles limits h = at_least 1 65535 limits.handles (and_parts _ (is_between 1 65535 limits.handles) (and_parts _ _ (and_parts _ _ (before_objects limits h)).0).0).1
 
@@ -249,6 +260,7 @@ start_invariants t limits s is ObjectsCounted =
     (subst (λ (o : ObjectSet). AreCounted [] [] o.objects) (sym is.objects) (record { there = λ n h. absurd (let k : false ≡ true = h in cc); counted = tt; used = tt; keys_differ = tt; step_numbers_differ = tt }))))
 start_invariants t limits s is NamesHeld = subst (λ (l : NameList). AreNamed (keys_of s.files.holds) l.names) (sym is.names) tt
 
+-- A device that starts with limits in their ranges and an empty journal is one.
 pub new_device : (d : Inside) (t : Topology) → are_in_range d.limits ≡ true → d.journal.items ≡ [] → d.limits.journal ≤ vec_capacity d.journal → IsStart d.state t d.limits → IsDevice d
 unfolding rows_of run FoundRoom
 new_device d t good e room is =
@@ -271,7 +283,7 @@ new_device d t good e room is =
 not_later : (n last : ℕ) → n ≤ last → n < last + 1
 not_later n last h = omega (arith, h)
 
--- what is so of the fixed mode objects
+-- The fixed mode objects of a device meet their facts.
 pub fixed_topology : (d : Inside) → IsDevice d → IsTopology (value_of d).topology
 fixed_topology d h = (modes_so d.state h.invariants).topology
 
@@ -326,7 +338,7 @@ leases_later s w t h made older = record {
       (all_under w.steps (grants_of s) (sym (same-any (λ (row : GrantRow). nat_lt w.steps row.master) w.grants (grants_of s) (grants_are s w h)) ∙ none_over w.steps w.grants made));
 }
 
--- it is later than all that exists
+-- A device is ready for its next step.
 pub precondition : (d : Inside) (n : ℕ) → IsDevice d → n ≡ vec_len d.journal → StepPrecondition d.state (n + 1)
 precondition d n h e =
     let w = rows_of (value_of d) in
@@ -346,7 +358,7 @@ precondition d n h e =
 
 -- ---- what is answered
 
--- an answer holds few ids
+-- Each answer of a device fits one frame.
 pub few_answer : (d : Inside) (event : Event) → IsDevice d → FitsOneFrame (Ok (reply (rows_of (value_of d)) event))
 few_answer d event h =
     let w = rows_of (value_of d) in
@@ -361,25 +373,29 @@ not_less a b = grind (arith, nat_tests)
 places_are : (d : Inside) → places_left (rows_of (value_of d)) ≡ d.limits.journal - vec_len d.journal
 places_are d = ap (λ (l : Limits). l.journal - (rows_of (value_of d)).steps) (rows_of-limits (value_of d)) ∙ ap (λ n. d.limits.journal - n) (rows_of-steps (value_of d) ∙ sym d.journal.ok.0)
 
+-- The test for room before an opening is exactly that of the rows.
 pub room_to_open : (d : Inside) → IsDevice d → (opening : Opening) → nat_le (length d.state.files.clients + 2) (d.limits.journal - vec_len d.journal) ≡ not (no_room (rows_of (value_of d)) (Open opening))
 unfolding no_room
 room_to_open d h opening = rw (places_are d, represented_count d.state (rows_of (value_of d)) h.rows) (not_less (d.limits.journal - vec_len d.journal) (length d.state.files.clients + 2))
 
+-- The test for room before a request is exactly that of the rows.
 pub room_to_ask : (d : Inside) → IsDevice d → (c : ℕ) (call : Call) → nat_le (length d.state.files.clients + 1) (d.limits.journal - vec_len d.journal) ≡ not (no_room (rows_of (value_of d)) (Ask c call))
 unfolding no_room
 room_to_ask d h c call = rw (places_are d, represented_count d.state (rows_of (value_of d)) h.rows) (not_less (d.limits.journal - vec_len d.journal) (length d.state.files.clients + 1))
 
+-- The closing of an open client always finds room.
 pub room_to_close_open : (d : Inside) → IsDevice d → (c : ℕ) → is_open_client d.state.files c ≡ true → true ≡ not (no_room (rows_of (value_of d)) (Close c))
 unfolding no_room
 room_to_close_open d h c e = rw (is_open_is d.state (rows_of (value_of d)) h.rows c, e) refl
 
+-- The test for room before the closing of a client that is not open is exactly that of the rows.
 pub room_to_close : (d : Inside) → IsDevice d → (c : ℕ) → is_open_client d.state.files c ≡ false →
     nat_le (length d.state.files.clients + 1) (d.limits.journal - vec_len d.journal) ≡ not (no_room (rows_of (value_of d)) (Close c))
 unfolding no_room
 room_to_close d h c e =
     rw (is_open_is d.state (rows_of (value_of d)) h.rows c, e, places_are d, represented_count d.state (rows_of (value_of d)) h.rows) (not_less (d.limits.journal - vec_len d.journal) (length d.state.files.clients + 1))
 
--- what is left next to the places of the closings
+-- The journal has its events, a place for each open client, and what is left.
 pub journal_left_is : (d : Inside) → IsDevice d →
     d.limits.journal - vec_len d.journal - length d.state.files.clients + length d.journal.items + length (rows_of (value_of d)).clients ≡ d.limits.journal
 journal_left_is d h =

@@ -42,7 +42,7 @@ module _ (call : Call) (family : Family) (none : is_for_render family ≡ false)
           let its : kind_family row.0 ≡ family = cc in
           ap (λ (flags : RowFlags). has_flag flags render_allow) (flags-by-kind call row.0 (ap (option_map (λ (row : CallKind × List Field). row.0)) is)) ∙ kind_allows row.0 (ap is_for_render its ∙ none)
 
-  -- the caller of a call of such a family has a master
+  -- The caller of a call that render clients may not make has a master.
   pub stands_to_master : (s : State) (k : Caller) → MeetsInvariants s → IsCaller s k → (k.flags.render ≡ true → has_flag (flags_of call) render_allow ≡ true) → family_of call ≡ Some family → is_some k.member ≡ true
   stands_to_master s k t is render its = caller_member s k is t (by_flag k.flags.render refl)
     where
@@ -50,7 +50,7 @@ module _ (call : Call) (family : Family) (none : is_for_render family ≡ false)
       by_flag true e = absurd (let no : false ≡ true = sym (allows_none its) ∙ render e in cc)
       by_flag false e = e
 
--- a render client that is permitted a call makes one for render clients
+-- If a render client is permitted a call, render clients may make this call.
 pub permits_render : (flags : RowFlags) (credentials : Standing) → first_failing (permit_checks flags credentials) ≡ None → credentials.render ≡ true → has_flag flags render_allow ≡ true
 permits_render flags credentials none render =
     let last = (all_hold (permit_checks flags credentials) none).1.1.1.0 in

@@ -26,5 +26,6 @@ closed_there past [] n c step within is h = absurd (omega arith)
 closed_there past (first ∷ steps) zero c step within is h = closed_before (entry_of first ∷ past) steps c (closed_first past first step c is h)
 closed_there past (first ∷ steps) (suc n) c step within is h = closed_there (entry_of first ∷ past) steps n c step (omega arith) is h
 
+-- If a step after an opening closes the client, the history has a closing of it.
 pub closed_behind : (steps : List Step) (opened n c : ℕ) (step : Step) → opened + n < length steps → step ≡ get_or (drop opened steps) n step → closes (effect (entry_of step)) c ≡ true → has_closed (history_of steps) c ≡ true
 closed_behind steps opened n c step within is h = closed_there [] steps (opened + n) c step within (is ∙ get_or-drop opened steps n step) h

@@ -32,6 +32,7 @@ pub record AreRows (history : List AnsweredEvent) (c : ℕ) (held : List Held) (
   pub had : AllByRecursion (λ (row : HandleRow). Has history c row.handle row.object) rows
   pub each : IsOfDevice history → AllByRecursion (IsShown history c rows) (take n held)
 
+-- The rows of no handles are empty.
 pub no_rows : (history : List AnsweredEvent) (c : ℕ) (held : List Held) → AreRows history c held 0 []
 no_rows history c held = record { rising = tt; below = λ k d le within. tt; had = tt; each = λ of_device. tt }
 
@@ -41,7 +42,7 @@ module _ (history : List AnsweredEvent) (c : ℕ) (held : List Held) (rise : All
       subst (AllByRecursion (IsShown history c more)) (sym (take_more held n one within ∙ ap (λ (x : Held). take n held ++ x ∷ []) (sym is)))
       (all_append (IsShown history c more) (take n held) (one ∷ []) (all_weaker (IsShown history c rows) (IsShown history c more) (λ x shown o has. stay x.handle o (shown o has)) (take n held) (told.each of_device)) (new of_device, tt))
 
-  -- a handle of no object
+  -- A handle of no object adds no row.
   pub without_row : (IsOfDevice history → HasNone history c one.handle) → AreRows history c held (n + 1) rows
   without_row none = record {
     rising = told.rising;
@@ -59,6 +60,7 @@ module _ (history : List AnsweredEvent) (c : ℕ) (held : List Held) (rise : All
         let same : row.object ≡ o = its_object ∙ had_once history c one.handle object o of_device has other in
         list_any_right (λ (x : HandleRow). (x.handle == one.handle) && (x.object == o)) rows (row ∷ []) (ap (λ b. (b && (row.object == o)) || false) (eq-eqb row.handle one.handle its_handle) ∙ ap (λ b. b || false) (eq-eqb row.object o same))
 
+    -- One more handle with an object adds its row to the rows.
     pub with_row : AreRows history c held (n + 1) (rows ++ row ∷ [])
     with_row = record {
       rising = in_order_append (λ (x y : HandleRow). x.handle < y.handle) rows row told.rising
@@ -70,7 +72,7 @@ module _ (history : List AnsweredEvent) (c : ℕ) (held : List Held) (rise : All
       each = shown_more (rows ++ row ∷ []) (λ h o shown. list_any_left (λ (x : HandleRow). (x.handle == h) && (x.object == o)) rows (row ∷ []) shown) here;
     }
 
--- the rows of all handles
+-- Each handle that a device's history grants has a row.
 pub all_rows : (history : List AnsweredEvent) (c : ℕ) (held : List Held) (rows : List HandleRow) → ((h s : ℕ) → is_held_since held h s ≡ is_given_at (last_gift history c h) s) → (IsOfDevice history → AllByRecursion (IsShown history c rows) held) →
     IsOfDevice history → (h o : ℕ) → Has history c h o → is_shown rows h o ≡ true
 all_rows history c held rows are each of_device h o has =

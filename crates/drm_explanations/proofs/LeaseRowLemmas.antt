@@ -14,6 +14,7 @@ one_row : (row : Option LeaseRow) → map names_of_row (option_to_list row) ≡ 
 one_row None = refl
 one_row (Some row) = refl
 
+-- With the row of one more lease, the rows name the leases so far, one after the other.
 pub lease_named : (history : List AnsweredEvent) (leases : List Lease) (n : ℕ) (d : Lease) (rows : List LeaseRow) (row : Option LeaseRow) → leases ≡ leases_in history → n < length leases → map names_of_row rows ≡ map names_of (take n leases)
     → option_map names_of_row row ≡ cond (is_step history (get_or leases n d).master) (Some (names_of (get_or leases n d))) None → map names_of_row (rows ++ option_to_list row) ≡ map names_of (take (n + 1) leases)
 lease_named history leases n d rows row are within so_far new =

@@ -10,6 +10,7 @@ use Rattle.drm_explanations.specs.declared.rows.ClientRow.{ClientRow}
 abbrev pub client_of : ClientRow → ℕ
 client_of row = row.client
 
+-- Without steps no client has a row.
 pub none_opened : (only : Option ℕ) → clients_in only (history_of []) ≡ []
 unfolding clients_in followed_by
 none_opened only = refl
@@ -19,16 +20,19 @@ opened_more : (only : Option ℕ) (steps : List Step) (n : ℕ) (step : Step) �
 unfolding clients_in
 opened_more only steps n step within is = ap (clients_in only) (history-more steps n step within is)
 
+-- To map two lists one after the other is to map each.
 pub map_append : {X Y : Type 0} (f : X → Y) (xs ys : List X) → map f (xs ++ ys) ≡ map f xs ++ map f ys
 map_append f [] ys = refl
 map_append f (x ∷ xs) ys = ap (λ l. f x ∷ l) (map_append f xs ys)
 
+-- One more step that opens a client adds the row of the client.
 pub with_one : (only : Option ℕ) (steps : List Step) (n : ℕ) (step : Step) (rows : List ClientRow) (row : ClientRow) → n < length steps → step ≡ get_or steps n step
     → map client_of rows ≡ clients_in only (history_of (take n steps)) → option_to_list (option_map client_of (Some row)) ≡ with_row only (opens (entry_of step))
     → map client_of (rows ++ row ∷ []) ≡ clients_in only (history_of (take (n + 1) steps))
 with_one only steps n step rows row within is so_far new =
     map_append client_of rows (row ∷ []) ∙ (λ i. so_far i ++ new i) ∙ sym (opened_more only steps n step within is)
 
+-- One more step that opens no client adds no row.
 pub with_none : (only : Option ℕ) (steps : List Step) (n : ℕ) (step : Step) (rows : List ClientRow) → n < length steps → step ≡ get_or steps n step
     → map client_of rows ≡ clients_in only (history_of (take n steps)) → option_to_list (option_map client_of None) ≡ with_row only (opens (entry_of step))
     → map client_of rows ≡ clients_in only (history_of (take (n + 1) steps))

@@ -75,6 +75,7 @@ states_within (step ∷ past) =
     (new_state (effect step) (next_number past) (lease_in past) (standings.master_state past)) in
     subst (λ k. AllSteps (λ (s : MasterState). s.step) k (standings_in past ++ option_to_list (new_master_state (effect step) (next_number past) (lease_in past) (standings.master_state past)))) (omega arith) here
 
+-- The step from which a client has its master is one of the history.
 pub state_within : (history : List AnsweredEvent) (c : ℕ) → IfSome (master_state_of (standings_in history) c) (λ (s : MasterState). IsStep (length history) s.step)
 state_within history c =
     all_found (λ (s : MasterState). IsStep (length history) s.step) (λ (s : MasterState). c == s.client) (reverse (standings_in history))
@@ -96,6 +97,7 @@ capabilities_within (step ∷ past) =
     let here = one_more (λ (k : Capability). k.step) past (capabilities_in past) (new_capability (effect step) (next_number past)) (capabilities_within past) (new_capable (effect step) (next_number past)) in
     subst (λ k. AllSteps (λ (k : Capability). k.step) k (capabilities_in past ++ option_to_list (new_capability (effect step) (next_number past)))) (omega arith) here
 
+-- The step that last set a client's universal planes is one of the history.
 pub capability_within : (history : List AnsweredEvent) (c : ℕ) → IfSome (capability_of (capabilities_in history) c) (λ (k : Capability). IsStep (length history) k.step)
 capability_within history c =
     all_found (λ (k : Capability). IsStep (length history) k.step) (λ (k : Capability). k.client == c) (reverse (capabilities_in history))
@@ -119,6 +121,7 @@ authentications_within (step ∷ past) =
     (new_named (effect step) (next_number past) (caller_master_in past) (magic_in past)) in
     subst (λ k. AllSteps (λ (a : Authentication). a.step) k (authentications_in past ++ option_to_list (new_authentication (effect step) (next_number past) (caller_master_in past) (magic_in past)))) (omega arith) here
 
+-- The step that authenticated a client is one of the history.
 pub authentication_within : (history : List AnsweredEvent) (c : ℕ) → IfSome (authentication_of (authentications_in history) c) (λ (a : Authentication). IsStep (length history) a.step)
 authentication_within history c = all_found (λ (a : Authentication). IsStep (length history) a.step) (λ (a : Authentication). a.client == c) (authentications_in history) (authentications_within history)
 
@@ -156,6 +159,7 @@ unfolding authentications_in is_named_in
 named_noted [] c = refl
 named_noted (step ∷ past) c = named_step (effect step) past (authentications_in past) c (named_noted past c)
 
+-- An authentication of a client is found exactly if the history has one.
 pub named_is_found : (history : List AnsweredEvent) (c : ℕ) → is_some (authentication_of (authentications_in history) c) ≡ is_named_in history c
 named_is_found history c = is_some-find (λ (a : Authentication). a.client == c) (authentications_in history) ∙ named_noted history c
 
@@ -174,6 +178,7 @@ root_or : (past : List AnsweredEvent) (c : ℕ) (now before : Bool) → (now ≡
 root_or past c true before is older h = let e = is refl in (omega (arith, e), omega (arith, e))
 root_or past c false before is older h = let o = older h in (o.0, (let within = o.1 in omega (arith, within)))
 
+-- A client that opened as root is of a step of the history.
 pub root_within : (history : List AnsweredEvent) (c : ℕ) → is_root_in history c ≡ true → IsStep (length history) c
 unfolding is_root_in
 root_within [] c h = absurd (let e : false ≡ true = h in cc)
@@ -183,6 +188,7 @@ root_within (step ∷ past) c h =
 
 -- ---- a step that is there is reported
 
+-- A number of a step of the history passes the test of the range.
 pub in_range : (count n : ℕ) → IsStep count n → (nat_le 1 n && nat_le n count) ≡ true
 in_range count n h = let low : 1 ≤ n = h.0 in let high = h.1 in grind (arith, nat_tests)
 
@@ -191,9 +197,11 @@ unfolding followed_by
 length_followed past [] = omega arith
 length_followed past (step ∷ steps) = let rest = length_followed (entry_of step ∷ past) steps in omega (arith, rest)
 
+-- A list of steps has as many steps as its history.
 pub steps_of : (steps : List Step) (history : List AnsweredEvent) → history_of steps ≡ history → length steps ≡ length history
 steps_of steps history e = let all = length_followed [] steps in let same = ap (λ (h : List AnsweredEvent). length h) e in omega (arith, all, same)
 
+-- A step of the history is never missing in the list of steps.
 pub not_missing : (steps : List Step) (history : List AnsweredEvent) (n : ℕ) → history_of steps ≡ history → IsStep (length history) n → false ≡ (nat_le 1 n && nat_le n (length steps)) → ⊥
 not_missing steps history n e h lost =
     let size = steps_of steps history e in
@@ -207,6 +215,7 @@ new_leased : (e : told.Effect) (past : List AnsweredEvent) → IfSome (new_lease
 new_leased (told.Leases c ids lessee token) past = refl
 new_leased _ past = tt
 
+-- Each recorded lease is of a step of the history.
 pub leases_within : (history : List AnsweredEvent) → AllSteps (λ (l : Lease). l.master) (length history) (leases_in history)
 unfolding leases_in
 leases_within [] = tt
@@ -219,19 +228,21 @@ end_or past (Some n) b h = (h.0, (let within = h.1 in omega (arith, within)))
 end_or past None true h = (omega arith, omega arith)
 end_or past None false h = tt
 
+-- The step that ended a master is one of the history.
 pub end_within : (history : List AnsweredEvent) (m : ℕ) → IfSome (ended_at history m) (IsStep (length history))
 unfolding ended_at
 end_within [] m = tt
 end_within (step ∷ past) m = subst (λ k. IfSome (option_or (ended_at past m) (cond (ends step past m) (Some (next_number past)) None)) (IsStep k)) (omega arith) (end_or past (ended_at past m) (ends step past m) (end_within past m))
 
--- the number of a step that is reported, or isn't there
+-- A step's number is in range exactly if the history has that step.
 pub step_found : (steps : List Step) (history : List AnsweredEvent) (n : ℕ) (b : Bool) → history_of steps ≡ history → b ≡ (nat_le 1 n && nat_le n (length steps)) → is_step history n ≡ b
 step_found steps history n b e found = sym (found ∙ ap (λ k. nat_le 1 n && nat_le n k) (steps_of steps history e))
 
+-- The step of a recorded lease is one of the history.
 pub lease_is_step : (history : List AnsweredEvent) (n : ℕ) (d : Lease) → n < length (leases_in history) → is_step history (get_or (leases_in history) n d).master ≡ true
 lease_is_step history n d within = in_range (length history) (get_or (leases_in history) n d).master (All-get_or (λ (l : Lease). IsStep (length history) l.master) (leases_in history) n d within (All-from_recursion (λ (l : Lease). IsStep (length history) l.master) (leases_in history) (leases_within history)))
 
--- a step that is there is reported by its number
+-- A step of the history is reported with its number.
 pub step_reported : (steps : List Step) (history : List AnsweredEvent) (n : ℕ) (found : Option At) → history_of steps ≡ history → IsStep (length history) n → IfSome found (λ (told : At). told.step ≡ n)
     → is_some found ≡ (nat_le 1 n && nat_le n (length steps)) → option_map (λ (told : At). told.step) found ≡ Some n
 step_reported steps history n None e h is numbers = absurd (not_missing steps history n e h numbers)

@@ -1,4 +1,4 @@
--- How the next ones stay the next ones where a prime comes between two neighbours or leaves from between them.
+-- How each link still leads to the next prime after a prime is added between two neighbours or removed.
 use Rattle.std.proofs.Common.{◌≡◌, ℕ, Bool, true, false, cond, eqb, Option, Some, None, refl, sym, ap, subst, ◌∙◌, arith, eq-eqb}
 use Rattle.std.proofs.lemmas.Bool.Decides.{nat_tests}
 use Rattle.std.proofs.lemmas.Bool.{false≢true, eqb-true}
@@ -6,10 +6,12 @@ use Rattle.std.proofs.lemmas.Option.{same_Some, none-some}
 use Rattle.drm_files.specs.declared.primes.Prime.{Prime}
 use Rattle.drm_files.specs.ExportOrders.{Primes, IsPlace, is_past, IsNext, AreNext}
 
+-- What follows in both cases of a test holds.
 pub by_bool : {C : Type 0} (b : Bool) → (b ≡ true → C) → (b ≡ false → C) → C
 by_bool true so isnt = so refl
 by_bool false so isnt = isnt refl
 
+-- A test cannot both pass and fail.
 pub both : {C : Type 0} (b : Bool) → b ≡ true → b ≡ false → C
 both b so isnt = absurd (false≢true (sym isnt ∙ so))
 
@@ -79,7 +81,7 @@ module _ (before : Prime → Prime → Bool) (order : IsOrder before) (primes : 
         let w = last.prime in
         (l, w, last.there, last.past, other l k w v last.there (named k v here) (λ same. apart (ap Some (sym same))) (last.first k v here past))
 
-    -- what is next to the last before x is next to x
+    -- The next one of the last prime before x is the next one of x.
     pub next_to : (h : ℕ) → x.handle ≡ h → primes h ≡ None → (q : Option ℕ) (p : Option Prime) → IsPlace primes q p → IsNext after primes (Some x) q → (n : Option ℕ) → IsNext before primes p n → IsNext before primes (Some x) n
     next_to h name absent q p at last None next =
         λ k y there. by_bool (before x y) (λ so. both (is_past before p y) (past_both p x y (x_is_past q p at last) so) (next k y there)) (λ isnt. isnt)
@@ -93,7 +95,7 @@ module _ (before : Prime → Prime → Bool) (order : IsOrder before) (primes : 
         }
 
     module _ (h : ℕ) (name : x.handle ≡ h) (q : Option ℕ) (p : Option Prime) (at : IsPlace primes q p) (last : IsNext after primes (Some x) q) (n : Option ℕ) (following : IsNext before primes (Some x) n) (old new : Option ℕ → Option ℕ) (next : AreNext before primes old) where
-      -- x comes between
+      -- x is added between the two
       module _ (absent : primes h ≡ None) (more : Primes) (more_is : (k : ℕ) → more k ≡ cond (eqb k h) (Some x) (primes k)) (new_left : new q ≡ Some h) (new_it : new (Some h) ≡ n) (new_other : (r : Option ℕ) (s : Option Prime) → IsPlace primes r s → (r ≡ q → ⊥) → new r ≡ old r) where
         it_is : more h ≡ Some x
         it_is = more_is h ∙ ap (λ b. cond b (Some x) (primes h)) (same_number h)
@@ -147,6 +149,7 @@ module _ (before : Prime → Prime → Bool) (order : IsOrder before) (primes : 
         at_other : (r : Option ℕ) (s : Option Prime) → IsPlace primes r s → (r ≡ q → ⊥) → IsNext before more s (new r)
         at_other r s here apart = subst (λ m. IsNext before more s m) (sym (new_other r s here apart)) (elsewhere r s here apart (old r) (next r s here))
 
+        -- If a new prime is linked between its neighbours, each link leads to the next prime.
         pub come_between : AreNext before more new
         come_between None None here = place_eq None q (λ same. at_left None None here same) (λ apart. at_other None None tt apart)
         come_between None (Some y) here = absurd here
@@ -211,6 +214,7 @@ module _ (before : Prime → Prime → Bool) (order : IsOrder before) (primes : 
         kept_other : (r : Option ℕ) (s : Option Prime) → IsPlace primes r s → (r ≡ q → ⊥) → (r ≡ Some h → ⊥) → IsNext before fewer s (new r)
         kept_other r s here apart not_x = subst (λ m. IsNext before fewer s m) (sym (new_other r s here apart not_x)) (apart_from_it r s here apart (old r) (next r s here))
 
+        -- If the neighbours of a removed prime are linked, each link leads to the next prime.
         pub leave : AreNext before fewer new
         leave None None here = place_eq None q (λ same. kept_left None None tt same) (λ apart. kept_other None None tt apart (λ is. none-some h is))
         leave None (Some y) here = absurd here

@@ -26,16 +26,19 @@ abbrev pub client_of : ℕ × FileRecord → FileClient
 client_of e = client e.0 e.1.flags
 
 module _ (m : fin.FinMap nat_cmp FileRecord) (c : ℕ) where
+  -- The client found in the list is its record in the map.
   pub find_client : find_row (is_client c) (clients_in (fin.entries m)) ≡ option_map (λ r. client c r.flags) (fin.get m c)
   find_client =
       find_rows nat_cmp nat_cmp_total client_of nat_cmp-IsAntisymmetric c (is_client c) (λ e. same_test c e.0) (fin.entries m)
       ∙ ap (option_map (λ r. client c r.flags)) (sym (fin.get-entries m c))
 
+  -- A new record puts its client at its place in the list.
   pub clients_opened : (r : FileRecord) → fin.get m c ≡ None → clients_in (fin.entries (fin.insert m c r)) ≡ placed client_before (client c r.flags) (clients_in (fin.entries m))
   clients_opened r none =
       ap clients_in (fin.entries-insert nat_cmp_total m c r)
       ∙ rows_put nat_cmp nat_cmp_total client_of client_before (λ e f. before_test e.0 f.0) c r (fin.entries m) (fin.entries_sorted m) (sym (fin.get-entries m c) ∙ none)
 
+  -- A removed record removes its client from the list.
   pub clients_closed : clients_in (fin.entries (fin.remove m c)) ≡ filter (λ row. not (is_client c row)) (clients_in (fin.entries m))
   clients_closed =
       ap clients_in (entries_removed m c)
@@ -47,11 +50,11 @@ module _ (m : fin.FinMap nat_cmp FileRecord) (c : ℕ) where
       ap clients_in (fin.entries-insert nat_cmp_total m c s)
       ∙ rows_put_found nat_cmp nat_cmp_total client_of f c (λ e no. kept e.0 e.1 no) r s (λ e at value. new e.0 at ∙ ap (λ (t : FileRecord). f (client e.0 t.flags)) (sym value)) (fin.entries m) (fin.entries_sorted m) (sym (fin.get-entries m c) ∙ found)
 
-  -- the clients are the same where the flags are
+  -- A record with the same flags leaves the list of clients unchanged.
   pub clients_kept : (r s : FileRecord) → fin.get m c ≡ Some r → s.flags ≡ r.flags → clients_in (fin.entries (fin.insert m c s)) ≡ clients_in (fin.entries m)
   clients_kept r s found same = clients_put (λ row. row) r s found (λ k at. ap (client k) same) (λ k t no. refl) ∙ map-id (clients_in (fin.entries m))
 
-  -- the client's row is changed alone
+  -- Changed flags of a record change the row of its client and no other.
   pub clients_changed : (change : FileClient → FileClient) (r s : FileRecord) → fin.get m c ≡ Some r → ((k : ℕ) → client k s.flags ≡ change (client k r.flags)) →
       clients_in (fin.entries (fin.insert m c s)) ≡ map (λ row. if is_client c row then change row else row) (clients_in (fin.entries m))
   clients_changed change r s found same =
@@ -67,6 +70,7 @@ hold_test c h e = turn e.0.0 e.0.1 ∙ sym (export_order_eq c h e.0.0 e.0.1)
     turn : (a b : ℕ) → ((a == c) && (b == h)) ≡ (eqb c a && eqb h b)
     turn a b = grind (arith, nat_tests)
 
+-- Handles are ordered by their clients, then by their numbers.
 pub hold_order : (e f : KeyPair × Held) → handle_before (row_of e) (row_of f) ≡ is_lt (key_pair_cmp e.0 f.0)
 hold_order e f = sym (export_order_lt e.0.0 e.0.1 f.0.0 f.0.1)
 
@@ -74,12 +78,14 @@ by_client : (a c : ℕ) (P : Bool → Type 0) → (a ≡ c → P true) → ((a �
 by_client a c P same other = elim (cases_eq a c) [ inl is ↦ subst P (sym (eqb_same a c is)) (same is) | inr apart ↦ subst P (sym (eqb_other a c apart)) (other apart) ]
 
 module _ (m : fin.FinMap nat_cmp FileRecord) (c : ℕ) where
+  -- The handle found in the list is its entry in the client's table.
   pub find_hold : (h : ℕ) → find_row (is_handle c h) (holds_in (fin.entries m)) ≡ option_map (λ x. hold c h x.object x.export_order) (held m c h)
   find_hold h =
       ap (find_row (is_handle c h)) (rows_flat (fin.entries m))
       ∙ find_rows key_pair_cmp export_order_total row_of export_order_exact (c, h) (is_handle c h) (hold_test c h) (flat (fin.entries m))
       ∙ ap (option_map (λ x. hold c h x.object x.export_order)) (find_held m c h)
 
+  -- A changed record changes the handles of its client and of no other.
   pub held_insert : (s : FileRecord) (a b : ℕ) → held (fin.insert m c s) a b ≡ cond (eqb a c) (fin.get s.handles.slots b) (held m a b)
   held_insert s a b = ap (option_and_then (λ r. fin.get r.handles.slots b)) (get-insert m c s a) ∙ inside (eqb a c)
     where
@@ -87,10 +93,11 @@ module _ (m : fin.FinMap nat_cmp FileRecord) (c : ℕ) where
       inside true = refl
       inside false = refl
 
+  -- The handles of a client are those of its record.
   pub held_here : (r : FileRecord) → fin.get m c ≡ Some r → (a b : ℕ) → a ≡ c → held m a b ≡ fin.get r.handles.slots b
   held_here r found a b same = ap (option_and_then (λ s. fin.get s.handles.slots b)) (ap (fin.get m) same ∙ found)
 
-  -- a client's table that has the same of each handle
+  -- A record with the same handles leaves the list of handles unchanged.
   pub holds_kept : (s : FileRecord) → ((b : ℕ) → fin.get s.handles.slots b ≡ held m c b) → holds_in (fin.entries (fin.insert m c s)) ≡ holds_in (fin.entries m)
   holds_kept s same =
       rows_flat _
@@ -114,6 +121,7 @@ module _ (m : fin.FinMap nat_cmp FileRecord) (c : ℕ) where
       ∙ (λ i. cond (sym (export_order_eq a b c h) i) (Some x) (sym (find_held m a b) i))
       ∙ sym (find-put key_pair_cmp export_order_total (a, b) (c, h) x es)))
 
+  -- A handle added to a client's table is put at its place in the list.
   pub holds_added : (r s : FileRecord) (h : ℕ) (x : Held) → fin.get m c ≡ Some r → fin.get r.handles.slots h ≡ None → s.handles.slots ≡ fin.insert r.handles.slots h x →
       holds_in (fin.entries (fin.insert m c s)) ≡ placed handle_before (hold c h x.object x.export_order) (holds_in (fin.entries m))
   holds_added r s h x found new slots =
@@ -126,6 +134,7 @@ module _ (m : fin.FinMap nat_cmp FileRecord) (c : ℕ) where
   abbrev with_own : ℕ → ℕ → FileHandle → FileHandle
   with_own h export_order row = if is_handle c h row then given_export_order export_order row else row
 
+  -- An export order set in a client's table is set in the handle's row.
   pub holds_placed : (r s : FileRecord) (h : ℕ) (x : Held) (export_order : ℕ) → fin.get m c ≡ Some r → fin.get r.handles.slots h ≡ Some x → s.handles.slots ≡ fin.insert r.handles.slots h (record { object = x.object; export_order = option_or x.export_order (Some export_order) }) →
       holds_in (fin.entries (fin.insert m c s)) ≡ map (with_own h export_order) (holds_in (fin.entries m))
   holds_placed r s h x export_order found here slots =
@@ -142,6 +151,7 @@ module _ (m : fin.FinMap nat_cmp FileRecord) (c : ℕ) where
       es sorted (find_held m c h ∙ held_here r found c h refl ∙ here)
       ∙ ap (map (with_own h export_order)) (sym (rows_flat (fin.entries m)))
 
+  -- A handle removed from a client's table is removed from the list.
   pub holds_dropped : (r s : FileRecord) (h : ℕ) → fin.get m c ≡ Some r → s.handles.slots ≡ fin.remove r.handles.slots h →
       holds_in (fin.entries (fin.insert m c s)) ≡ filter (λ row. not (is_handle c h row)) (holds_in (fin.entries m))
   holds_dropped r s h found slots =
@@ -169,6 +179,7 @@ module _ (m : fin.FinMap nat_cmp FileRecord) (c : ℕ) where
       test : (a b : ℕ) → (eqb a c && eqb b h) ≡ eq_by_cmp key_pair_cmp (c, h) (a, b)
       test a b = turn a b ∙ sym (export_order_eq c h a b)
 
+  -- A removed record removes all handles of its client from the list.
   pub holds_closed : holds_in (fin.entries (fin.remove m c)) ≡ filter (λ row. not (of_client c row)) (holds_in (fin.entries m))
   holds_closed =
       let es = flat (fin.entries m) in
@@ -187,7 +198,7 @@ module _ (m : fin.FinMap nat_cmp FileRecord) (c : ℕ) where
       swap true y b = refl
       swap false y b = refl
 
-  -- the rows of one client are those of its table
+  -- The handles of a client in the list are those of its table.
   pub rows_of_client : (r : FileRecord) → fin.get m c ≡ Some r → filter (of_client c) (holds_in (fin.entries m)) ≡ rows_in c (fin.entries r.handles.slots)
   rows_of_client r found =
       let es = flat (fin.entries m) in

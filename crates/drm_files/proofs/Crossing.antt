@@ -37,5 +37,6 @@ inside_send =
     inside.the_type.to_one
     (struct_send (shape inside.the_type) (search sendable depth 20, (search (array_send, record_send, sendable) depth 20, (search sendable depth 20, (search sendable depth 20, tt)))))
 
+-- A set of files may cross threads.
 pub files_send : IsSend files.the_row
 files_send = view_send inside.the_row _ _ _ _ inside_send

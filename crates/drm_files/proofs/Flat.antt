@@ -25,9 +25,11 @@ KeyPair = ℕ × ℕ
 abbrev pub key_pair_cmp : KeyPair → KeyPair → Ordering
 key_pair_cmp a b = ordering_then (nat_cmp a.0 b.0) (nat_cmp a.1 b.1)
 
+-- The order of pairs is total.
 pub export_order_total : IsTotalOrder key_pair_cmp
 export_order_total = then_total (on_total (λ (a : KeyPair). a.0) nat_cmp_total) (on_total (λ (a : KeyPair). a.1) nat_cmp_total)
 
+-- Two pairs that are equal in their order are the same.
 pub export_order_exact : IsAntisymmetric key_pair_cmp
 export_order_exact = exact_pairs nat_cmp nat_cmp exact_unsigned exact_unsigned
 
@@ -42,18 +44,22 @@ abbrev pub flat : List (ℕ × FileRecord) → List (KeyPair × Held)
 flat [] = []
 flat (e ∷ es) = tagged e.0 (fin.entries e.1.handles.slots) ++ flat es
 
+-- Equal numbers pass the test of equality.
 pub eqb_same : (a b : ℕ) → a ≡ b → eqb a b ≡ true
 eqb_same a b same = grind (arith, nat_tests)
 
+-- Different numbers fail the test of equality.
 pub eqb_other : (a b : ℕ) → (a ≡ b → ⊥) → eqb a b ≡ false
 eqb_other a b apart = grind (arith, nat_tests)
 
 nat_same : (c : ℕ) → nat_cmp c c ≡ Equal
 nat_same c = grind (arith, nat_tests)
 
+-- Two pairs are equal if and only if both parts are.
 pub export_order_eq : (a b c d : ℕ) → eq_by_cmp key_pair_cmp (a, b) (c, d) ≡ (eqb a c && eqb b d)
 export_order_eq a b c d = grind (arith, nat_tests)
 
+-- A pair is less if its first part is, or if its second is and the first parts are equal.
 pub export_order_lt : (a b c d : ℕ) → is_lt (key_pair_cmp (a, b) (c, d)) ≡ (nat_lt a c || ((a == c) && nat_lt b d))
 export_order_lt a b c d = grind (arith, nat_tests)
 
@@ -61,10 +67,12 @@ map_append : {A B : Type 0} (f : A → B) (xs ys : List A) → map f (xs ++ ys) 
 map_append f [] ys = refl
 map_append f (x ∷ xs) ys = ap (λ l. f x ∷ l) (map_append f xs ys)
 
+-- The rows of a client's tagged entries are the client's handles.
 pub rows_tagged : (c : ℕ) (hs : List (ℕ × Held)) → map row_of (tagged c hs) ≡ rows_in c hs
 rows_tagged c [] = refl
 rows_tagged c (e ∷ hs) = ap (λ l. hold c e.0 e.1.object e.1.export_order ∷ l) (rows_tagged c hs)
 
+-- The rows of the flat list are the handles of all clients.
 pub rows_flat : (es : List (ℕ × FileRecord)) → holds_in es ≡ map row_of (flat es)
 rows_flat [] = refl
 rows_flat (e ∷ es) =
@@ -77,6 +85,7 @@ below_tagged : (c h : ℕ) (hs : List (ℕ × Held)) → below_all key_pair_cmp 
 below_tagged c h [] = refl
 below_tagged c h (e ∷ hs) = λ i. is_lt (ordering_then (nat_same c i) (nat_cmp h e.0)) && below_tagged c h hs i
 
+-- Tagged entries are sorted if and only if the entries are.
 pub sorted_tagged : (c : ℕ) (hs : List (ℕ × Held)) → is_sorted key_pair_cmp (tagged c hs) ≡ is_sorted nat_cmp hs
 sorted_tagged c [] = refl
 sorted_tagged c (e ∷ hs) = λ i. below_tagged c e.0 hs i && sorted_tagged c hs i
@@ -102,6 +111,7 @@ sorted_append : (c : ℕ) (hs : List (ℕ × Held)) (ys : List (KeyPair × Held)
 sorted_append c [] ys h above k = k
 sorted_append c (e ∷ hs) ys h above k = both _ _ (below_append (c, e.0) (tagged c hs) ys (left _ _ h) (above e.0)) (sorted_append c hs ys (right _ _ h) above k)
 
+-- If the records are sorted, the flat list is.
 pub sorted_flat : (es : List (ℕ × FileRecord)) → T (is_sorted nat_cmp es) → T (is_sorted key_pair_cmp (flat es))
 sorted_flat [] h = tt
 sorted_flat (e ∷ es) h =
@@ -115,6 +125,7 @@ find_append p [] ys = refl
 find_append p (x ∷ xs) ys =
     elim (eq_by_cmp key_pair_cmp p x.0) as (λ b. cond b (Some x.1) (find key_pair_cmp p (xs ++ ys)) ≡ option_or (cond b (Some x.1) (find key_pair_cmp p xs)) (find key_pair_cmp p ys)) [ true ↦ refl | false ↦ find_append p xs ys ]
 
+-- A search in one client's tagged entries finds the client's own handles and no others.
 pub find_tagged : (a b c : ℕ) (hs : List (ℕ × Held)) → find key_pair_cmp (a, b) (tagged c hs) ≡ cond (eqb a c) (find nat_cmp b hs) None
 find_tagged a b c [] = sym (cond_none (eqb a c))
   where
@@ -158,9 +169,10 @@ find_flat (e ∷ es) h a b =
     or_none None = refl
     or_none (Some x) = refl
 
+-- A search in the flat list finds the entry of the client's table.
 pub find_held : (m : fin.FinMap nat_cmp FileRecord) (a b : ℕ) → find key_pair_cmp (a, b) (flat (fin.entries m)) ≡ held m a b
 find_held m a b = find_flat (fin.entries m) (fin.entries_sorted m) a b ∙ ap (option_and_then (λ r. fin.get r.handles.slots b)) (sym (fin.get-entries m a))
 
--- a list in order that has the same of each place is the flat list
+-- A sorted list with the same handle at each pair is the flat list.
 pub flat_is : (m : fin.FinMap nat_cmp FileRecord) (es : List (KeyPair × Held)) → T (is_sorted key_pair_cmp es) → ((a b : ℕ) → held m a b ≡ find key_pair_cmp (a, b) es) → flat (fin.entries m) ≡ es
 flat_is m es h same = same_entries key_pair_cmp export_order_total export_order_exact _ es (sorted_flat (fin.entries m) (fin.entries_sorted m)) h (λ q. find_held m q.0 q.1 ∙ same q.0 q.1)

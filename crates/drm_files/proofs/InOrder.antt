@@ -173,7 +173,7 @@ module _ (slots : fin.FinMap nat_cmp Held) (old : ExportOrders) (order : AreInOr
           ∙ first.previous_is d r
           ∙ choose_false slots old order object h (has_room old d r) (is_same_place object (Some h) d r) q (previous_of old d r) (apart_from (prime_at slots d) h object d (no_prime d) r s here))
 
-    -- a handle that is assigned an export order has its place
+    -- After a handle gets an export order and is linked at its place, the orders are still in order.
     pub placed_in_order : AreInOrder slots_after new
     placed_in_order = record {
       fit = λ k there. order.fit k (sym (there_after k) ∙ there);
@@ -216,7 +216,7 @@ module _ (slots : fin.FinMap nat_cmp Held) (old : ExportOrders) (order : AreInOr
       (λ same. both (is_some (fin.get fewer k)) left (ap is_some (get_fewer k) ∙ ap (λ b. is_some (cond b None (fin.get slots k))) same))
       (λ isnt. order.fit k (sym (ap is_some (get_fewer k) ∙ ap (λ b. is_some (cond b None (fin.get slots k))) isnt) ∙ left))
 
-  -- one that has no export order is at no place
+  -- After a handle without an export order is removed, the orders are still in order.
   pub forgotten_unplaced : held.export_order ≡ None → ((k : ℕ) → fin.get new.links.items k ≡ cond (eqb k h) None (fin.get old.links.items k)) → new.ends ≡ old.ends → AreInOrder fewer new
   forgotten_unplaced none links ends = record {
     fit = fit_fewer;
@@ -318,6 +318,7 @@ module _ (slots : fin.FinMap nat_cmp Held) (old : ExportOrders) (order : AreInOr
       previous_others_left = next_same is_after (prime_at slots d) (prime_at fewer d) (previous_of old d) (previous_of new d) (order.previous d) kept_others
           (λ r s here. side_new (λ (x : Neighbours). x.previous) d r (not_for r s here) ∙ joined.previous_is d r ∙ choose_false slots old order object h (has_room old d r) (is_same_place object n d r) q (previous_of old d r) (of_another slots old order object h n after_it.0 after_it.1 d other r s here))
 
+    -- After a handle with an export order is removed and its neighbours are joined, the orders are still in order.
     pub forgotten_placed : AreInOrder fewer new
     forgotten_placed = record {
       fit = fit_fewer;
@@ -327,6 +328,7 @@ module _ (slots : fin.FinMap nat_cmp Held) (old : ExportOrders) (order : AreInOr
       previous = λ d. by_object object d (λ e. AreNext is_after (prime_at fewer e) (previous_of new e)) previous_ones_left (previous_others_left d);
     }
 
+-- An option with a value is `Some` of a value.
 pub some_of : (o : Option ℕ) → is_some o ≡ true → (n : ℕ) × (o ≡ Some n)
 some_of None there = absurd (false≢true there)
 some_of (Some n) there = (n, refl)
@@ -340,15 +342,18 @@ alone = record { next = None; previous = None }
 abbrev pub IsRoomier : fin.FinMap nat_cmp Neighbours → fin.FinMap nat_cmp Neighbours → Type 0
 IsRoomier old new = (d : ℕ) → (fin.get old d ≡ None → (fin.get new d ≡ None → ⊥) → fin.get new d ≡ Some alone) × ((x : Neighbours) → fin.get old d ≡ Some x → fin.get new d ≡ Some x)
 
+-- A map is as roomy as itself.
 pub as_roomy : (m : fin.FinMap nat_cmp Neighbours) → IsRoomier m m
 as_roomy m d = (λ none there. absurd (there none), λ x is. is)
 
+-- An entry without neighbours for a new object makes a map roomier.
 pub with_room : (m : fin.FinMap nat_cmp Neighbours) (object : ℕ) → fin.get m object ≡ None → IsRoomier m (fin.insert m object alone)
 with_room m object absent d = (
   λ none there. get-insert m object alone d ∙ by_bool (eqb d object) (λ same. ap (λ b. cond b (Some alone) (fin.get m d)) same) (λ isnt. absurd (there (get-insert m object alone d ∙ ap (λ b. cond b (Some alone) (fin.get m d)) isnt ∙ none))),
   λ x is. get-insert m object alone d ∙ by_bool (eqb d object) (λ same. absurd (none-some x (sym absent ∙ ap (fin.get m) (sym (eqb-true d object same)) ∙ is))) (λ isnt. ap (λ b. cond b (Some alone) (fin.get m d)) isnt ∙ is),
 )
 
+-- A copied option has a value if and only if the option has one.
 pub copied_there : (o : Option (Bor Neighbours)) → is_some (option_copied o) ≡ is_some o
 copied_there None = refl
 copied_there (Some x) = refl
@@ -359,6 +364,7 @@ pub record HasRoomNow (old new : ExportOrders) (object : ℕ) : Type 0 where
   pub ends : IsRoomier old.ends.items new.ends.items
   pub mine : fin.contains_key new.ends.items object ≡ true
 
+-- An object that had no ends has room after they are inserted.
 pub first_room : (old new : ExportOrders) (object : ℕ) (ends : Indexed Neighbours) → new ≡ record { links = old.links; ends = ends } → ends.items ≡ fin.insert old.ends.items object alone → fin.get old.ends.items object ≡ None → HasRoomNow old new object
 first_room old new object ends is inserted absent = record {
   links = ap (λ (o : ExportOrders). o.links) is;
@@ -372,6 +378,7 @@ first_room old new object ends is inserted absent = record {
     same_number : (k : ℕ) → eqb k k ≡ true
     same_number k = grind (arith, nat_tests)
 
+-- An object that had ends already has room.
 pub own_room : (old new : ExportOrders) (object : ℕ) → new ≡ old → fin.contains_key old.ends.items object ≡ true → HasRoomNow old new object
 own_room old new object is there = record {
   links = ap (λ (o : ExportOrders). o.links) is;
@@ -395,7 +402,7 @@ module _ (slots : fin.FinMap nat_cmp Held) (old new : ExportOrders) (order : Are
       by None was there = absurd (false≢true there)
       by (Some x) was there = ap is_some ((ends d).1 x was)
 
-  -- an object has room, and no handle more
+  -- With more room and the same links, the orders are still in order.
   pub roomier : new.links ≡ old.links → AreInOrder slots new
   roomier links = record {
     fit = order.fit;
@@ -428,6 +435,7 @@ module _ (slots : fin.FinMap nat_cmp Held) (old new : ExportOrders) (order : Are
     side_room side empty d None s here = side_end side empty d
     side_room side empty d (Some k) s here = ap (option_and_then side) (link_kept d k s here)
 
+    -- With room for it, a new handle without an export order leaves the orders in order.
     pub room_made : AreInOrder more_slots new
     room_made = record {
       fit = λ k there. by_bool (eqb k h) (λ same. subst (λ j. j ≤ 4294967295) (sym (eqb-true k h same)) few) (λ isnt. order.fit k (sym (ap is_some (get_more k) ∙ ap (λ b. is_some (cond b (Some (record { object = object; export_order = None })) (fin.get slots k))) isnt) ∙ there));
@@ -442,7 +450,7 @@ module _ (slots : fin.FinMap nat_cmp Held) (old new : ExportOrders) (order : Are
         same_rooms : (k : ℕ) → is_some (cond (eqb k h) (Some alone) (fin.get old.links.items k)) ≡ is_some (cond (eqb k h) (Some (record { object = object; export_order = None })) (fin.get slots k))
         same_rooms k = elim (eqb k h) as (λ b. is_some (cond b (Some alone) (fin.get old.links.items k)) ≡ is_some (cond b (Some (record { object = object; export_order = None })) (fin.get slots k))) [ true ↦ refl | false ↦ order.linked k ]
 
--- no handle
+-- Without handles the orders are in order.
 pub none_in_order : (orders : ExportOrders) → orders.links ≡ empty_array → orders.ends ≡ empty_array → (slots : fin.FinMap nat_cmp Held) → slots ≡ fin.empty → AreInOrder slots orders
 none_in_order orders links ends slots none = record {
   fit = λ k there. absurd (false≢true (sym (ap is_some (absent k)) ∙ there));

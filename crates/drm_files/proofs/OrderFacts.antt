@@ -16,6 +16,7 @@ use Rattle.drm_files.proofs.Chains.{IsOrder, by_bool, both}
 
 -- the two orders of primes
 
+-- "Before" is an order of primes.
 pub first_order : IsOrder is_before
 first_order = record {
   irreflexive = λ x. grind (arith, nat_tests);
@@ -23,6 +24,7 @@ first_order = record {
   total = λ x y a b. grind (arith, nat_tests);
 }
 
+-- "After" is an order of primes.
 pub last_order : IsOrder is_after
 last_order = record {
   irreflexive = λ x. grind (arith, nat_tests);
@@ -32,6 +34,7 @@ last_order = record {
 
 -- the primes of a table
 
+-- The prime at a handle has this handle.
 pub named : (slots : fin.FinMap nat_cmp Held) (object h : ℕ) (y : Prime) → prime_at slots object h ≡ Some y → y.handle ≡ h
 named slots object h y there = of_slot (fin.get slots h) there
   where
@@ -44,7 +47,7 @@ named slots object h y there = of_slot (fin.get slots h) there
     of_slot None e = absurd (none-some y e)
     of_slot (Some held) e = of_order (held.object == object) held.export_order e
 
--- a prime's handle is in the table, for the object
+-- The handle of a prime is in the table and names the object.
 pub for_object : (slots : fin.FinMap nat_cmp Held) (object h : ℕ) (y : Prime) → prime_at slots object h ≡ Some y → (x : Held) × (fin.get slots h ≡ Some x) × (x.object ≡ object)
 for_object slots object h y there = of_slot (fin.get slots h) there
   where
@@ -56,7 +59,7 @@ for_object slots object h y there = of_slot (fin.get slots h) there
     of_slot None e = absurd (none-some y e)
     of_slot (Some held) e = (held, refl, eqb-true held.object object (of_test (held.object == object) held.export_order e))
 
--- one without an export order is none
+-- A handle without an export order is no prime.
 pub unplaced_is : (object h : ℕ) (x : Held) → x.export_order ≡ None → prime_of object (h, x) ≡ None
 unplaced_is object h x none = either (x.object == object) x.export_order none
   where
@@ -66,7 +69,7 @@ unplaced_is object h x none = either (x.object == object) x.export_order none
     either false p e = refl
 
 module _ (slots : fin.FinMap nat_cmp Held) (object h : ℕ) where
-  -- a handle with no export order changes no prime
+  -- A new handle without an export order changes no prime.
   pub primes_kept : ((d : ℕ) → prime_at slots d h ≡ None) → (d k : ℕ) → prime_at (with_handle slots object h None) d k ≡ prime_at slots d k
   primes_kept none d k =
       ap (option_and_then (λ held. prime_of d (k, held))) (get-insert slots h (record { object = object; export_order = None }) k)
@@ -76,7 +79,7 @@ module _ (slots : fin.FinMap nat_cmp Held) (object h : ℕ) where
       ∙ sym (ap (prime_at slots d) (eqb-true k h same) ∙ none d))
       (λ apart. ap (λ b. option_and_then (λ held. prime_of d (k, held)) (cond b (Some (record { object = object; export_order = None })) (fin.get slots k))) apart)
 
-  -- with one it is a prime of its object
+  -- A handle with an export order is one more prime of its object.
   pub primes_more : (export_order k : ℕ) → prime_at (with_handle slots object h (Some export_order)) object k ≡ cond (eqb k h) (Some (record { export_order = export_order; handle = h })) (prime_at slots object k)
   primes_more export_order k =
       ap (option_and_then (λ held. prime_of object (k, held))) (get-insert slots h (record { object = object; export_order = Some export_order }) k)
@@ -91,7 +94,7 @@ module _ (slots : fin.FinMap nat_cmp Held) (object h : ℕ) where
       self_test : (n : ℕ) → (n == n) ≡ true
       self_test n = grind (arith, nat_tests)
 
-  -- and of no other object
+  -- A handle with an export order changes no prime of another object.
   pub primes_of_others : (export_order d k : ℕ) → (d ≡ object → ⊥) → prime_at slots d h ≡ None → prime_at (with_handle slots object h (Some export_order)) d k ≡ prime_at slots d k
   primes_of_others export_order d k apart none =
       ap (option_and_then (λ held. prime_of d (k, held))) (get-insert slots h (record { object = object; export_order = Some export_order }) k)
@@ -104,7 +107,7 @@ module _ (slots : fin.FinMap nat_cmp Held) (object h : ℕ) where
       other_test : (n m : ℕ) → (m ≡ n → ⊥) → (n == m) ≡ false
       other_test n m apart = grind (arith, nat_tests)
 
-  -- a handle that is dropped is no prime
+  -- A removed handle is no prime, and all other primes are unchanged.
   pub primes_fewer : (d k : ℕ) → prime_at (fin.remove slots h) d k ≡ cond (eqb k h) None (prime_at slots d k)
   primes_fewer d k =
       ap (option_and_then (λ held. prime_of d (k, held))) (get-remove slots h k)
@@ -112,7 +115,7 @@ module _ (slots : fin.FinMap nat_cmp Held) (object h : ℕ) where
       (λ same. ap (λ b. option_and_then (λ held. prime_of d (k, held)) (cond b None (fin.get slots k))) same ∙ sym (ap (λ b. cond b None (prime_at slots d k)) same))
       (λ apart. ap (λ b. option_and_then (λ held. prime_of d (k, held)) (cond b None (fin.get slots k))) apart ∙ sym (ap (λ b. cond b None (prime_at slots d k)) apart))
 
--- one place of an array is changed
+-- Changing one place of an array changes no other.
 pub written : (m : fin.FinMap nat_cmp Neighbours) (index : ℕ) (x : Neighbours) (change : Neighbours → Neighbours) → Some x ≡ fin.get m index → (k : ℕ) → fin.get (fin.insert m index (change x)) k ≡ choose (k == index) (option_map change (fin.get m k)) (fin.get m k)
 written m index x change there k =
     get-insert m index (change x) k
@@ -130,11 +133,12 @@ module _ (slots : fin.FinMap nat_cmp Held) (object : ℕ) (x : Prime) where
   abbrev primes : Primes
   primes = prime_at slots object
 
+  -- A walk from the last prime on has at first passed no prime before the new one.
   pub walk_begins : (at : Option ℕ) → IsNext is_after primes None at → IsReached primes at x
   walk_begins None last = λ k y there. absurd (false≢true (sym (last k y there)))
   walk_begins (Some h) last = (last.prime, last.there, λ k y there further. both (is_before last.prime y) further (last.first k y there refl))
 
-  -- one that is not before the new prime is passed
+  -- A walk may pass a prime that is not before the new one.
   pub walk_goes_on : (h : ℕ) (v : Prime) → primes h ≡ Some v → is_before v x ≡ false → IsReached primes (Some h) x → (at : Option ℕ) → IsNext is_after primes (Some v) at → IsReached primes at x
   walk_goes_on h v there not_before reached at last = on at last
     where
@@ -161,6 +165,7 @@ abbrev pub walk_left : fin.FinMap nat_cmp Held → ℕ → Option ℕ → ℕ
 walk_left slots object at = option_map_or (λ h. option_map_or (λ (x : Prime). x.export_order * 4294967296 + x.handle + 1) (prime_at slots object h) 0) at 0
 
 module _ (slots : fin.FinMap nat_cmp Held) (orders : ExportOrders) (order : AreInOrder slots orders) (object : ℕ) (x : Prime) where
+  -- A walk from the last prime in the links has at first passed no prime before the new one.
   pub walk_first : (d : ℕ) → d ≡ object → (at : Option ℕ) → at ≡ previous_of orders d None → IsReached (prime_at slots object) at x
   walk_first d same at is = walk_begins slots object x at (subst (λ m. IsNext is_after (prime_at slots object) None m) (sym (is ∙ ap (λ o. previous_of orders o None) same)) (order.previous object None None tt))
 
@@ -168,9 +173,11 @@ module _ (slots : fin.FinMap nat_cmp Held) (orders : ExportOrders) (order : AreI
     next_there : IsNext is_after (prime_at slots object) (Some v) further
     next_there = subst (λ m. IsNext is_after (prime_at slots object) (Some v) m) (sym (is ∙ ap (λ o. previous_of orders o (Some h)) same)) (order.previous object (Some h) (Some v) (sym there))
 
+    -- If the prime here is not before the new one, the walk may pass it too.
     pub walk_next : is_before v x ≡ false → IsReached (prime_at slots object) at x → IsReached (prime_at slots object) further x
     walk_next not_before reached = walk_goes_on slots object x h v (sym there) not_before (subst (λ m. IsReached (prime_at slots object) m x) here reached) further next_there
 
+    -- Each step to the previous prime leaves less of the walk.
     pub walk_shorter : walk_left slots object further < walk_left slots object at
     walk_shorter =
         let left_at : walk_left slots object at ≡ v.export_order * 4294967296 + v.handle + 1 = ap (walk_left slots object) here ∙ ap (λ o. option_map_or (λ (y : Prime). y.export_order * 4294967296 + y.handle + 1) o 0) (sym there) in

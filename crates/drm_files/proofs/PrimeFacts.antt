@@ -123,7 +123,7 @@ module _ (m : fin.FinMap nat_cmp Held) (object : ℕ) where
       ap (option_and_then (λ export_order. option_map {U = Prime} (λ handle. record { export_order = export_order; handle = handle }) (least_of (handles_in object export_order es)))) first
       ∙ ap (option_map {U = Prime} (λ handle. record { export_order = k; handle = handle })) least
 
-  -- the first of the primes has the least export order
+  -- The first prime is the handle with the lowest export order.
   pub least_is : (r : Option ℕ) → IsNext is_before (prime_at m object) None r → r ≡ option_map (λ (x : Prime). x.handle) (least_prime object es)
   least_is None none =
       ap (λ export_orders. option_map (λ (x : Prime). x.handle) (option_and_then (λ export_order. option_map (λ handle. record { export_order = export_order; handle = handle }) (least_of (handles_in object export_order es))) (least_of export_orders))) (sym (no_export_orders none es there))
@@ -199,7 +199,7 @@ module _ (limit last : ℕ) (m : fin.FinMap nat_cmp FileRecord) (c : ℕ) (r : F
   handles_at_are : (export_order : ℕ) → handles_at (lists_of limit last m) c object export_order ≡ handles_in object export_order (fin.entries r.handles.slots)
   handles_at_are export_order = ap (λ rows. map (λ row. row.handle) (filter (has_export_order export_order) rows)) rows_are ∙ handles_by_row c export_order (filter (is_for object) (fin.entries r.handles.slots))
 
-  -- the least in the client's table is its PRIME handle
+  -- The handle with the lowest export order in a client's table is its PRIME handle.
   pub prime_is : option_map (λ (prime : Prime). prime.handle) (least_prime object (fin.entries r.handles.slots)) ≡ prime_handle (lists_of limit last m) c object
   prime_is = handle_of (least_of (export_orders_in object (fin.entries r.handles.slots))) ∙ (λ i. option_and_then (λ export_order. least_of (sym (handles_at_are export_order) i)) (least_of (sym export_orders_are i)))
     where

@@ -53,7 +53,7 @@ module _ {X : Type 0} where
     sorted_from : (from : ℕ) → T (is_sorted nat_cmp (entries_from m from))
     sorted_from from = is_sorted-where_key nat_cmp (λ k. nat_le from k) (fin.entries m) (fin.entries_sorted m)
 
-    -- the least key from a number on is the first, and the others come after it
+    -- The entries from a number on are the lowest of them and the entries after it.
     pub from_least : (from to h : ℕ) (v : X) → IsLeast (fin.contains_key m) from to h → fin.get m h ≡ Some v → entries_from m from ≡ (h, v) ∷ entries_from m (h + 1)
     from_least from to h v is found =
         same_entries nat_cmp nat_cmp_total nat_cmp-IsAntisymmetric _ _ (sorted_from from) (both _ _ (above_from h (fin.entries m)) (sorted_from (h + 1))) (λ q.
@@ -82,6 +82,7 @@ module _ {X : Type 0} where
               ]
             ]
 
+    -- If no key from `from` on exists, no entries from it on are left.
     pub from_none : (from : ℕ) → ((k : ℕ) → from ≤ k → fin.contains_key m k ≡ false) → entries_from m from ≡ []
     from_none from none =
         same_entries nat_cmp nat_cmp_total nat_cmp-IsAntisymmetric _ [] (sorted_from from) tt (λ q. find_from from q ∙ at q (nat_le from q) refl)
@@ -93,12 +94,13 @@ module _ {X : Type 0} where
             at_least le = grind (arith, nat_tests)
         at q false le = refl
 
+    -- The entries from 0 on are all entries.
     pub from_zero : entries_from m 0 ≡ fin.entries m
     from_zero =
         same_entries nat_cmp nat_cmp_total nat_cmp-IsAntisymmetric _ (fin.entries m) (sorted_from 0) (fin.entries_sorted m) (λ q.
         find_from 0 q ∙ ap (λ b. cond b (fin.get m q) None) (le_yes 0 q (omega arith)) ∙ fin.get-entries m q)
 
-    -- nothing is above the last number
+    -- If all keys are `u32`, there are no entries past `u32`.
     pub from_past : (from : ℕ) → ((k : ℕ) → IsTrue (fin.contains_key m k) → k ≤ 4294967295) → 4294967295 < from → entries_from m from ≡ []
     from_past from bound past = from_none from (λ k le. outside k le (fin.contains_key m k) refl)
       where
@@ -106,7 +108,7 @@ module _ {X : Type 0} where
         outside k le true there = absurd (omega (arith, bound k there, past, le))
         outside k le false there = refl
 
-    -- without its least key a map has the entries above it
+    -- A map without its lowest key has the entries after it.
     pub first_removed : (to h : ℕ) → IsLeast (fin.contains_key m) 0 to h → fin.entries (fin.remove m h) ≡ entries_from m (h + 1)
     first_removed to h is =
         same_entries nat_cmp nat_cmp_total nat_cmp-IsAntisymmetric _ _ (fin.entries_sorted (fin.remove m h)) (sorted_from (h + 1)) (λ q.
@@ -127,16 +129,17 @@ module _ {X : Type 0} where
               ]
             ]
 
-    -- the least key has a value
+    -- The lowest key has a value.
     pub least_there : (from to h : ℕ) → IsLeast (fin.contains_key m) from to h → None ≡ fin.get m h → ⊥
     least_there from to h is none = some_there (fin.get m h) is.passes none
 
--- a place in the first of two lists, and one after it
+-- A place in the first of two lists is the same place in both together.
 pub at_front : {Y : Type 0} (xs ys : List Y) (i : ℕ) (y : Y) → slice_get xs i ≡ Some y → slice_get (xs ++ ys) i ≡ Some y
 at_front [] ys i y is = absurd (none-some y is)
 at_front (x ∷ xs) ys zero y is = is
 at_front (x ∷ xs) ys (suc i) y is = at_front xs ys i y is
 
+-- A place past the front of two lists is a place in the second.
 pub behind_front : {Y : Type 0} (xs ys : List Y) (i n : ℕ) → length xs ≡ n → n ≤ i → slice_get (xs ++ ys) i ≡ slice_get ys (i - n)
 behind_front [] ys i n is le = let none : i ≡ i - n = omega (arith, is) in ap (slice_get ys) none
 behind_front (x ∷ xs) ys zero n is le = absurd (omega (arith, is, le))
@@ -144,11 +147,12 @@ behind_front (x ∷ xs) ys (suc i) n is le =
     let less : i - (n - 1) ≡ suc i - n = omega (arith, is, le) in
     behind_front xs ys i (n - 1) (omega (arith, is)) (omega (arith, is, le)) ∙ ap (slice_get ys) less
 
--- what exists has a value
+-- An option that has a value is not `None`.
 pub not_both : {Y : Type 0} (y : Option Y) → IsTrue (is_some y) → y ≡ None → ⊥
 not_both None there none = absurd (false≢true there)
 not_both (Some y) there none = false≢true (sym (ap is_some none))
 
+-- A list of length 0 is empty.
 pub no_length : {Y : Type 0} (ys : List Y) → length ys ≡ 0 → ys ≡ []
 no_length [] e = refl
 no_length (y ∷ ys) e = absurd (omega (arith, e))

@@ -187,5 +187,6 @@ tells-by : (f : FrameValue) (found : Option CallResult) → answer_in f ≡ foun
 tells-by f None e each = λ outcome h. none-some outcome (sym e ∙ answer-found f outcome h)
 tells-by f (Some outcome) e each = each outcome refl
 
+-- The result found in a frame is the frame's, and a frame in which none is found has none.
 pub tells : (f : FrameValue) → IsFrame f → Tells f (answer_in f)
 tells f fits = tells-by f (answer_in f) refl (λ outcome e. found-tells f outcome fits.short fits.bytes e)

@@ -61,6 +61,7 @@ told-fits (denial rule) widths h = record {
   bytes = two-bytes (rule_number rule) (rule_errno rule);
 }
 
+-- If the numbers of a result fit their fields, its frame fits the format of frames.
 pub answer-fits : (outcome : CallResult) → FitsFields outcome → IsFrame (answer_frame outcome)
 answer-fits (Ok answer) h = told-fits (told answer) (has-widths answer) h
 answer-fits (Err apart) h = record {
@@ -151,9 +152,11 @@ told-found answer (list ids) back widths h = list-found ids h ∙ ap (λ (a : An
 told-found answer (page rows) back widths h = audit-found rows h ∙ ap (λ (a : Answer). Some (Ok a)) (sym back)
 told-found answer (denial rule) back widths h = denied-found rule ∙ ap (λ (a : Answer). Some (Ok a)) (sym back)
 
+-- If the numbers of a result fit their fields, the result is found in its frame.
 pub written-found : (outcome : CallResult) → FitsFields outcome → answer_in (answer_frame outcome) ≡ Some outcome
 written-found (Ok answer) h = told-found answer (told answer) (tells-back answer) (has-widths answer) h
 written-found (Err apart) h = refused-found apart
 
+-- The result of a frame is found in it.
 pub answer-found : (f : FrameValue) (outcome : CallResult) → IsAnswer f outcome → answer_in f ≡ Some outcome
 answer-found f outcome h = ap answer_in h.1 ∙ written-found outcome h.0

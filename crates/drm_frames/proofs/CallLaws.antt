@@ -57,6 +57,7 @@ asked-is : (f : FrameValue) → request_of f ≡ asked_of f (call_kind_of f.numb
 unfolding request_of
 asked-is f = refl
 
+-- Each frame asks what is found in it.
 pub asks : (f : FrameValue) → IsFrame f → Asks f (request_of f)
 asks f fits = subst (λ (c : Call). Asks f c) (sym (asked-is f)) (by-kind f (call_kind_of f.number) fits refl (asked-is f))
 
@@ -77,6 +78,7 @@ bad-found f n (Some kind) fits t e row none =
     bad-by f n (option_and_then (call_with kind) (fields_in (kind_layout kind) f.fields)) e
     (λ call is. none call (by-fields f kind (fields_in (kind_layout kind) f.fields) call fits number refl is))
 
+-- What a frame asks is found in it.
 pub found : (f : FrameValue) (call : Call) → IsFrame f → Asks f call → request_of f ≡ call
 found f (Unknown n) fits h = asked-is f ∙ unknown-found f n (call_kind_of f.number) refl h.0 h.1
 found f (BadLayout n) fits h = asked-is f ∙ bad-found f n (call_kind_of f.number) fits refl h.0 h.1 h.2
@@ -90,5 +92,6 @@ same-by f g (Some row) a b =
     let text = fields_text (kind_layout row.0) row.1 in
     frame_value-is f (kind_number row.0) text a.number a.text ∙ sym (frame_value-is g (kind_number row.0) text b.number b.text)
 
+-- Only one frame asks a row's call.
 pub one-frame : (f g : FrameValue) (call : Call) → IsRowCall call f → IsRowCall call g → f ≡ g
 one-frame f g call a b = same-by f g (call_row call) a b

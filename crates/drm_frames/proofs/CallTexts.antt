@@ -28,6 +28,7 @@ fits-by : (f : FrameValue) (o : Option (CallKind × List Field)) → AsksBy o f 
 fits-by f None h = absurd h
 fits-by f (Some row) h = by-row-fits f row.0 row.1 h
 
+-- A frame that asks a row's call fits the format of frames.
 pub row-fits : (f : FrameValue) (call : Call) → IsRowCall call f → IsFrame f
 row-fits f call h = fits-by f (call_row call) h
 
@@ -40,12 +41,14 @@ found-by f call (Some row) back h =
     let fields : fields_in (kind_layout row.0) f.fields ≡ Some row.1 = ap (fields_in (kind_layout row.0)) h.text ∙ text-read (kind_layout row.0) row.1 h.fits in
     rw (kind, fields, back) refl
 
+-- A row's call is found in a frame that asks it.
 pub row-found : (f : FrameValue) (call : Call) → IsRowCall call f → request_of f ≡ call
 unfolding request_of
 row-found f call h = found-by f call (call_row call) (read-back call) h
 
 -- ---- the frame of a call's row asks the call
 
+-- A call that a frame can ask has a row.
 pub has_row : (call : Call) → IsOfRow call → None ≡ call_row call → ⊥
 unfolding call_row
 has_row (calls.Unknown n) h e = h
@@ -56,6 +59,7 @@ widths-by : (kind : CallKind) (fs : List Field) (o : Option (CallKind × List Fi
 widths-by kind fs None h e = absurd (cc)
 widths-by kind fs (Some row) h e = subst (λ (r : CallKind × List Field). map width_of r.1 ≡ widths_in (kind_layout r.0) (length r.1)) (some-is row (kind, fs) e) h
 
+-- The text made of a row's number and of the call's fields is that of a frame that asks the call.
 pub writes-row : (call : Call) (kind : CallKind) (fs xs : List Field) (layout : Layout) (number : ℕ) (fields slice text : List ℕ) → call_row call ≡ Some (kind, fs) → xs ≡ fs
     → length fs ≤ 32 → layout ≡ kind_layout kind → number ≡ kind_number kind → fields ≡ fields_text layout xs → All FitsField xs → slice ≡ fields → text ≡ frame_text (frame_value number slice)
     → WritesCall call text

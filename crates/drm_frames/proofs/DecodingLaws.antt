@@ -41,6 +41,7 @@ part-not-too-long : (bytes : List ℕ) → IsPart bytes → IsTooLong bytes → 
 part-not-too-long bytes (inl short) long = let h = long.has_length in omega (arith, short, h)
 part-not-too-long bytes (inr part) long = right-length (u32_in bytes) part.0 part.1 long.wrong
 
+-- Bytes are decoded in only one way.
 pub one-decoding : (bytes : List ℕ) (d e : Decoded) → Decodes bytes d → Decodes bytes e → d ≡ e
 one-decoding bytes (Whole f u) (Whole g v) a b = one-frame bytes f g u v a b
 one-decoding bytes (Whole f u) NeedMore a b = absurd (no-part bytes f u a b)
@@ -52,6 +53,7 @@ one-decoding bytes TooLong (Whole g v) a b = absurd (not-too-long bytes g v b a)
 one-decoding bytes TooLong NeedMore a b = absurd (part-not-too-long bytes b a)
 one-decoding bytes TooLong TooLong a b = refl
 
+-- A frame's text, with any bytes after it, is read as this frame.
 pub text-reads : (f : FrameValue) → IsFrame f → ReadsAs (frame_text f) f
 text-reads f fits rest = record {
   within = omega (arith, length-append (frame_text f) rest);

@@ -29,19 +29,23 @@ field-bytes : (f : Field) → AreBytes (field_text f)
 field-bytes (fields.U32 n) = AreBytes-u32 n
 field-bytes (fields.U64 n) = AreBytes-u64 n
 
+-- Fields take at most 8 bytes each.
 pub length-fields : (fs : List Field) → length (flat_map field_text fs) ≤ 8 * length fs
 length-fields [] = omega arith
 length-fields (f ∷ fs) = omega (arith, length-append (field_text f) (flat_map field_text fs), length-field f, length-fields fs)
 
+-- Fields are written as bytes.
 pub fields-bytes : (fs : List Field) → AreBytes (flat_map field_text fs)
 fields-bytes [] = AreBytes-nil
 fields-bytes (f ∷ fs) = AreBytes-append (field_text f) (flat_map field_text fs) (field-bytes f) (fields-bytes fs)
 
+-- Up to 32 fields take at most 1,022 bytes.
 pub text-short : (layout : Layout) (fs : List Field) → length fs ≤ 32 → length (fields_text layout fs) ≤ 1022
 unfolding fields_text
 text-short (numbers ws) fs few = omega (arith, length-fields fs)
 text-short ids fs few = omega (arith, length-append (u32 (length fs)) (flat_map field_text fs), length-u32 (length fs), length-fields fs)
 
+-- The fields of any layout are written as bytes.
 pub text-bytes : (layout : Layout) (fs : List Field) → AreBytes (fields_text layout fs)
 unfolding fields_text
 text-bytes (numbers ws) fs = fields-bytes fs
@@ -65,6 +69,7 @@ each-read [] rest each = refl
 each-read (f ∷ fs) rest each =
     rw (append_assoc (field_text f) (flat_map field_text fs) rest, field-read f (flat_map field_text fs ++ rest) (first-fits f fs each), each-read fs rest (others-fit f fs each)) refl
 
+-- Fields that fit are read again from their bytes.
 pub numbers-read : (fs : List Field) → All FitsField fs → numbers_in (map width_of fs) (flat_map field_text fs) ≡ Some fs
 unfolding numbers_in
 numbers-read fs each =
@@ -72,6 +77,7 @@ numbers-read fs each =
     ap (read_each field_in (map width_of fs)) (sym (append-nil (flat_map field_text fs))) ∙ each-read fs [] each in
     rw whole refl
 
+-- Fields that fit a layout are read again from its bytes.
 pub text-read : (layout : Layout) (fs : List Field) → FitsLayout layout fs → fields_in layout (fields_text layout fs) ≡ Some fs
 unfolding fields_in fields_text
 text-read (numbers ws) fs h = ap (λ (vs : List Width). numbers_in vs (flat_map field_text fs)) (sym h.widths) ∙ numbers-read fs h.each
@@ -139,6 +145,7 @@ nothing-left ws bytes (Some read) fs h t e =
     let were = each-was ws bytes read h t in
     subst (λ (xs : List Field). WereRead ws bytes xs []) s.1 (subst (λ (rest : List ℕ). WereRead ws bytes read.0 rest) (nil_from_length read.1 s.0) were)
 
+-- Fields that are read from bytes are written as these bytes.
 pub numbers-were : (ws : List Width) (bytes : List ℕ) (fs : List Field) → AreBytes bytes → numbers_in ws bytes ≡ Some fs → WereRead ws bytes fs []
 unfolding numbers_in
 numbers-were ws bytes fs h e = nothing-left ws bytes (read_each field_in ws bytes) fs h refl e
@@ -147,6 +154,7 @@ pub record WasWritten (layout : Layout) (bytes : List ℕ) (fs : List Field) : T
   pub fits : FitsLayout layout fs
   pub text : bytes ≡ fields_text layout fs
 
+-- Fields that are read by a short layout are written as the same bytes.
 pub text-was : (layout : Layout) (bytes : List ℕ) (fs : List Field) → IsShort layout → AreBytes bytes → fields_in layout bytes ≡ Some fs → WasWritten layout bytes fs
 unfolding fields_in fields_text
 text-was (numbers ws) bytes fs few h e =

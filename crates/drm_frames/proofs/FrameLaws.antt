@@ -7,9 +7,11 @@ use Rattle.drm_frames.specs.Grammar.{FrameValue, frame_text, IsFrame, IsPart}
 use Rattle.drm_frames.proofs.Sizes.{frame_value-is}
 use Rattle.drm_frames.proofs.Numbers.{length-u16, length-u32, u16_in-u16, u32_in-u32}
 
+-- A frame's text is its length, its number and its fields.
 pub frame_value-text : (f : FrameValue) (x : List ℕ) → frame_text f ++ x ≡ u32 (2 + length f.fields) ++ (u16 f.number ++ (f.fields ++ x))
 frame_value-text f x = simp append_assoc
 
+-- If two frames are at the front of the same bytes, they are equal, and so is what follows.
 pub one-text : (f g : FrameValue) (x y : List ℕ) → IsFrame f → IsFrame g → frame_text f ++ x ≡ frame_text g ++ y → (f ≡ g) × (x ≡ y)
 one-text f g x y fits gits e =
     let same : u32 (2 + length f.fields) ++ (u16 f.number ++ (f.fields ++ x)) ≡ u32 (2 + length g.fields) ++ (u16 g.number ++ (g.fields ++ y)) =
@@ -34,6 +36,7 @@ length-text f r =
     ap length (frame_value-text f r)
     ∙ omega (arith, length-append (u32 (2 + length f.fields)) (u16 f.number ++ (f.fields ++ r)), length-append (u16 f.number) (f.fields ++ r), length-append f.fields r, length-u32 (2 + length f.fields), length-u16 f.number)
 
+-- Less than a frame does not begin with a frame.
 pub part-no-frame : (y r : List ℕ) (f : FrameValue) → IsFrame f → IsPart y → y ≡ frame_text f ++ r → ⊥
 part-no-frame y r f fits (inl short) e = let len = ap length e ∙ length-text f r in omega (arith, len, short)
 part-no-frame y r f fits (inr part) e =
@@ -42,6 +45,7 @@ part-no-frame y r f fits (inr part) e =
     let says = ap u32_in (e ∙ frame_value-text f r) ∙ u32_in-u32 (2 + length f.fields) (u16 f.number ++ (f.fields ++ r)) (omega (arith, few)) in
     omega (arith, len, says, part.2)
 
+-- Bytes are frames and less than a frame in only one way.
 pub one-reading : (fs gs : List FrameValue) (x y : List ℕ) → AllByRecursion IsFrame fs → AllByRecursion IsFrame gs → IsPart x → IsPart y
     → flat_map frame_text fs ++ x ≡ flat_map frame_text gs ++ y → (fs ≡ gs) × (x ≡ y)
 one-reading [] [] x y a b p q e = (refl, e)

@@ -18,6 +18,7 @@ three-fits a b c = record {
   bytes = three-bytes a b c;
 }
 
+-- The frame of a hello fits the format of frames.
 pub hello-fits : (hello : Hello) → IsFrame (hello_frame hello)
 hello-fits hello = by_lease hello.version hello.lease
   where
@@ -42,6 +43,7 @@ three-found version what token v w t =
     let third : u32_in (drop 8 (u32 version ++ u32 what ++ u32 token)) ≡ token = ap u32_in (behind-is version what (u32 token)) ∙ u32_in-alone token t in
     rw (len, first, v, second, third) refl
 
+-- A hello with a known version and a token that fits is found in its frame.
 pub written-found : (hello : Hello) → is_version hello.version ≡ true → IsToken hello.lease → hello_in (hello_frame hello) ≡ Some hello
 written-found hello v t = by_lease hello.lease t
   where
@@ -49,6 +51,7 @@ written-found hello v t = by_lease hello.lease t
     by_lease None h = three-found hello.version 0 0 v (omega arith) (omega arith)
     by_lease (Some token) h = three-found hello.version 1 token v (omega arith) h
 
+-- The hello of a frame is found in it.
 pub hello-found : (f : FrameValue) (hello : Hello) → IsHello f hello → hello_in f ≡ Some hello
 hello-found f hello h = ap hello_in h.2 ∙ written-found hello h.0 h.1
 
@@ -88,5 +91,6 @@ greets-by : (f : FrameValue) (found : Option Hello) → hello_in f ≡ found →
 greets-by f None e each = λ hello h. none-some hello (sym e ∙ hello-found f hello h)
 greets-by f (Some hello) e each = each hello refl
 
+-- The hello found in a frame is the frame's, and a frame in which none is found has none.
 pub greets : (f : FrameValue) → IsFrame f → Greets f (hello_in f)
 greets f fits = greets-by f (hello_in f) refl (λ hello e. found-hello f hello fits.bytes e)

@@ -12,6 +12,7 @@ use Rattle.drm_frames.proofs.FieldLaws.{AreBytes-nil, AreBytes-u32, AreBytes-app
 
 -- ---- one id more is read
 
+-- After one more id is read, the ids so far and those in the rest are still the whole list.
 pub id-read : (count done : ℕ) (ids ids' rest rest' bytes : List ℕ) (id : ℕ) → done < count → ids ++ ids_in (count - done) rest ≡ ids_in count bytes
     → ids' ≡ ids ++ id ∷ [] → id ≡ u32_in rest → rest' ≡ drop 4 rest → ids' ++ ids_in (count - (done + 1)) rest' ≡ ids_in count bytes
 id-read count done ids ids' rest rest' bytes id more so_far pushed is cut =
@@ -20,6 +21,7 @@ id-read count done ids ids' rest rest' bytes id more so_far pushed is cut =
     ap (λ (n : ℕ). ids ++ ids_in n rest) (sym left) ∙ so_far in
     rw (pushed, cut, is) (append_assoc ids (u32_in rest ∷ []) (ids_in (count - (done + 1)) (drop 4 rest)) ∙ before)
 
+-- A list with one more id is longer by one.
 pub one-longer : (ids ids' : List ℕ) (id done : ℕ) → ids' ≡ ids ++ id ∷ [] → length ids ≡ done → length ids' ≡ done + 1
 one-longer ids ids' id done pushed len = ap length pushed ∙ omega (arith, length-append ids (id ∷ []), len)
 
@@ -46,6 +48,7 @@ length-ids : (ids : List ℕ) → length (flat_map u32 ids) ≡ 4 * length ids
 length-ids [] = refl
 length-ids (id ∷ ids) = omega (arith, length-append (u32 id) (flat_map u32 ids), length-u32 id, length-ids ids)
 
+-- A list takes 4 bytes, and 4 for each id.
 pub length-list : (ids : List ℕ) → length (list_text ids) ≡ 4 + 4 * length ids
 length-list ids = omega (arith, length-append (u32 (length ids)) (flat_map u32 ids), length-u32 (length ids), length-ids ids)
 
@@ -53,6 +56,7 @@ ids-bytes : (ids : List ℕ) → AreBytes (flat_map u32 ids)
 ids-bytes [] = AreBytes-nil
 ids-bytes (id ∷ ids) = AreBytes-append (u32 id) (flat_map u32 ids) (AreBytes-u32 id) (ids-bytes ids)
 
+-- A list is written as bytes.
 pub list-bytes : (ids : List ℕ) → AreBytes (list_text ids)
 list-bytes ids = AreBytes-append (u32 (length ids)) (flat_map u32 ids) (AreBytes-u32 (length ids)) (ids-bytes ids)
 
@@ -92,6 +96,7 @@ front-by count bytes is few len h =
     ∙ ap (λ (x : List ℕ). u32 (length shown) ++ (flat_map u32 shown ++ x)) end
     ∙ sym (append_assoc (u32 (length shown)) (flat_map u32 shown) (drop (4 + 4 * count) bytes))
 
+-- If a list is found at the front, the bytes are its text and the rest.
 pub front-again : (bytes rest : List ℕ) → behind_list bytes ≡ Some rest → AreBytes bytes → IsInFront bytes rest
 unfolding behind_list
 front-again bytes rest e h =
@@ -125,6 +130,7 @@ behind-is count bytes few len says =
     let whole : nat_le (4 + 4 * count) (length bytes) ≡ true = grind (arith, nat_tests) in
     rw (long, says, most, whole) refl
 
+-- A list that fits is found in front of any bytes, and these are the rest.
 pub front-found : (ids rest : List ℕ) → FitsList ids → (behind_list (list_text ids ++ rest) ≡ Some rest) × (front_list (list_text ids ++ rest) ≡ ids)
 front-found ids rest fits =
     let few = fits.few in
@@ -138,10 +144,11 @@ front-found ids rest fits =
       ap (λ (n : ℕ). ids_in n (drop 4 text)) says ∙ ap (ids_in (length ids)) behind ∙ ids_in-front ids rest fits.each,
     )
 
--- four lists, without a rest
+-- Four lists in a row are the same with an empty rest after them.
 pub four-apart : (w x y z : List ℕ) → w ++ x ++ y ++ z ≡ w ++ (x ++ (y ++ (z ++ [])))
 four-apart w x y z = append_assoc (w ++ x) y z ∙ append_assoc w x (y ++ z) ∙ ap (λ (t : List ℕ). w ++ (x ++ (y ++ t))) (sym (append-nil z))
 
+-- Four lists take 16 bytes, and 4 for each id.
 pub length-four : (w x y z : List ℕ) → length (list_text w ++ list_text x ++ list_text y ++ list_text z) ≡ 16 + 4 * (length w + length x + length y + length z)
 length-four w x y z =
     omega (
@@ -155,6 +162,7 @@ length-four w x y z =
       length-list z,
     )
 
+-- Four lists are written as bytes.
 pub four-bytes : (w x y z : List ℕ) → AreBytes (list_text w ++ list_text x ++ list_text y ++ list_text z)
 four-bytes w x y z =
     AreBytes-append (list_text w ++ list_text x ++ list_text y) (list_text z) (AreBytes-append (list_text w ++ list_text x) (list_text y) (AreBytes-append (list_text w) (list_text x) (list-bytes w) (list-bytes x)) (list-bytes y)) (list-bytes z)

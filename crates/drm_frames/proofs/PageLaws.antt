@@ -10,6 +10,7 @@ use Rattle.drm_frames.proofs.FieldLaws.{AreBytes-nil, AreBytes-u32, AreBytes-u64
 
 -- ---- one row more is read
 
+-- After one more row is read, the rows so far and those in the rest are still the whole page.
 pub row-read : (count done : ℕ) (page page' : List AuditRow) (rest rest' bytes : List ℕ) (row : AuditRow) → done < count
     → page ++ rows_in (count - done) rest ≡ rows_in count bytes → page' ≡ page ++ row ∷ [] → row ≡ row_in rest → rest' ≡ drop 32 rest
     → page' ++ rows_in (count - (done + 1)) rest' ≡ rows_in count bytes
@@ -19,6 +20,7 @@ row-read count done page page' rest rest' bytes row more so_far pushed is cut =
     ap (λ (n : ℕ). page ++ rows_in n rest) (sym left) ∙ so_far in
     rw (pushed, cut, is) (append_assoc page (row_in rest ∷ []) (rows_in (count - (done + 1)) (drop 32 rest)) ∙ before)
 
+-- A page with one more row is longer by one.
 pub one-longer : (page page' : List AuditRow) (row : AuditRow) (done : ℕ) → page' ≡ page ++ row ∷ [] → length page ≡ done → length page' ≡ done + 1
 one-longer page page' row done pushed len = ap length pushed ∙ omega (arith, length-append page (row ∷ []), len)
 
@@ -28,6 +30,7 @@ one-longer page page' row done pushed len = ap length pushed ∙ omega (arith, l
 row-apart : (row : AuditRow) (rest : List ℕ) → row_text row ++ rest ≡ u64 row.a ++ (u64 row.b ++ (u64 row.c ++ (u64 row.d ++ rest)))
 row-apart row rest = simp append_assoc
 
+-- A row takes 32 bytes.
 pub length-row : (row : AuditRow) → length (row_text row) ≡ 32
 length-row row =
     omega (
@@ -58,6 +61,7 @@ row-written row rest fits =
     let fourth : drop 24 text ≡ from_d = sym (drop-drop 8 16 text) ∙ ap (drop 8) third ∙ eight-behind row.c from_d in
     row-is _ _ _ _ row.a row.b row.c row.d (u64_in-u64 row.a from_b fits.0) (ap u64_in second ∙ u64_in-u64 row.b from_c fits.1) (ap u64_in third ∙ u64_in-u64 row.c from_d fits.2) (ap u64_in fourth ∙ u64_in-u64 row.d rest fits.3)
 
+-- A row that fits is read again from its bytes.
 pub row_in-row : (row : AuditRow) (rest : List ℕ) → FitsRow row → row_in (row_text row ++ rest) ≡ row
 row_in-row row rest fits = ap row_in (row-apart row rest) ∙ row-written row rest fits
 
@@ -67,6 +71,7 @@ head-fits row rows each = each 0 row (omega arith)
 tail-fits : (row : AuditRow) (rows : List AuditRow) → All FitsRow (row ∷ rows) → All FitsRow rows
 tail-fits row rows each = λ k d h. each (suc k) d (omega arith)
 
+-- Rows that fit are read again from their bytes.
 pub rows_in-rows : (rows : List AuditRow) → All FitsRow rows → rows_in (length rows) (flat_map row_text rows) ≡ rows
 rows_in-rows [] each = refl
 rows_in-rows (row ∷ rows) each =
@@ -75,6 +80,7 @@ rows_in-rows (row ∷ rows) each =
 
 -- ---- a row that is read is written
 
+-- At least 32 bytes are the row that is read from them, and the rest.
 pub row-front : (bytes : List ℕ) → 32 ≤ length bytes → AreBytes bytes → bytes ≡ row_text (row_in bytes) ++ drop 32 bytes
 row-front bytes long h =
     let first = u64-front bytes (omega arith) h in
@@ -92,12 +98,14 @@ row-front bytes long h =
     ∙ ap (λ (x : List ℕ). a ++ x) (second ∙ ap (λ (x : List ℕ). b ++ x) (to_c ∙ third ∙ ap (λ (x : List ℕ). c ++ x) (to_d ∙ fourth ∙ ap (λ (x : List ℕ). d ++ x) to_end)))
     ∙ sym (row-apart (row_in bytes) (drop 32 bytes))
 
+-- 32 bytes for each row are the rows that are read from them.
 pub rows-again : (count : ℕ) (bytes : List ℕ) → length bytes ≡ 32 * count → AreBytes bytes → bytes ≡ flat_map row_text (rows_in count bytes)
 rows-again zero bytes len h = nil_from_length bytes len
 rows-again (suc count) bytes len h =
     row-front bytes (omega arith) h
     ∙ ap (λ (x : List ℕ). row_text (row_in bytes) ++ x) (rows-again count (drop 32 bytes) (omega (arith, length-drop 32 bytes)) (AreBytes-drop 32 bytes h))
 
+-- As many rows are read as are counted.
 pub length-rows_in : (count : ℕ) (bytes : List ℕ) → length (rows_in count bytes) ≡ count
 length-rows_in zero bytes = refl
 length-rows_in (suc count) bytes = ap suc (length-rows_in count (drop 32 bytes))
@@ -113,10 +121,12 @@ rows-below (suc count) bytes h (suc k) d few = rows-below count (drop 32 bytes) 
 
 -- ---- a page
 
+-- Rows take 32 bytes each.
 pub length-rows : (rows : List AuditRow) → length (flat_map row_text rows) ≡ 32 * length rows
 length-rows [] = refl
 length-rows (row ∷ rows) = omega (arith, length-append (row_text row) (flat_map row_text rows), length-row row, length-rows rows)
 
+-- A page takes 4 bytes, and 32 for each row.
 pub length-page : (rows : List AuditRow) → length (page_text rows) ≡ 4 + 32 * length rows
 length-page rows = omega (arith, length-append (u32 (length rows)) (flat_map row_text rows), length-u32 (length rows), length-rows rows)
 
@@ -130,15 +140,18 @@ rows-bytes : (rows : List AuditRow) → AreBytes (flat_map row_text rows)
 rows-bytes [] = AreBytes-nil
 rows-bytes (row ∷ rows) = AreBytes-append (row_text row) (flat_map row_text rows) (row-bytes row) (rows-bytes rows)
 
+-- A page is written as bytes.
 pub page-bytes : (rows : List AuditRow) → AreBytes (page_text rows)
 page-bytes rows = AreBytes-append (u32 (length rows)) (flat_map row_text rows) (AreBytes-u32 (length rows)) (rows-bytes rows)
 
+-- Up to 16 rows that are read from bytes are a page that fits.
 pub page-below : (count : ℕ) (bytes : List ℕ) → count ≤ 16 → AreBytes bytes → FitsPage (rows_in count bytes)
 page-below count bytes few h = record {
   few = rw (length-rows_in count bytes) few;
   each = rows-below count bytes h;
 }
 
+-- Bytes with a count and as many rows are the page that is read from them.
 pub page-again : (fields : List ℕ) → length fields ≡ 4 + 32 * u32_in fields → AreBytes fields → fields ≡ page_text (rows_in (u32_in fields) (drop 4 fields))
 page-again fields len h =
     let rest = drop 4 fields in

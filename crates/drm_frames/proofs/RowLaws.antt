@@ -10,6 +10,7 @@ use Rattle.drm_table.proofs.TableRows.{kind-found, kind-of-its-own}
 use Rattle.drm_frames.specs.Grammar.{FrameValue}
 use Rattle.drm_frames.specs.Requests.{AsksBy, IsRowCall, HasRow}
 
+-- A number of the table has a row.
 pub row-there : (n : ℕ) → HasRow n → is_some (row_of n) ≡ true
 unfolding row_of
 row-there n row = ap (λ (o : Option CallKind). is_some (option_map kind_row o)) (ap call_kind_of (sym row.1) ∙ kind-found row.0)
@@ -18,6 +19,7 @@ none-by : (n : ℕ) (o : Option CallKind) → call_kind_of n ≡ o → (HasRow n
 none-by n None t h = refl
 none-by n (Some kind) t h = absurd (h (kind, kind-of-its-own n kind t))
 
+-- A number that is not in the table has no row.
 pub no-row-there : (n : ℕ) → (HasRow n → ⊥) → row_of n ≡ None
 unfolding row_of
 no-row-there n h = none-by n (call_kind_of n) refl h
@@ -26,6 +28,7 @@ number-by : (f : FrameValue) (o : Option (CallKind × List Field)) (other : ℕ)
 number-by f None other h = absurd h
 number-by f (Some row) other h = h.number
 
+-- A frame that asks a row's call has the call's number.
 pub number-of-row : (f : FrameValue) (call : Call) → IsRowCall call f → f.number ≡ call_number call
 unfolding call_number
 number-of-row f call h = number-by f (call_row call) (asked_number call) h

@@ -7,11 +7,11 @@ use Rattle.drm_lists.proofs.Placed.{placed_last}
 use Rattle.drm_gem.specs.declared.object.Object.{Object}
 use Rattle.drm_gem.specs.Objects.{ObjectSet, IsNewStepNumber, IsUnusedBirth, is_older, new_object, with_object}
 
--- its birth is unused
+-- A step number above all others is unused.
 pub newest_unused : (set : ObjectSet) (birth : ℕ) → IsNewStepNumber set birth → IsUnusedBirth set birth
 newest_unused set birth newest = all_weaker (λ (x : Object). x.step_number < birth) (λ (x : Object). (x.step_number == birth) ≡ false) (λ x less. less-differ x.step_number birth less) set.objects newest
 
--- its place is the end
+-- The place of an object newer than all others is the end.
 pub newest_last : (set : ObjectSet) (key birth size : ℕ) → IsNewStepNumber set birth → with_object set key birth size ≡ record set { objects = set.objects ++ new_object key birth size ∷ [] }
 newest_last set key birth size newest =
     let x = new_object key birth size in

@@ -25,11 +25,11 @@ module _ (keys : fin.FinMap nat_cmp ℕ) (slab : Slab Object) (keyed : IsKeyed k
   one : AllByRecursion (λ (z : Object). (z.step_number == x.step_number) ≡ (z.key == k)) all
   one = only_one key_of step_number_of nothing keys slab keyed k x there
 
-  -- an object is changed
+  -- A changed object is changed in the list.
   pub changed : (f : Object → Object) → (f x).step_number ≡ x.step_number → (f x).key ≡ x.key → Updates slab new k (Some (f x)) → rows_in nothing new (fin.entries keys) ≡ map (λ (z : Object). if z.key == k then f z else z) all
   changed f same_step same_key up = replaced key_of step_number_of nothing keys slab keyed k x f new there same_step same_key up ∙ alike (λ z. z.step_number == x.step_number) (is_key k) f all one
 
-  -- an object goes
+  -- A removed object is removed from the list.
   pub gone : Updates slab new k None → rows_in nothing new (fin.entries (fin.remove keys x.step_number)) ≡ filter (λ (z : Object). not (z.key == k)) all
   gone up =
       removed key_of step_number_of nothing keys slab keyed k x new there up
@@ -55,6 +55,6 @@ dead-same k f (z ∷ zs) x h e =
       | false ↦ λ is j. dead-same k f zs x h.1 j
     ] refl e
 
--- by the object itself
+-- A change of an object frees it if and only if the changed object is unused.
 pub dead_is : (k : ℕ) (f : Object → Object) (set : ObjectSet) (x new : Object) → InOrder (λ (y z : Object). (y.key == z.key) ≡ false) set.objects → object_at set k ≡ Some x → f x ≡ new → dead_after f set k ≡ (if is_unused new then Some (dead_of x) else None)
 dead_is k f set x new differ there is = dead-same k f set.objects x differ there ∙ ap (λ (y : Object). if is_unused y then Some (dead_of x) else None) is

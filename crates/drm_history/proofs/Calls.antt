@@ -38,6 +38,7 @@ Refines w past c call = w.steps ≡ length past → AllByRecursion (λ (x : Chec
 module _ (w : Rows) (past : List AnsweredEvent) (c : ℕ) where
   -- ---- new objects
 
+  -- An accepted BUF_CREATE returns the handle that the rows then have, of a new object.
   pub buf_create : (size : ℕ) → Refines w past c (BufCreate size)
   unfolding meaning with_object gift given takes holder_under published
   buf_create size s v f =
@@ -47,6 +48,7 @@ module _ (w : Rows) (past : List AnsweredEvent) (c : ℕ) where
         numbers = numbers_still past w.names w.tokens w.framebuffers (asked_step w c (BufCreate size)) (λ key. refl) f.numbers;
       }
 
+  -- An accepted MODE_CREATE_DUMB returns the handle that the rows then have, of a new object.
   pub create_dumb : (width height bpp : ℕ) → Refines w past c (CreateDumb width height bpp)
   unfolding meaning with_object gift given takes holder_under published
   create_dumb width height bpp s v f =
@@ -61,11 +63,13 @@ module _ (w : Rows) (past : List AnsweredEvent) (c : ℕ) where
   one_goes : (handle d k : ℕ) → ((c == d) && (handle == k)) ≡ ((d == c) && (k == handle))
   one_goes handle d k = ap (λ b. b && (handle == k)) (same_either c d) ∙ ap (λ b. (d == c) && b) (same_either handle k)
 
+  -- An accepted GEM_CLOSE takes the handle from the history and from the rows.
   pub gem_close : (handle : ℕ) → Refines w past c (GemClose handle)
   unfolding meaning gift given takes holder_under published
   gem_close handle s v f =
       taking past w.names w.tokens w.framebuffers (asked_step w c (GemClose handle)) (λ d k. (d == c) && (k == handle)) w.holds (λ d k. refl) (one_goes handle) (λ key. refl) f
 
+  -- An accepted MODE_DESTROY_DUMB takes the handle from the history and from the rows.
   pub destroy_dumb : (handle : ℕ) → Refines w past c (DestroyDumb handle)
   unfolding meaning gift given takes holder_under published
   destroy_dumb handle s v f =
@@ -103,10 +107,12 @@ module _ (w : Rows) (past : List AnsweredEvent) (c : ℕ) where
         };
       }
 
+  -- An accepted GEM_FLINK publishes the handle's object under the name that the rows then have.
   pub gem_flink : (handle : ℕ) → Refines w past c (GemFlink handle)
   unfolding meaning
   gem_flink handle s v f = let o = object_of w c handle in flinked handle o (find (λ (row : NameRow). row.object == o) w.names) refl (held_object w c handle v.0) v.1.0 f
 
+  -- An accepted GEM_OPEN returns a handle of the object that was last published under the name.
   pub gem_open : (name : ℕ) → Refines w past c (GemOpen name)
   unfolding meaning gift given takes holder_under published
   gem_open name s v f = record {
@@ -129,6 +135,7 @@ module _ (w : Rows) (past : List AnsweredEvent) (c : ℕ) where
   placed_from export_order x y true = refl
   placed_from export_order x y false = refl
 
+  -- An accepted PRIME_HANDLE_TO_FD publishes the handle's object under the token that the rows then have.
   pub prime_export : (handle : ℕ) → Refines w past c (PrimeHandleToFd handle)
   unfolding meaning with_export_order gift given takes holder_under published
   prime_export handle s v f =
@@ -187,12 +194,14 @@ module _ (w : Rows) (past : List AnsweredEvent) (c : ℕ) where
         numbers = numbers_still past w.names w.tokens w.framebuffers step (λ key. refl) f.numbers;
       }
 
+  -- An accepted PRIME_FD_TO_HANDLE returns a handle of the object that was last published under the token.
   pub prime_import : (token : ℕ) → Refines w past c (PrimeFdToHandle token)
   unfolding meaning
   prime_import token s v f =
       let o = unwrap_or (exported_object w token) 0 in
       import_as token o (prime_handle w c o) refl v.1.0 (numbered_told Token token_number token_object past token w.tokens v.0 f.numbers.exported.numbered) f
 
+  -- An accepted TOKEN_CLOSE removes a token's row, and the history still describes all rows.
   pub token_close : (token : ℕ) → Refines w past c (TokenClose token)
   unfolding meaning gift given takes holder_under published
   token_close token s v f =
@@ -205,6 +214,7 @@ module _ (w : Rows) (past : List AnsweredEvent) (c : ℕ) where
 
   -- ---- framebuffers
 
+  -- An accepted MODE_ADDFB publishes the handle's object under the framebuffer's id, with its shape.
   pub add_fb : (width height pitch bpp handle : ℕ) → Refines w past c (AddFb width height pitch bpp handle)
   unfolding meaning gift given takes holder_under published
   add_fb width height pitch bpp handle s v f =
@@ -222,6 +232,7 @@ module _ (w : Rows) (past : List AnsweredEvent) (c : ℕ) where
         };
       }
 
+  -- An accepted MODE_RMFB removes a framebuffer's row, and the history still describes all rows.
   pub rm_fb : (framebuffer : ℕ) → Refines w past c (RmFb framebuffer)
   unfolding meaning gift given takes holder_under published
   rm_fb framebuffer s v f =
@@ -256,6 +267,7 @@ module _ (w : Rows) (past : List AnsweredEvent) (c : ℕ) where
         numbers = numbers_still past w.names w.tokens w.framebuffers step (λ key. refl) f.numbers;
       }
 
+  -- An accepted MODE_GETFB returns a handle of the framebuffer's object, or none, and the rows have the same.
   pub get_fb : (framebuffer : ℕ) → Refines w past c (GetFb framebuffer)
   unfolding meaning
   get_fb framebuffer s v f = got framebuffer (framebuffer_row w framebuffer) refl v.0 (gives_handle w c) v.1.0 f

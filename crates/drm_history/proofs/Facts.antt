@@ -60,6 +60,7 @@ pub record IsSilent (step : AnsweredEvent) : Type 0 where
   pub publishes : (key : Key) → holder_under step key ≡ None
 
 module _ (past : List AnsweredEvent) (names : List NameRow) (tokens : List TokenRow) (framebuffers : List FramebufferRow) where
+  -- Names, tokens and framebuffers still follow from the history after a step that publishes nothing.
   pub numbers_still : (step : AnsweredEvent) → ((key : Key) → holder_under step key ≡ None) → NumberFacts past names tokens framebuffers → NumberFacts (step ∷ past) names tokens framebuffers
   numbers_still step none f = record {
     named = numbered_still Name name_number name_object step past (λ n. none (Name n)) names f.named;
@@ -68,7 +69,7 @@ module _ (past : List AnsweredEvent) (names : List NameRow) (tokens : List Token
     added = added_still step past (λ n. none (Framebuffer n)) framebuffers f.added;
   }
 
-  -- any rows may go
+  -- Names, tokens and framebuffers still follow from the history if some tokens and framebuffers are removed.
   pub numbers_fewer : (p : TokenRow → Bool) (q : FramebufferRow → Bool) → NumberFacts past names tokens framebuffers → NumberFacts past names (filter p tokens) (filter q framebuffers)
   numbers_fewer p q f = record {
     named = f.named;
@@ -77,15 +78,16 @@ module _ (past : List AnsweredEvent) (names : List NameRow) (tokens : List Token
     added = all_filter (WasAdded past) q framebuffers f.added;
   }
 
+  -- Rows still follow from the history after a step that grants, takes and publishes no handle.
   pub silent : (step : AnsweredEvent) (holds : List HandleRow) → IsSilent step → Facts past holds names tokens framebuffers → Facts (step ∷ past) holds names tokens framebuffers
   silent step holds s f = record { held = holds_stay step past holds s.gives s.takes_none f.held; numbers = numbers_still step s.publishes f.numbers }
 
-  -- a step that takes handles
+  -- Rows still follow from the history after a step that takes handles and publishes nothing.
   pub taking : (step : AnsweredEvent) (test : ℕ → ℕ → Bool) (holds : List HandleRow) → ((c h : ℕ) → gift step c h ≡ None) → ((c h : ℕ) → takes step c h ≡ test c h) → ((key : Key) → holder_under step key ≡ None) →
       Facts past holds names tokens framebuffers → Facts (step ∷ past) (filter (kept_by test) holds) names tokens framebuffers
   taking step test holds g t p f = record { held = holds_go step past test holds g t f.held; numbers = numbers_still step p f.numbers }
 
--- a sweep takes names alone
+-- Rows still follow from the history after a sweep, which removes names alone of them.
 pub swept_facts : (past : List AnsweredEvent) (w : Rows) → FactsOf past w → FactsOf past (journaled (swept w))
 unfolding swept
 swept_facts past w f = record {

@@ -17,6 +17,7 @@ recorded_events w past [] = sym (append-nil (events_in past))
 recorded_events w past (event ∷ events) =
     recorded_events (after w event) (record { event = event; answer = reply w event } ∷ past) events ∙ append_assoc (events_in past) (event ∷ []) events
 
+-- The events of a history are those of its journal, in their order.
 pub events_of_journal : (h : DeviceValue) → events_in (history_of h) ≡ h.journal
 unfolding history_of events_in
 events_of_journal h = recorded_events (start_of h) [] h.journal
@@ -26,7 +27,7 @@ unfolding recorded run
 recorded_more w past [] event = refl
 recorded_more w past (e ∷ es) event = recorded_more (after w e) (record { event = e; answer = reply w e } ∷ past) es event
 
--- one more event
+-- The history with one more event has that event and its answer as the newest step.
 pub history_grows : (h : DeviceValue) (event : Event) → history_of (journaled_in h event) ≡ record { event = event; answer = reply (rows_of h) event } ∷ history_of h
 unfolding history_of rows_of
 history_grows h event = recorded_more (start_of h) [] h.journal event
@@ -44,7 +45,7 @@ recorded_answers w past (e ∷ es) (Err Worn ∷ rs) v h = absurd h.1
 recorded_answers w past [] (r ∷ rs) v h = absurd h
 recorded_answers w past (e ∷ es) [] v h = absurd h
 
--- a device whose journal is of the events that were recorded
+-- A device whose journal has the recorded events of a run has the history of this run.
 pub history_of_answers : (h : DeviceValue) (events : List Event) (results : List (Result Answer Apart)) (v : Rows) → Answers (start_of h) events results v → h.journal ≡ journaled_events events results → history_of h ≡ with_journaled [] events results
 unfolding history_of
 history_of_answers h events results v answers journal = ap (recorded (start_of h) []) journal ∙ sym (recorded_answers (start_of h) [] events results v answers)

@@ -28,13 +28,15 @@ same_hold x y = is_handle x.client x.handle y
 abbrev pub HandlesDiffer : List HandleRow → Type 0
 HandlesDiffer rows = InOrder (λ (x y : HandleRow). same_hold x y ≡ false) rows
 
+-- Two rows are of the same handle in either order.
 pub hold_turned : (x y : HandleRow) → same_hold x y ≡ same_hold y x
 hold_turned x y = ap (λ b. b && (y.handle == x.handle)) (same_either y.client x.client) ∙ ap (λ b. (x.client == y.client) && b) (same_either y.handle x.handle)
 
+-- A row is of the same handle as itself.
 pub hold_itself : (x : HandleRow) → same_hold x x ≡ true
 hold_itself x = ap (λ b. b && (x.handle == x.handle)) (eq-eqb x.client x.client refl) ∙ eq-eqb x.handle x.handle refl
 
--- each row is found by its client and handle
+-- If no two rows have the same client and handle, each row is found by them.
 pub all_held : (rows : List HandleRow) → HandlesDiffer rows → AllByRecursion (λ (row : HandleRow). object_at rows row.client row.handle ≡ Some row.object) rows
 all_held [] h = tt
 all_held (x ∷ xs) h = (
@@ -43,12 +45,13 @@ all_held (x ∷ xs) h = (
       (λ y e k. ap (λ b. option_map (λ (row : HandleRow). row.object) (cond b (Some x) (find (same_hold y) xs))) (hold_turned y x ∙ e) ∙ k) xs h.0 (all_held xs h.1),
 )
 
--- a free handle may be added
+-- If a handle is free, a row of it may be added, and no two rows have the same client and handle.
 pub with_free : (rows : List HandleRow) (x : HandleRow) → find (is_handle x.client x.handle) rows ≡ None → HandlesDiffer rows → HandlesDiffer (rows ++ x ∷ [])
 with_free rows x free h =
     in_order_append (λ (a b : HandleRow). same_hold a b ≡ false) rows x h
     (all_weaker (λ (y : HandleRow). is_handle x.client x.handle y ≡ false) (λ (y : HandleRow). same_hold y x ≡ false) (λ y k. hold_turned y x ∙ k) rows (none_found (is_handle x.client x.handle) rows free))
 
+-- What is computed from a client and a handle is the same for the same client and handle.
 pub same_holder : (c h d k : ℕ) (X : Type 0) (f : ℕ → ℕ → X) → ((c == d) && (h == k)) ≡ true → f c h ≡ f d k
 same_holder c h d k X f e =
     let both = and_parts (c == d) (h == k) e in
@@ -59,12 +62,14 @@ same_holder c h d k X f e =
 abbrev pub HoldsAgree : List AnsweredEvent → List HandleRow → Type 0
 HoldsAgree past rows = (c h : ℕ) → told past (Held c h) ≡ object_at rows c h
 
--- a step that returns and takes no handle
+-- A step that grants and takes no handle leaves the rows in agreement with the history, if each handle keeps its
+-- object.
 pub kept_agrees : (step : AnsweredEvent) (past : List AnsweredEvent) (rows after : List HandleRow) → ((c h : ℕ) → gift step c h ≡ None) → ((c h : ℕ) → takes step c h ≡ false) →
     ((c h : ℕ) → object_at after c h ≡ object_at rows c h) → HoldsAgree past rows → HoldsAgree (step ∷ past) after
 unfolding told
 kept_agrees step past rows after g t same a = λ c h. rw (g c h, t c h) (a c h ∙ sym (same c h))
 
+-- A step that grants no handle overwrites none.
 pub giftless_keeps : (step : AnsweredEvent) (past : List AnsweredEvent) → ((c h : ℕ) → gift step c h ≡ None) → Keeps step past
 unfolding told
 giftless_keeps step past g = λ c h o k t. rw (g c h, t) k
@@ -76,6 +81,7 @@ none_either : (t : Bool) → option_map (λ (row : HandleRow). row.object) None 
 none_either true = refl
 none_either false = refl
 
+-- Without the rows that a test removes, a handle has no object if it passes the test, and its old object if not.
 pub without_at : (test : ℕ → ℕ → Bool) (c h : ℕ) → (rows : List HandleRow) → object_at (filter (kept_by test) rows) c h ≡ cond (test c h) None (object_at rows c h)
 without_at test c h [] = none_either (test c h)
 without_at test c h (x ∷ xs) =
@@ -90,7 +96,7 @@ without_at test c h (x ∷ xs) =
           [ true ↦ without_at test c h xs | false ↦ ap (λ b. option_map f (cond b (Some x) (find q rest))) e ∙ without_at test c h xs ]
     ] refl
 
--- a step that takes handles
+-- If a step takes handles and grants none, the rows without them agree with the history.
 pub taken_agrees : (step : AnsweredEvent) (past : List AnsweredEvent) (test : ℕ → ℕ → Bool) (rows : List HandleRow) → ((c h : ℕ) → gift step c h ≡ None) → ((c h : ℕ) → takes step c h ≡ test c h) →
     HoldsAgree past rows → HoldsAgree (step ∷ past) (filter (kept_by test) rows)
 unfolding told
@@ -110,6 +116,7 @@ given_one past Creation o true old new s p q = s ∙ sym (p refl)
 given_one past (Transfer key) o true old new s p q = s ∙ sym (p refl)
 given_one past source o false old new s p q = sym (q refl)
 
+-- If a step grants a handle of an object and the rows then have it, they still agree with the history.
 pub given_agrees : (step : AnsweredEvent) (past : List AnsweredEvent) (rows after : List HandleRow) (c h o : ℕ) (source : Source) → Gives step c h source → ((d k : ℕ) → takes step d k ≡ false) → source_told past source ≡ Some o →
     ((d k : ℕ) → object_at after d k ≡ cond ((c == d) && (h == k)) (Some o) (object_at rows d k)) → HoldsAgree past rows → HoldsAgree (step ∷ past) after
 unfolding told
@@ -117,7 +124,7 @@ given_agrees step past rows after c h o source g t s r a = λ d k.
     rw (g d k, t d k) (given_one past source o ((c == d) && (h == k)) (told past (Held d k)) (object_at after d k) s
     (λ b. r d k ∙ ap (λ x. cond x (Some o) (object_at rows d k)) b) (λ b. r d k ∙ ap (λ x. cond x (Some o) (object_at rows d k)) b ∙ sym (a d k)))
 
--- what was there is not overwritten: the handle was free, or of the same object
+-- A step overwrites no handle if the handle that it grants was free or of the same object.
 pub given_keeps : (step : AnsweredEvent) (past : List AnsweredEvent) (c h o : ℕ) (source : Source) → Gives step c h source → source_told past source ≡ Some o → ((p : ℕ) → told past (Held c h) ≡ Some p → p ≡ o) → Keeps step past
 unfolding told
 given_keeps step past c h o source g s only = λ d k p held t.
@@ -132,7 +139,7 @@ or_none : {X : Type 0} (o : Option X) → option_or o None ≡ o
 or_none None = refl
 or_none (Some x) = refl
 
--- a new row at a free handle
+-- With a new row at a free handle, this handle has the object of the row, and all others have what they had.
 pub append_at : (rows : List HandleRow) (x : HandleRow) → object_at rows x.client x.handle ≡ None → (d k : ℕ) →
     object_at (rows ++ x ∷ []) d k ≡ cond ((x.client == d) && (x.handle == k)) (Some x.object) (object_at rows d k)
 append_at rows x free d k =
@@ -143,7 +150,7 @@ append_at rows x free d k =
       | false ↦ λ e. ap (option_map f) (or_none (find (is_handle d k) rows))
     ] refl
 
--- the row is there already
+-- If a handle has an object already, nothing changes by assigning it again.
 pub again_at : (rows : List HandleRow) (c h o : ℕ) → object_at rows c h ≡ Some o → (d k : ℕ) → object_at rows d k ≡ cond ((c == d) && (h == k)) (Some o) (object_at rows d k)
 again_at rows c h o held d k =
     elim ((c == d) && (h == k)) as (λ b. ((c == d) && (h == k)) ≡ b → object_at rows d k ≡ cond b (Some o) (object_at rows d k))
@@ -156,16 +163,17 @@ pub record HoldFacts (past : List AnsweredEvent) (holds : List HandleRow) : Type
   pub kept : Kept past
   pub differ : HandlesDiffer holds
 
+-- A history without steps grants no handle, as empty rows have none.
 pub no_holds : HoldFacts [] []
 unfolding told Kept
 no_holds = record { agree = λ c h. refl; kept = tt; differ = tt }
 
--- a step that returns and takes no handle
+-- Rows of handles still follow from the history after a step that grants and takes no handle.
 pub holds_stay : (step : AnsweredEvent) (past : List AnsweredEvent) (holds : List HandleRow) → ((c h : ℕ) → gift step c h ≡ None) → ((c h : ℕ) → takes step c h ≡ false) → HoldFacts past holds → HoldFacts (step ∷ past) holds
 unfolding Kept
 holds_stay step past holds g t f = record { agree = kept_agrees step past holds holds g t (λ c h. refl) f.agree; kept = (giftless_keeps step past g, f.kept); differ = f.differ }
 
--- that changes rows in what isn't told of here
+-- Rows of handles still follow after a step that changes them, but no client, handle or object.
 pub holds_change : (step : AnsweredEvent) (past : List AnsweredEvent) (change : HandleRow → HandleRow) (holds : List HandleRow) → ((c h : ℕ) (row : HandleRow) → is_handle c h (change row) ≡ is_handle c h row) →
     ((row : HandleRow) → (change row).object ≡ row.object) → ((x y : HandleRow) → same_hold (change x) y ≡ same_hold x y) →
     ((c h : ℕ) → gift step c h ≡ None) → ((c h : ℕ) → takes step c h ≡ false) → HoldFacts past holds → HoldFacts (step ∷ past) (map change holds)
@@ -184,7 +192,7 @@ holds_change step past change holds same object from g t f = record {
         ∙ elim (is_handle c h x) as (λ b. option_map f (cond b (Some (change x)) (find (is_handle c h) (map change xs))) ≡ option_map f (cond b (Some x) (find (is_handle c h) xs)))
         [ true ↦ ap (λ n. Some n) (object x) | false ↦ at c h xs ]
 
--- that takes handles
+-- Rows of handles still follow after a step that takes handles, if their rows are removed.
 pub holds_go : (step : AnsweredEvent) (past : List AnsweredEvent) (test : ℕ → ℕ → Bool) (holds : List HandleRow) → ((c h : ℕ) → gift step c h ≡ None) → ((c h : ℕ) → takes step c h ≡ test c h) → HoldFacts past holds → HoldFacts (step ∷ past) (filter (kept_by test) holds)
 unfolding Kept
 holds_go step past test holds g t f = record {
@@ -193,7 +201,7 @@ holds_go step past test holds g t f = record {
   differ = in_order_filter (λ (x y : HandleRow). same_hold x y ≡ false) (kept_by test) holds f.differ;
 }
 
--- that returns a free handle
+-- Rows of handles still follow after a step that grants a free handle, if its row is added.
 pub hold_comes : (step : AnsweredEvent) (past : List AnsweredEvent) (x : HandleRow) (source : Source) (holds : List HandleRow) → Gives step x.client x.handle source → ((c h : ℕ) → takes step c h ≡ false) →
     source_told past source ≡ Some x.object → find (is_handle x.client x.handle) holds ≡ None → HoldFacts past holds → HoldFacts (step ∷ past) (holds ++ x ∷ [])
 unfolding Kept
@@ -205,7 +213,7 @@ hold_comes step past x source holds g t s free f =
       differ = with_free holds x free f.differ;
     }
 
--- that returns a handle which the client has already
+-- Rows of handles still follow after a step that grants a handle that the client has already.
 pub hold_comes_again : (step : AnsweredEvent) (past : List AnsweredEvent) (c h o : ℕ) (source : Source) (holds : List HandleRow) → Gives step c h source → ((d k : ℕ) → takes step d k ≡ false) →
     source_told past source ≡ Some o → object_at holds c h ≡ Some o → HoldFacts past holds → HoldFacts (step ∷ past) holds
 unfolding Kept

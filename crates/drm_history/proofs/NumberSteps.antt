@@ -31,16 +31,18 @@ PublishesAt step key n holder = (m : ℕ) → holder_under step (key m) ≡ cond
 abbrev pub IsAnswered : AnsweredEvent → List AnsweredEvent → (ℕ → Key) → (ℕ → Question) → (Holder → Option ℕ) → Type 0
 IsAnswered step past key question had = (n : ℕ) → told (step ∷ past) (question n) ≡ from_holder (holder_under step (key n)) had (told past (question n))
 
+-- A step that publishes sets the object under its key to that of the handle; any other step leaves it.
 pub object_answered : (step : AnsweredEvent) (past : List AnsweredEvent) (key : ℕ → Key) → IsAnswered step past key (λ n. Published (key n)) (λ holder. told past (Held holder.client holder.handle))
 unfolding told
 object_answered step past key = λ n. refl
 
+-- A step that publishes sets the publisher under its key to its client; any other step leaves it.
 pub client_answered : (step : AnsweredEvent) (past : List AnsweredEvent) (key : ℕ → Key) → IsAnswered step past key (λ n. Publisher (key n)) (λ holder. Some holder.client)
 unfolding told
 client_answered step past key = λ n. refl
 
 module _ {X : Type 0} (step : AnsweredEvent) (past : List AnsweredEvent) (key : ℕ → Key) (question : ℕ → Question) (had : Holder → Option ℕ) (answered : IsAnswered step past key question had) (number value : X → ℕ) where
-  -- a step that publishes nothing of the kind
+  -- The history reports of each row what it did, if the step publishes nothing of the kind.
   pub tells_still : ((n : ℕ) → holder_under step (key n) ≡ None) → (rows : List X) → Tells past question number value rows → Tells (step ∷ past) question number value rows
   tells_still none rows h =
       all_weaker (λ (row : X). told past (question (number row)) ≡ Some (value row)) (λ (row : X). told (step ∷ past) (question (number row)) ≡ Some (value row))
@@ -52,13 +54,14 @@ module _ {X : Type 0} (step : AnsweredEvent) (past : List AnsweredEvent) (key : 
       ∙ elim (n == m) as (λ b. (n == m) ≡ b → from_holder (cond b (Some holder) None) had (told past (question m)) ≡ Some u)
       [ true ↦ λ b. held ∙ ap (λ x. Some x) (sym (here b)) | false ↦ λ b. there b ] refl
 
-  -- a step that publishes under a number: all rows of that number, if any, have its value
+  -- The history still reports of each row what it did, if the step publishes under one number and rows of it have the
+  -- published value.
   pub tells_again : (n v : ℕ) (holder : Holder) → PublishesAt step key n holder → had holder ≡ Some v → (rows : List X) → AllByRecursion (λ row. (n == number row) ≡ true → value row ≡ v) rows →
       Tells past question number value rows → Tells (step ∷ past) question number value rows
   tells_again n v holder p held [] only h = tt
   tells_again n v holder p held (x ∷ xs) only h = (tells_one n v (number x) (value x) holder p held only.0 (λ b. h.0), tells_again n v holder p held xs only.1 h.1)
 
-  -- a new row
+  -- The history reports of a new row what its step publishes, if no other row has its number.
   pub tells_more : (x : X) (holder : Holder) → PublishesAt step key (number x) holder → had holder ≡ Some (value x) → (rows : List X) → AllByRecursion (λ row. (number row == number x) ≡ false) rows →
       Tells past question number value rows → Tells (step ∷ past) question number value (rows ++ x ∷ [])
   tells_more x holder p held rows free h =
@@ -77,7 +80,7 @@ pub record Numbered {X : Type 0} (past : List AnsweredEvent) (key : ℕ → Key)
   pub objects : Tells past (λ n. Published (key n)) number object rows
   pub differ : NumbersApart number rows
 
--- no row has the number
+-- If no row has a number, each row has another.
 pub other_numbers : {X : Type 0} (number : X → ℕ) (n : ℕ) → (rows : List X) → is_among (map number rows) n ≡ false → AllByRecursion (λ row. (number row == n) ≡ false) rows
 other_numbers number n [] h = tt
 other_numbers number n (x ∷ xs) h =
@@ -85,18 +88,21 @@ other_numbers number n (x ∷ xs) h =
     [ true ↦ λ e. absurd (let no : true ≡ false = e in cc) | false ↦ λ e. (refl, other_numbers number n xs e) ] h
 
 module _ {X : Type 0} (key : ℕ → Key) (number object : X → ℕ) where
+  -- Some of the rows of a list still follow from the history.
   pub numbered_fewer : (past : List AnsweredEvent) (p : X → Bool) (rows : List X) → Numbered past key number object rows → Numbered past key number object (filter p rows)
   numbered_fewer past p rows f = record {
     objects = all_filter (λ (row : X). told past (Published (key (number row))) ≡ Some (object row)) p rows f.objects;
     differ = in_order_filter (λ (x y : X). (number x == number y) ≡ false) p rows f.differ;
   }
 
+  -- Rows still follow from the history after a step that publishes nothing of their kind.
   pub numbered_still : (step : AnsweredEvent) (past : List AnsweredEvent) → ((n : ℕ) → holder_under step (key n) ≡ None) → (rows : List X) → Numbered past key number object rows → Numbered (step ∷ past) key number object rows
   numbered_still step past none rows f = record {
     objects = tells_still step past key (λ n. Published (key n)) (λ holder. told past (Held holder.client holder.handle)) (object_answered step past key) number object none rows f.objects;
     differ = f.differ;
   }
 
+  -- Rows with a new one still follow from the history after the step that published it under a free number.
   pub numbered_more : (step : AnsweredEvent) (past : List AnsweredEvent) (x : X) (holder : Holder) → PublishesAt step key (number x) holder → told past (Held holder.client holder.handle) ≡ Some (object x) →
       (rows : List X) → is_among (map number rows) (number x) ≡ false → Numbered past key number object rows → Numbered (step ∷ past) key number object (rows ++ x ∷ [])
   numbered_more step past x holder p held rows free f =
@@ -122,7 +128,7 @@ module _ {X : Type 0} (key : ℕ → Key) (number object : X → ℕ) where
       told past (Published (key n)) ≡ Some (unwrap_or (option_map object (find (λ row. number row == n) rows)) 0)
   numbered_told past n rows there f = numbered_told_of past n rows (find (λ row. number row == n) rows) refl there f
 
-  -- a step that publishes an object again under the number that it has
+  -- Rows still follow from the history after a step that publishes an object again under the number of its row.
   pub numbered_again : (step : AnsweredEvent) (past : List AnsweredEvent) (x : X) (o : ℕ) (holder : Holder) → PublishesAt step key (number x) holder → told past (Held holder.client holder.handle) ≡ Some o →
       (rows : List X) → find (λ row. object row == o) rows ≡ Some x → Numbered past key number object rows → Numbered (step ∷ past) key number object rows
   numbered_again step past x o holder p held rows e f =
@@ -142,18 +148,21 @@ pub record Owned {X : Type 0} (past : List AnsweredEvent) (key : ℕ → Key) (n
   pub clients : Tells past (λ n. Publisher (key n)) number client rows
 
 module _ {X : Type 0} (key : ℕ → Key) (number object client : X → ℕ) where
+  -- Some of the rows of a list with clients still follow from the history.
   pub owned_fewer : (past : List AnsweredEvent) (p : X → Bool) (rows : List X) → Owned past key number object client rows → Owned past key number object client (filter p rows)
   owned_fewer past p rows f = record {
     numbered = numbered_fewer key number object past p rows f.numbered;
     clients = all_filter (λ (row : X). told past (Publisher (key (number row))) ≡ Some (client row)) p rows f.clients;
   }
 
+  -- Rows with clients still follow from the history after a step that publishes nothing of their kind.
   pub owned_still : (step : AnsweredEvent) (past : List AnsweredEvent) → ((n : ℕ) → holder_under step (key n) ≡ None) → (rows : List X) → Owned past key number object client rows → Owned (step ∷ past) key number object client rows
   owned_still step past none rows f = record {
     numbered = numbered_still key number object step past none rows f.numbered;
     clients = tells_still step past key (λ n. Publisher (key n)) (λ holder. Some holder.client) (client_answered step past key) number client none rows f.clients;
   }
 
+  -- Rows with a new one of a client follow from the history after the step in which the client published it.
   pub owned_more : (step : AnsweredEvent) (past : List AnsweredEvent) (x : X) (handle : ℕ) → PublishesAt step key (number x) (record { client = client x; handle = handle }) → told past (Held (client x) handle) ≡ Some (object x) →
       (rows : List X) → is_among (map number rows) (number x) ≡ false → Owned past key number object client rows → Owned (step ∷ past) key number object client (rows ++ x ∷ [])
   owned_more step past x handle p held rows free f =
@@ -173,11 +182,12 @@ adding row handle = record { event = Ask row.client (AddFb row.width row.height 
 abbrev pub WasAdded : List AnsweredEvent → FramebufferRow → Type 0
 WasAdded past row = (handle : ℕ) × (last_under past (Framebuffer row.framebuffer) ≡ Some (adding row handle))
 
+-- Framebuffers keep the step that added them over a step that publishes no framebuffer.
 pub added_still : (step : AnsweredEvent) (past : List AnsweredEvent) → ((n : ℕ) → holder_under step (Framebuffer n) ≡ None) → (rows : List FramebufferRow) → AllByRecursion (WasAdded past) rows → AllByRecursion (WasAdded (step ∷ past)) rows
 unfolding last_under
 added_still step past none rows h = all_weaker (WasAdded past) (WasAdded (step ∷ past)) (λ row k. (k.0, rw (none row.framebuffer) k.1)) rows h
 
--- a new framebuffer, of which no other has the id
+-- Framebuffers keep the step that added them if one more is added under a free id.
 pub added_more : (past : List AnsweredEvent) (x : FramebufferRow) (handle : ℕ) → PublishesAt (adding x handle) Framebuffer x.framebuffer (record { client = x.client; handle = handle }) → (rows : List FramebufferRow) →
     is_among (map (λ (row : FramebufferRow). row.framebuffer) rows) x.framebuffer ≡ false → AllByRecursion (WasAdded past) rows → AllByRecursion (WasAdded (adding x handle ∷ past)) (rows ++ x ∷ [])
 unfolding last_under

@@ -171,12 +171,14 @@ none_yet h = record {
   };
 }
 
+-- The rows of any history agree with it.
 pub agrees : (h : DeviceValue) → Agrees (history_of h) (rows_of h)
 unfolding history_of rows_of
 agrees h = run_agrees h.journal (start_of h) [] (none_yet h)
 
 -- ---- the laws
 
+-- In the rows of any history no two handles of a client, names, tokens or framebuffers have the same number.
 pub numbers_differ : (h : DeviceValue) → NumbersDiffer (rows_of h)
 numbers_differ h =
     let f = (agrees h).facts in
@@ -191,6 +193,8 @@ added_so past row last handle e =
     let its_handle : handle ≡ last.handle = ap (λ (p : Publishing). p.handle) (same_Some _ _ (sym (ap published same) ∙ last.published.under_key)) in
     ap (λ (step : AnsweredEvent). step.event) same ∙ ap (λ k. Ask row.client (AddFb row.width row.height row.pitch row.bpp k)) its_handle
 
+-- In the rows of any history each name, token and framebuffer is that of the last step that published under its
+-- number.
 pub numbers_follow : (h : DeviceValue) → NumbersFollow h
 numbers_follow h =
     let past = history_of h in
@@ -222,6 +226,7 @@ there_found w c h o all e =
     let both = and_parts (is_handle c h row.0) (row.0.object == o) row.1 in
     sym (same_holder row.0.client row.0.handle c h (Option ℕ) (object_at w.holds) both.0) ∙ row.2 ∙ ap (λ n. Some n) (eqb-true row.0.object o both.1)
 
+-- In the rows of any history each client has the handles that the history grants it, of the same objects.
 pub holds_follow : (h : DeviceValue) → HoldsFollow (rows_of h) (history_of h)
 holds_follow h = λ c handle o.
     let f = (agrees h).facts.held in (
@@ -229,10 +234,11 @@ holds_follow h = λ c handle o.
       λ has. found_there (rows_of h).holds c handle o (sym (f.agree c handle) ∙ has_is_told o (history_of h) c handle f.kept has),
     )
 
+-- In the rows of any history each handle has a chain to its object.
 pub holds_have_chains : (h : DeviceValue) → HoldsHaveChains h
 holds_have_chains h = λ c handle o e. has_chain o (history_of h) c handle ((holds_follow h c handle o).0 e)
 
--- whatever was answered
+-- Whatever a device answers to events, each client has the handles that the history of its answers grants.
 pub holds_follow_answers : (topology : Topology) (limits : Limits) (events : List Event) (results : List (Result Answer Apart)) (v : Rows) → Answers (empty_rows topology limits) events results v →
     HoldsFollow v (with_journaled [] events results)
 unfolding rows_of

@@ -9,6 +9,7 @@ use Rattle.drm_history.specs.Steps.{Key, Name, Token, Framebuffer, is_key, Sourc
 use Rattle.drm_history.specs.Holds.{WasGiven, WasPublished, Has, made, passed, LastHad}
 use Rattle.std.proofs.lemmas.Option.{same_Some}
 
+-- No option is both empty and full.
 pub none_some : {X : Type 0} {P : Type 0} (a : X) → None ≡ Some a → P
 none_some a h = absurd (let e : None ≡ Some a = h in cc)
 
@@ -125,17 +126,21 @@ Kept (step ∷ past) = Keeps step past × Kept past
 
 -- ---- what is reported is so
 
+-- A step that grants a handle is the one that granted it last.
 pub given_now : (step : AnsweredEvent) (past : List AnsweredEvent) (c h : ℕ) (source : Source) → gift step c h ≡ Some source → WasGiven (step ∷ past) c h source past
 unfolding gift
 given_now step past c h source e = record { later = []; step = step; steps = refl; gives = gift_given c h (given step) source e; kept = tt }
 
+-- A handle that was granted stays granted by the same step, if the next step does not take it.
 pub given_before : (step : AnsweredEvent) (history past : List AnsweredEvent) (c h : ℕ) (source : Source) → takes step c h ≡ false → WasGiven history c h source past → WasGiven (step ∷ history) c h source past
 given_before step history past c h source t g = record { later = step ∷ g.later; step = g.step; steps = ap (λ l. step ∷ l) g.steps; gives = g.gives; kept = (t, g.kept) }
 
+-- A step that publishes under a key is the one that published there last.
 pub published_now : (step : AnsweredEvent) (past : List AnsweredEvent) (key : Key) (holder : Holder) → holder_under step key ≡ Some holder → WasPublished (step ∷ past) key holder.client holder.handle past
 unfolding holder_under
 published_now step past key holder e = record { later = []; step = step; steps = refl; under_key = holder_published key (published step) holder e; last = tt }
 
+-- What was published under a key stays so, if the next step publishes nothing under that key.
 pub published_before : (step : AnsweredEvent) (history past : List AnsweredEvent) (key : Key) (c h : ℕ) → holder_under step key ≡ None → WasPublished history key c h past → WasPublished (step ∷ history) key c h past
 unfolding holder_under
 published_before step history past key c h e p =
@@ -169,6 +174,7 @@ IsSo history (Held c h) o = Has history c h o
 IsSo history (Published key) o = (c : ℕ) × LastHad history key c o
 IsSo history (Publisher key) o = Unit {0}
 
+-- What the function reports of a history is so: the client has the handle, or the object was published under the key.
 pub told_is_so : (history : List AnsweredEvent) (question : Question) (o : ℕ) → told history question ≡ Some o → IsSo history question o
 unfolding told
 told_is_so [] question o e = none_some o e
@@ -185,7 +191,7 @@ publisher_so step past key c o (Some holder) p under e k =
     (record { handle = holder.handle; past = past; published = published_now step past key holder p; had = told_is_so past (Held holder.client holder.handle) o e })
 publisher_so step past key c o None p under e k = still_had step past key c o p (under e k)
 
--- the client that published is reported too
+-- If a history reports an object and a client under a key, the client published this object there last.
 pub publisher_is_so : (history : List AnsweredEvent) (key : Key) (c o : ℕ) → told history (Published key) ≡ Some o → told history (Publisher key) ≡ Some c → LastHad history key c o
 unfolding told
 publisher_is_so [] key c o e k = none_some o e
@@ -235,6 +241,7 @@ kept_published : (history past : List AnsweredEvent) (key : Key) (c h : ℕ) →
 unfolding Kept
 kept_published history past key c h p kept = (kept_past p.later (p.step ∷ past) (subst Kept p.steps kept)).1
 
+-- A handle that a history grants is reported with its object, if no step overwrote a handle.
 pub has_is_told : (o : ℕ) (history : List AnsweredEvent) (c h : ℕ) → Kept history → Has history c h o → told history (Held c h) ≡ Some o
 has_is_told o history c h kept (made {past = past} g e) = given_told history past c h o Creation kept g (ap (λ n. Some n) (sym e))
 has_is_told o history c h kept (passed {past = past} {before = before} {d = d} {k = k} {key = key} g p had) =
@@ -252,7 +259,7 @@ unfolding last_under holder_under
 last_through [] past step key holder none e = rw e refl
 last_through (other ∷ later) past step key holder none e = rw (published_nobody key (published other) none.0) (last_through later past step key holder none.1 e)
 
--- it is the one that was reported of
+-- The step that is found as the last under a key is the one that published there last.
 pub last_is_so : (history past : List AnsweredEvent) (key : Key) (c h : ℕ) (p : WasPublished history key c h past) → last_under history key ≡ Some p.step
 unfolding holder_under
 last_is_so history past key c h p =

@@ -1,4 +1,4 @@
--- Numbers that have one number each, as one comes and as one goes, and their rows.
+-- Pairs of numbers that are found both ways, as pairs are added and removed, and their rows.
 use Rattle.std.proofs.Common.{◌≡◌, ℕ, ◌<◌, ◌==◌, eqb, Bool, true, false, not, cond, find, filter, map, List, Option, Some, None, option_map, refl, sym, ap, ◌∙◌, arith, eq-eqb, nat_cmp}
 use Rattle.std.specs.FinMap as fin
 use Rattle.std.proofs.lemmas.Bool.{eqb-true, eqb-false, ne_eqb}
@@ -12,6 +12,7 @@ use Rattle.drm_id_alloc.proofs.Numbered.{rows_removed, rows_all, none_found, fir
 abbrev Numbers : Type 0
 Numbers = fin.FinMap nat_cmp ℕ
 
+-- Two empty maps lead to each other both ways.
 pub none_both : (there back : Numbers) → there ≡ fin.empty → back ≡ fin.empty → AreBothWays there back
 none_both there back none nobody = record {
   named = λ n k at. absurd (none-some k (sym (ap (λ m. fin.get m n) none ∙ fin.get-empty nat_cmp n) ∙ at));
@@ -19,9 +20,11 @@ none_both there back none nobody = record {
 }
 
 module _ (there back : Numbers) (ways : AreBothWays there back) where
+  -- Two numbers paired with the same number are equal.
   pub one_each : (a b k : ℕ) → fin.get there a ≡ Some k → fin.get there b ≡ Some k → a ≡ b
   one_each a b k at_a at_b = same_Some a b (sym (ways.named a k at_a) ∙ ways.named b k at_b)
 
+  -- After a pair of free numbers is added both ways, the maps still lead to each other.
   pub one_more : (n k : ℕ) → fin.get back k ≡ None → fin.get there n ≡ None → AreBothWays (fin.insert there n k) (fin.insert back k n)
   one_more n k unnamed free = record {
     named = λ a j at. get-insert back k n j ∙ to_name a j (eqb a n) (eqb j k) refl refl (sym (get-insert there n k a) ∙ at);
@@ -40,6 +43,7 @@ module _ (there back : Numbers) (ways : AreBothWays there back) where
       to_object a j true false is_n other at = absurd (none-some j (sym free ∙ ap (fin.get there) (sym (eqb-true a n is_n)) ∙ ways.given j a at))
       to_object a j false false other_n other_k at = ways.given j a at
 
+  -- After a pair is removed both ways, the maps still lead to each other.
   pub one_less : (n k : ℕ) → fin.get back k ≡ Some n → AreBothWays (fin.remove there n) (fin.remove back k)
   one_less n k is = record {
     named = λ a j at. get-remove back k j ∙ to_name a j (eqb a n) (eqb j k) refl refl (sym (get-remove there n a) ∙ at);
@@ -61,11 +65,11 @@ module _ (there back : Numbers) (ways : AreBothWays there back) where
     abbrev rows : List Y
     rows = map row (fin.entries there)
 
-    -- what has no number has no row
+    -- A number without a pair has no row.
     pub nobody : (k : ℕ) → fin.get back k ≡ None → find (is_of k) rows ≡ None
     nobody k none = none_found row there (is_of k) (λ a v at. is_second k (a, v) ∙ ne_eqb v k (λ same. none-some a (sym none ∙ ways.named a k (at ∙ ap (λ j. Some j) same))))
 
-    -- its number is that of its row
+    -- The number paired with another is that of the row found by it.
     pub number_is : (k : ℕ) → fin.get back k ≡ option_map first (find (is_of k) rows)
     number_is k = by_cases (fin.get back k) refl
       where
@@ -75,7 +79,7 @@ module _ (there back : Numbers) (ways : AreBothWays there back) where
             ap (λ i. Some i) (sym (is_first (n, k)))
             ∙ ap (option_map first) (sym (first_found row there (is_of k) n k (ways.given k n is) (is_second k (n, k) ∙ eq-eqb k k refl) (λ a v less at. is_second k (a, v) ∙ ne_eqb v k (λ same. omega (arith, less, one_each a n k (at ∙ ap (λ j. Some j) same) (ways.given k n is))))))
 
-    -- without the row of what has a number
+    -- The rows after a pair is removed are those without the row of its number.
     pub forgotten : (n k : ℕ) → fin.get back k ≡ Some n → map row (fin.entries (fin.remove there n)) ≡ filter (λ y. not (is_of k y)) rows
     forgotten n k is =
         rows_removed row first is_first there n
@@ -85,6 +89,7 @@ module _ (there back : Numbers) (ways : AreBothWays there back) where
         agree a v at true same = same ∙ sym (eq-eqb v k (same_Some v k (sym at ∙ ap (fin.get there) (eqb-true a n same) ∙ ways.given k n is)))
         agree a v at false other = other ∙ sym (ne_eqb v k (λ same. eqb-false a n other (one_each a n k (at ∙ ap (λ j. Some j) same) (ways.given k n is))))
 
+    -- If a number belongs to no other, removing the rows with it changes nothing.
     pub none_forgotten : (k : ℕ) → fin.get back k ≡ None → filter (λ y. not (is_of k y)) rows ≡ rows
     none_forgotten k none =
         let others = found_none (is_of k) rows (nobody k none) in

@@ -1,4 +1,4 @@
--- Which number tables may cross threads: as their values. And groups.
+-- Number tables may cross threads as their values may, and groups may.
 use denote.RattleType.{RattleType}
 use denote.Struct.Declared.{shape}
 use denote.Enum.Declared as enums
@@ -21,6 +21,7 @@ inside_send T s =
     (inside.the_type T).to_one
     (struct_send (shape (inside.the_type T)) (search (array_send, s, sendable) depth 20, (search sendable depth 20, (search sendable depth 20, (search sendable depth 20, tt)))))
 
+-- A number table may cross threads if its values may.
 pub table_send : (T : RattleType) → IsSend T → IsSend (table.the_row T)
 table_send T s = view_send (inside.the_row T) _ _ _ _ (inside_send T s)
 
@@ -36,5 +37,6 @@ numbers_send = view_send numbers_inside.the_row _ _ _ _ numbers_inside_send
 groups_inside_send : IsSend groups_inside.the_row
 groups_inside_send = recorded_send groups_inside.the_field.row _ _ groups_inside.the_type.to_one (struct_send (shape groups_inside.the_type) (search sendable depth 20, (search (array_send, numbers_send, sendable) depth 20, tt)))
 
+-- Groups may cross threads.
 pub groups_send : IsSend groups.the_row
 groups_send = view_send groups_inside.the_row _ _ _ _ groups_inside_send

@@ -10,7 +10,7 @@ module _ {T : Type 0} (t : Table T) where
   or_same None = refl
   or_same (Some n) = refl
 
-  -- the lowest free one above the last one given or, where there is none, the lowest free one
+  -- The next number in rotation is the lowest free one above the last allocated one, else the lowest free one.
   pub next_is : t.first ≡ 1 → or_else (least (is_free t) (unwrap_or t.last_given 0 + 1) t.last) (least (is_free t) 1 t.last) ≡ next_cyclic t
   next_is first = turn t.last_given
     where
@@ -18,7 +18,7 @@ module _ {T : Type 0} (t : Table T) where
       turn None = or_same (least (is_free t) 1 t.last) ∙ ap (λ n. least (is_free t) n t.last) (sym first)
       turn (Some g) = ap (λ n. or_else (least (is_free t) (g + 1) t.last) (least (is_free t) n t.last)) (sym first)
 
-  -- no number is free exactly if none follows
+  -- No number is free if and only if there is no next one in rotation.
   pub full_is : IsNumbered t → (least_free t ≡ None) ↔ (next_cyclic t ≡ None)
   full_is is = ((λ none. none_next t.last_given is.within.given_low none), λ none. none_least t.last_given none)
     where

@@ -1,4 +1,4 @@
--- How groups change, as numbers come and go.
+-- How groups change as numbers are added and removed.
 use Rattle.std.proofs.Common.{◌≡◌, ℕ, ◌==◌, ◌&&◌, ◌||◌, Bool, true, false, not, cond, Option, Some, None, refl, sym, ap, ◌∙◌, eq-eqb, nat_cmp}
 use Rattle.std.specs.Option.{option_map_or}
 use Rattle.std.specs.FinMap as fin
@@ -8,10 +8,12 @@ use Rattle.drm_id_alloc.specs.Groups.{Groups, AreSame, IsAdded, IsTaken, groups_
 use Rattle.std.proofs.Math.Bool.{and-false}
 use Rattle.drm_lists.proofs.Numbers.{same_either}
 
+-- "Or false" changes nothing.
 pub nothing_or : (b : Bool) → b ≡ (b || false)
 nothing_or true = refl
 nothing_or false = refl
 
+-- "And true" changes nothing.
 pub all_and : (b : Bool) → b ≡ (b && true)
 all_and true = refl
 all_and false = refl
@@ -19,10 +21,12 @@ all_and false = refl
 -- ---- by a map from each group to what has its numbers
 
 module _ {Y : Type 0} (has : Y → ℕ → Bool) where
+  -- In an empty map no group has a number.
   pub groups_empty : (g n : ℕ) → groups_in has fin.empty g n ≡ false
   groups_empty g n = ap (λ o. option_map_or (λ y. has y n) o false) (fin.get-empty nat_cmp g)
 
   module _ (m : fin.FinMap nat_cmp Y) (g : ℕ) where
+    -- A new entry of a group changes the numbers of this group and of no other.
     pub groups_insert : (b : Y) (d u : ℕ) → groups_in has (fin.insert m g b) d u ≡ cond (d == g) (has b u) (groups_in has m d u)
     groups_insert b d u = ap (λ o. option_map_or (λ y. has y u) o false) (get-insert m g b d) ∙ inside (d == g)
       where
@@ -37,13 +41,14 @@ module _ {Y : Type 0} (has : Y → ℕ → Bool) where
         inside true = refl
         inside false = refl
 
-    -- what the group has
+    -- A group has the numbers of its entry in the map, or none without an entry.
     pub group_is : (o : Option Y) → fin.get m g ≡ o → (u : ℕ) → groups_in has m g u ≡ option_map_or (λ y. has y u) o false
     group_is o is u = ap (λ o. option_map_or (λ y. has y u) o false) is
 
     here : (o : Option Y) → fin.get m g ≡ o → (d u : ℕ) → (d == g) ≡ true → groups_in has m d u ≡ option_map_or (λ y. has y u) o false
     here o is d u same = ap (λ k. groups_in has m k u) (eqb-true d g same) ∙ group_is o is u
 
+    -- An entry with one more number adds this number to its group and changes no other.
     pub group_more : (o : Option Y) (b : Y) (n : ℕ) → fin.get m g ≡ o → ((u : ℕ) → has b u ≡ (option_map_or (λ y. has y u) o false || (u == n))) → IsAdded (groups_in has m) g n (groups_in has (fin.insert m g b))
     group_more o b n is own d u =
         groups_insert b d u
@@ -52,6 +57,7 @@ module _ {Y : Type 0} (has : Y → ℕ → Bool) where
           | false ↦ λ apart. nothing_or (groups_in has m d u)
         ] refl
 
+    -- An entry without one of its numbers removes this number from its group and changes no other.
     pub group_less : (a b : Y) (n : ℕ) → fin.get m g ≡ Some a → ((u : ℕ) → has b u ≡ (has a u && not (u == n))) → IsTaken (groups_in has m) g n (groups_in has (fin.insert m g b))
     group_less a b n is own d u =
         groups_insert b d u
@@ -60,7 +66,7 @@ module _ {Y : Type 0} (has : Y → ℕ → Bool) where
           | false ↦ λ apart. all_and (groups_in has m d u)
         ] refl
 
-  -- the last number of a group, with the group
+  -- Removing a group with its last number removes this number and no other.
   pub group_last : (m : fin.FinMap nat_cmp Y) (g : ℕ) (a b : Y) (n : ℕ) → fin.get m g ≡ Some a → ((u : ℕ) → has b u ≡ (has a u && not (u == n))) → ((u : ℕ) → has b u ≡ false) → IsTaken (groups_in has m) g n (groups_in has (fin.remove (fin.insert m g b) g))
   group_last m g a b n is own none d u =
       groups_remove (fin.insert m g b) g d u
@@ -75,13 +81,16 @@ module _ {X : Type 0} (group : X → ℕ) where
   abbrev in_group : ℕ → Option X → Bool
   in_group g o = option_map_or (λ x. group x == g) o false
 
+  -- An empty map has the groups without numbers.
   pub grouped_empty : (m : fin.FinMap nat_cmp X) (groups : Groups) → m ≡ fin.empty → ((g n : ℕ) → groups g n ≡ false) → AreGroupsOf group m groups
   grouped_empty m groups none nobody g n = nobody g n ∙ ap (in_group g) (sym (ap (λ s. fin.get s n) none ∙ fin.get-empty nat_cmp n))
 
   module _ (m : fin.FinMap nat_cmp X) (old new : Groups) (are : AreGroupsOf group m old) where
+    -- If the groups are unchanged, they are still those of the map.
     pub grouped_same : AreSame old new → AreGroupsOf group m new
     grouped_same same g n = same g n ∙ are g n
 
+    -- After a value and its number are added, the groups are those of the map with it.
     pub grouped_more : (n : ℕ) (x : X) (g : ℕ) → fin.get m n ≡ None → group x ≡ g → IsAdded old g n new → AreGroupsOf group (fin.insert m n x) new
     grouped_more n x g fresh is added d u =
         added d u
@@ -94,6 +103,7 @@ module _ {X : Type 0} (group : X → ℕ) where
         ] refl
         ∙ ap (in_group d) (sym (get-insert m n x u))
 
+    -- After a value and its number are removed, the groups are those of the map without it.
     pub grouped_fewer : (n : ℕ) (x : X) (g : ℕ) → fin.get m n ≡ Some x → group x ≡ g → IsTaken old g n new → AreGroupsOf group (fin.remove m n) new
     grouped_fewer n x g there is taken d u =
         taken d u
@@ -109,7 +119,7 @@ module _ {X : Type 0} (group : X → ℕ) where
         ] refl
         ∙ ap (in_group d) (sym (get-remove m n u))
 
-    -- another value at a number, of the same group
+    -- Another value of the same group at a number keeps the groups.
     pub grouped_kept : (n : ℕ) (x y : X) → fin.get m n ≡ Some x → group y ≡ group x → AreGroupsOf group (fin.insert m n y) old
     grouped_kept n x y there same g u =
         are g u
@@ -119,7 +129,7 @@ module _ {X : Type 0} (group : X → ℕ) where
         ] refl
         ∙ ap (in_group g) (sym (get-insert m n y u))
 
-    -- what was added and is taken again
+    -- A number added to a group and removed again leaves the groups unchanged.
     pub grouped_back : (again : Groups) (g n : ℕ) → fin.get m n ≡ None → IsAdded old g n new → IsTaken new g n again → AreSame old again
     grouped_back again g n fresh added taken d u =
         taken d u ∙ ap (λ s. s && not ((d == g) && (u == n))) (added d u)

@@ -50,7 +50,7 @@ module _ {X Y : Type 0} (row : ℕ × X → Y) (number : Y → ℕ) (is : (e : �
   number_order : (e f : ℕ × X) → nat_lt (number (row e)) (number (row f)) ≡ is_lt (nat_cmp e.0 f.0)
   number_order e f = (λ i. nat_lt (is e i) (is f i)) ∙ before_test e.0 f.0
 
-  -- the row of a number
+  -- The row found by a number is that of the table's value at it.
   pub find_number : (m : fin.FinMap nat_cmp X) (n : ℕ) → find_row (λ y. number y == n) (map row (fin.entries m)) ≡ option_map (λ v. row (n, v)) (fin.get m n)
   find_number m n =
       find_rows nat_cmp nat_cmp_total row fin.nat_cmp-IsAntisymmetric n (λ y. number y == n) (number_test n) (fin.entries m)
@@ -69,21 +69,23 @@ module _ {X Y : Type 0} (row : ℕ × X → Y) (number : Y → ℕ) (is : (e : �
         | false ↦ λ t. find_also_in n q es (right _ _ h)
       ] refl
 
-  -- the row of a number, where it passes a test
+  -- The row found by a number and a test is that of the table's value if it passes.
   pub find_also : (m : fin.FinMap nat_cmp X) (n : ℕ) (q : Y → Bool) → find_row (λ y. (number y == n) && q y) (map row (fin.entries m)) ≡ option_and_then (λ v. cond (q (row (n, v))) (Some (row (n, v))) None) (fin.get m n)
   find_also m n q = find_also_in n q (fin.entries m) (fin.entries_sorted m) ∙ ap (option_and_then (λ v. cond (q (row (n, v))) (Some (row (n, v))) None)) (sym (fin.get-entries m n))
 
-  -- a new number's row is in its place
+  -- A value at a new number puts its row at its place.
   pub rows_added : (m : fin.FinMap nat_cmp X) (n : ℕ) (v : X) → fin.get m n ≡ None → map row (fin.entries (fin.insert m n v)) ≡ placed (λ x y. nat_lt (number x) (number y)) (row (n, v)) (map row (fin.entries m))
   rows_added m n v none =
       ap (map row) (fin.entries-insert nat_cmp_total m n v)
       ∙ rows_put nat_cmp nat_cmp_total row (λ x y. nat_lt (number x) (number y)) number_order n v (fin.entries m) (fin.entries_sorted m) (sym (fin.get-entries m n) ∙ none)
 
+  -- The rows after a removal are the rows without those of this number.
   pub rows_removed : (m : fin.FinMap nat_cmp X) (n : ℕ) → map row (fin.entries (fin.remove m n)) ≡ filter (λ y. not (number y == n)) (map row (fin.entries m))
   rows_removed m n =
       ap (map row) (entries_removed m n)
       ∙ rows_where nat_cmp nat_cmp_total row (λ k. not (eq_by_cmp nat_cmp n k)) (λ y. not (number y == n)) (λ e. ap not (number_test n e)) (fin.entries m)
 
+  -- The rows of a table rise by their numbers.
   pub rows_rise : (m : fin.FinMap nat_cmp X) → InOrder (λ x y. nat_lt (number x) (number y)) (map row (fin.entries m))
   rows_rise m = rows_in_order nat_cmp nat_cmp_total row (λ x y. nat_lt (number x) (number y)) number_order (fin.entries m) (fin.entries_sorted m)
 
@@ -91,7 +93,7 @@ module _ {X Y : Type 0} (row : ℕ × X → Y) (number : Y → ℕ) (is : (e : �
   numbers_in [] k = refl
   numbers_in (e ∷ es) k = λ i. number_test k e i || numbers_in es k i
 
-  -- a number is free where the table has nothing under it
+  -- The lowest number without a row is the lowest that the table has no value at.
   pub least_free_is : (m : fin.FinMap nat_cmp X) (from to : ℕ) → least (λ n. not (is_among (map number (map row (fin.entries m))) n)) from to ≡ least (λ n. not (fin.contains_key m n)) from to
   least_free_is m from to = least-same _ _ from to (λ k low high. ap not (numbers_in (fin.entries m) k ∙ sym (fin.contains_key-keys m k)))
 
@@ -100,6 +102,7 @@ module _ {X Y : Type 0} (row : ℕ × X → Y) where
   no_entries [] e = refl
   no_entries (x ∷ es) e = absurd (omega (arith, e))
 
+  -- An empty table has no rows.
   pub no_rows : map row (fin.entries (fin.empty {K = ℕ} {X = X} {R = nat_cmp})) ≡ []
   no_rows = no_entries _ (sym (fin.len-entries fin.empty) ∙ fin.len-empty nat_cmp X)
 
@@ -129,11 +132,11 @@ module _ {X Y : Type 0} (row : ℕ × X → Y) where
       ]
 
   module _ (m : fin.FinMap nat_cmp X) where
-    -- what holds of what is under each number holds of each row
+    -- What is true of each value at its number is true of each row.
     pub rows_all : (P : Y → Type 0) → ((k : ℕ) (v : X) → fin.get m k ≡ Some v → P (row (k, v))) → AllByRecursion P (map row (fin.entries m))
     rows_all P each = all_rows nat_cmp nat_cmp_total row P (fin.entries m) (fin.entries_sorted m) (λ k v found. each k v (fin.get-entries m k ∙ found))
 
-    -- what holds of each two numbers holds of each two rows
+    -- What is true of each two values at different numbers is true of each two rows.
     pub rows_pairs : (before : Y → Y → Bool) → ((k l : ℕ) (v w : X) → fin.get m k ≡ Some v → fin.get m l ≡ Some w → (k ≡ l → ⊥) → before (row (k, v)) (row (l, w)) ≡ true) → InOrder before (map row (fin.entries m))
     rows_pairs before each =
         pairs_in before (fin.entries m) (fin.entries_sorted m) (λ k l v w at_k at_l. each k l v w (fin.get-entries m k ∙ at_k) (fin.get-entries m l ∙ at_l))
@@ -143,11 +146,11 @@ module _ {X Y : Type 0} (row : ℕ × X → Y) where
       abbrev pub FailBelow : ℕ → Type 0
       FailBelow to = (k : ℕ) (v : X) → k < to → fin.get m k ≡ Some v → p (row (k, v)) ≡ false
 
-      -- where nothing that is under a number passes, no row does
+      -- If no value passes, no row does.
       pub none_found : ((k : ℕ) (v : X) → fin.get m k ≡ Some v → p (row (k, v)) ≡ false) → find_row p (map row (fin.entries m)) ≡ None
       none_found each = find_none p (map row (fin.entries m)) (rows_all (λ y. p y ≡ false) each)
 
-      -- the first row that passes is that of the least number whose row does
+      -- The first row that passes is that of the lowest number whose row passes.
       pub first_found : (n : ℕ) (v : X) → fin.get m n ≡ Some v → p (row (n, v)) ≡ true → FailBelow n → find_row p (map row (fin.entries m)) ≡ Some (row (n, v))
       first_found n v found passes below =
           first_in p (fin.entries m) (fin.entries_sorted m) n v (sym (fin.get-entries m n) ∙ found) passes (λ k w less at. below k w less (fin.get-entries m k ∙ at))

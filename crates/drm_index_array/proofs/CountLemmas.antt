@@ -34,6 +34,7 @@ before_slot height at k lt same = omega (arith, lt, div-add-mod' k (width height
 after_slot : (height at k : ℕ) → at * width height + width height ≤ k → k / width height ≡ at → ⊥
 after_slot height at k le same = omega (arith, le, div-add-mod' k (width height), mod-lt k (pow_pos (6 * height)), ap (λ n. n * width height) same)
 
+-- Below a vacant slot are no entries.
 pub vacant_counted : (T : Type 0) (height : ℕ) → 0 ≡ entries_below {T = T} height Vacant
 vacant_counted T height = sym (passing-none _ 0 (width height) (λ r lt. refl))
 
@@ -41,15 +42,17 @@ module _ {T : Type 0} where
   abbrev pub taken : ℕ → List (Slot T) → ℕ → Bool
   taken height slots k = map.contains_key (view_of height slots).items k
 
+  -- Below a slot with a value, at height 0, is one entry.
   pub value_counted : (e : Entry T) (height : ℕ) → height ≡ 0 → 1 ≡ entries_below height (Value e)
   unfolding passing
   value_counted e height low = rw low refl
 
+  -- Below a slot with a subtree one level lower are all entries of the subtree.
   pub child_counted : (b : Box (Node T) Global) → ((k : ℕ) → span b.value.height ≤ k → map.get b.value.items k ≡ None) → (height : ℕ) → b.value.height + 1 ≡ height → map.len b.value.items ≡ entries_below height (Child b)
   child_counted b past height fit =
       len_counted b.value.items (span b.value.height) (λ k le. ap is_some (past k le)) ∙ ap (passing (λ r. map.contains_key b.value.items r) 0) (child_span b.value.height height fit)
 
-  -- the entries at the indices of a slot are those below it
+  -- The entries of a node at the indices of a slot are as many as lie below the slot.
   pub slot_counted : (height : ℕ) (slots : List (Slot T)) (at : ℕ) → at < 64 → passing (taken height slots) (at * width height) (width height) ≡ entries_below height (slot slots at)
   slot_counted height slots at lt = passing-moved _ _ (at * width height) 0 (width height) (λ r within. ap is_some (value_in height slots at r lt within) ∙ ap (λ n. is_some (below (slot slots at) n)) (zero_more r))
 
@@ -70,6 +73,7 @@ module _ {T : Type 0} where
       let all : map.len (view_of height slots).items ≡ passing p 0 (span height) = all_counted height slots in
       omega (arith, whole, first, second, here, all)
 
+  -- Below one slot are at most as many entries as in the node.
   pub slot_few : (height : ℕ) (slots : List (Slot T)) (at : ℕ) → at < 64 → entries_below height (slot slots at) ≤ map.len (view_of height slots).items
   slot_few height slots at lt = omega (arith, parts_counted height slots at lt)
 
@@ -80,7 +84,7 @@ module _ {T : Type 0} where
         ∙ ap (λ t. cond (ltb k (span height)) (below t (k % width height)) None) (get_or-set_other slots at (k / width height) s Vacant other)
         ∙ sym (get-table (span height) (look height slots) k))
 
-    -- a slot written over
+    -- After a slot is written over, the node has its new entries in place of its old ones.
     pub recounted : map.len (view_of height (set slots at s)).items + entries_below height (slot slots at) ≡ map.len (view_of height slots).items + entries_below height s
     recounted =
         let w = width height in
@@ -89,22 +93,25 @@ module _ {T : Type 0} where
         let after : passing (taken height (set slots at s)) (at * w + w) (span height - (at * w + w)) ≡ passing (taken height slots) (at * w + w) (span height - (at * w + w)) = passing-moved _ _ (at * w + w) (at * w + w) _ (λ r within. elsewhere (at * w + w + r) (after_slot height at (at * w + w + r) (omega arith))) in
         omega (arith, here, before, after, parts_counted height slots at lt, parts_counted height (set slots at s) at lt)
 
+-- The numbers that pass in `at + 1` slots are those in `at` slots and those in one more.
 pub slots_passed : (p : ℕ → Bool) (w at : ℕ) → passing p 0 ((at + 1) * w) ≡ passing p 0 (at * w) + passing p (at * w) w
 slots_passed p w at =
     let next : (at + 1) * w ≡ at * w + w = omega arith in
     let start : 0 + at * w ≡ at * w = omega arith in
     rw next (rw start at (passing-split p 0 (at * w) w))
 
+-- No number passes in no slots.
 pub none_passed : (p : ℕ → Bool) (w : ℕ) → passing p 0 (0 * w) ≡ 0
 unfolding passing
 none_passed p w = let start : 0 * w ≡ 0 = omega arith in rw start refl
 
+-- The numbers that pass in all 64 slots are those that pass in the node's span.
 pub all_passed : (p : ℕ → Bool) (height : ℕ) → passing p 0 (64 * width height) ≡ passing p 0 (span height)
 all_passed p height = ap (passing p 0) (omega (arith, pow-add 2 (6 * height) 6))
 
 -- the slot below which the number at a place lies
 module _ {T : Type 0} {height : ℕ} {slots : List (Slot T)} {v : Tree T} (words : Words) (sound : IsSound height slots words) (view_is : view_of height slots ≡ v) (at : ℕ) (lt : at < 64) where
-  -- what a slot counts
+  -- The count of a slot that is read is the number of the node's entries at its indices.
   pub count_at : (s : Slot T) (n : ℕ) → s ≡ get_or slots at s → ((h : ℕ) → SlotFits h s → n ≡ entries_below h s) → n ≡ passing (λ k. map.contains_key v.items k) (at * width v.height) (width v.height)
   count_at s n read counts =
       let is : slot slots at ≡ s = sym (get_or_read slots at s (omega (arith, sound.wide)) read Vacant) in
@@ -119,7 +126,7 @@ module _ {T : Type 0} {height : ℕ} {slots : List (Slot T)} {v : Tree T} (words
     fits_is : SlotFits height t
     fits_is = subst (SlotFits height) slot_is (slot_fits height slots sound.all_fit at)
 
-    -- the place is one of those below it
+    -- A position within the entries at a slot's indices is within those below the slot.
     pub below_is : (left : ℕ) → left < passing (λ k. map.contains_key v.items k) (at * width v.height) (width v.height) → left < entries_below height t
     below_is left = subst (λ (v : Tree T). left < passing (λ k. map.contains_key v.items k) (at * width v.height) (width v.height) → left < entries_below height t) view_is
         (λ within. omega (arith, within, slot_counted height slots at lt, ap (entries_below height) slot_is))
@@ -144,7 +151,7 @@ module _ {T : Type 0} {height : ℕ} {slots : List (Slot T)} {v : Tree T} (words
   starts base is = is ∙ ap (λ (t : Tree T). at * width t.height) view_is
 
   module _ (s : Slot T) where
-    -- it is the slot's own entry
+    -- The entry at a position that falls on a slot with a value is the value's.
     pub value_placed : (e : Entry T) → s ≡ get_or slots at s → s ≡ Value e → (left position base : ℕ) → base ≡ at * width height → left < passing (λ k. map.contains_key v.items k) (at * width v.height) (width v.height) → passing (λ k. map.contains_key v.items k) 0 (at * width v.height) + left ≡ position → IsAtPosition (λ k. map.contains_key v.items k) (span v.height) position base
     value_placed e read is left position base base_is within before =
         let low : height ≡ 0 = fits_is s (Value e) read is in
@@ -157,12 +164,12 @@ module _ {T : Type 0} {height : ℕ} {slots : List (Slot T)} {v : Tree T} (words
       wide : span b.value.height ≡ width height
       wide = child_span b.value.height height (fits_is s (Child b) read is)
 
-      -- it is one of the child's
+      -- The entry at a position that falls on a subtree is the subtree's at the position left.
       pub child_placed : (position base n : ℕ) → base ≡ at * width height → IsAtPosition (λ k. map.contains_key b.value.items k) (span b.value.height) left n → passing (λ k. map.contains_key v.items k) 0 (at * width v.height) + left ≡ position → IsAtPosition (λ k. map.contains_key v.items k) (span v.height) position (base + n)
       child_placed position base n base_is found before =
           rw (starts base base_is) (placed_at s (Child b) read is left position n (omega (arith, found.below, wide)) found.passes found.before before)
 
-      -- the child has it
+      -- A subtree has an entry at each position that falls on its slot.
       pub child_missed : left < passing (λ k. map.contains_key v.items k) (at * width v.height) (width v.height) → passing (λ k. map.contains_key b.value.items k) 0 (span b.value.height) ≤ left → ⊥
       child_missed within missed =
           let count : passing (λ k. map.contains_key b.value.items k) 0 (span b.value.height) ≡ entries_below height (Child b) = ap (passing (λ k. map.contains_key b.value.items k) 0) wide in
@@ -173,12 +180,15 @@ module _ {T : Type 0} {height : ℕ} {slots : List (Slot T)} {at : ℕ} (words :
   old_count : n ≡ entries_below height (slot slots at)
   old_count = n_is height (subst (SlotFits height) was_is (slot_fits height slots node.sound.all_fit at)) ∙ ap (entries_below height) (sym was_is)
 
+  -- The entries below a slot are at most as many as the node counts.
   pub part_of_count : n ≤ count
   part_of_count = omega (arith, old_count, node.counted, slot_few height slots at lt)
 
   module _ (s : Slot T) (fits : SlotFits height s) (m : ℕ) (m_is : (h : ℕ) → SlotFits h s → m ≡ entries_below h s) where
+    -- After a slot is replaced, the count without its old entries and with its new ones is right.
     pub new_count : count - n + m ≡ map.len (view_of height (set slots at s)).items
     new_count = omega (arith, old_count, part_of_count, m_is height fits, node.counted, recounted height slots at s lt node.sound.wide)
 
+    -- After a slot is replaced, the new count is at most 2^36.
     pub new_count_fits : count - n + m ≤ 2 ^ 36
     new_count_fits = omega (arith, new_count, view_few height (set slots at s) _ refl node.sound.low)

@@ -34,5 +34,6 @@ inside_send T s =
     (inside.the_type T).to_one
     (struct_send (shape (inside.the_type T)) (search sendable depth 20, (search (Box-send (node.the_row T) (node_send T s), sendable) depth 20, (search sendable depth 20, tt))))
 
+-- An index array may cross threads if its values may.
 pub array_send : (T : RattleType) → IsSend T → IsSend (array.the_row T)
 array_send T s = view_send (inside.the_row T) _ _ _ _ (inside_send T s)

@@ -25,6 +25,7 @@ AllFit-set height [] at s fit one = tt
 AllFit-set height (t ∷ ss) zero s fit one = (one, fit.1)
 AllFit-set height (t ∷ ss) (suc at) s fit one = (fit.0, AllFit-set height ss at s fit.1 one)
 
+-- If no slot has an empty subtree and the new one has none, the same is true after it is written.
 pub used_set : {T : Type 0} (slots : List (Slot T)) (at : ℕ) (s : Slot T) → at < length slots → ((i : ℕ) → IsUsed (slot slots i)) → IsUsed s → (i : ℕ) → IsUsed (slot (set slots at s) i)
 used_set slots at s lt used one i =
     elim (cases_eq i at) as (λ _. IsUsed (slot (set slots at s) i)) [
@@ -32,7 +33,7 @@ used_set slots at s lt used one i =
       | inr apart ↦ subst IsUsed (sym (get_or-set_other slots at i s Vacant apart)) (used i)
     ]
 
--- a map with a key has an entry
+-- A map with a key is not empty.
 pub used_key : {X : Type 0} (m : map.FinMap nat_cmp X) (q : ℕ) → map.contains_key m q ≡ true → 0 < map.len m
 used_key m q there =
     elim (cases_lt 0 (map.len m)) [
@@ -40,18 +41,19 @@ used_key m q there =
       | inr none ↦ absurd (false≢true (sym (ap is_some (ap (λ m. map.get m q) (map.empty_of_len m (omega arith)) ∙ map.get-empty nat_cmp q)) ∙ there))
     ]
 
+-- A map after an insertion is not empty.
 pub used_more : {T : Type 0} (old now : MarkedMap T) (q : ℕ) (v : T) → now ≡ map.insert old q (unmarked v) → 0 < map.len now
 used_more old now q v is =
     let tied : eqb q q ≡ true = eq-eqb q q refl in
     used_key now q (ap (λ m. map.contains_key m q) is ∙ ap is_some (get-insert old q (unmarked v) q) ∙ ap (λ b. is_some (cond b (Some (unmarked v)) (map.get old q))) tied)
 
--- a map that an entry was added to, or that stayed
+-- A map that was not empty is not empty after an insertion, whether it succeeds or fails.
 pub used_filled : {T E : Type 0} (old now : MarkedMap T) (q : ℕ) (v : T) (done : Result (Unit {0}) E) → OnOk done (now ≡ map.insert old q (unmarked v)) → OnErr done (now ≡ old) → 0 < map.len old → 0 < map.len now
 used_filled old now q v (Ok _) ok err used = used_more old now q v ok
 used_filled old now q v (Err _) ok err used = subst (λ m. 0 < map.len m) (sym err) used
 
 module _ {T : Type 0} {height : ℕ} {slots : List (Slot T)} {q at rest : ℕ} {v : Tree T} (here : Spot height slots q at rest v) (s : Slot T) where
-  -- its words written for that slot
+  -- A sound node stays sound after a slot is written, if its words are written for the slot.
   pub edited_sound : (words after : Words) → IsSound height slots words → SlotFits height s → AreWords after → ((x : Sought) (i : ℕ) → i < 64 → tells_of after x i ≡ cond (eqb i at) (has_below height s x) (tells_of words x i)) → IsSound height (set slots at s) after
   edited_sound words after sound fits are tells = record {
     wide = length-set slots at s ∙ sound.wide;
@@ -93,6 +95,7 @@ module _ {T : Type 0} {height : ℕ} {slots : List (Slot T)} {q at rest : ℕ} {
           ])
         ]
 
+    -- If a slot changes at one index below it, the node changes at the matching index only.
     pub edited_gets : (k : ℕ) → map.get (view_of height (set slots at s)).items k ≡ cond (eqb k q) o (map.get v.items k)
     edited_gets k =
         elim (cases_lt k (span height)) as (λ _. map.get (view_of height (set slots at s)).items k ≡ cond (eqb k q) o (map.get v.items k)) [
@@ -100,15 +103,18 @@ module _ {T : Type 0} {height : ℕ} {slots : List (Slot T)} {q at rest : ℕ} {
           | inr past ↦ get-table_past (span height) _ k past ∙ sym (ap (λ m. map.get m k) (sym old_items) ∙ get-table_past (span height) _ k past) ∙ rw (ne_eqb k q (λ e. absurd (omega (arith, here.within)))) refl
         ]
 
+    -- A map that differs from the node's at the edited index only is the map of the edited node.
     pub edited_view : (m : MarkedMap T) → ((k : ℕ) → map.get m k ≡ cond (eqb k q) o (map.get v.items k)) → view_of height (set slots at s) ≡ record v { items = m }
     edited_view m gets =
         ap (λ items. record { height = height; items = items }) (same_by_gets _ m (λ k. edited_gets k ∙ sym (gets k)))
         ∙ ap (λ (t : Tree T). record { height = t.height; items = m }) here.view_is
 
 module _ {T : Type 0} {height : ℕ} {slots : List (Slot T)} {q at rest : ℕ} {v : Tree T} (here : Spot height slots q at rest v) where
+  -- The index below a slot is lower than the slot's width.
   pub rest_in_slot : rest < width height
   rest_in_slot = rw here.rest_is (rest_in_range height q)
 
+  -- The entry below the slot is the node's entry at the index.
   pub value_here : below (slot slots at) rest ≡ map.get v.items q
   value_here =
       ap (λ n. below (slot slots n) rest) here.at_is
@@ -117,20 +123,23 @@ module _ {T : Type 0} {height : ℕ} {slots : List (Slot T)} {q at rest : ℕ} {
       ∙ ap (λ (t : Tree T). map.get t.items q) here.view_is
 
   module _ (was : Slot T) (was_is : slot slots at ≡ was) where
+    -- A slot that is read fits the height of its node.
     pub was_fits : SlotFits height was
     was_fits = subst (SlotFits height) was_is (slot_fits height slots here.all_fit at)
 
+    -- The entry below a slot that is read is the node's entry at the index.
     pub value_was : below was rest ≡ map.get v.items q
     value_was = ap (λ s. below s rest) (sym was_is) ∙ value_here
 
-    -- the slot written over by one whose entry at one index was edited
+    -- After a slot with one edited entry is written, the node has this entry edited and all others unchanged.
     pub edit_gets : (s : Slot T) (edit : Option (Marked T) → Option (Marked T)) → ((r : ℕ) → r < width height → below s r ≡ cond (eqb r rest) (edit (below was rest)) (below was r)) → (k : ℕ) → map.get (view_of height (set slots at s)).items k ≡ cond (eqb k q) (edit (map.get v.items q)) (map.get v.items k)
     edit_gets s edit below_s = edited_gets here s (edit (map.get v.items q)) (λ r lt. below_s r lt ∙ ap (λ o. cond (eqb r rest) (edit o) (below was r)) value_was ∙ ap (λ t. cond (eqb r rest) (edit (map.get v.items q)) (below t r)) (sym was_is))
 
--- no index of an empty map has an entry
+-- An empty map has no entry at any index.
 pub none_below : {X : Type 0} (m : map.FinMap nat_cmp X) → map.len m ≡ 0 → (r : ℕ) → map.get m r ≡ None
 none_below m none r = ap (λ m. map.get m r) (map.empty_of_len m none) ∙ map.get-empty nat_cmp r
 
+-- A number that is not 0 is positive.
 pub some_left : (n : ℕ) → (n ≡ 0 → IsTrue false) → 0 < n
 some_left n none =
     elim (cases_lt 0 n) [
@@ -138,15 +147,18 @@ some_left n none =
       | inr few ↦ absurd (false≢true (none (omega arith)))
     ]
 
+-- Reading a slot that was just written returns what was written.
 pub read_set : {T : Type 0} (slots : List (Slot T)) (at : ℕ) (s now : Slot T) → at < length slots → now ≡ get_or (set slots at s) at now → now ≡ s
 read_set slots at s now lt read = get_or_read (set slots at s) at now (omega (arith, length-set slots at s)) read Vacant ∙ get_or-set_same slots at s Vacant lt
 
 -- how an insertion leaves a tree
 module _ {T : Type 0} {E : Type 0} (old now : MarkedMap T) (q : ℕ) (v : T) where
+  -- If an insertion succeeds, the map has the new entry, unmarked, and is otherwise unchanged.
   pub filled_ok : (done : Result (Unit {0}) E) → ((k : ℕ) → map.get now k ≡ cond (eqb k q) (filled_by done v (map.get old q)) (map.get old k)) → OnOk done (now ≡ map.insert old q (unmarked v))
   filled_ok (Ok _) gets = same_by_gets now (map.insert old q (unmarked v)) (λ k. gets k ∙ sym (get-insert old q (unmarked v) k))
   filled_ok (Err _) gets = tt
 
+  -- If an insertion fails, the map is unchanged.
   pub filled_err : (done : Result (Unit {0}) E) → ((k : ℕ) → map.get now k ≡ cond (eqb k q) (filled_by done v (map.get old q)) (map.get old k)) → OnErr done (now ≡ old)
   filled_err (Ok _) gets = tt
   filled_err (Err _) gets = same_by_gets now old (λ k. gets k ∙ elim (cases_eq k q) as (λ _. cond (eqb k q) (map.get old q) (map.get old k) ≡ map.get old k) [
@@ -154,10 +166,12 @@ module _ {T : Type 0} {E : Type 0} (old now : MarkedMap T) (q : ℕ) (v : T) whe
     | inr apart ↦ rw (ne_eqb k q apart) refl
   ])
 
+-- What follows from a fact about a failure is also a fact about it.
 pub on_err_map : {E : Type 0} {P Q : Type 0} (done : Result (Unit {0}) E) → (P → Q) → OnErr done P → OnErr done Q
 on_err_map (Ok _) f p = tt
 on_err_map (Err _) f p = f p
 
+-- Index 0 of a node is index 0 below slot 0.
 pub first_spot : {T : Type 0} (height : ℕ) (slots : List (Slot T)) (v : Tree T) (words : Words) → IsSound height slots words → view_of height slots ≡ v → Spot height slots 0 0 0 v
 first_spot height slots v words sound view_is = record {
   at_is = sym (div-eq_of_lt (pow_pos (6 * height)));
@@ -184,6 +198,7 @@ module _ {T : Type 0} {height : ℕ} {slots : List (Slot T)} {v : Tree T} (words
       let apart : k / width height ≡ 0 → ⊥ = λ zeroth. omega (arith, le, div-add-mod' k (width height), rest_in_range height k, ap (λ n. n * width height) zeroth) in
       ap (λ s. below s (k % width height)) (get_or-set_other slots 0 (k / width height) (Child b) Vacant apart)
 
+  -- A subtree put into slot 0 replaces the entries of the indices that this slot covers, and no others.
   pub hang_gets : (k : ℕ) → map.get (view_of height (set slots 0 (Child b))).items k ≡ cond (ltb k (width v.height)) (map.get b.value.items k) (map.get v.items k)
   hang_gets k =
       let same : height ≡ v.height = ap (λ (t : Tree T). t.height) view_is in

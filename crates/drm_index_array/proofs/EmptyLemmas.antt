@@ -56,12 +56,14 @@ module _ (T : Type 0) where
     tells = λ x i lt. vacant_tells height x i ∙ ap (λ s. has_below height s x) (sym (slot_vacant 64 i));
   }
 
+  -- A node of 64 vacant slots has an empty map.
   pub empty_view : (height : ℕ) → view_of height (vacants 64) ≡ record { height = height; items = map.empty }
   empty_view height = ap (λ items. record { height = height; items = items }) (same_by_gets _ _ (λ k.
       get-table (span height) (look height (vacants 64)) k
       ∙ ap (λ s. cond (ltb k (span height)) (below s (k % width height)) None) (slot_vacant 64 (k / width height))
       ∙ same_branch _ None ∙ sym (map.get-empty nat_cmp k)))
 
+  -- 64 vacant slots, empty words and the count 0 are a sound node of any height up to 5.
   pub empty_node : (height : ℕ) → height ≤ 5 → IsNode height (vacants 64) no_words 0
   empty_node height low = record {
     sound = empty_sound height low;

@@ -12,18 +12,22 @@ use Rattle.drm_index_array.proofs.MarkedLemmas.{get-remove}
 use Rattle.drm_index_array.specs.Rows.{placed, InOrder}
 use Rattle.std.proofs.lemmas.Option.{none-some}
 
+-- If both tests pass together, the first one does.
 pub left : (a b : Bool) → T (a && b) → T a
 left true b h = tt
 left false b h = h
 
+-- If both tests pass together, the second one does.
 pub right : (a b : Bool) → T (a && b) → T b
 right true b h = h
 right false b h = absurd h
 
+-- Two tests that pass also pass together.
 pub both : (a b : Bool) → T a → T b → T (a && b)
 both true b h k = k
 both false b h k = h
 
+-- A test that passes is `true`.
 pub T_true : (b : Bool) → T b → b ≡ true
 T_true true h = refl
 T_true false h = absurd h
@@ -42,7 +46,7 @@ lt_back : {K : Type 0} (R : K → K → Ordering) (o : IsTotalOrder R) (x y : K)
 lt_back R o x y h = ap is_lt (o.antisymm y x ∙ ap ordering_reverse (less (R x y) h))
 
 module _ {K X : Type 0} (R : K → K → Ordering) (o : IsTotalOrder R) where
-  -- a key below each key of a list isn't found in it
+  -- A key below each key of a list is not found in it.
   pub find_below : (q : K) (es : List (K × X)) → T (below_all R q es) → find R q es ≡ None
   find_below q [] h = refl
   find_below q (e ∷ es) h = ap (λ r. cond (is_eq r) (Some e.1) (find R q es)) (less _ (left _ _ h)) ∙ find_below q es (right _ _ h)
@@ -50,11 +54,12 @@ module _ {K X : Type 0} (R : K → K → Ordering) (o : IsTotalOrder R) where
   find_first : (e : K × X) (es : List (K × X)) → find R e.0 (e ∷ es) ≡ Some e.1
   find_first e es = ap (λ r. cond (is_eq r) (Some e.1) (find R e.0 es)) (tied_itself o e.0)
 
+  -- A key less than one that is below all keys is below all of them too.
   pub below_less : (x y : K) (es : List (K × X)) → R x y ≡ Less → T (below_all R y es) → T (below_all R x es)
   below_less x y [] p h = tt
   below_less x y (e ∷ es) p h = both _ _ (subst (λ r. T (is_lt r)) (sym (o.trans x y e.0 p (less _ (left _ _ h)))) tt) (below_less x y es p (right _ _ h))
 
-  -- a key that is found after the first entry is another one
+  -- A key found after the first entry of a sorted list is found in the whole list.
   pub skip_first : (e : K × X) (es : List (K × X)) → T (is_sorted R (e ∷ es)) → (k : K) (v : X) → find R k es ≡ Some v → find R k (e ∷ es) ≡ Some v
   skip_first e es h k v found =
       elim (eq_by_cmp R k e.0) as (λ b. eq_by_cmp R k e.0 ≡ b → cond b (Some e.1) (find R k es) ≡ Some v) [
@@ -63,7 +68,7 @@ module _ {K X : Type 0} (R : K → K → Ordering) (o : IsTotalOrder R) where
       ] refl
 
   module _ {Y : Type 0} (row : K × X → Y) where
-    -- the entries whose keys pass are the rows that pass
+    -- The rows of the entries whose keys pass are the rows that pass.
     pub rows_where : (p : K → Bool) (q : Y → Bool) → ((e : K × X) → q (row e) ≡ p e.0) → (es : List (K × X)) → map row (where_key R p es) ≡ filter q (map row es)
     rows_where p q is [] = refl
     rows_where p q is (e ∷ es) =
@@ -73,7 +78,7 @@ module _ {K X : Type 0} (R : K → K → Ordering) (o : IsTotalOrder R) where
           | false ↦ λ t. rest ∙ ap (λ b. cond b (row e ∷ filter q (map row es)) (filter q (map row es))) (sym t)
         ] (is e)
 
-    -- the row of a key
+    -- The row found by a key is that of the key's entry.
     pub find_rows : IsAntisymmetric R → (k : K) (q : Y → Bool) → ((e : K × X) → q (row e) ≡ eq_by_cmp R k e.0) → (es : List (K × X)) → find_row q (map row es) ≡ option_map (λ v. row (k, v)) (find R k es)
     find_rows exact k q is [] = refl
     find_rows exact k q is (e ∷ es) =
@@ -83,7 +88,7 @@ module _ {K X : Type 0} (R : K → K → Ordering) (o : IsTotalOrder R) where
           | false ↦ λ t. find_rows exact k q is es
         ] refl
 
-    -- what holds of each entry that is found holds of each row
+    -- What is true of each entry that is found is true of each row.
     pub all_rows : (P : Y → Type 0) (es : List (K × X)) → T (is_sorted R es) → ((k : K) (v : X) → find R k es ≡ Some v → P (row (k, v))) → AllByRecursion P (map row es)
     all_rows P [] h each = tt
     all_rows P (e ∷ es) h each = (each e.0 e.1 (find_first e es), all_rows P es (right _ _ h) (λ k v found. each k v (skip_first e es h k v found)))
@@ -93,7 +98,7 @@ module _ {K X : Type 0} (R : K → K → Ordering) (o : IsTotalOrder R) where
       before_all e [] h = tt
       before_all e (f ∷ es) h = (is e f ∙ T_true _ (left _ _ h), before_all e es (right _ _ h))
 
-      -- the rows are in the order of the keys
+      -- The rows are in the order of the keys.
       pub rows_in_order : (es : List (K × X)) → T (is_sorted R es) → InOrder before (map row es)
       rows_in_order [] h = tt
       rows_in_order (e ∷ es) h = (before_all e es (left _ _ h), rows_in_order es (right _ _ h))
@@ -108,7 +113,7 @@ module _ {K X : Type 0} (R : K → K → Ordering) (o : IsTotalOrder R) where
           ap (λ b. cond (not b) (row f ∷ filter (λ y. not (before y (row e))) (map row es)) (filter (λ y. not (before y (row e))) (map row es))) (is f e ∙ lt_back R o e.0 f.0 (left _ _ h))
           ∙ ap (λ l. row f ∷ l) (all_behind e es (right _ _ h))
 
-      -- an entry at a new key is a row in its place
+      -- An entry at a new key is a row put at its place.
       pub rows_put : (k : K) (v : X) (es : List (K × X)) → T (is_sorted R es) → find R k es ≡ None → map row (put R k v es) ≡ placed before (row (k, v)) (map row es)
       rows_put k v [] h none = refl
       rows_put k v (e ∷ es) h none =
@@ -134,7 +139,7 @@ module _ {K X : Type 0} (R : K → K → Ordering) (o : IsTotalOrder R) where
     kept_all [] h = refl
     kept_all (e ∷ es) h = λ i. sym (kept e h.0) i ∷ kept_all es h.1 i
 
-    -- another value at a key that exists changes that key's row
+    -- Another value at a key that exists changes the row of this key only.
     pub rows_put_found : (v w : X) → ((e : K × X) → eq_by_cmp R k e.0 ≡ true → e.1 ≡ v → row (e.0, w) ≡ f (row e)) → (es : List (K × X)) → T (is_sorted R es) → find R k es ≡ Some v → map row (put R k w es) ≡ map f (map row es)
     rows_put_found v w new [] h found = absurd (none-some v found)
     rows_put_found v w new (e ∷ es) h found =
@@ -157,7 +162,7 @@ tied_key : (a b : ℕ) → a ≡ b → eq_by_cmp nat_cmp a b ≡ true
 tied_key a b same = grind (arith, nat_tests)
 
 module _ {X Y : Type 0} where
-  -- the row at a place, by the key that exists
+  -- The row at a place is that of the key at this place.
   pub nth_by_key : (row : ℕ × X → Y) (es : List (ℕ × X)) → T (is_sorted nat_cmp es) → (i : ℕ) → option_and_then (λ k. option_map (λ v. row (k, v)) (find nat_cmp k es)) (slice_get (map (λ e. e.0) es) i) ≡ slice_get (map row es) i
   nth_by_key row [] h i = refl
   nth_by_key row (e ∷ es) h zero = ap (λ b. option_map (λ v. row (e.0, v)) (cond b (Some e.1) (find nat_cmp e.0 es))) (tied_key e.0 e.0 refl)
@@ -180,7 +185,7 @@ module _ {X Y : Type 0} where
       later (Some k) there = ap (option_map (λ v. row (k, v))) (skipped k (find nat_cmp k es) refl (there k refl))
 
 module _ {X : Type 0} (m : fin.FinMap nat_cmp X) (c : ℕ) where
-  -- a map without a key has the other entries
+  -- The entries after a removal are those of all other keys.
   pub entries_removed : fin.entries (fin.remove m c) ≡ where_key nat_cmp (λ k. not (eq_by_cmp nat_cmp c k)) (fin.entries m)
   entries_removed =
       same_entries nat_cmp nat_cmp_total nat_cmp-IsAntisymmetric _ _ (fin.entries_sorted (fin.remove m c)) (is_sorted-where_key nat_cmp _ (fin.entries m) (fin.entries_sorted m)) (λ q.
@@ -198,7 +203,7 @@ module _ {X : Type 0} (m : fin.FinMap nat_cmp X) (c : ℕ) where
       turn : (q : ℕ) → cond (eqb q c) None (fin.get m q) ≡ cond (not (eq_by_cmp nat_cmp c q)) (fin.get m q) None
       turn q = swap (eqb q c) (fin.get m q) ∙ ap (λ b. cond (not b) (fin.get m q) None) (test q)
 
-  -- as many rows as entries
+  -- There are as many rows as entries.
   pub rows_length : {Y : Type 0} (row : ℕ × X → Y) → length (map row (fin.entries m)) ≡ fin.len m
   rows_length {Y} row = length_of (fin.entries m) ∙ sym (fin.len-entries m)
     where
@@ -206,7 +211,7 @@ module _ {X : Type 0} (m : fin.FinMap nat_cmp X) (c : ℕ) where
       length_of [] = refl
       length_of (e ∷ es) = ap (λ n. suc n) (length_of es)
 
-  -- the row at a place, by the key that exists
+  -- The row at a place is that of the map's key at this place.
   pub row_at : {Y : Type 0} (row : ℕ × X → Y) (i : ℕ) → option_and_then (λ k. option_map (λ v. row (k, v)) (fin.get m k)) (slice_get (fin.keys m) i) ≡ slice_get (map row (fin.entries m)) i
   row_at {Y} row i = same (slice_get (fin.keys m) i) ∙ nth_by_key row (fin.entries m) (fin.entries_sorted m) i
     where

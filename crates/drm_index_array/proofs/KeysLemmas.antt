@@ -92,30 +92,35 @@ from_zero : (ks : List ℕ) → filter (λ k. leb 0 k) ks ≡ ks
 from_zero [] = refl
 from_zero (k ∷ ks) = rw (leb_yes 0 k (omega arith)) (ap (λ l. k ∷ l) (from_zero ks))
 
+-- The keys from 0 on are all keys.
 pub keys_from-zero : {X : Type 0} (m : map.FinMap nat_cmp X) → keys_from m 0 ≡ map.keys m
 keys_from-zero m = from_zero (map.keys m)
 
+-- If a number is not a key, the keys from it on are those from the next number on.
 pub keys_from-skip : {X : Type 0} (m : map.FinMap nat_cmp X) (from : ℕ) → map.contains_key m from ≡ false → keys_from m from ≡ keys_from m (from + 1)
 keys_from-skip m from none = skip_key (map.entries m) from (ap is_some (sym (map.get-entries m from)) ∙ none)
 
--- the least key from a number on is the first of them, and the others come after it
+-- The keys from a number on are the lowest of them and the keys after it.
 pub keys_from-least : {X : Type 0} (m : map.FinMap nat_cmp X) (from to h : ℕ) → IsLeast (map.contains_key m) from to h → keys_from m from ≡ h ∷ keys_from m (h + 1)
 keys_from-least m from to h is =
     next_key (map.entries m) (map.entries_sorted m) from h is.at_least (ap is_some (sym (map.get-entries m h)) ∙ is.passes) (λ k low lt. ap is_some (sym (map.get-entries m k)) ∙ is.none_below k low lt)
 
+-- If no number from `from` on is a key, there are no keys from `from` on.
 pub keys_from-none : {X : Type 0} (m : map.FinMap nat_cmp X) (from : ℕ) → ((k : ℕ) → from ≤ k → map.contains_key m k ≡ false) → keys_from m from ≡ []
 keys_from-none m from none = no_key (map.entries m) from (λ k low. ap is_some (sym (map.get-entries m k)) ∙ none k low) (map.entries_sorted m)
 
 -- a listing of at most this many keys: what is still needed after i turns
 module _ {X : Type 0} (m : map.FinMap nat_cmp X) where
+  -- If h is the lowest key from `from` on, a page of the keys is h and the keys after it.
   pub take_next : (size from h i : ℕ) → i < size → Some h ≡ least (map.contains_key m) from 4294967295 → take (size - i) (keys_from m from) ≡ h ∷ take (size - (i + 1)) (keys_from m (h + 1))
   take_next size from h i lt some =
       let n : size - i ≡ suc (size - (i + 1)) = omega arith in
       rw (n, keys_from-least m from 4294967295 h (least_some _ from 4294967295 h (sym some))) refl
 
+  -- If no number from `from` on is a key, a page of the keys from there is empty.
   pub take_none : (from n : ℕ) → ((k : ℕ) → from ≤ k → map.contains_key m k ≡ false) → take n (keys_from m from) ≡ []
   take_none from n none = ap (take n) (keys_from-none m from none) ∙ take-nil n
 
-  -- nothing is above the last number
+  -- If all keys are `u32`, there are no keys past `u32`.
   pub take_past : (from n : ℕ) → ((k : ℕ) → IsTrue (map.contains_key m k) → k ≤ 4294967295) → 4294967295 < from → take n (keys_from m from) ≡ []
   take_past from n bound past = take_none from n (λ k ge. false_from_ne_true _ (λ there. omega (arith, bound k there)))

@@ -42,7 +42,7 @@ first_passing_found p from (suc count) =
       | false ↦ λ here. found_later p from count _ here (first_passing_found p (from + 1) count)
     ] refl
 
--- by cases: none passes, or the number found is the least that does
+-- `least` finds nothing and no number of the range passes, or it finds the lowest that does.
 pub least_cases : (p : ℕ → Bool) (from to : ℕ) → MatchOption (least p from to) (NonePasses p from to) (IsLeast p from to)
 unfolding least
 least_cases p from to =
@@ -51,13 +51,15 @@ least_cases p from to =
       | Some n ↦ λ is. record { at_least = is.at_least; at_most = omega (arith, is.at_least, is.below); passes = is.passes; none_below = is.none_below }
     ] (first_passing_found p from (to + 1 - from))
 
+-- The number that `least` finds is the lowest of the range that passes.
 pub least_some : (p : ℕ → Bool) (from to n : ℕ) → least p from to ≡ Some n → IsLeast p from to n
 least_some p from to n e = MatchOption-at_some _ (IsLeast p from to) n e (least_cases p from to)
 
+-- If `least` finds nothing, no number of the range passes.
 pub least_none : (p : ℕ → Bool) (from to : ℕ) → least p from to ≡ None → NonePasses p from to
 least_none p from to e = MatchOption-at_none (NonePasses p from to) (IsLeast p from to) e (least_cases p from to)
 
--- two least numbers of a range are one
+-- A range has only one lowest number that passes.
 pub IsLeast-unique : (p : ℕ → Bool) (from to m n : ℕ) → IsLeast p from to m → IsLeast p from to n → m ≡ n
 IsLeast-unique p from to m n a b =
     elim (cases_lt m n) [
@@ -68,7 +70,7 @@ IsLeast-unique p from to m n a b =
       ]
     ]
 
--- to show what `least` is, show that it is the least, or that none passes
+-- If n is the lowest number of the range that passes, `least` finds n.
 pub least_is : (p : ℕ → Bool) (from to n : ℕ) → IsLeast p from to n → least p from to ≡ Some n
 least_is p from to n is =
     elim (least p from to) as (λ r. MatchOption r (NonePasses p from to) (IsLeast p from to) → r ≡ Some n) [
@@ -76,6 +78,7 @@ least_is p from to n is =
       | Some m ↦ λ found. ap Some (IsLeast-unique p from to m n found is)
     ] (least_cases p from to)
 
+-- If no number of the range passes, `least` finds nothing.
 pub least_is_none : (p : ℕ → Bool) (from to : ℕ) → NonePasses p from to → least p from to ≡ None
 least_is_none p from to none =
     elim (least p from to) as (λ r. MatchOption r (NonePasses p from to) (IsLeast p from to) → r ≡ None) [
@@ -83,12 +86,12 @@ least_is_none p from to none =
       | Some m ↦ λ found. absurd (false≢true (sym (none m found.at_least found.at_most) ∙ found.passes))
     ] (least_cases p from to)
 
--- the same from a result that is known by cases
+-- A result that is the lowest passing number, or `None` if none passes, is what `least` finds.
 pub least_by_cases : (p : ℕ → Bool) (from to : ℕ) (r : Option ℕ) → MatchOption r (NonePasses p from to) (IsLeast p from to) → r ≡ least p from to
 least_by_cases p from to None none = sym (least_is_none p from to none)
 least_by_cases p from to (Some n) is = sym (least_is p from to n is)
 
--- two tests that agree on the range find the same
+-- Two tests that agree on the range find the same number.
 pub least-same : (p q : ℕ → Bool) (from to : ℕ) → ((k : ℕ) → from ≤ k → k ≤ to → p k ≡ q k) → least p from to ≡ least q from to
 least-same p q from to same = least_by_cases q from to _ (elim (least p from to) as (λ r. MatchOption r (NonePasses p from to) (IsLeast p from to) → MatchOption r (NonePasses q from to) (IsLeast q from to)) [
   | None ↦ λ none k ge le. sym (same k ge le) ∙ none k ge le
@@ -131,7 +134,7 @@ least_of_lesser n m ns is false le = record {
   at_most = λ k among_it. here_or_there n k (m ≤ k) (among ns k) (λ same. grind (arith, nat_tests, le, same)) (is.at_most k) among_it;
 }
 
--- by cases: the list is empty, or the number found is its least
+-- `least_of` finds nothing and the list is empty, or it finds the lowest number of the list.
 pub least_of_cases : (ns : List ℕ) → MatchOption (least_of ns) (ns ≡ []) (IsLeastOf ns)
 least_of_cases [] = refl
 least_of_cases (n ∷ ns) = first (least_of ns) (least_of_cases ns)
@@ -140,18 +143,19 @@ least_of_cases (n ∷ ns) = first (least_of ns) (least_of_cases ns)
     first None none = least_of_first n ns none
     first (Some m) is = least_of_lesser n m ns is (nat_le n m) refl
 
--- it is among the list, and at most each number of it
+-- The number that `least_of` finds is in the list and at most each number of it.
 pub least_of_some : (ns : List ℕ) (n : ℕ) → least_of ns ≡ Some n → IsLeastOf ns n
 least_of_some ns n e = MatchOption-at_some _ (IsLeastOf ns) n e (least_of_cases ns)
 
--- there is none exactly if the list is empty
+-- `least_of` finds nothing if and only if the list is empty.
 pub least_of_none : (ns : List ℕ) → (least_of ns ≡ None) ↔ (ns ≡ [])
 least_of_none ns = ((λ e. MatchOption-at_none (ns ≡ []) (IsLeastOf ns) e (least_of_cases ns)), ap least_of)
 
+-- A list has only one lowest number.
 pub IsLeastOf-unique : (ns : List ℕ) (m n : ℕ) → IsLeastOf ns m → IsLeastOf ns n → m ≡ n
 IsLeastOf-unique ns m n a b = omega (arith, a.at_most n b.among, b.at_most m a.among)
 
--- to show what `least_of` is, show that it is the least
+-- If n is the lowest number of the list, `least_of` finds n.
 pub least_of_is : (ns : List ℕ) (n : ℕ) → IsLeastOf ns n → least_of ns ≡ Some n
 least_of_is ns n is =
     elim (least_of ns) as (λ r. MatchOption r (ns ≡ []) (IsLeastOf ns) → r ≡ Some n) [
@@ -159,7 +163,7 @@ least_of_is ns n is =
       | Some m ↦ λ found. ap Some (IsLeastOf-unique ns m n found is)
     ] (least_of_cases ns)
 
--- two lists among which the same numbers are have the same least
+-- Two lists with the same numbers have the same lowest one.
 pub least_of-same : (xs ys : List ℕ) → ((n : ℕ) → list_any (λ x. x == n) xs ≡ list_any (λ x. x == n) ys) → least_of xs ≡ least_of ys
 least_of-same xs ys same =
     elim (least_of xs) as (λ r. MatchOption r (xs ≡ []) (IsLeastOf xs) → r ≡ least_of ys) [

@@ -23,7 +23,7 @@ use Rattle.drm_index_array.proofs.MarkedLemmas.{same_branch, get-rewrite, len-se
 use Rattle.drm_index_array.proofs.SlotLemmas.{Spot}
 use Rattle.drm_index_array.proofs.EditLemmas.{used_set, edited_sound, edited_view, was_fits, value_was, rest_in_slot}
 
--- lenders that end alike
+-- Two readings of a borrow that agree on its last value, or without a borrow, are equal.
 pub lent_same : {D E : Type 0} (name : maybe.Option GName) (f h : E → D) (v w : D) → ((x : E) → f x ≡ h x) → v ≡ w → read_of name f v ≡ read_of name h w
 lent_same name f h v w fs vs = λ i. read_of name (λ x. fs x i) (vs i)
 
@@ -85,6 +85,7 @@ module _ {T : Type 0} {height : ℕ} {slots : List (Slot T)} {q at rest : ℕ} {
     | inr apart ↦ rw (ne_eqb i at apart) refl
   ])
 
+  -- After a write through a lent value, the node has the last value at its index and is otherwise unchanged.
   pub lent_view : (w : T) → view_of height (set slots at (slot_with_value was rest w)) ≡ tree_with_value v q w
   lent_view w = edited_view here (slot_with_value was rest w) (option_valued w (map.get v.items q))
       (λ r lt. below-slot_with_value height was (was_fits here was was_is) rest r (rest_in_slot here) lt w ∙ ap (λ o. cond (eqb r rest) (option_valued w o) (below was r)) (value_was here was was_is) ∙ ap (λ t. cond (eqb r rest) (option_valued w (map.get v.items q)) (below t r)) (sym was_is))
@@ -101,14 +102,17 @@ module _ {T : Type 0} {height : ℕ} {slots : List (Slot T)} {q at rest : ℕ} {
   used_lent (Value e) w used = tt
   used_lent (Child b) w used = omega (arith, used, len-set_value b.value.items rest w)
 
+  -- A write through a lent value leaves a sound node sound, with the same words and count.
   pub lent_node : (words : Words) (count : ℕ) → IsNode height slots words count → (w : T) → IsNode height (set slots at (slot_with_value was rest w)) words count
   lent_node words count node w = record { sound = lent_sound words node.sound w; counted = node.counted ∙ len_lent w; used = used_set slots at _ here.in_range node.used (used_lent was w (subst IsUsed was_is (node.used at))) }
 
   kept_slots : set slots at was ≡ slots
   kept_slots = ap (set slots at) (sym was_is) ∙ set-get_or slots at Vacant
 
+  -- Writing a slot back unchanged leaves a sound node sound.
   pub kept_node : (words : Words) (count : ℕ) → IsNode height slots words count → IsNode height (set slots at was) words count
   kept_node words count node = subst (λ ss. IsNode height ss words count) (sym kept_slots) node
 
+  -- Writing a slot back unchanged leaves the node's map unchanged.
   pub kept_view : view_of height (set slots at was) ≡ v
   kept_view = ap (view_of height) kept_slots ∙ here.view_is

@@ -15,26 +15,28 @@ use Rattle.drm_index_array.specs.Marked.{Marked, MarkedMap, get, is_marked, unma
 use Rattle.drm_index_array.specs.Indexed as ix
 use Rattle.drm_index_array.specs.Indexed.{Indexed, empty_array, with_item, without_item}
 
--- the test of a map's keys, at numbers
+-- The test of equality of a map's keys is that of numbers.
 pub eq_by_cmp-nat_cmp : (q k : ℕ) → eq_by_cmp nat_cmp q k ≡ eqb q k
 eq_by_cmp-nat_cmp q k = grind (arith, nat_tests)
 
--- `FinMap`'s lemmas at numbers
+-- After an insertion, the key has the new value and all other keys are unchanged.
 pub get-insert : {X : Type 0} (m : map.FinMap nat_cmp X) (k : ℕ) (v : X) (q : ℕ) → map.get (map.insert m k v) q ≡ cond (eqb q k) (Some v) (map.get m q)
 get-insert m k v q = map.get-insert nat_cmp_total m k v q ∙ ap (λ b. cond b (Some v) (map.get m q)) (eq_by_cmp-nat_cmp q k)
 
+-- After a removal, the key has no entry and all other keys are unchanged.
 pub get-remove : {X : Type 0} (m : map.FinMap nat_cmp X) (k q : ℕ) → map.get (map.remove m k) q ≡ cond (eqb q k) None (map.get m q)
 get-remove m k q = map.get-remove nat_cmp_total m k q ∙ ap (λ b. cond b None (map.get m q)) (eq_by_cmp-nat_cmp q k)
 
--- two maps that answer alike are equal
+-- Two maps with the same value at each key are equal.
 pub same_by_gets : {X : Type 0} (m n : map.FinMap nat_cmp X) → ((q : ℕ) → map.get m q ≡ map.get n q) → m ≡ n
 same_by_gets m n same = map.same_map nat_cmp_total nat_cmp-IsAntisymmetric m n same
 
+-- A condition does not matter if both branches are the same.
 pub same_branch : {Y : Type 0} (b : Bool) (x : Y) → cond b x x ≡ x
 same_branch true x = refl
 same_branch false x = refl
 
--- an entry written with the value that it has
+-- Inserting the value that a key already has changes nothing.
 pub insert_same : {X : Type 0} (m : map.FinMap nat_cmp X) (k : ℕ) (v : X) → map.get m k ≡ Some v → map.insert m k v ≡ m
 insert_same m k v here =
     same_by_gets _ _ (λ q. get-insert m k v q ∙ ap (λ o. cond (eqb q k) o (map.get m q)) (sym here) ∙ kept q)
@@ -87,6 +89,7 @@ cond_at q i x y z same =
     ]
 
 module _ {X : Type 0} where
+  -- The map of values has at each index the value of the entry there.
   pub get-values : (a : MarkedMap X) (q : ℕ) → map.get (values a) q ≡ get a q
   unfolding values pairs_by
   get-values a q =
@@ -94,7 +97,7 @@ module _ {X : Type 0} where
       ∙ find-pairs_by (λ s. s.value) q (map.entries a)
       ∙ ap (option_map (λ s. s.value)) (sym (map.get-entries a q))
 
-  -- what a rewritten map has at an index
+  -- A rewrite changes the entry at its index, if there is one, and no other.
   pub get-rewrite : (a : MarkedMap X) (i : ℕ) (f : Marked X → Marked X) (q : ℕ) → map.get (rewrite a i f) q ≡ cond (eqb q i) (option_map f (map.get a q)) (map.get a q)
   unfolding rewrite
   get-rewrite a i f q =
@@ -103,13 +106,15 @@ module _ {X : Type 0} where
         | Some s ↦ λ some. get-insert a i (f s) q ∙ cond_at q i _ _ _ (λ e. rw (e, some) refl)
       ] refl
 
-  -- the values after each call
+  -- After an insertion, the index has the new value and all other values are unchanged.
   pub get-insert_unmarked : (a : MarkedMap X) (i : ℕ) (v : X) (q : ℕ) → get (map.insert a i (unmarked v)) q ≡ cond (eqb q i) (Some v) (get a q)
   get-insert_unmarked a i v q = ap (option_map (λ s. s.value)) (get-insert a i (unmarked v) q) ∙ option_map-cond (λ s. s.value) (eqb q i) _ _
 
+  -- After a removal, the index has no value and all others are unchanged.
   pub get-remove_value : (a : MarkedMap X) (i q : ℕ) → get (map.remove a i) q ≡ cond (eqb q i) None (get a q)
   get-remove_value a i q = ap (option_map (λ s. s.value)) (get-remove a i q) ∙ option_map-cond (λ s. s.value) (eqb q i) _ _
 
+  -- Setting a value changes the value at its index if there is one, and no other.
   pub get-set_value : (a : MarkedMap X) (i : ℕ) (v : X) (q : ℕ) → get (set_value a i v) q ≡ cond (eqb q i) (option_map (λ _. v) (get a q)) (get a q)
   get-set_value a i v q =
       ap (option_map (λ s. s.value)) (get-rewrite a i (λ s. record s { value = v }) q)
@@ -120,6 +125,7 @@ module _ {X : Type 0} where
       twice None = refl
       twice (Some s) = refl
 
+  -- Writing a mark changes no value.
   pub get-write_mark : (a : MarkedMap X) (i : ℕ) (m : Mark) (b : Bool) (q : ℕ) → get (write_mark a i m b) q ≡ get a q
   get-write_mark a i m b q =
       ap (option_map (λ s. s.value)) (get-rewrite a i (λ s. with_mark s m b) q)
@@ -133,7 +139,7 @@ module _ {X : Type 0} where
       kept M1 (Some s) = refl
       kept M2 (Some s) = refl
 
-  -- the marks after each call
+  -- After an insertion, the index carries no mark and all other marks are unchanged.
   pub is_marked-insert : (a : MarkedMap X) (i : ℕ) (v : X) (q : ℕ) (m : Mark) → is_marked (map.insert a i (unmarked v)) q m ≡ cond (eqb q i) false (is_marked a q m)
   is_marked-insert a i v q m =
       ap (λ o. option_map_or (λ s. mark_of s m) o false) (get-insert a i (unmarked v) q)
@@ -145,23 +151,26 @@ module _ {X : Type 0} where
       none M1 = refl
       none M2 = refl
 
+  -- After a removal, the index carries no mark and all others are unchanged.
   pub is_marked-remove : (a : MarkedMap X) (i q : ℕ) (m : Mark) → is_marked (map.remove a i) q m ≡ cond (eqb q i) false (is_marked a q m)
   is_marked-remove a i q m =
       ap (λ o. option_map_or (λ s. mark_of s m) o false) (get-remove a i q) ∙ option_map_or-cond (λ s. mark_of s m) false (eqb q i) _ _
 
-  -- the values as a map of their own
+  -- An empty map has no values.
   pub values-empty : values (map.empty {X = Marked X}) ≡ map.empty
   values-empty = same_by_gets _ _ (λ q. get-values map.empty q ∙ ap (option_map (λ s. s.value)) (map.get-empty nat_cmp q) ∙ sym (map.get-empty nat_cmp q))
 
+  -- Inserting an unmarked value inserts it in the map of values.
   pub values-insert : (a : MarkedMap X) (i : ℕ) (v : X) → values (map.insert a i (unmarked v)) ≡ map.insert (values a) i v
   values-insert a i v =
       same_by_gets _ _ (λ q. get-values _ q ∙ get-insert_unmarked a i v q ∙ ap (cond (eqb q i) (Some v)) (sym (get-values a q)) ∙ sym (get-insert (values a) i v q))
 
+  -- Removing an entry removes it from the map of values.
   pub values-remove : (a : MarkedMap X) (i : ℕ) → values (map.remove a i) ≡ map.remove (values a) i
   values-remove a i =
       same_by_gets _ _ (λ q. get-values _ q ∙ get-remove_value a i q ∙ ap (cond (eqb q i) None) (sym (get-values a q)) ∙ sym (get-remove (values a) i q))
 
-  -- a value written where there was one
+  -- Setting the value of an entry inserts it in the map of values.
   pub values-set_value : (a : MarkedMap X) (i : ℕ) (v : X) → IsSome (get a i) → values (set_value a i v) ≡ map.insert (values a) i v
   values-set_value a i v there =
       same_by_gets _ _ (λ q.
@@ -175,9 +184,11 @@ module _ {X : Type 0} where
       written None there = absurd (false≢true there)
       written (Some w) there = refl
 
+  -- Writing a mark leaves the map of values unchanged.
   pub values-write_mark : (a : MarkedMap X) (i : ℕ) (m : Mark) (b : Bool) → values (write_mark a i m b) ≡ values a
   values-write_mark a i m b = same_by_gets _ _ (λ q. get-values _ q ∙ get-write_mark a i m b q ∙ sym (get-values a q))
 
+  -- The map of values has the same keys.
   pub contains_key-values : (a : MarkedMap X) (q : ℕ) → map.contains_key (values a) q ≡ map.contains_key a q
   contains_key-values a q = ap is_some (get-values a q) ∙ there (map.get a q)
     where
@@ -197,6 +208,7 @@ module _ {X : Type 0} where
       inner None = refl
       inner (Some s) = refl
 
+  -- The set of indices with a mark has exactly those whose entries carry it.
   pub contains-marked_in : (a : MarkedMap X) (m : Mark) (q : ℕ) → set.contains (marked_in a m) q ≡ is_marked a q m
   unfolding marked_in
   contains-marked_in a m q =
@@ -217,12 +229,14 @@ module _ {X : Type 0} where
   by_parts : (x y : Indexed X) → x.items ≡ y.items → x.m0 ≡ y.m0 → x.m1 ≡ y.m1 → x.m2 ≡ y.m2 → x ≡ y
   by_parts x y p a b c = λ i. record { items = p i; m0 = a i; m1 = b i; m2 = c i }
 
+  -- The array of an empty map is empty.
   pub array_of-empty : array_of (map.empty {X = Marked X}) ≡ empty_array
   array_of-empty = by_parts _ _ values-empty (none M0) (none M1) (none M2)
     where
       none : (m : Mark) → marked_in (map.empty {X = Marked X}) m ≡ set.empty
       none m = same_marks map.empty m set.empty (λ q. absent_unmarked map.empty q m (map.get-empty nat_cmp q) ∙ sym (set.contains-empty nat_cmp q))
 
+  -- Inserting an unmarked value at a free index adds the item to the array.
   pub array_of-insert : (a : MarkedMap X) (i : ℕ) (v : X) → map.get a i ≡ None → array_of (map.insert a i (unmarked v)) ≡ with_item (array_of a) i v
   array_of-insert a i v none = by_parts _ _ (values-insert a i v) (kept M0) (kept M1) (kept M2)
     where
@@ -234,6 +248,7 @@ module _ {X : Type 0} where
           ∙ same_branch (eqb q i) _
           ∙ sym (contains-marked_in a m q))
 
+  -- Removing an entry removes its item and its marks from the array.
   pub array_of-remove : (a : MarkedMap X) (i : ℕ) → array_of (map.remove a i) ≡ without_item (array_of a) i
   array_of-remove a i = by_parts _ _ (values-remove a i) (less M0) (less M1) (less M2)
     where
@@ -245,6 +260,7 @@ module _ {X : Type 0} where
           ∙ (λ j. not (sym (eq_by_cmp-nat_cmp q i) j) && sym (contains-marked_in a m q) j)
           ∙ sym (set.contains-remove nat_cmp_total (marked_in a m) i q))
 
+  -- Setting the value of an entry sets the array's item.
   pub array_of-set_value : (a : MarkedMap X) (i : ℕ) (v : X) → IsSome (get a i) → array_of (set_value a i v) ≡ with_item (array_of a) i v
   array_of-set_value a i v there = by_parts _ _ (values-set_value a i v there) (kept M0) (kept M1) (kept M2)
     where
@@ -307,22 +323,25 @@ module _ {X : Type 0} where
       written None = refl
       written (Some s) = clears s
 
+  -- Setting a mark of an entry sets it in the array.
   pub array_of-set_mark : (a : MarkedMap X) (i : ℕ) (m : Mark) → IsSome (get a i) → array_of (write_mark a i m true) ≡ ix.with_mark (array_of a) i m
   array_of-set_mark a i M0 there = by_parts _ _ (values-write_mark a i M0 true) (set_mark_in a i _ M0 there (λ s. refl)) (kept_mark a i _ M1 (λ s. refl)) (kept_mark a i _ M2 (λ s. refl))
   array_of-set_mark a i M1 there = by_parts _ _ (values-write_mark a i M1 true) (kept_mark a i _ M0 (λ s. refl)) (set_mark_in a i _ M1 there (λ s. refl)) (kept_mark a i _ M2 (λ s. refl))
   array_of-set_mark a i M2 there = by_parts _ _ (values-write_mark a i M2 true) (kept_mark a i _ M0 (λ s. refl)) (kept_mark a i _ M1 (λ s. refl)) (set_mark_in a i _ M2 there (λ s. refl))
 
+  -- Clearing a mark clears it in the array.
   pub array_of-clear_mark : (a : MarkedMap X) (i : ℕ) (m : Mark) → array_of (write_mark a i m false) ≡ ix.without_mark (array_of a) i m
   array_of-clear_mark a i M0 = by_parts _ _ (values-write_mark a i M0 false) (clear_mark_in a i _ M0 (λ s. refl)) (kept_mark a i _ M1 (λ s. refl)) (kept_mark a i _ M2 (λ s. refl))
   array_of-clear_mark a i M1 = by_parts _ _ (values-write_mark a i M1 false) (kept_mark a i _ M0 (λ s. refl)) (clear_mark_in a i _ M1 (λ s. refl)) (kept_mark a i _ M2 (λ s. refl))
   array_of-clear_mark a i M2 = by_parts _ _ (values-write_mark a i M2 false) (kept_mark a i _ M0 (λ s. refl)) (kept_mark a i _ M1 (λ s. refl)) (clear_mark_in a i _ M2 (λ s. refl))
 
+  -- The array has a mark at exactly those indices whose entries carry it.
   pub marked_with-array_of : (a : MarkedMap X) (m : Mark) (q : ℕ) → set.contains (ix.marked_with (array_of a) m) q ≡ is_marked a q m
   marked_with-array_of a M0 q = contains-marked_in a M0 q
   marked_with-array_of a M1 q = contains-marked_in a M1 q
   marked_with-array_of a M2 q = contains-marked_in a M2 q
 
-  -- a mark stands only if there is an entry
+  -- Each index with a mark has an entry.
   pub marked_is_key : (a : MarkedMap X) (m : Mark) (q : ℕ) → IsTrue (set.contains (ix.marked_with (array_of a) m) q) → IsTrue (map.contains_key (array_of a).items q)
   marked_is_key a m q marked = contains_key-values a q ∙ some (map.get a q) (sym (marked_with-array_of a m q) ∙ marked)
     where
@@ -330,10 +349,12 @@ module _ {X : Type 0} where
       some None e = absurd (false≢true e)
       some (Some s) e = refl
 
+  -- Setting or clearing a mark of an entry does the same in the array.
   pub array_of-write_mark : (a : MarkedMap X) (i : ℕ) (m : Mark) (b : Bool) → IsSome (get a i) → array_of (write_mark a i m b) ≡ ix.written_mark (array_of a) i m b
   array_of-write_mark a i m true there = array_of-set_mark a i m there
   array_of-write_mark a i m false there = array_of-clear_mark a i m
 
+  -- The map of values has as many entries.
   pub len-values : (a : MarkedMap X) → map.len (values a) ≡ map.len a
   unfolding values pairs_by
   len-values a =
@@ -351,6 +372,7 @@ len-rewritten : {T : Type 0} (a : MarkedMap T) (i : ℕ) (f : Marked T → Marke
 len-rewritten a i f None is = refl
 len-rewritten a i f (Some s) is = map.len-insert nat_cmp_total a i (f s) ∙ ap (λ o. cond (is_some o) (map.len a) (map.len a + 1)) is
 
+-- Setting a value keeps the number of entries.
 pub len-set_value : {T : Type 0} (a : MarkedMap T) (i : ℕ) (w : T) → map.len (set_value a i w) ≡ map.len a
 unfolding rewrite
 len-set_value a i w = len-rewritten a i (λ s. record s { value = w }) (map.get a i) refl

@@ -5,7 +5,7 @@ use Rattle.std.proofs.Math.Nat.{mod-lt, mul-le-mul_right, div-lt_iff_lt-mul, div
 use Rattle.drm_index_array.specs.Least.{least, IsLeast, NonePasses}
 use Rattle.drm_index_array.proofs.Least.{least_cases, least_some, least_none, least_is, least_is_none, least_by_cases}
 
--- the same search in a part of a longer range
+-- A search in a part of a longer range is the search there, counted from the part's base.
 pub least_moved : (p q : ℕ → Bool) (base from to : ℕ) → ((r : ℕ) → from ≤ r → r ≤ to → q r ≡ p (base + r)) → option_map (λ n. base + n) (least q from to) ≡ least p (base + from) (base + to)
 least_moved p q base from to same = least_by_cases p (base + from) (base + to) _ (elim (least q from to) as (λ r. MatchOption r (NonePasses q from to) (IsLeast q from to) → MatchOption (option_map (λ n. base + n) r) (NonePasses p (base + from) (base + to)) (IsLeast p (base + from) (base + to))) [
   | None ↦ λ none k ge le. moved k ge le (none (k - base) (omega arith) (omega arith))
@@ -20,22 +20,25 @@ least_moved p q base from to same = least_by_cases p (base + from) (base + to) _
     moved : (k : ℕ) → base + from ≤ k → k ≤ base + to → q (k - base) ≡ false → p k ≡ false
     moved k ge le fails = let back : base + (k - base) ≡ k = omega arith in ap p (sym back) ∙ sym (same (k - base) (omega arith) (omega arith)) ∙ fails
 
+-- A mapped option has a value if and only if the option has one.
 pub is_some-option_map : {A B : Type 0} (f : A → B) (o : Option A) → is_some (option_map f o) ≡ is_some o
 is_some-option_map f None = refl
 is_some-option_map f (Some x) = refl
 
--- the least of a part from the same start is the least of the whole
+-- The lowest number of a part from the same start is the lowest of the whole range.
 pub least_wider : (p : ℕ → Bool) (from mid to n : ℕ) → mid ≤ to → least p from mid ≡ Some n → least p from to ≡ Some n
 least_wider p from mid to n le found =
     let is = least_some p from mid n found in
     least_is p from to n (record { at_least = is.at_least; at_most = omega (arith, is.at_most); passes = is.passes; none_below = is.none_below })
 
+-- If `least` finds nothing in a range, no number of it passes.
 pub none_of : (p : ℕ → Bool) (from to : ℕ) → is_some (least p from to) ≡ false → NonePasses p from to
 none_of p from to e = elim (least p from to) as (λ r. least p from to ≡ r → is_some r ≡ false → NonePasses p from to) [
   | None ↦ λ is _. least_none p from to is
   | Some n ↦ λ _ bad. absurd (false≢true (sym bad))
 ] refl e
 
+-- If a number of a range passes, `least` finds one in it.
 pub some_in : (p : ℕ → Bool) (from to n : ℕ) → from ≤ n → n ≤ to → p n ≡ true → is_some (least p from to) ≡ true
 some_in p from to n ge le passes =
     elim (least p from to) as (λ r. MatchOption r (NonePasses p from to) (IsLeast p from to) → is_some r ≡ true) [
@@ -52,11 +55,11 @@ module _ (p : ℕ → Bool) (w : ℕ) (pos : 0 < w) (tells : ℕ → Bool) (told
   slot_below : (k : ℕ) → k ≤ 64 * w - 1 → k / w < 64
   slot_below k le = (div-lt_iff_lt-mul {k = w} pos).1 (omega arith)
 
-  -- no number of a slot that is not told passes
+  -- no number passes in a slot for which `tells` is false
   not_told : (k : ℕ) → k ≤ 64 * w - 1 → tells (k / w) ≡ false → p k ≡ false
   not_told k le e = none_of p _ _ (sym (told (k / w) (slot_below k le)) ∙ e) k (omega (arith, (in_slot k).0)) (in_slot k).1
 
-  -- some slot is reported exactly if some number passes
+  -- Some slot has a number that passes if and only if some number of the node does.
   pub any_told : is_some (least tells 0 63) ≡ is_some (least p 0 (64 * w - 1))
   any_told = by_word (least tells 0 63) refl
     where
@@ -95,12 +98,14 @@ module _ (p : ℕ → Bool) (w : ℕ) (pos : 0 < w) (tells : ℕ → Bool) (told
     past_end : (k : ℕ) → at ≡ 63 → at < k / w → k ≤ 64 * w - 1 → ⊥
     past_end k last after le = omega (arith, slot_below k le)
 
+    -- If nothing is found in the last slot, nothing is found up to the end of the node.
     pub next_at_end : at ≡ 63 → None ≡ least p (at * w + rest) (64 * w - 1)
     next_at_end last = sym (least_is_none p _ _ (λ k ge le. elim (later k ge) as (λ _. p k ≡ false) [
       | inl fails ↦ fails
       | inr after ↦ absurd (past_end k last after le)
     ]))
 
+    -- If no later slot has a number that passes, nothing is found up to the end of the node.
     pub next_none : None ≡ least tells (at + 1) 63 → None ≡ least p (at * w + rest) (64 * w - 1)
     next_none untold = sym (least_is_none p _ _ (λ k ge le. elim (later k ge) as (λ _. p k ≡ false) [
       | inl fails ↦ fails
@@ -124,6 +129,7 @@ module _ (p : ℕ → Bool) (w : ℕ) (pos : 0 < w) (tells : ℕ → Bool) (told
           ];
         }
 
+    -- What is found in the first later slot that has a passing number is the first in the rest of the node.
     pub next_some : (t : ℕ) (r : Option ℕ) → Some t ≡ least tells (at + 1) 63 → r ≡ least p (t * w + 0) (t * w + (w - 1)) → r ≡ least p (at * w + rest) (64 * w - 1)
     next_some t None found next =
         let word = least_some tells (at + 1) 63 t (sym found) in

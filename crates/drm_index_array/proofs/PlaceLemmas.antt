@@ -9,7 +9,7 @@ use Rattle.drm_index_array.specs.Keys.{keys_from}
 use Rattle.drm_index_array.specs.Position.{passing, IsPlaced}
 use Rattle.drm_index_array.proofs.KeysLemmas.{keys_from-least, keys_from-none, keys_from-skip, keys_from-zero}
 
--- a range in two parts
+-- The numbers that pass in a range are those in its first part and those in its second.
 pub passing-split : (p : ℕ → Bool) (from a b : ℕ) → passing p from (a + b) ≡ passing p from a + passing p (from + a) b
 unfolding passing
 passing-split p from zero b =
@@ -21,7 +21,7 @@ passing-split p from (suc a) b =
     let start : from + suc a ≡ from + 1 + a = omega arith in
     rw (count, start) (omega (arith, passing-split p (from + 1) a b))
 
--- two ranges that pass alike
+-- Two ranges that test alike have as many numbers that pass.
 pub passing-moved : (p q : ℕ → Bool) (a b n : ℕ) → ((r : ℕ) → r < n → p (a + r) ≡ q (b + r)) → passing p a n ≡ passing q b n
 unfolding passing
 passing-moved p q a b zero same = refl
@@ -35,6 +35,7 @@ passing-moved p q a b (suc n) same =
     next : (a r : ℕ) → a + 1 + r ≡ a + (r + 1)
     next a r = omega arith
 
+-- If no number of a range passes, 0 of them pass.
 pub passing-none : (p : ℕ → Bool) (from n : ℕ) → ((r : ℕ) → r < n → p (from + r) ≡ false) → passing p from n ≡ 0
 unfolding passing
 passing-none p from zero none = refl
@@ -78,10 +79,11 @@ module _ {X : Type 0} (m : map.FinMap nat_cmp X) where
       ] refl
 
   module _ (end : ℕ) (past : (k : ℕ) → end ≤ k → there k ≡ false) where
-    -- a map has as many entries as numbers below its end are keys
+    -- A map has as many entries as numbers below its end are keys.
     pub len_counted : map.len m ≡ passing there 0 end
     len_counted = map.len-entries m ∙ sym (length-map (map.entries m) (λ e. e.0)) ∙ ap length (sym (keys_from-zero m)) ∙ keys_counted end 0 (λ k le. past k (omega arith))
 
+    -- The number at a position among the numbers that are keys is the key at this position.
     pub key_placed : (position : ℕ) (r : Option ℕ) → IsPlaced there end position r → r ≡ slice_get (map.keys m) position
     key_placed position None few = sym (slice_get_past (map.keys m) position (omega (arith, few, len_counted, map.len-entries m, length-map (map.entries m) (λ e. e.0))))
     key_placed position (Some k) is =

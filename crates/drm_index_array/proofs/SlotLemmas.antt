@@ -17,47 +17,50 @@ use Rattle.drm_index_array.specs.declared.tree.Slot.{Slot}
 use Rattle.drm_index_array.specs.declared.tree.Slot.TheVariants.{Vacant, Child}
 use Rattle.drm_index_array.proofs.TableLemmas.{get-table_within}
 
+-- An index within the span lies in one of the 64 slots.
 pub slot_in_range : (height q : ℕ) → q < span height → q / width height < 64
 slot_in_range height q lt = (div-lt_iff_lt-mul (pow_pos (6 * height))).1 (omega (arith, pow-add 2 (6 * height) 6))
 
+-- The index below a slot is lower than the slot's width.
 pub rest_in_range : (height q : ℕ) → q % width height < width height
 rest_in_range height q = mod-lt q (pow_pos (6 * height))
 
--- 2 ^ 36 indices at most
+-- In a node of a height up to 5, a slot covers at most 2^30 indices.
 pub width_low : (height : ℕ) → height ≤ 5 → width height ≤ 2 ^ 30
 width_low height low =
     let exponent : 6 * height ≤ 30 = omega arith in
     pow-le-pow_right {n = 2} (omega arith) exponent
 
--- an index put together from its parts
+-- An index made of a slot and an index below it lies within the span.
 pub index_in_span : (height i r : ℕ) → i < 64 → r < width height → i * width height + r < span height
 index_in_span height i r lt within =
     let next : i + 1 ≤ 64 = omega arith in
     let m : (i + 1) * width height ≤ 64 * width height = mul-le-mul_right (width height) next in
     omega (arith, pow-add 2 (6 * height) 6)
 
--- a child covers just what its slot does
+-- The span of a subtree one level lower is the width of its slot.
 pub child_span : (child height : ℕ) → child + 1 ≡ height → span child ≡ width height
 child_span child height fit = ap (λ n. 2 ^ n) (omega arith)
 
 module _ {T : Type 0} where
+  -- If all slots fit the height, each one does.
   pub slot_fits : (height : ℕ) (slots : List (Slot T)) → AllFit height slots → (i : ℕ) → SlotFits height (slot slots i)
   slot_fits height [] fit i = tt
   slot_fits height (s ∷ ss) fit zero = fit.0
   slot_fits height (s ∷ ss) fit (suc i) = slot_fits height ss fit.1 i
 
-  -- what the node has at an index that is put together from its parts
+  -- At an index made of a slot and an index below it, the node has what the slot has there.
   pub value_in : (height : ℕ) (slots : List (Slot T)) (i r : ℕ) → i < 64 → r < width height → map.get (view_of height slots).items (i * width height + r) ≡ below (slot slots i) r
   value_in height slots i r lt within =
       get-table_within (span height) (look height slots) _ (index_in_span height i r lt within)
       ∙ rw (div-mul-add i (width height) r within, mod-mul-add i (width height) r within) refl
 
-  -- a search in one slot
+  -- A search below a slot, counted from the slot's first index, is the node's search in the slot.
   pub slot_least : (height : ℕ) (slots : List (Slot T)) (x : Sought) (i from : ℕ) → i < 64 → option_map (λ n. i * width height + n) (least (λ r. is_sought x (below (slot slots i) r)) from (width height - 1)) ≡ least (λ k. is_sought x (map.get (view_of height slots).items k)) (i * width height + from) (i * width height + (width height - 1))
   slot_least height slots x i from lt =
       least_moved _ _ (i * width height) from (width height - 1) (λ r ge le. ap (is_sought x) (sym (value_in height slots i r lt (omega (arith, pow_pos (6 * height))))))
 
-  -- what the words say, of the node's value
+  -- The words have a slot's bit if and only if the node has a sought index in the slot.
   pub told : (height : ℕ) (slots : List (Slot T)) (words : Words) (v : Tree T) → IsSound height slots words → view_of height slots ≡ v → (x : Sought) (i : ℕ) → i < 64 → tells_of words x i ≡ is_some (least (λ k. is_sought x (map.get v.items k)) (i * width v.height + 0) (i * width v.height + (width v.height - 1)))
   told height slots words v sound view_is x i lt =
       subst (λ (v : Tree T). tells_of words x i ≡ is_some (least (λ k. is_sought x (map.get v.items k)) (i * width v.height + 0) (i * width v.height + (width v.height - 1)))) view_is
@@ -73,6 +76,7 @@ pub record Spot {T : Type 0} (height : ℕ) (slots : List (Slot T)) (q at rest :
   pub view_is : view_of height slots ≡ v
 
 module _ {T : Type 0} {height : ℕ} {slots : List (Slot T)} {q at rest : ℕ} {v : Tree T} where
+  -- An index within the span lies in the slot that division finds, at the remainder below it.
   pub spot : (words : Words) → IsSound height slots words → at ≡ q / width height → rest ≡ q % width height → view_of height slots ≡ v → q < span v.height → Spot height slots q at rest v
   spot words sound at_is rest_is view_is lt =
       let within : q < span height = subst (λ (t : Tree T). q < span t.height) (sym view_is) lt in
@@ -86,11 +90,11 @@ module _ {T : Type 0} {height : ℕ} {slots : List (Slot T)} {q at rest : ℕ} {
       }
 
   module _ (here : Spot height slots q at rest v) where
-    -- the slot that was read
+    -- A slot that is read is the one at its place.
     pub slot_is : (s t : Slot T) → s ≡ get_or slots at s → s ≡ t → slot slots at ≡ t
     slot_is s t read is = sym (get_or_read slots at s here.in_range read Vacant) ∙ is
 
-    -- what the node has at the index
+    -- The entry below a slot that is read is the node's entry at the index.
     pub value_at : (s t : Slot T) → s ≡ get_or slots at s → s ≡ t → below t rest ≡ map.get v.items q
     value_at s t read is =
         ap (λ r. below t r) here.rest_is
@@ -102,11 +106,14 @@ module _ {T : Type 0} {height : ℕ} {slots : List (Slot T)} {q at rest : ℕ} {
     height_is = ap (λ (t : Tree T). t.height) here.view_is
 
     module _ (s : Slot T) (b : Box (Node T) Global) (read : s ≡ get_or slots at s) (is : s ≡ Child b) where
+      -- A subtree is one level lower than its node.
       pub child_height : b.value.height + 1 ≡ height
       child_height = subst (SlotFits height) (slot_is s (Child b) read is) (slot_fits height slots here.all_fit at)
 
+      -- A subtree is lower than its node.
       pub child_falls : b.value.height < v.height
       child_falls = omega (arith, child_height, height_is)
 
+      -- The index below a slot lies within the span of the subtree there.
       pub rest_below : rest < span b.value.height
       rest_below = rw (here.rest_is, child_span b.value.height height child_height) (rest_in_range height q)

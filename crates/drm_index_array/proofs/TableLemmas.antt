@@ -17,6 +17,7 @@ module _ {X : Type 0} where
         | inr (inr more) ↦ rw (ne_eqb q n (omega arith)) refl
       ]
 
+  -- A table has what the function returns below the bound and nothing past it.
   pub get-table : (n : ℕ) (f : ℕ → Option X) (q : ℕ) → map.get (table n f) q ≡ cond (ltb q n) (f q) None
   unfolding table
   get-table zero f q = map.get-empty nat_cmp q ∙ rw (le-ltb q 0 (omega arith)) refl
@@ -29,9 +30,11 @@ module _ {X : Type 0} where
         | inr (inr more) ↦ rw (ne_eqb q n (omega arith), le-ltb q n (omega arith), le-ltb q (suc n) (omega arith)) refl
       ]
 
+  -- Below the bound a table has what the function returns.
   pub get-table_within : (n : ℕ) (f : ℕ → Option X) (q : ℕ) → q < n → map.get (table n f) q ≡ f q
   get-table_within n f q lt = get-table n f q ∙ rw (lt-ltb q n lt) refl
 
+  -- From the bound on a table has nothing.
   pub get-table_past : (n : ℕ) (f : ℕ → Option X) (q : ℕ) → n ≤ q → map.get (table n f) q ≡ None
   get-table_past n f q le = get-table n f q ∙ rw (le-ltb q n le) refl
 
@@ -43,7 +46,7 @@ module _ {X : Type 0} where
       either true k = omega arith
       either false k = omega arith
 
-  -- it has no more entries than that
+  -- A table has at most as many entries as its bound.
   pub len-table : (n : ℕ) (f : ℕ → Option X) → map.len (table n f) ≤ n
   unfolding table
   len-table zero f = omega (arith, map.len-empty nat_cmp X)

@@ -23,12 +23,12 @@ zero_test n e = rw e refl
 one_test : (n : ℕ) → n ≡ 1 → eqb n 1 ≡ true
 one_test n e = rw e refl
 
--- the tail is 0: no place from there on has a 1
+-- If a word has no bits from a place on, no place from there on is found.
 pub no_position : (word from : ℕ) → bit_and word (2 ^ 64 - 2 ^ from) ≡ 0 → None ≡ least (has_bit word) from 63
 no_position word from none =
     sym (least_is_none (has_bit word) from 63 (λ k ge le. zero_test _ (sym (tail_of word from k ge (omega arith)) ∙ ap (λ n. bit_at n k) none ∙ bit_at-zero k)))
 
--- else its lowest 1 is the least such place
+-- If a word has bits from a place on, the lowest of them is found.
 pub least_position : (word from : ℕ) → 0 < bit_and word (2 ^ 64 - 2 ^ from) → bit_and word (2 ^ 64 - 2 ^ from) < 2 ^ 64 → Some (trailing_zeros w64 (bit_and word (2 ^ 64 - 2 ^ from))) ≡ least (has_bit word) from 63
 least_position word from some fits =
     let rest = bit_and word (2 ^ 64 - 2 ^ from) in
@@ -49,10 +49,11 @@ least_position word from some fits =
           | inr ge ↦ ge
         ]
 
+-- The bitwise AND of two numbers fits 64 bits.
 pub and_fits : (a b : ℕ) → a < 2 ^ 64 → bit_and a b < 2 ^ 64
 and_fits a b fits = omega (arith, and_le_l a b)
 
--- a word with the bit of one place set, and with it cleared
+-- Setting a bit of a word sets this bit and changes no other.
 pub has_bit-set : (word k i : ℕ) → k < 64 → i < 64 → has_bit (bit_or word (1 * 2 ^ k % 2 ^ 64)) i ≡ (if i == k then true else has_bit word i)
 has_bit-set word k i within lt =
     elim (cases_eq i k) [
@@ -60,6 +61,7 @@ has_bit-set word k i within lt =
       | inr apart ↦ let test : eqb i k ≡ false = grind (arith, nat_tests) in rw test (ap (λ n. eqb n 1) (bit_at_set_other w64 word k within i apart))
     ]
 
+-- Clearing a bit of a word clears this bit and changes no other.
 pub has_bit-clear : (word k i : ℕ) → k < 64 → i < 64 → has_bit (bit_and word (bit_not w64 (1 * 2 ^ k % 2 ^ 64))) i ≡ (if i == k then false else has_bit word i)
 has_bit-clear word k i within lt =
     elim (cases_eq i k) [
@@ -67,7 +69,7 @@ has_bit-clear word k i within lt =
       | inr apart ↦ let test : eqb i k ≡ false = grind (arith, nat_tests) in rw test (ap (λ n. eqb n 1) (bit_at_clear_other w64 word k within i lt apart))
     ]
 
--- the word of the other places
+-- The complement of a word has exactly the bits that the word does not have.
 pub has_bit-not : (word i : ℕ) → word < 2 ^ 64 → i < 64 → has_bit (bit_not w64 word) i ≡ not (has_bit word i)
 has_bit-not word i fits lt =
     let flipped = bit_at_not w64 word i fits lt in

@@ -48,17 +48,19 @@ module _ {X : Type 0} (key step_number : X → ℕ) (nothing : X) where
           absurd (false≢true (sym fails ∙ ap (λ (u : ℕ × ℕ). p (f u)) (λ i. (sym (tied b e.0 is) i, value i)) ∙ passes))
       skipped false is fails found = found
 
+  -- Without keys there are no records in the list.
   pub none_in_empty : (slab : Slab X) → rows_in nothing slab (fin.entries {X = ℕ} {R = nat_cmp} fin.empty) ≡ []
   none_in_empty slab =
       ap (rows_in nothing slab) (same_entries nat_cmp nat_cmp_total nat_cmp-IsAntisymmetric (fin.entries fin.empty) [] (fin.entries_sorted fin.empty) tt (λ q. sym (fin.get-entries fin.empty q) ∙ fin.get-empty nat_cmp q))
 
+  -- An empty slab and no keys are keyed.
   pub keyed_empty : (slab : Slab X) → ((k : ℕ) → get slab k ≡ None) → IsKeyed key step_number fin.empty slab
   keyed_empty slab none = record {
     record_of = λ b k at. absurd (none-some k (sym (fin.get-empty nat_cmp b) ∙ at));
     key_of = λ k x at. absurd (none-some x (sym (none k) ∙ at));
   }
 
-  -- what a slab becomes whose room was made before
+  -- An update after a larger capacity is an update of the slab itself.
   pub grown : (slab room new : Slab X) (capacity k r : ℕ) (x : X) → room ≡ record slab { capacity = capacity } → r ≡ k → Updates room new r (Some x) → Updates slab new k (Some x)
   grown slab room new capacity k r x is key up = record {
     changed = ap (get new) (sym key) ∙ up.changed;
@@ -75,7 +77,7 @@ module _ {X : Type 0} (key step_number : X → ℕ) (nothing : X) where
     by_get : (P : ℕ × ℕ → Type 0) → ((b k : ℕ) → fin.get keys b ≡ Some k → P (b, k)) → AllByRecursion P es
     by_get P each = entries_each P es (fin.entries_sorted keys) (λ b k found. each b k (fin.get-entries keys b ∙ found))
 
-    -- the same with room for more
+    -- A larger capacity leaves the slab keyed.
     pub more_room : (room : Slab X) (capacity : ℕ) → room ≡ record slab { capacity = capacity } → IsKeyed key step_number keys room
     more_room room capacity is = subst (IsKeyed key step_number keys) (sym is) (record { record_of = keyed.record_of; key_of = keyed.key_of })
 
@@ -122,15 +124,17 @@ module _ {X : Type 0} (key step_number : X → ℕ) (nothing : X) where
           others gs (right _ _ b) a.1,
         )
 
-    -- step numbers rise, and keys differ
+    -- The step numbers of the records rise.
     pub rise : InOrder (λ x y. step_number x < step_number y) rows
     rise = (in_order es (fin.entries_sorted keys) tells).0
 
+    -- No two records of the list have the same key.
     pub keys_differ : InOrder (λ x y. (key x == key y) ≡ false) rows
     keys_differ = (in_order es (fin.entries_sorted keys) tells).1
 
     -- the record of a key, and that of a step number
 
+    -- The record found by its key is the one in the slab.
     pub by_key : (k : ℕ) → find_row (λ x. key x == k) rows ≡ get slab k
     by_key k =
         elim (get slab k) as (λ o. get slab k ≡ o → find_row (λ x. key x == k) rows ≡ o) [
@@ -143,6 +147,7 @@ module _ {X : Type 0} (key step_number : X → ℕ) (nothing : X) where
               (sym (fin.get-entries keys (step_number x)) ∙ at) (same _ k (row_key (step_number x) k at))
         ] refl
 
+    -- The record found by its step number is the one in the slab at its key.
     pub by_step_number : (b : ℕ) → find_row (λ x. step_number x == b) rows ≡ option_and_then (get slab) (fin.get keys b)
     by_step_number b =
         elim (fin.get keys b) as (λ o. fin.get keys b ≡ o → find_row (λ x. step_number x == b) rows ≡ option_and_then (get slab) o) [
@@ -158,7 +163,7 @@ module _ {X : Type 0} (key step_number : X → ℕ) (nothing : X) where
               (sym (fin.get-entries keys b) ∙ at) (same _ b (row_step_number b k at)) ∙ sym w.1
         ] refl
 
-    -- no other record has the step number of a key's
+    -- The only record with the step number of a key's record is the one with this key.
     pub only_one : (k : ℕ) (x : X) → get slab k ≡ Some x → AllByRecursion (λ z. (step_number z == step_number x) ≡ (key z == k)) rows
     only_one k x there =
         all_mapped (λ z. (step_number z == step_number x) ≡ (key z == k)) (row slab) es
@@ -169,6 +174,7 @@ module _ {X : Type 0} (key step_number : X → ℕ) (nothing : X) where
               apart _ k e (row_key b n at ∙ ap (λ o. unwrap_or o 0) (sym at ∙ ap (fin.get keys) (sym (row_step_number b n at) ∙ alike) ∙ (keyed.key_of k x there).1)))
         ] refl))
 
+    -- The record at a position is the one whose step number is at this position.
     pub at_position : (i : ℕ) → option_and_then (λ b. option_and_then (get slab) (fin.get keys b)) (slice_get (fin.keys keys) i) ≡ slice_get rows i
     at_position i = each (slice_get (fin.keys keys) i) ∙ row_at keys 0 (row slab) i
       where
@@ -180,10 +186,11 @@ module _ {X : Type 0} (key step_number : X → ℕ) (nothing : X) where
         each None = refl
         each (Some b) = inner b (fin.get keys b) refl
 
+    -- There are as many records as keys.
     pub many : length rows ≡ fin.len keys
     many = rows_length keys 0 (row slab)
 
-    -- an unused step number has no key
+    -- A step number that no record has has no key.
     pub vacant : (n : ℕ) → AllByRecursion (λ x. (step_number x == n) ≡ false) rows → fin.get keys n ≡ None
     vacant n unused = fin.get-entries keys n ∙ none es tells unused
       where
@@ -220,6 +227,7 @@ module _ {X : Type 0} (key step_number : X → ℕ) (nothing : X) where
             | false ↦ λ e. rest ∙ ap (λ b. cond b (row new f ∷ more) more) (sym e)
           ] (ap q t.0)
 
+      -- A new record is put at its place in the list.
       pub created : rows_in nothing new (fin.entries (fin.insert keys n k)) ≡ placed (λ y z. nat_lt (step_number y) (step_number z)) x rows
       created =
           ap (map (row new)) (fin.entries-insert nat_cmp_total keys n k)
@@ -229,6 +237,7 @@ module _ {X : Type 0} (key step_number : X → ℕ) (nothing : X) where
           ∙ (λ i. untagged (λ b. nat_lt b n) es tells_new i ++ unwrap_or (up.changed i) nothing ∷ untagged (λ b. not (nat_lt b n)) es tells_new i)
           ∙ (λ i. filter (λ y. nat_lt (step_number y) (sym is_step_number i)) (unmoved i) ++ x ∷ filter (λ y. not (nat_lt (step_number y) (sym is_step_number i))) (unmoved i))
 
+      -- After a record is created at a free key, the slab is still keyed.
       pub created_keyed : IsKeyed key step_number (fin.insert keys n k) new
       created_keyed = record {
         record_of = λ b j at.
@@ -262,6 +271,7 @@ module _ {X : Type 0} (key step_number : X → ℕ) (nothing : X) where
       x_at : fin.get keys (step_number x) ≡ Some k
       x_at = (keyed.key_of k x there).1
 
+      -- A changed record is changed in the list.
       pub replaced : rows_in nothing new es ≡ map (λ z. if step_number z == step_number x then g z else z) rows
       replaced = rows_over (row slab) (row new) (λ z. if step_number z == step_number x then g z else z) es (by_get (λ e. row new e ≡ (if step_number (row slab e) == step_number x then g (row slab e) else row slab e)) each)
         where
@@ -279,6 +289,7 @@ module _ {X : Type 0} (key step_number : X → ℕ) (nothing : X) where
                     apart n k differs (ap (λ o. unwrap_or o 0) (sym at ∙ ap (fin.get keys) (sym (row_step_number c n at) ∙ e) ∙ x_at)))))
               ] refl
 
+      -- After a change that keeps key and step number, the slab is still keyed.
       pub replaced_keyed : IsKeyed key step_number keys new
       replaced_keyed = record {
         record_of = λ b j at.
@@ -298,7 +309,7 @@ module _ {X : Type 0} (key step_number : X → ℕ) (nothing : X) where
             ] refl;
       }
 
-    -- a record goes, with the key of its step number
+    -- a record is removed, with the key of its step number
     module _ (k : ℕ) (x : X) (new : Slab X) (there : get slab k ≡ Some x) (up : Updates slab new k None) where
       gone_at : fin.get keys (step_number x) ≡ Some k
       gone_at = (keyed.key_of k x there).1
@@ -309,6 +320,7 @@ module _ {X : Type 0} (key step_number : X → ℕ) (nothing : X) where
       key_is : (c n : ℕ) → fin.get keys c ≡ Some n → c ≡ step_number x → n ≡ k
       key_is c n at e = ap (λ o. unwrap_or o 0) (sym at ∙ ap (fin.get keys) e ∙ gone_at)
 
+      -- A removed record is removed from the list.
       pub removed : rows_in nothing new (fin.entries (fin.remove keys (step_number x))) ≡ filter (λ z. not (step_number z == step_number x)) rows
       removed = ap (rows_in nothing new) (entries_removed keys (step_number x)) ∙ by_list es (by_get Fact each)
         where
@@ -327,6 +339,7 @@ module _ {X : Type 0} (key step_number : X → ℕ) (nothing : X) where
               ] refl
               ∙ ap (λ n. cond (not (n == step_number x)) (row slab f ∷ stay) stay) (sym h.0.0)
 
+      -- After a record is removed, the slab is still keyed.
       pub removed_keyed : IsKeyed key step_number (fin.remove keys (step_number x)) new
       removed_keyed = record {
         record_of = λ b j at.

@@ -82,6 +82,7 @@ module _ (s : State) (w : Rows) (t : MeetsInvariants s) (h : Represents s w) whe
       ∙ ap not (list_any-map (λ (row : MasterRow). is_option token row.lease_token) (master_row_of s.leases.tokens) ms
       ∙ token_open s.leases.tokens ms (tokens_of_lessees s t) (all_found_apart (λ (row : LeaseToken). row.master) s.leases.tokens (leases_so s t).lessees_differ) token)
 
+  -- The next lease token is the same by rows as in the state.
   pub next_is : model.next_lease_token w ≡ leases.next_token s.leases
   next_is =
       (λ i. option_or (least (λ token. free_is token i) (last_lease_token_is s w h i + 1) (sym (bounds_are s w h).9 i)) (least (λ token. free_is token i) 1 (sym (bounds_are s w h).9 i)))
@@ -98,6 +99,7 @@ module _ (s : State) (w : Rows) (t : MeetsInvariants s) (h : Represents s w) whe
   owner_is : (m : ℕ) → owner_of w.masters m ≡ masters.owner_of ms m
   owner_is m = (λ i. owner_of (masters_are s w h i) m) ∙ (λ i. top_of (above_is s.leases.tokens ms i) m)
 
+  -- The free id of a lessee is the same by rows as in the state.
   pub free_lessee_is : (m : ℕ) → model.free_lessee w m ≡ masters.free_lessee s.masters m
   free_lessee_is m =
       (λ i. least (λ id. not (list_any (model.is_lessee_of w.masters (owner_is m i) id) w.masters)) 1 (sym (bounds_are s w h).8 i))
@@ -117,7 +119,7 @@ module _ (s : State) (w : Rows) (t : MeetsInvariants s) (h : Represents s w) whe
     seen_here : (k : ℕ) → model.is_seen w caller.client k ≡ rules.is_seen s.leases.grants ms s.modes own_master caller.flags.universal k
     seen_here k = λ i. (is_some (kind_of (topology_is s w h i) k) && seen_is s w caller is h k i) || framebuffer_is s w t h k i
 
-    -- what is listed, and what comes along
+    -- The objects of a new lease are the same by rows as in the state.
     pub leased_is : (ids : List ℕ) → model.leased w caller.client ids ≡ rules.leased s.leases s.masters s.modes own_master caller.flags.universal ids
     leased_is ids = λ i. ids ++ (if universal_is s w caller is h i then [] else filter (λ k. controls_is s w caller is h k i) (planes_of (topology_is s w h i) ids))
 
@@ -131,7 +133,7 @@ module _ (s : State) (w : Rows) (t : MeetsInvariants s) (h : Represents s w) whe
         ∙ list_any-map (λ (row : GrantRow). (row.mode_object == k) && is_option m (lessor_of (masters_of s) row.master)) grant_row_of s.leases.grants
         ∙ (λ i. list_any (λ (g : Grant). (g.mode_object == k) && is_option m (above_is s.leases.tokens ms i g.master)) s.leases.grants)
 
-    -- what is asked of the caller and of the ids
+    -- CREATE_LEASE is denied by the first of its rules that fails in the state.
     pub create_verdict : (ids : List ℕ) → caller_master w caller.client ≡ own_master → first_failing (admission_checks w caller.client (CreateLease ids)) ≡ None →
         verdict w (Ask caller.client (CreateLease ids)) ≡ first_failing (lease_checks s.leases s.masters s.modes own_master caller.flags.universal ids)
     unfolding meaning lease_checks

@@ -63,6 +63,7 @@ module _ (s : State) (key b m id token : ℕ) (objects : List ℕ) (rise : InOrd
         ap (λ o. is_some (option_and_then (λ (x : Master). x.lessor) o))
         (find_last (is_step_number b) (lessee key b m id) (eq-eqb b b refl) s.masters.masters (all_weaker (λ (x : Master). x.step_number < b) (λ (x : Master). is_step_number b x ≡ false) (λ x lt. less-differ x.step_number b lt) s.masters.masters new))
 
+    -- One lease more keeps all invariants.
     pub leased_invariants : MeetsInvariants s → AreMasters leased.masters → AreLeases leased.leases → AreAgreed leased.leases leased.masters → (invariant : Invariant) → meets_invariant invariant leased
     unfolding meets_invariant
     leased_invariants t are leases_are agreed MastersAre = are
@@ -94,6 +95,7 @@ module _ (s : State) (key b m id token : ℕ) (objects : List ℕ) (rise : InOrd
           (ap (λ l. grants_of s ++ l) (sym (map-map grant_row_of (leases.grant b) objects)) ∙ sym (map-append grant_row_of s.leases.grants (map (leases.grant b) objects)))
           (same_append w.grants (grants_of s) (map (model.grant b) ids) (map (model.grant b) objects) (grants_are s w h) (same-map (model.grant b) ids objects same))
 
+      -- The state with one lease more represents the rows with it.
       pub leased_represents : (part : Part) → represents_part part leased (leased_rows w m b id token ids)
       unfolding represents_part
       leased_represents Masters = masters_now

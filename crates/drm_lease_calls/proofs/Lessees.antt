@@ -59,6 +59,7 @@ module _ (s : State) (w : Rows) (h : Represents s w) where
       ∙ list_any-map (model.is_lessee_grant (masters_of s) m id) grant_row_of s.leases.grants
       ∙ list_any_agree (λ (g : Grant). model.is_lessee_grant (masters_of s) m id (grant_row_of g)) (λ (g : Grant). option_map_or (is_direct_lessee m id) (masters.master_at s.masters.masters g.master) false) (λ g. direct_is m id g.master) s.leases.grants
 
+  -- The ids of a master's lessees are the same by rows as in the state.
   pub lessees_listed : (m : ℕ) → filter (model.has_lessee w m) (numbers_from 1 w.limits.lessees) ≡ leases.lessee_ids s.leases.grants s.masters.masters s.masters.last_lessee m
   lessees_listed m = λ i. filter (λ id. lent_is m id i) (numbers_from 1 (sym (bounds_are s w h).8 i))
 
@@ -77,6 +78,7 @@ module _ (s : State) (w : Rows) (h : Represents s w) where
       each [] is all = tt
       each (k ∷ ks) is all = (less k is.0 all.0, each ks is.1 all.1)
 
+  -- The objects of a lease are the same by rows as in the state, in the order of their ids.
   pub lease_listed : (t : MeetsInvariants s) (m : ℕ) → rising (model.granted_of w m) ≡ granted_objects s.leases.grants m
   lease_listed t m =
       let its = λ (row : GrantRow). row.master == m in
@@ -94,16 +96,18 @@ module _ (s : State) (w : Rows) (h : Represents s w) where
   owner_is : (m : ℕ) → owner_of (masters_of s) m ≡ masters.owner_of s.masters.masters m
   owner_is m = λ i. top_of (above_is s.leases.tokens s.masters.masters i) m
 
+  -- The row of the lessee of an id is that of the lessee in the state.
   pub lessee_found : (m id : ℕ) → model.lessee_row w m id ≡ option_map (master_row_of s.leases.tokens) (find (masters.is_lessee_of s.masters.masters (masters.owner_of s.masters.masters m) id) s.masters.masters)
   lessee_found m id =
       (λ i. find (model.is_lessee_of (masters_are s w h i) (owner_of (masters_are s w h i) m) id) (masters_are s w h i))
       ∙ find-map (model.is_lessee_of (masters_of s) (owner_of (masters_of s) m) id) (master_row_of s.leases.tokens) s.masters.masters
       ∙ (λ i. option_map (master_row_of s.leases.tokens) (find (λ (x : Master). is_some x.lessor && (x.lessee_id == id) && (owner_is x.step_number i == owner_is m i)) s.masters.masters))
 
+  -- The lessee of an id has the same step number by rows as in the state.
   pub lessee_step_number : (m id : ℕ) (x : Master) → find (masters.is_lessee_of s.masters.masters (masters.owner_of s.masters.masters m) id) s.masters.masters ≡ Some x → model.lessee_master w m id ≡ x.step_number
   lessee_step_number m id x e = ap (λ o. unwrap_or (option_map (λ (row : MasterRow). row.master) o) 0) (lessee_found m id ∙ ap (option_map (master_row_of s.leases.tokens)) e)
 
-  -- what REVOKE_LEASE is, by what is found
+  -- REVOKE_LEASE is denied if the id has no lessee, or a lessee of another master.
   pub revoke_verdict : (c m id : ℕ) (o : Option Master) → caller_master w c ≡ m → first_failing (admission_checks w c (RevokeLease id)) ≡ None → find (masters.is_lessee_of s.masters.masters (masters.owner_of s.masters.masters m) id) s.masters.masters ≡ o →
       verdict w (Ask c (RevokeLease id)) ≡ first_failing (check NoLessee (is_some o) ∷ check NotYourLessee (option_map_or (λ (x : Master). masters.is_option m x.lessor) o false) ∷ [])
   unfolding meaning
@@ -120,12 +124,13 @@ module _ (s : State) (w : Rows) (h : Represents s w) where
 
 -- ---- what is looked up
 
+-- An option that holds something is not empty.
 pub none_there : {X : Type 0} (o : Option X) → is_some o ≡ true → o ≡ None → ⊥
 none_there None h e = let j : false ≡ true = h in cc
 none_there (Some x) h e = let n : Some x ≡ None = e in cc
 
 module _ (s : State) (t : MeetsInvariants s) where
-  -- a caller's master is there
+  -- The master that a client belongs to exists.
   pub caller_master_there : (c : ℕ) (x : Member) → masters.member_of s.masters.members c ≡ Some x → is_some (masters.master_at s.masters.masters x.master) ≡ true
   caller_master_there c x e = (found (masters.is_client c) (λ (y : Member). is_some (masters.master_at s.masters.masters y.master) ≡ true) x s.masters.members (masters_so s t).masters_there e).1
 
@@ -144,6 +149,7 @@ module _ (s : State) (t : MeetsInvariants s) where
         let b = row_of key (find (masters.is_key key) s.masters.masters) refl keyed in
         sym a.2 ∙ ap (λ (x : Master). x.key) (same_Some a.0 b.0 (sym a.1 ∙ b.1)) ∙ b.2
 
+    -- The objects of a master's lease are found by the master's key.
     pub objects_by_key : option_map_or (granted_objects s.leases.grants) (leases.lessee_at s.leases.lendings key) [] ≡ granted_objects s.leases.grants m
     objects_by_key = by_row (find (λ (x : leases.Lending). x.key == key) s.leases.lendings) refl
       where

@@ -83,7 +83,7 @@ picked_all numbers rise (x ∷ xs) once each =
 between : (n x : ℕ) → (1 ≤ x) × (x ≤ n) → (nat_le 1 x && nat_lt x (1 + n)) ≡ true
 between n x h = let low = h.0 in let high = h.1 in grind (arith, nat_tests, low, high)
 
--- ids of fixed objects that are once each
+-- Ids of fixed objects that occur once each are the listed objects, up to order.
 pub same_listed : (t : Topology) (ids : List ℕ) → list_all (λ x. count ids x == 1) ids ≡ true → ((x : ℕ) → is_among ids x ≡ true → (1 ≤ x) × (x ≤ object_count t)) → SameRows ids (listed_objects t ids)
 same_listed t ids once each =
     picked_all (numbers_from 1 (object_count t)) (numbers_rise 1 (object_count t)) ids (λ k e. eqb-true (count ids k) 1 (all_among (λ x. count ids x == 1) k ids once e))

@@ -26,7 +26,7 @@ module _ (s : State) (top : ℕ) where
   abbrev below : ℕ → Bool
   below = is_below (Some top) s.masters.masters
 
-  -- those whose tokens are taken are released
+  -- To release the lessees of the taken tokens releases all that end.
   pub opened_below : MeetsInvariants s → (v : MasterSet) → v ≡ masters.swept (calls.released (leases.is_opened_under s.leases.tokens s.masters.masters top) s.masters) → v ≡ revoked.masters
   opened_below t v e = e ∙ (λ i. masters.swept (record s.masters { masters = opened_released s.leases.tokens below s.masters.masters (kept_have_tokens s t) i }))
 
@@ -34,6 +34,7 @@ module _ (s : State) (top : ℕ) where
     kept : AreKeptBy revoked.leases.tokens (released below s.masters.masters)
     kept = kept_ended below s.leases.tokens s.masters.masters (kept_have_tokens s t)
 
+    -- The end of a master's leases keeps all invariants.
     pub revoked_invariants : (invariant : Invariant) → meets_invariant invariant revoked
     unfolding meets_invariant
     revoked_invariants MastersAre = are
@@ -51,6 +52,7 @@ module _ (s : State) (top : ℕ) where
       unfolding ended
       clients_yet = clients_are s w h
 
+      -- The state in which a master's leases ended represents the swept rows in which they did.
       pub revoked_represents : (part : Part) → represents_part part revoked (swept (ended w top))
       unfolding represents_part swept ended
       revoked_represents Masters =

@@ -31,7 +31,7 @@ use Rattle.drm_masters.proofs.Released.{marked, marked_step_number, marked_lesso
 use Rattle.drm_leases.specs.Calls.{lending, lending_before}
 use Rattle.drm_leases.specs.Agreed.{is_owned, IsAgreed, AreAgreed, AreHeld}
 
--- whether it is a client of that master of its own
+-- whether it is a client with that master as its own
 abbrev pub owns : ℕ → Member → Bool
 owns m y = y.is_master && (y.master == m)
 
@@ -40,6 +40,7 @@ module _ (members members2 : List Member) (ms ms2 : List Master) (x : Lending) w
   abbrev Stays : Type 0
   Stays = (y : Master) → master_at ms x.lessee ≡ Some y → (y.step_number ≡ x.lessee) → is_owned members y ≡ true → (z : Master) × (master_at ms2 x.lessee ≡ Some z) × (z.lessor ≡ y.lessor) × (is_owned members2 z ≡ true)
 
+  -- If the lessee keeps its lessor, its owner and its key, the lease still agrees with the masters.
   pub still_agreed : Stays → (IsKeyOf ms x.lessee x.key → IsKeyOf ms2 x.lessee x.key) → IsAgreed members ms x → IsAgreed members2 ms2 x
   still_agreed stays key h = by_row (master_at ms x.lessee) refl h.0 h.1
     where
@@ -106,6 +107,7 @@ owned_yet members members2 y own k =
 other_members : (members members2 : List Member) (ms : List Master) (x : Lending) → (list_any (owns x.lessee) members ≡ true → list_any (owns x.lessee) members2 ≡ true) → IsAgreed members ms x → IsAgreed members2 ms x
 other_members members members2 ms x own = still_agreed members members2 ms ms x (λ y e is k. (y, e, refl, owned_yet members members2 y (subst (λ n. list_any (owns n) members ≡ true → list_any (owns n) members2 ≡ true) (sym is) own) k)) (λ h. h)
 
+-- A master that is kept or a client's own is held.
 pub held_of : (members : List Member) (y : Master) → is_owned members y ≡ true → is_held members y ≡ true
 held_of members y k = elim y.kept as (λ b. (b || list_any (owns y.step_number) members) ≡ true → (b || list_any (λ (z : Member). z.master == y.step_number) members) ≡ true) [ true ↦ λ h. refl | false ↦ λ h. named members h ] k
   where
@@ -152,7 +154,7 @@ unreleased below members ms x out =
 each : {P Q : Lending → Type 0} (xs : List Lending) → ((x : Lending) → P x → Q x) → AllByRecursion P xs → AllByRecursion Q xs
 each {P = P} {Q = Q} xs f h = all_weaker P Q f xs h
 
--- the leases that do not end agree with the masters that are left, where none but lessees of leases that end are released
+-- If only lessees of ending leases are released, the leases that do not end agree with the masters left.
 pub agreed_released : (below chosen : ℕ → Bool) → ((n : ℕ) → below n ≡ false → chosen n ≡ false) → (members : List Member) (ms : List Master) (xs : List Lending) → AllByRecursion (IsAgreed members ms) xs →
     AllByRecursion (IsAgreed members (filter (λ (y : Master). is_living members (map (marked chosen) ms) y.step_number) (map (marked chosen) ms))) (filter (λ (x : Lending). not (below x.lessee)) xs)
 agreed_released below chosen only members ms [] h = tt
@@ -165,11 +167,11 @@ agreed_released below chosen only members ms (x ∷ xs) h =
       | false ↦ λ e. (after_sweep members now x (unreleased chosen members ms x (only x.lessee e) h.0), more)
     ] refl
 
--- one more master, the newest
+-- All leases still agree with the masters after a newest master is created.
 pub agreed_more : (members : List Member) (ms : List Master) (z : Master) (xs : List Lending) → AllByRecursion (IsAgreed members ms) xs → AllByRecursion (IsAgreed members (ms ++ z ∷ [])) xs
 agreed_more members ms z xs h = each xs (one_more members ms z) h
 
--- one more lease
+-- All leases agree with the masters after a lessee and its lease are created.
 pub agreed_lent : (members : List Member) (ms : List Master) (key step_number m id : ℕ) → IsFresh ms step_number → find (is_key key) ms ≡ None → (xs : List Lending) → AllByRecursion (IsAgreed members ms) xs → AllByRecursion (IsAgreed members (placed master_before (lessee key step_number m id) ms)) (placed lending_before (lending step_number m key) xs)
 agreed_lent members ms key step_number m id fresh free xs h =
     let z = lessee key step_number m id in
@@ -178,17 +180,17 @@ agreed_lent members ms key step_number m id fresh free xs h =
     all_placed (IsAgreed members (placed master_before z ms)) (λ (x : Lending). lending_before x (lending step_number m key)) (lending step_number m key) xs
     (ap (option_and_then (λ (y : Master). y.lessor)) at, ap (λ o. option_map_or (is_owned members) o false) at, ap (option_map (λ (y : Master). y.step_number)) keyed) (each xs (one_put members ms z fresh free) h)
 
--- a sweep
+-- All leases still agree with the masters after a sweep.
 pub agreed_swept : (members : List Member) (ms : List Master) (xs : List Lending) → AllByRecursion (IsAgreed members ms) xs → AllByRecursion (IsAgreed members (filter (λ (y : Master). is_living members ms y.step_number) ms)) xs
 agreed_swept members ms xs h = each xs (after_sweep members ms) h
 
 -- ---- clients come, go and change
 
--- one more client
+-- All leases still agree with the masters after a client is added.
 pub agreed_joined : (members : List Member) (c : Member) (ms : List Master) (xs : List Lending) → AllByRecursion (IsAgreed members ms) xs → AllByRecursion (IsAgreed (members ++ c ∷ []) ms) xs
 agreed_joined members c ms xs h = each xs (λ x. other_members members (members ++ c ∷ []) ms x (list_any_left (owns x.lessee) members (c ∷ []))) h
 
--- one of a lessee that was kept
+-- All leases still agree with the masters after a client redeems a lessee.
 pub agreed_redeemed : (c m : ℕ) (v : MasterSet) (xs : List Lending) → AllByRecursion (IsAgreed v.members v.masters) xs → AllByRecursion (IsAgreed (redeemed c m v).members (redeemed c m v).masters) xs
 agreed_redeemed c m v xs h = each xs (λ x. others_kept (marked (λ n. n == m)) (marked_step_number (λ n. n == m)) (marked_lessor (λ n. n == m)) (marked_key (λ n. n == m)) v.members (placed member_before (lease_client c m) v.members) v.masters x (λ y is. owned y)) h
   where
@@ -213,7 +215,7 @@ own_left members c n rise other =
 same_member : (members : List Member) (c : ℕ) (x z : Member) → member_of members c ≡ Some x → member_of members c ≡ Some z → z ≡ x
 same_member members c x z here there = let e : Some z ≡ Some x = sym there ∙ here in cc
 
--- one client fewer: the leases of others' lessees
+-- Without a client, all leases still agree if the lease of its master is removed.
 pub agreed_left : (members : List Member) (c : ℕ) (ms : List Master) (below : ℕ → Bool) (xs : List Lending) → Rise members → ((x : Member) → member_of members c ≡ Some x → x.is_master ≡ true → below x.master ≡ true) → AllByRecursion (IsAgreed members ms) xs →
     AllByRecursion (IsAgreed (filter (λ (x : Member). not (is_client c x)) members) ms) (filter (λ (x : Lending). not (below x.lessee)) xs)
 agreed_left members c ms below [] rise own h = tt
@@ -237,7 +239,7 @@ agreed_left members c ms below (x ∷ xs) rise own h =
           | false ↦ λ f. refl
         ] ends
 
--- one whose own master is kept
+-- All leases still agree with the masters after a client closes whose own master is kept.
 pub agreed_closed_own : (v : MasterSet) (c : ℕ) (x : Member) (xs : List Lending) → Rise v.members → member_of v.members c ≡ Some x → AllByRecursion (IsAgreed v.members v.masters) xs → AllByRecursion (IsAgreed (closed_own c x.master v).members (closed_own c x.master v).masters) xs
 agreed_closed_own v c x xs rise look h = each xs (λ a. others_kept change step_numbers lessors keys v.members left v.masters a (λ y is. owned y)) h
   where
@@ -283,6 +285,7 @@ any_more P p q f (x ∷ xs) all h =
       | false ↦ λ e k. or_right (q x) (list_any q xs) (any_more P p q f xs all.1 k)
     ] refl h
 
+-- A change of a client's row that keeps its own master keeps all leases in agreement.
 pub agreed_changed : (members : List Member) (x y : Member) (ms : List Master) (xs : List Lending) → Rise members → member_of members y.client ≡ Some x → ((n : ℕ) → owns n x ≡ true → owns n y ≡ true) → AllByRecursion (IsAgreed members ms) xs → AllByRecursion (IsAgreed (map (λ (z : Member). if is_client y.client z then y else z) members) ms) xs
 agreed_changed members x y ms xs rise look own h = each xs (λ a. other_members members (map put members) ms a (owned a.lessee)) h
   where
@@ -300,7 +303,7 @@ agreed_changed members x y ms xs rise look own h = each xs (λ a. other_members 
 
 -- ---- what is lent
 
--- the leases of the direct lessees of a master are those that it lent
+-- A mode object is leased out by a master if and only if one of the leases that it lent has it.
 pub leased_out_is : (members : List Member) (ms : List Master) (rows : List Lease) → AllByRecursion (IsAgreed members ms) (lendings_in rows) → (m x : ℕ) → is_leased_out (grants_in rows) ms m x ≡ is_lent rows m x
 leased_out_is members ms rows h m x = any_with (λ (g : Grant). (g.mode_object == x) && is_option m (lessor_of ms g.master)) (λ n. is_option m (lessor_of ms n)) x (λ g. refl) rows ∙ lent rows h
   where
@@ -310,7 +313,7 @@ leased_out_is members ms rows h m x = any_with (λ (g : Grant). (g.mode_object =
 
 -- ---- tokens
 
--- the lessee of each token is there and held
+-- The lessee of each token exists and is held.
 pub tokens_held : (l : LeaseSet) (v : MasterSet) → AreLeases l → AreAgreed l v → AreHeld v l.tokens
 tokens_held l v are agreed = all_weaker (λ (row : LeaseToken). has_some_lease l.lendings row.master ≡ true) (λ (row : LeaseToken). option_map_or (is_held v.members) (master_at v.masters row.master) false ≡ true) (λ row h. holds row.master h) l.tokens are.tokens_lent
   where
@@ -325,7 +328,7 @@ tokens_held l v are agreed = all_weaker (λ (row : LeaseToken). has_some_lease l
 
 -- ---- births
 
--- who is not there has no lease
+-- A master that does not exist has no lease.
 pub none_leased : (members : List Member) (ms : List Master) (xs : List Lending) → AllByRecursion (IsAgreed members ms) xs → (n : ℕ) → is_some (master_at ms n) ≡ false → has_some_lease xs n ≡ false
 none_leased members ms xs h n absent = none_passes (is_lease_of n) xs (each xs (λ x agreed. ne_eqb x.lessee n (λ same. none (master_at ms n) absent (ap (λ k. option_map_or (is_owned members) (master_at ms k) false) (sym same) ∙ agreed.1))) h)
   where

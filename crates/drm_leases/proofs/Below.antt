@@ -106,7 +106,7 @@ module _ (v : MasterSet) (are : AreMasters v) where
       named None e = absurd (false≢true e)
       named (Some l) e = ap Some (eqb-true l m e)
 
-  -- a direct lessee is younger, and its place is no greater than its number
+  -- A direct lessee is younger than its lessor, and its place is at most its number.
   pub its_lessee : (m i n : ℕ) → slice_get (lessees_of v.masters m) i ≡ Some n → (m < n) × (i ≤ n)
   its_lessee m i n at =
       let q = λ (x : Master). is_option m x.lessor in
@@ -116,6 +116,7 @@ module _ (v : MasterSet) (are : AreMasters v) where
         omega (arith, le),
       )
 
+  -- A master is below another if and only if it is a direct lessee of that one, or below one.
   pub below_by_lessees : (m n : ℕ) → is_below v.masters m n ≡ list_any (λ y. is_under above y n) (lessees_of v.masters m)
   below_by_lessees m n = same_bool (is_below v.masters m n) (list_any (λ y. is_under above y n) (lessees_of v.masters m)) down up
     where
@@ -149,7 +150,7 @@ module _ (v : MasterSet) (are : AreMasters v) where
           other true e lt le = let is = eqb-true n m e in absurd (omega (arith, is, lt, le))
           other false e lt le = e
 
-  -- whoever is a direct lessee or below one is below
+  -- A direct lessee and all below it are below the master.
   pub under_lessee : (m i n k : ℕ) → slice_get (lessees_of v.masters m) i ≡ Some n → is_under above n k ≡ true → is_below v.masters m k ≡ true
   under_lessee m i n k at under = below_by_lessees m k ∙ any_at (lessees_of v.masters m) i at
     where
@@ -158,11 +159,11 @@ module _ (v : MasterSet) (are : AreMasters v) where
       any_at (x ∷ xs) zero at = let e : x ≡ n = (let s : Some x ≡ Some n = at in cc) in or_left (is_under above x k) (list_any (λ y. is_under above y k) xs) (subst (λ y. is_under above y k ≡ true) (sym e) under)
       any_at (x ∷ xs) (suc i) at = or_right (is_under above x k) (list_any (λ y. is_under above y k) xs) (any_at xs i at)
 
-  -- none is below where no direct lessee is left, nor one below it
+  -- If no direct lessee is left, each master below is one of them or below one.
   pub none_below : (m i k : ℕ) → slice_get (lessees_of v.masters m) i ≡ None → is_below v.masters m k ≡ true → list_any (λ y. is_under above y k) (take i (lessees_of v.masters m)) ≡ true
   none_below m i k past h = ap (list_any (λ y. is_under above y k)) (take_past (lessees_of v.masters m) i past) ∙ sym (below_by_lessees m k) ∙ h
 
-  -- rows of lessees that are removed when all direct lessees were looked at
+  -- If all direct lessees were visited, the rows of all masters below are removed.
   pub all_taken : {X : Type 0} (lessee : X → ℕ) (m i : ℕ) → slice_get (lessees_of v.masters m) i ≡ None → (old now : List X) → now ≡ filter (λ x. not (list_any (λ y. is_under above y (lessee x)) (take i (lessees_of v.masters m)))) old →
       now ≡ filter (λ x. not (is_below v.masters m (lessee x))) old
   all_taken lessee m i past old now e =
@@ -178,12 +179,13 @@ under_is ms top n =
       | false ↦ λ e. ap not (and-true (is_under (lessor_of ms) top n))
     ] refl
 
+-- Removing the rows of a master and then of all below it removes those at or under it.
 pub under_ended : {X : Type 0} (lessee : X → ℕ) (ms : List Master) (top : ℕ) (rows : List X) → filter (λ x. not (is_below ms top (lessee x))) (filter (λ x. not (lessee x == top)) rows) ≡ filter (λ x. not (is_under (lessor_of ms) top (lessee x))) rows
 under_ended lessee ms top rows =
     filter-both (λ x. not (is_below ms top (lessee x))) (λ x. not (lessee x == top)) rows
     ∙ filter-same (λ x. not (lessee x == top) && not (is_below ms top (lessee x))) (λ x. not (is_under (lessor_of ms) top (lessee x))) rows (all_each (λ x. (not (lessee x == top) && not (is_below ms top (lessee x))) ≡ not (is_under (lessor_of ms) top (lessee x))) (λ x. under_is ms top (lessee x)) rows)
 
--- one more lessee's rows go
+-- After the rows at or below one more direct lessee are removed, those of all up to its place are removed.
 pub one_ended : {X : Type 0} (lessee : X → ℕ) (v : MasterSet) (m i n : ℕ) → slice_get (lessees_of v.masters m) i ≡ Some n → (old before mid : List X) → before ≡ filter (λ x. not (list_any (λ y. is_under (lessor_of v.masters) y (lessee x)) (take i (lessees_of v.masters m)))) old → mid ≡ filter (λ x. not (lessee x == n)) before →
     filter (λ x. not (is_below v.masters n (lessee x))) mid ≡ filter (λ x. not (list_any (λ y. is_under (lessor_of v.masters) y (lessee x)) (take (i + 1) (lessees_of v.masters m)))) old
 one_ended lessee v m i n at old before mid e f =
@@ -201,5 +203,6 @@ one_ended lessee v m i n at old before mid e f =
     neither false true = refl
     neither false false = refl
 
+-- A place with an element is within the list.
 pub position_within : (xs : List ℕ) (i n : ℕ) → slice_get xs i ≡ Some n → i < length xs
 position_within xs i n at = slice_get_within xs i n at

@@ -15,7 +15,7 @@ use Rattle.drm_modes.proofs.Ids.{is_among-numbers_from}
 use Rattle.drm_index_array.specs.Word.{has_bit}
 use Rattle.drm_leases.specs.Masks.{IsFixed, has_object, objects_in}
 
--- those of a list that pass
+-- A number is among those that pass if and only if it passes and is in the list.
 pub among_passing : (p : ℕ → Bool) (x : ℕ) → (xs : List ℕ) → is_among (filter p xs) x ≡ (p x && is_among xs x)
 among_passing p x [] = none (p x)
   where
@@ -38,6 +38,7 @@ in_range : (x : ℕ) (b : Bool) → (((nat_le 1 x && nat_le x 64) && b) && (nat_
 in_range x true = grind (arith, nat_tests)
 in_range x false = grind (arith, nat_tests)
 
+-- A mode object is in the list of a mask if and only if the mask has it.
 pub among_objects : (mask x : ℕ) → is_among (objects_in mask) x ≡ has_object mask x
 among_objects mask x = among_passing (has_object mask) x (numbers_from 1 64) ∙ ap (λ b. has_object mask x && b) (is_among-numbers_from 1 64 x) ∙ in_range x (has_bit mask (x - 1))
 
@@ -46,6 +47,7 @@ among_objects mask x = among_passing (has_object mask) x (numbers_from 1 64) ∙
 none_yet : (x : ℕ) → ((nat_le 1 x && nat_le x 64) && has_bit 0 (x - 1)) ≡ false
 none_yet x = elim (nat_le 1 x && nat_le x 64) as (λ b. (b && has_bit 0 (x - 1)) ≡ false) [ true ↦ ap (λ n. n == 1) (bit_at-zero (x - 1)) | false ↦ refl ]
 
+-- The mask 0 has no mode object.
 pub empty_mask : (x : ℕ) → has_object 0 x ≡ false
 empty_mask x = none_yet x
 
@@ -57,6 +59,7 @@ has_bit-set word k i within =
       | inr apart ↦ let test : eqb i k ≡ false = grind (arith, nat_tests) in rw test (ap (λ n. n == 1) (bit_at_set_other w64 word k within i apart))
     ]
 
+-- Setting the bit of a mode object adds this one to the mask and no other.
 pub one_set : (mask id x : ℕ) → IsFixed id → has_object (bit_or mask (1 * 2 ^ (id - 1) % 2 ^ 64)) x ≡ (has_object mask x || (id == x))
 one_set mask id x fixed = by_range (nat_le 1 x && nat_le x 64) refl
   where
@@ -107,7 +110,7 @@ split_at p first (suc n) more =
       | false ↦ split_at p (first + 1) n more ∙ ap (λ k. filter p (numbers_from (first + 1) n) ++ filter p (numbers_from k more)) at
     ]
 
--- numbers up to one that is 64 at most, of which a mask has those that pass
+-- A mask of the passing numbers up to 64 has just these as its objects.
 pub mask_objects : (p : ℕ → Bool) (n mask : ℕ) → n ≤ 64 → ((x : ℕ) → has_object mask x ≡ is_among (filter p (numbers_from 1 n)) x) → objects_in mask ≡ filter p (numbers_from 1 n)
 unfolding numbers_from
 mask_objects p n mask le has =
@@ -129,7 +132,7 @@ mask_objects p n mask le has =
     inside first zero h = tt
     inside first (suc count) h = (h first (omega arith) (omega arith), inside (first + 1) count (λ x low high. h x (omega (arith, low)) (omega (arith, high))))
 
--- numbers from 1 on are fixed objects, up to 64 of them
+-- Numbers from 1 up to 64 are numbers of fixed objects.
 pub are_fixed : (p : ℕ → Bool) (n : ℕ) → n ≤ 64 → AllByRecursion IsFixed (filter p (numbers_from 1 n))
 unfolding numbers_from
 are_fixed p n le = each 1 n (omega arith) (omega (arith, le))
@@ -140,7 +143,7 @@ are_fixed p n le = each 1 n (omega arith) (omega (arith, le))
         let more = each (first + 1) count (omega (arith, low)) (omega (arith, high)) in
         elim (p first) as (λ b. AllByRecursion IsFixed (cond b (first ∷ filter p (numbers_from (first + 1) count)) (filter p (numbers_from (first + 1) count)))) [ true ↦ ((low, omega (arith, high)), more) | false ↦ more ]
 
--- one number more in a list
+-- With one more number at the end, a list has this number and all that it had.
 pub among_pushed : (xs : List ℕ) (id x : ℕ) → is_among (xs ++ id ∷ []) x ≡ (is_among xs x || (id == x))
 among_pushed [] id x = or-false (id == x)
 among_pushed (y ∷ ys) id x = ap (λ b. (y == x) || b) (among_pushed ys id x) ∙ grouped (y == x) (is_among ys x) (id == x)
@@ -149,7 +152,7 @@ among_pushed (y ∷ ys) id x = ap (λ b. (y == x) || b) (among_pushed ys id x) �
     grouped true b c = refl
     grouped false b c = refl
 
--- a mask has 64 objects at most
+-- A mask has at most 64 objects.
 pub few_objects : (mask : ℕ) → length (objects_in mask) ≤ 64
 unfolding numbers_from
 few_objects mask = let less = filter-shorter (has_object mask) (numbers_from 1 64) in omega (arith, less)
@@ -160,12 +163,14 @@ in_both_ranges : (r b c : Bool) → (r && (b || c)) ≡ ((r && b) || (r && c))
 in_both_ranges true b c = refl
 in_both_ranges false b c = refl
 
+-- The union of two masks has what one of them has.
 pub either_has : (a b x : ℕ) → has_object (bit_or a b) x ≡ (has_object a x || has_object b x)
 either_has a b x = ap (λ t. (nat_le 1 x && nat_le x 64) && t) (one (bit_at a (x - 1)) (bit_at b (x - 1)) (bit_at (bit_or a b) (x - 1)) (bit_at-lt a (x - 1)) (bit_at-lt b (x - 1)) (bit_at_or a b (x - 1))) ∙ in_both_ranges (nat_le 1 x && nat_le x 64) (has_bit a (x - 1)) (has_bit b (x - 1))
   where
     one : (m n k : ℕ) → m < 2 → n < 2 → k ≡ max m n → (k == 1) ≡ ((m == 1) || (n == 1))
     one m n k lt less is = grind (arith, nat_tests)
 
+-- The first mask without the second has what only the first has.
 pub first_has : (a b x : ℕ) → b < 2 ^ 64 → has_object (bit_and a (bit_not w64 b)) x ≡ (has_object a x && not (has_object b x))
 first_has a b x small = by_range (nat_le 1 x && nat_le x 64) refl
   where

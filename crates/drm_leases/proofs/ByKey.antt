@@ -24,6 +24,7 @@ Keyed leases lessees = (m : ℕ) (x : LeaseRecord) → fin.get leases m ≡ Some
 abbrev pub Named : Leases → Lessees → Type 0
 Named leases lessees = (key m : ℕ) → fin.get lessees key ≡ Some m → option_map (λ (x : LeaseRecord). x.key) (fin.get leases m) ≡ Some key
 
+-- In two empty maps, leases and keys agree.
 pub none_keyed : (leases : Leases) (lessees : Lessees) → leases ≡ fin.empty → lessees ≡ fin.empty → Keyed leases lessees × Named leases lessees
 none_keyed leases lessees none nobody = (
   λ m x at. absurd (none-some x (sym (ap (λ l. fin.get l m) none ∙ fin.get-empty nat_cmp m) ∙ at)),
@@ -31,8 +32,9 @@ none_keyed leases lessees none nobody = (
 )
 
 module _ (leases : Leases) (lessees : Lessees) (keyed : Keyed leases lessees) (named : Named leases lessees) where
-  -- a lease comes
+  -- a lease is added
   module _ (m : ℕ) (x : LeaseRecord) (absent : fin.get leases m ≡ None) (free : fin.get lessees x.key ≡ None) where
+    -- After a lease is added with its free key, each lease is found by its key.
     pub keyed_more : Keyed (fin.insert leases m x) (fin.insert lessees x.key m)
     keyed_more n y at = get-insert lessees x.key m y.key ∙ is n y (eqb n m) (eqb y.key x.key) refl refl (sym (get-insert leases m x n) ∙ at)
       where
@@ -42,6 +44,7 @@ module _ (leases : Leases) (lessees : Lessees) (keyed : Keyed leases lessees) (n
         is n y false true other is_key at = absurd (none-some n (sym free ∙ ap (fin.get lessees) (sym (eqb-true y.key x.key is_key)) ∙ keyed n y at))
         is n y false false other_m other_key at = keyed n y at
 
+    -- After a lease is added with its free key, each key leads to a lease that has it.
     pub named_more : Named (fin.insert leases m x) (fin.insert lessees x.key m)
     named_more key n at = ap (option_map (λ (z : LeaseRecord). z.key)) (get-insert leases m x n) ∙ is key n (eqb n m) (eqb key x.key) refl refl (sym (get-insert lessees x.key m key) ∙ at)
       where
@@ -51,8 +54,9 @@ module _ (leases : Leases) (lessees : Lessees) (keyed : Keyed leases lessees) (n
         is key n true false is_m other at = absurd (none-some key (sym (ap (option_map (λ (z : LeaseRecord). z.key)) absent) ∙ ap (λ k. option_map (λ (z : LeaseRecord). z.key) (fin.get leases k)) (sym (eqb-true n m is_m)) ∙ named key n at))
         is key n false false other_m other_key at = named key n at
 
-  -- a lease goes
+  -- a lease is removed
   module _ (m : ℕ) (x : LeaseRecord) (here : fin.get leases m ≡ Some x) where
+    -- After a lease is removed with its key, each other one is found by its key.
     pub keyed_less : Keyed (fin.remove leases m) (fin.remove lessees x.key)
     keyed_less n y at = get-remove lessees x.key y.key ∙ is n y (eqb n m) (eqb y.key x.key) refl refl (sym (get-remove leases m n) ∙ at)
       where
@@ -61,6 +65,7 @@ module _ (leases : Leases) (lessees : Lessees) (keyed : Keyed leases lessees) (n
         is n y false true other is_key at = absurd (eqb-false n m other (same_Some n m (sym (keyed n y at) ∙ ap (fin.get lessees) (eqb-true y.key x.key is_key) ∙ keyed m x here)))
         is n y false false other_m other_key at = keyed n y at
 
+    -- After a lease is removed with its key, each key leads to a lease that has it.
     pub named_less : Named (fin.remove leases m) (fin.remove lessees x.key)
     named_less key n at = ap (option_map (λ (z : LeaseRecord). z.key)) (get-remove leases m n) ∙ is key n (eqb n m) (eqb key x.key) refl refl (sym (get-remove lessees x.key key) ∙ at)
       where
@@ -72,7 +77,7 @@ module _ (leases : Leases) (lessees : Lessees) (keyed : Keyed leases lessees) (n
   abbrev lending_row : ℕ × LeaseRecord → Lending
   lending_row e = lending_of (lease_row e)
 
-  -- what is found by a key is the lessee whose lease has it
+  -- The lessee found by a key is the one whose lease has it.
   pub lessee_is : (key : ℕ) → fin.get lessees key ≡ lessee_at (lendings_in (leases_in leases)) key
   lessee_is key = by_cases (fin.get lessees key) refl ∙ ap (λ (l : List Lending). lessee_at l key) (sym (map-map lending_of lease_row (fin.entries leases)))
     where
@@ -86,7 +91,7 @@ module _ (leases : Leases) (lessees : Lessees) (keyed : Keyed leases lessees) (n
           let x = here (fin.get leases m) (named key m is) in
           ap (option_map (λ (y : Lending). y.lessee)) (sym (first_found lending_row leases (λ (y : Lending). y.key == key) m x.0 x.1 (eq-eqb x.0.key key x.2) (λ a v less at. ne_eqb v.key key (λ same. omega (arith, less, same_Some a m (sym (keyed a v at) ∙ ap (fin.get lessees) same ∙ is))))))
 
--- the key of a lessee is that of its lease
+-- The key of a lessee is that of its lease.
 pub key_is : (leases : Leases) (m : ℕ) → option_map (λ (x : LeaseRecord). x.key) (fin.get leases m) ≡ key_at (lendings_in (leases_in leases)) m
 key_is leases m =
     composed (fin.get leases m)

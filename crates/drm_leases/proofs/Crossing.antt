@@ -39,5 +39,6 @@ inside_send =
     inside.the_type.to_one
     (struct_send (shape inside.the_type) (granted_send, (tokens_send, tt)))
 
+-- A set of leases may cross threads.
 pub leases_send : IsSend leases.the_row
 leases_send = view_send inside.the_row _ _ _ _ inside_send

@@ -1,4 +1,4 @@
--- What the rules of CREATE_LEASE describe a master that they deny nothing.
+-- What is true if the rules of CREATE_LEASE deny nothing.
 use Rattle.std.proofs.Common.{◌≡◌, ℕ, ◌+◌, ◌==◌, nat_lt, Bool, true, false, not, ◌&&◌, ◌||◌, List, [], ◌∷◌, ◌++◌, length, Option, None, Some, refl, sym, ap, ◌∙◌, eq-eqb, arith}
 use Rattle.std.specs.Prelude.{if◌then◌else◌, nat_le}
 use Rattle.std.specs.List.{list_any, list_all, AllByRecursion}
@@ -23,11 +23,12 @@ use Rattle.drm_leases.specs.Masks.{is_empty, has_object, objects_in}
 use Rattle.drm_leases.specs.Rules.{lease_checks, lease_rules, leased, may_lease, is_seen, is_leasable, stands_once, is_lease}
 use Rattle.drm_leases.proofs.Bits.{among_passing, among_objects}
 
+-- An option that has a value is not `None`.
 pub some_none : {X : Type 0} (o : Option X) → is_some o ≡ true → o ≡ None → ⊥
 some_none None h e = let j : false ≡ true = h in cc
 some_none (Some x) h e = let n : Some x ≡ None = e in cc
 
--- a client's master is there
+-- Each client's master exists.
 pub master_there : (v : MasterSet) → AreMasters v → (c : ℕ) (x : Member) → member_of v.members c ≡ Some x → is_some (master_at v.masters x.master) ≡ true
 master_there v are c x e = (found (is_client c) (λ (y : Member). is_some (master_at v.masters y.master) ≡ true) x v.members are.masters_there e).1
 
@@ -69,28 +70,29 @@ module _ (l : LeaseSet) (v : MasterSet) (s : ModeSet) (m : ℕ) (universal : Boo
       ∷ []
 
   module _ (passes : first_failing (lease_rules l v s m universal ids (is_some (next_token l))) ≡ None) where
-    -- a token is free
+    -- If no rule denies the lease, a token is free.
     pub token_free : is_some (next_token l) ≡ true
     token_free = (each_holds (lease_rules l v s m universal ids (is_some (next_token l))) passes).1.1.1.1.1.1.0
 
-    -- it is a lease
+    -- If no rule denies the lease, the ids are a lease.
     pub shaped : is_lease s.topology universal ids ≡ true
     shaped = (each_holds (lease_rules l v s m universal ids (is_some (next_token l))) passes).1.1.1.1.0
 
-    -- no rule denies it where a lessee id is free, and else the last
+    -- If every rule passes and a lessee id is free, no rule denies the lease.
     pub all_passed : is_some (free_lessee v m) ≡ true → first_failing (lease_checks l v s m universal ids) ≡ None
     unfolding lease_checks
     all_passed free =
         last_check rules_before (check Full (is_some (next_token l))) (check Full (is_some (free_lessee v m) && is_some (next_token l))) passes
         ∙ ap (λ b. if b then None else Some Full) (λ i. free i && token_free i)
 
+    -- If every rule passes but no lessee id is free, the rule that fails is `Full`.
     pub lessees_full : free_lessee v m ≡ None → first_failing (lease_checks l v s m universal ids) ≡ Some Full
     unfolding lease_checks
     lessees_full none =
         last_check rules_before (check Full (is_some (next_token l))) (check Full (is_some (free_lessee v m) && is_some (next_token l))) passes
         ∙ ap (λ o. if is_some o && is_some (next_token l) then None else Some Full) none
 
-  -- a rule that denies it does so whatever the ids of lessees
+  -- A rule that denies the lease denies it whether or not a lessee id is free.
   pub rule_denies : (r : Rule) → first_failing (lease_rules l v s m universal ids (is_some (next_token l))) ≡ Some r → first_failing (lease_checks l v s m universal ids) ≡ Some r
   unfolding lease_checks
   rule_denies r h = other_last rules_before (check Full (is_some (next_token l))) (check Full (is_some (free_lessee v m) && is_some (next_token l))) r (by_room (is_some (free_lessee v m)) (is_some (next_token l))) h
@@ -112,7 +114,7 @@ none_among p (id ∷ ids) x h k =
           ]) refl k
     ]) refl h
 
--- nothing that is leased is leased out already
+-- If no rule denies the lease, none of its objects is leased out already.
 pub unlent : (l : LeaseSet) (v : MasterSet) (s : ModeSet) (m : ℕ) (universal : Bool) (ids : List ℕ) → first_failing (lease_rules l v s m universal ids (is_some (next_token l))) ≡ None → (mask : ℕ) → objects_in mask ≡ listed_objects s.topology (leased l v s m universal ids) → (x : ℕ) → has_object mask x ≡ true → is_leased_out l.grants v.masters m x ≡ false
 unlent l v s m universal ids h mask listed x has =
     let all = leased l v s m universal ids in
@@ -132,7 +134,7 @@ filled : (xs : List ℕ) (x : ℕ) → is_among xs x ≡ true → is_empty xs �
 filled [] x h = absurd (let e : false ≡ true = h in cc)
 filled (y ∷ ys) x h = refl
 
--- a lease has a mode object, whatever comes along
+-- A lease has a mode object, with any planes added to it.
 pub lease_filled : (t : Topology) (universal : Bool) (ids along : List ℕ) → is_lease t universal ids ≡ true → is_empty (listed_objects t (ids ++ along)) ≡ false
 lease_filled t universal ids along h =
     let w = passing (is_crtc t) ids (and_parts (list_any (is_crtc t) ids) (list_any (is_connector t) ids) (and_parts (list_any (is_crtc t) ids && list_any (is_connector t) ids) (not universal || list_any (is_plane t) ids) h).0).0 in

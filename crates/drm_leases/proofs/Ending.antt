@@ -1,4 +1,4 @@
--- The leases and open tokens of some masters go.
+-- The leases and open tokens of some masters are removed.
 use Rattle.std.proofs.Common.{◌≡◌, ℕ, Bool, not, ◌&&◌, List, filter, sym, ap, subst, ◌∙◌}
 use Rattle.drm_masters.specs.Masters.{MasterSet, swept}
 use Rattle.drm_masters.specs.Calls.{released}
@@ -20,7 +20,7 @@ without gone l = record l {
   lendings = filter (λ (x : Lending). not (gone x.lessee)) l.lendings;
 }
 
--- the fields represent those that are left
+-- After the rows of some lessees are removed, the fields represent the leases and tokens that are left.
 pub left : (gone : ℕ → Bool) (a : Inside) (tokens : TokenRows) (rows : List Lease) → tokens ≡ (let now : TokenRows = record a.tokens { rows = filter (λ (row : LeaseToken). not (gone row.master)) a.tokens.rows } in now) → rows ≡ filter (λ (x : Lease). not (gone x.lessee)) a.granted.rows →
     (let now : LeaseSet = record { last = tokens.last; last_given = tokens.last_given; tokens = tokens.rows; grants = grants_in rows; lendings = lendings_in rows } in now) ≡ without gone (set_of a)
 left gone a tokens rows e f =
@@ -28,7 +28,7 @@ left gone a tokens rows e f =
     let lendings = ap lendings_in f ∙ lendings_where (λ n. not (gone n)) a.granted.rows in
     λ i. record { last = (e i).last; last_given = (e i).last_given; tokens = (e i).rows; grants = grants i; lendings = lendings i }
 
--- they agree with the masters, of which those are released that had an open token
+-- If the lessees of removed open tokens are released, the leases left agree with the masters left.
 pub left_agree : (gone : ℕ → Bool) (v w : MasterSet) (l now : LeaseSet) → now ≡ without gone l → w ≡ swept (released (λ n. gone n && has_token l.tokens n) v) → AreAgreed l v → AreAgreed now w
 left_agree gone v w l now e f agreed =
     subst (λ (a : LeaseSet). AreAgreed a w) (sym e)

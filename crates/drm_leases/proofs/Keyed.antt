@@ -9,6 +9,7 @@ use Rattle.drm_masters.specs.Masters.{is_key, is_there, is_step_number, master_a
 use Rattle.drm_leases.specs.Tokens.{LeaseToken}
 use Rattle.drm_leases.specs.Leases.{LeaseSet, Lending, AreLeases, is_lease_of, has_some_lease, key_at, is_token, token_master}
 
+-- The step number at a master's key is the master's.
 pub keyed_step_number : (ms : List Master) (m key : ℕ) → IsKeyOf ms m key → step_number_at ms key ≡ m
 keyed_step_number ms m key h = of_row (find (is_key key) ms) h
   where
@@ -16,7 +17,7 @@ keyed_step_number ms m key h = of_row (find (is_key key) ms) h
     of_row None e = absurd (let n : None ≡ Some m = e in cc)
     of_row (Some x) e = let s : Some x.step_number ≡ Some m = e in cc
 
--- it is there
+-- The key of a master is in use.
 pub keyed_there : (ms : List Master) (m key : ℕ) → IsKeyOf ms m key → is_there ms key ≡ true
 keyed_there ms m key h = of_row (find (is_key key) ms) h
   where
@@ -24,19 +25,19 @@ keyed_there ms m key h = of_row (find (is_key key) ms) h
     of_row None e = absurd (let n : None ≡ Some m = e in cc)
     of_row (Some x) e = refl
 
--- the number of the master that is found
+-- The step number at a key is that of the master found by it.
 pub number_found : (ms : List Master) (key : ℕ) (x : Master) → find (is_key key) ms ≡ Some x → step_number_at ms key ≡ x.step_number
 number_found ms key x e = ap (λ o. option_map_or (λ (y : Master). y.step_number) o 0) e
 
--- it is found by its number too
+-- The master found by a key exists.
 pub number_there : (ms : List Master) (key : ℕ) (x : Master) → find (is_key key) ms ≡ Some x → is_some (master_at ms x.step_number) ≡ true
 number_there ms key x e = is_some-find (is_step_number x.step_number) ms ∙ any_found (is_key key) (is_step_number x.step_number) x ms e (eq-eqb x.step_number x.step_number refl)
 
--- a lessee that has a lease has its key
+-- A lessee has a key if and only if it has a lease.
 pub lent_key : (lendings : List Lending) (m : ℕ) → is_some (key_at lendings m) ≡ has_some_lease lendings m
 lent_key lendings m = is_some-map (λ (x : Lending). x.key) (find (is_lease_of m) lendings) ∙ is_some-find (is_lease_of m) lendings
 
--- the lessee that a token opens has a lease
+-- The lessee that a token opens has a lease.
 pub token_lent : (l : LeaseSet) → AreLeases l → (t m : ℕ) → token_master l.tokens t ≡ Some m → has_some_lease l.lendings m ≡ true
 token_lent l are t m e = by_row (find (is_token t) l.tokens) refl e
   where

@@ -1,4 +1,4 @@
--- What lessors have lent, as leases come and go.
+-- What lessors have lent, as leases are created and ended.
 use Rattle.std.proofs.Common.{◌≡◌, ℕ, ◌<◌, ◌==◌, nat_lt, eqb, Bool, true, false, cond, not, ◌&&◌, ◌||◌, List, [], ◌∷◌, filter, find, Some, None, refl, sym, ap, subst, ◌∙◌, nat_cmp, eq-eqb}
 use Rattle.std.proofs.Math.Bool.{and-true}
 use Rattle.std.specs.Prelude.{unwrap_or, if◌then◌else◌}
@@ -16,8 +16,9 @@ use Rattle.drm_leases.specs.Masks.{has_object, lease_before, lends, is_lent, Are
 use Rattle.drm_leases.proofs.Bits.{empty_mask}
 use Rattle.drm_leases.proofs.Granting.{Rise, is_of, absent_behind}
 
--- ---- a lease comes
+-- ---- a lease is added
 
+-- After a lease is added, a lessor has lent what it had lent and what this lease has.
 pub lent_added : (rows : List Lease) (a : Lease) (m x : ℕ) → is_lent (placed lease_before a rows) m x ≡ (is_lent rows m x || lends m x a)
 lent_added rows a m x = any_placed (lends m x) (λ (b : Lease). lease_before b a) a rows ∙ turned (lends m x a) (is_lent rows m x)
   where
@@ -27,7 +28,7 @@ lent_added rows a m x = any_placed (lends m x) (λ (b : Lease). lease_before b a
     turned false true = refl
     turned false false = refl
 
--- a lease of what its lessor hasn't lent is apart from all
+-- With a new lease of objects that its lessor has not lent, no lessor lends an object twice.
 pub apart_added : (rows : List Lease) (a : Lease) → Rise rows → InOrder AreApart rows → ((x : ℕ) → has_object a.objects x ≡ true → is_lent rows a.lessor x ≡ false) → InOrder AreApart (placed lease_before a rows)
 apart_added rows a rise apart unlent =
     in_order_placed (λ (x : Lease). x.lessee) a rows rise AreApart apart
@@ -51,7 +52,7 @@ apart_added rows a rise apart unlent =
       each bs (λ x has. (or_parts (lends a.lessor x b) (is_lent bs a.lessor x) (h x has)).1),
     )
 
--- ---- a lease goes
+-- ---- a lease is removed
 
 not_lends : (rows : List Lease) (a : Lease) (m x : ℕ) → AllByRecursion (AreApart a) rows → lends m x a ≡ true → is_lent rows m x ≡ false
 not_lends [] a m x h e = refl
@@ -65,6 +66,7 @@ none_there c (b ∷ rows) h =
       | false ↦ λ e k. ap (λ l. b ∷ l) (none_there c rows k)
     ] refl h
 
+-- Removing the lease of a lessee that has none leaves the list unchanged.
 pub removed_none : (c : ℕ) (rows : List Lease) → find (is_of c) rows ≡ None → rows ≡ filter (λ (b : Lease). not (b.lessee == c)) rows
 removed_none c rows h = sym (none_there c rows h)
 
@@ -76,6 +78,7 @@ found_apart c a b (d ∷ rows) h all =
       | false ↦ λ k. found_apart c a b rows k all.1
     ] h
 
+-- After a lease is removed, a lessor has lent what it had lent except what this lease had.
 pub lent_removed : (c : ℕ) (a : Lease) (m x : ℕ) → (rows : List Lease) → Rise rows → InOrder AreApart rows → find (is_of c) rows ≡ Some a → is_lent (filter (λ (b : Lease). not (b.lessee == c)) rows) m x ≡ (is_lent rows m x && not (lends m x a))
 lent_removed c a m x [] rise apart h = absurd (let n : None ≡ Some a = h in cc)
 lent_removed c a m x (b ∷ rows) rise apart h =
@@ -98,10 +101,11 @@ lent_removed c a m x (b ∷ rows) rise apart h =
 
 -- ---- fewer leases
 
+-- With fewer leases, no lessor lends a mode object twice.
 pub apart_filter : (p : Lease → Bool) (rows : List Lease) → InOrder AreApart rows → InOrder AreApart (filter p rows)
 apart_filter p rows h = in_order_filter AreApart p rows h
 
--- what isn't lent and is taken back
+-- If objects that were not lent are lent and returned, a lessor has lent what it had.
 pub lent_back : (rows : List Lease) (m objects : ℕ) → ((x : ℕ) → has_object objects x ≡ true → is_lent rows m x ≡ false) → (n x : ℕ) → ((is_lent rows n x || ((m == n) && has_object objects x)) && not ((m == n) && has_object objects x)) ≡ is_lent rows n x
 lent_back rows m objects unlent n x =
     elim (m == n) as (λ b. (m == n) ≡ b → ((is_lent rows n x || (b && has_object objects x)) && not (b && has_object objects x)) ≡ is_lent rows n x) [
@@ -153,14 +157,17 @@ module _ (masks : fin.FinMap nat_cmp ℕ) (m : ℕ) where
         | false ↦ λ e. or_none (has_object (mask_at masks n) x)
       ] refl
 
+  -- If a lessor's mask gets a lease's objects, it has these in addition, and other lessors are unchanged.
   pub lent_more : (mask v objects : ℕ) → fin.get masks m ≡ Some mask → ((x : ℕ) → has_object v x ≡ (has_object mask x || has_object objects x)) → (n x : ℕ) → has_object (mask_at (fin.insert masks m v) n) x ≡ (has_object (mask_at masks n) x || ((m == n) && has_object objects x))
   lent_more mask v objects at is = more v objects (λ x. is x ∙ ap (λ o. has_object (unwrap_or o 0) x || has_object objects x) (sym at))
 
+  -- If a lessor without a mask gets one, it has the lease's objects, and other lessors are unchanged.
   pub lent_first : (objects : ℕ) → fin.get masks m ≡ None → (n x : ℕ) → has_object (mask_at (fin.insert masks m objects) n) x ≡ (has_object (mask_at masks n) x || ((m == n) && has_object objects x))
   lent_first objects none = more objects objects (λ x. sym (ap (λ b. b || has_object objects x) (ap (λ o. has_object (unwrap_or o 0) x) none ∙ empty_mask x)))
 
   -- less is lent
   module _ (left objects : ℕ) (is : (x : ℕ) → has_object left x ≡ (has_object (mask_at masks m) x && not (has_object objects x))) where
+    -- If a lessor's mask loses a lease's objects, it has all but these, and other lessors are unchanged.
     pub lent_less : (n x : ℕ) → has_object (mask_at (fin.insert masks m left) n) x ≡ (has_object (mask_at masks n) x && not ((m == n) && has_object objects x))
     lent_less n x =
         ap (λ k. has_object k x) (written left n)
@@ -169,6 +176,7 @@ module _ (masks : fin.FinMap nat_cmp ℕ) (m : ℕ) where
           | false ↦ λ e. and_all (has_object (mask_at masks n) x)
         ] refl
 
+    -- If nothing is left of a lessor's mask, removing it takes the lease's objects and changes no other lessor.
     pub lent_none : left ≡ 0 → (n x : ℕ) → has_object (mask_at (fin.remove masks m) n) x ≡ (has_object (mask_at masks n) x && not ((m == n) && has_object objects x))
     lent_none empty n x =
         ap (λ k. has_object k x) (taken n)

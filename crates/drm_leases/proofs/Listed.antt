@@ -9,6 +9,7 @@ unfolding numbers_from
 from_on n first lt zero = tt
 from_on n first lt (suc count) = (lt, from_on n (first + 1) (omega (arith, lt)) count)
 
+-- Numbers that follow one another rise.
 pub numbers_rise : (first count : ℕ) → InOrder (λ x y. x < y) (numbers_from first count)
 unfolding numbers_from
 numbers_rise first zero = tt

@@ -28,6 +28,7 @@ with_last_lease t key m lessor objects l = record l {
   lendings = placed lending_before (lending m lessor key) l.lendings;
 }
 
+-- A lease of a lessee younger than all others puts its rows at the ends of the lists.
 pub newest_last : (t key m lessor : ℕ) (objects : List ℕ) (l : LeaseSet) → IsNewLessee l m → with_lease t key m lessor objects l ≡ with_last_lease t key m lessor objects l
 newest_last t key m lessor objects l newest = λ i. record l {
   last_given = Some t;
@@ -36,6 +37,6 @@ newest_last t key m lessor objects l newest = λ i. record l {
   lendings = placed lending_before (lending m lessor key) l.lendings;
 }
 
--- no token is open twice
+-- If the tokens rise, no token is open twice.
 pub tokens_differ : (tokens : List LeaseToken) → InOrder (λ (x y : LeaseToken). x.token < y.token) tokens → InOrder (λ (x y : LeaseToken). (x.token == y.token) ≡ false) tokens
 tokens_differ tokens rise = in_order_weaker (λ (x y : LeaseToken). x.token < y.token) (λ (x y : LeaseToken). (x.token == y.token) ≡ false) (λ x y less. less-differ x.token y.token less) tokens rise

@@ -14,7 +14,7 @@ use Rattle.drm_leases.specs.Leases.{is_free, token_master, next_of}
 abbrev pub number_of : LeaseToken → ℕ
 number_of row = row.token
 
--- the lessee that a token opens is its entry in the table
+-- The lessee that a token opens is the table's value at it.
 pub lessee_is : (slots : fin.FinMap nat_cmp ℕ) (t : ℕ) → token_master (tokens_in slots) t ≡ fin.get slots t
 lessee_is slots t = ap (option_map (λ (row : LeaseToken). row.master)) (find_number token_row number_of (λ e. refl) slots t) ∙ composed (fin.get slots t)
   where
@@ -28,7 +28,7 @@ module _ (t : Table ℕ) where
       least-same (is_free (tokens_in t.slots)) _ from to (λ k low high. ap not (sym (list_any-map (λ n. n == k) number_of (tokens_in t.slots))))
       ∙ least_free_is token_row number_of (λ e. refl) t.slots from to
 
-  -- the next token is the table's next number
+  -- The next token of the list is the table's next number in rotation.
   pub next_token_is : t.first ≡ 1 → next_of (tokens_in t.slots) t.last_given t.last ≡ next_cyclic t
   next_token_is first = (λ i. or_else (least_is (unwrap_or t.last_given 0 + 1) t.last i) (least_is 1 t.last i)) ∙ next_is t first
 

@@ -30,7 +30,7 @@ abbrev pub Holder : MasterSet → ℕ → Type 0
 Holder v n = (x : Master) × (master_at v.masters x.step_number ≡ Some x) × (is_held v.members x ≡ true) × (x.step_number ≡ n)
 
 module _ (v : MasterSet) (are : AreMasters v) (rows : List LeaseToken) (held : AreHeld v rows) where
-  -- each lessee that has a token is there
+  -- The lessee of each open token exists and is held.
   pub holder : (n : ℕ) → has_token rows n ≡ true → Holder v n
   holder n h =
       let w = some_passing (is_token_of n) (λ (row : LeaseToken). option_map_or (is_held v.members) (master_at v.masters row.master) false ≡ true) rows held h in
@@ -43,6 +43,7 @@ module _ (v : MasterSet) (are : AreMasters v) (rows : List LeaseToken) (held : A
           (x, ap (master_at v.masters) num ∙ e, k, num ∙ same)
 
   module _ (top : ℕ) where
+    -- Before the first release, nothing is released and no token is taken.
     pub none_yet : Releasing v rows top v rows
     none_yet = record {
       chosen = λ n. false;
@@ -64,7 +65,7 @@ module _ (v : MasterSet) (are : AreMasters v) (rows : List LeaseToken) (held : A
           let w = some_passing (is_token_of n) (λ (row : LeaseToken). not (h.chosen row.master) ≡ true) (filter (λ (row : LeaseToken). not (h.chosen row.master)) rows) (filter_true (λ (row : LeaseToken). not (h.chosen row.master)) rows) (ap (λ (l : List LeaseToken). has_token l n) (sym h.tokens_are) ∙ t) in
           not-true (h.chosen n) (ap (λ k. not (h.chosen k)) (sym (eqb-true w.0.master n w.1)) ∙ w.2)
 
-      -- who has a token yet is there
+      -- A lessee that still has an open token still exists.
       pub token_there : (n : ℕ) → has_token rows2 n ≡ true → is_some (master_at v2.masters n) ≡ true
       token_there n t =
           let x = holder n (token_before n t) in
@@ -78,7 +79,7 @@ module _ (v : MasterSet) (are : AreMasters v) (rows : List LeaseToken) (held : A
           ap (λ (w : MasterSet). is_below w.masters top n) h.masters_are
           ∙ ap (λ b. b && not (n == top)) (ap (is_under (lessor_of (swept (released h.chosen v)).masters) top) (sym x.3) ∙ spared_under v are.masters_rise are.lessors_older h.chosen x.0 x.1 x.2 (ap h.chosen x.3 ∙ spared n t) top ∙ ap (is_under (lessor_of v.masters) top) x.3)
 
-      -- one more
+      -- After one more lessee below the top is released and its token taken, the same is true so far.
       pub one_released : (n : ℕ) → is_opened_below rows2 v2.masters top n ≡ true → (v3 : MasterSet) (rows3 : List LeaseToken) → v3 ≡ swept (with_kept n false v2) → rows3 ≡ filter (λ row. not (is_token_of n row)) rows2 → Releasing v rows top v3 rows3
       one_released n opened v3 rows3 e f = record {
         chosen = λ k. h.chosen k || (k == n);
@@ -113,12 +114,14 @@ module _ (v : MasterSet) (are : AreMasters v) (rows : List LeaseToken) (held : A
                 ∙ any_filter (λ _. Unit {0}) (is_token_of n) (λ (row : LeaseToken). not (h.chosen row.master)) (λ row u is. ap (λ k. not (h.chosen k)) (eqb-true row.master n is) ∙ ap not e) rows (all_each (λ _. Unit {0}) (λ _. tt) rows) t.1 in
                 absurd (false≢true (sym (last n (token_below n yet ∙ t.0)) ∙ yet))
 
+        -- If no lessee below the top has an open token left, all tokens below it are taken.
         pub all_taken_below : rows2 ≡ filter (λ row. not (is_below v.masters top row.master)) rows
         all_taken_below =
             h.tokens_are
             ∙ filter-same (λ row. not (h.chosen row.master)) (λ row. not (is_below v.masters top row.master)) rows
             (all_weaker (λ (row : LeaseToken). has_token rows row.master ≡ true) (λ (row : LeaseToken). not (h.chosen row.master) ≡ not (is_below v.masters top row.master)) (λ row t. ap not (all_chosen row.master ∙ ap (λ b. is_below v.masters top row.master && b) t ∙ and-true (is_below v.masters top row.master))) rows (each_is_there (λ (row : LeaseToken). row.master) rows))
 
+        -- If no lessee below the top has an open token left, all that had one are released.
         pub all_released_below : v2 ≡ swept (released (is_opened_below rows v.masters top) v)
         all_released_below = h.masters_are ∙ ap (λ (f : ℕ → Bool). swept (released f v)) (λ i n. all_chosen n i)
 
@@ -140,6 +143,7 @@ module _ (v : MasterSet) (are : AreMasters v) (rows : List LeaseToken) (held : A
               by_test true k = k
               by_test false k = absurd (false≢true (sym (none_filtered (is_token_of top) (λ row. not (is_below v.masters top row.master)) rows k) ∙ t))
 
+      -- If the top master itself has an open token, it still exists after the releases below it.
       pub top_there : has_token rows2 top ≡ true → is_some (master_at v2.masters top) ≡ true
       top_there t =
           let x = holder top (sym its_token ∙ t) in
@@ -159,7 +163,7 @@ module _ (v : MasterSet) (are : AreMasters v) (rows : List LeaseToken) (held : A
           plain true = refl
           plain false = refl
 
-      -- where it has a token
+      -- If the top master has an open token, releasing it last releases all at or below it that had one.
       pub top_released : has_token rows2 top ≡ true → (v3 : MasterSet) (rows3 : List LeaseToken) → v3 ≡ swept (with_kept top false v2) → rows3 ≡ filter (λ row. not (is_token_of top row)) rows2 →
           (rows3 ≡ filter (λ row. not (is_under (lessor_of v.masters) top row.master)) rows) × (v3 ≡ swept (released (is_opened_under rows v.masters top) v))
       top_released t v3 rows3 g k = (
@@ -184,7 +188,7 @@ module _ (v : MasterSet) (are : AreMasters v) (rows : List LeaseToken) (held : A
                   off true false = refl
                   off false b = refl
 
-      -- where it has none
+      -- If the top master has no open token, all at or below it that had one are released.
       pub top_spared : has_token rows2 top ≡ false →
           (rows2 ≡ filter (λ row. not (is_under (lessor_of v.masters) top row.master)) rows) × (v2 ≡ swept (released (is_opened_under rows v.masters top) v))
       top_spared t = (

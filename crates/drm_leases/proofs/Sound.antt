@@ -1,4 +1,4 @@
--- What is so of the leases at all times is so after each change.
+-- What is true of the leases at all times is true after each change.
 use Rattle.std.proofs.Common.{◌≡◌, ℕ, ◌+◌, ◌<◌, ◌≤◌, ◌==◌, nat_lt, inl, inr, Bool, true, false, cond, not, ◌||◌, List, [], ◌∷◌, ◌++◌, map, filter, find, length, Option, None, Some, refl, sym, ap, subst, ◌∙◌, arith, eq-eqb}
 use Rattle.std.specs.Prelude.{unwrap_or, IfNone}
 use Rattle.std.specs.Option.{is_some, option_map}
@@ -36,6 +36,7 @@ fewer p q (x ∷ xs) =
     ]
 
 module _ (l : LeaseSet) (a : AreLeases l) where
+  -- The facts of leases hold with fewer tokens.
   pub fewer_tokens : (p : LeaseToken → Bool) → AreLeases (record l { tokens = filter p l.tokens })
   fewer_tokens p = record {
     last_high = a.last_high;
@@ -58,6 +59,7 @@ module _ (l : LeaseSet) (a : AreLeases l) where
     kept_lent m stays h =
         any_filter (λ _. Unit {0}) (is_lease_of m) (λ (x : Lending). not (gone x.lessee)) (λ x u is. ap (λ n. not (gone n)) (eqb-true x.lessee m is) ∙ stays) l.lendings (all_each (λ _. Unit {0}) (λ _. tt) l.lendings) h
 
+    -- The facts of leases hold without all rows of some lessees.
     pub without_are : AreLeases (record l { tokens = filter (λ (row : LeaseToken). not (gone row.master)) l.tokens; grants = filter (λ (g : Grant). not (gone g.master)) l.grants; lendings = kept })
     without_are = record {
       last_high = a.last_high;
@@ -90,6 +92,7 @@ next_of test given last t (Some n) e h =
     let is = least_some test (given + 1) last t (e ∙ ap Some same) in
     (let low = is.at_least in omega (arith, low), is.at_most, is.passes)
 
+-- The next token is between 1 and the last one and is free.
 pub next_is : (l : LeaseSet) (t : ℕ) → next_token l ≡ Some t → (1 ≤ t) × (t ≤ l.last) × (is_free l.tokens t ≡ true)
 next_is l t h = next_of (is_free l.tokens) (unwrap_or l.last_given 0) l.last t (least (is_free l.tokens) (unwrap_or l.last_given 0 + 1) l.last) refl h
 
@@ -101,7 +104,7 @@ not_passing p (x ∷ xs) h =
       | false ↦ λ e k. (e, not_passing p xs k)
     ]) refl h
 
--- ---- a lease comes
+-- ---- a lease is added
 
 in_order_both : {X : Type 0} (R : X → X → Type 0) → (xs ys : List X) → InOrder R xs → InOrder R ys → AllByRecursion (λ x. AllByRecursion (R x) ys) xs → InOrder R (xs ++ ys)
 in_order_both R [] ys h k m = k
@@ -196,6 +199,7 @@ module _ (l : LeaseSet) (a : AreLeases l) (t key m lessor : ℕ) (objects : List
   new_rise : InOrder grant_before grants
   new_rise = in_order_map grant_before (grant m) objects (in_order_weaker (λ x y. x < y) (λ x y. grant_before (grant m x) (grant m y)) (λ x y lt. inr (refl, lt)) objects rise)
 
+  -- The facts of leases hold after a lease is added to a lessee that has none.
   pub lease_are : AreLeases (with_lease t key m lessor objects l)
   lease_are = record {
     last_high = a.last_high;
@@ -222,13 +226,13 @@ module _ (l : LeaseSet) (a : AreLeases l) (t key m lessor : ℕ) (objects : List
       old_lent : (p : Grant → Bool) → AllByRecursion (λ (g : Grant). has_some_lease lent g.master ≡ true) (filter p l.grants)
       old_lent p = all_filter (λ (g : Grant). has_some_lease lent g.master ≡ true) p l.grants (all_weaker (λ (g : Grant). has_some_lease l.lendings g.master ≡ true) (λ (g : Grant). has_some_lease lent g.master ≡ true) (λ g h. lent_yet g.master h) l.grants a.grants_lent)
 
--- a lease that is taken back
+-- Removing a new lease again leaves the list unchanged.
 pub taken_back : (rows : List Lease) (new : Lease) → InOrder (λ (x y : Lease). x.lessee < y.lessee) rows → AllByRecursion (λ (x : Lease). (x.lessee == new.lessee) ≡ false) rows → filter (λ (x : Lease). not (x.lessee == new.lessee)) (placed lease_before new rows) ≡ rows
 taken_back rows new rise others =
     placed_back (λ (x : Lease). x.lessee) new rows rise (λ (x : Lease). not (x.lessee == new.lessee)) (ap not (eq-eqb new.lessee new.lessee refl))
     (all_weaker (λ (x : Lease). (x.lessee == new.lessee) ≡ false) (λ (x : Lease). not (x.lessee == new.lessee) ≡ true) (λ x e. ap not e) rows others)
 
--- a token that isn't open is none that goes
+-- Removing a token that is not open changes nothing.
 pub none_spent : (l new : LeaseSet) (t : ℕ) (o : Option ℕ) → new ≡ without_token t l → o ≡ token_master l.tokens t → IfNone o (new ≡ l)
 none_spent l new t (Some m) is e = tt
 none_spent l new t None is e = is ∙ ap (λ rows. record l { tokens = rows }) (stays l.tokens (absent (find (is_token t) l.tokens) (sym e)))
@@ -245,11 +249,11 @@ none_spent l new t None is e = is ∙ ap (λ rows. record l { tokens = rows }) (
           | false ↦ λ k n. ap (λ b. cond (not b) (row ∷ filter (λ (row : LeaseToken). not (is_token t row)) rows) (filter (λ (row : LeaseToken). not (is_token t row)) rows)) k ∙ ap (λ l. row ∷ l) (stays rows n)
         ]) refl h
 
--- and one that is open goes
+-- What is required of an option without a value holds if it has one.
 pub some_spent : {X : Type 0} (o : Option X) (P : Type 0) → is_some o ≡ true → IfNone o P
 some_spent None P e = absurd (false≢true e)
 some_spent (Some x) P e = tt
 
--- the fields represent a set of which all of it is so
+-- If two sets are equal, the facts about one are facts about the other.
 pub still : (v l : LeaseSet) → v ≡ l → AreLeases l → AreLeases v
 still v l e are = subst AreLeases (sym e) are

@@ -20,13 +20,16 @@ module _ (p : ℕ → Bool) (told all : List ℕ) (n stop : ℕ) where
   abbrev pub Looked : Bool → List ℕ → Type 0
   Looked b now = ((b ≡ true) × (now ≡ told ++ n ∷ [])) ⊎ ((b ≡ false) × (now ≡ told))
 
+  -- After one more number is tested, the list so far and the rest to test are still the whole list.
   pub looked : n < stop → (b : Bool) → b ≡ p n → (now : List ℕ) → Looked b now → told ++ filter p (numbers_from n (stop - n)) ≡ all → now ++ filter p rest ≡ all
   looked lt b is now (inl w) h = ap (λ l. l ++ filter p rest) w.1 ∙ passing_told lt (sym is ∙ w.0) h
   looked lt b is now (inr w) h = ap (λ l. l ++ filter p rest) w.1 ∙ failing_passed lt (sym is ∙ w.0) h
 
+  -- The list so far is longer by at most one after each number.
   pub one_longer : (b : Bool) (now : List ℕ) → Looked b now → length now ≤ length told + 1
   one_longer b now (inl w) = let e = ap length w.1 ∙ length-append told (n ∷ []) in omega (arith, e)
   one_longer b now (inr w) = let e = ap length w.1 in omega (arith, e)
 
+  -- If no number is left, the list so far is the whole list.
   pub all_told : stop ≤ n → told ++ filter p (numbers_from n (stop - n)) ≡ all → told ≡ all
   all_told le h = sym (append-nil told) ∙ ap (λ l. told ++ filter p l) (numbers_told [] (numbers_from n (stop - n)) n stop le refl) ∙ h

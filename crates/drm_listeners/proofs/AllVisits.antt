@@ -18,6 +18,7 @@ use Rattle.drm_listeners.specs.Connections.{IsFaultOf, IsSessionOf, SessionState
 use Rattle.drm_listeners.specs.UntilEnded.{AreKept, HasServedAll, HaveAllSat, IsFaultIn, IsOutside}
 use Rattle.drm_listeners.proofs.Gathering.{length-sessions, map-three, of-class, parted, sat-of, steps-three, told-by-class}
 
+-- If each of three participants took in its own, the participant that takes in the three has taken in all.
 pub all-sat : (participants : ByClass ParticipantView) (kept : KeptListeners) (first old new : ParticipantView) → AreKept participants kept
     → StartsWith new.seen kept.participants.card.seen × StartsWith new.seen kept.participants.render.seen × StartsWith new.seen kept.participants.root.seen
     → old.merged ≡ [] → old.journaled ≡ first.journaled
@@ -50,7 +51,7 @@ all-sat participants kept first old new h seen none before merged differ journal
           let steps = steps-three (sessions_in cards) (sessions_in renders) (sessions_in roots) in omega (arith, before, journaled, card, render, root, steps));
     }
 
--- the device as it is when it is no longer shared
+-- A device that was shared by all sessions of three listeners has the history of these sessions.
 pub all-served : (before after : DeviceValue) (first last : ParticipantView) → (first.origin ≡ before) × (first.seen ≡ journaled_before before) → first.journaled ≡ 0
     → Same first last × StartsWith last.seen first.seen → HaveAllSat first last → Closes last after → length after.journal ≡ length last.origin.journal + last.journaled → HasServedAll before after
 all-served before after first last seen none same h closes counted =
@@ -80,7 +81,7 @@ all-served before after first last seen none same h closes counted =
       journaled = (let more = h.journaled in let long = ap (λ (d : DeviceValue). length d.journal) origin in omega (arith, counted, more, none, long));
     }
 
--- a fault of a listener is neither of the turn nor for lack of memory
+-- A fault of a listener is neither of the turn nor for lack of memory.
 pub is-outside : (class : Class) (fault : Option ServeFault) → IsFaultIn class fault → IsOutside fault
 is-outside class None h = tt
 is-outside class (Some fault) h = ((λ e. subst (IsFaultOf class) e h), (λ e. subst (IsFaultOf class) e h))

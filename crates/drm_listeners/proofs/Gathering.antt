@@ -21,6 +21,7 @@ use Rattle.drm_listeners.specs.Serving.{AreSessionsOf, HaveSat, IsBy, IsTold, ca
 
 -- ---- lists
 
+-- A list of session states has as many sessions as states.
 pub length-sessions : (sittings : List SessionState) → length (sessions_in sittings) ≡ length sittings
 length-sessions [] = refl
 length-sessions (s ∷ sittings) = ap suc (length-sessions sittings)
@@ -33,21 +34,26 @@ map-both : {A B : Type 0} (f : A → B) (xs ys : List A) → map f (xs ++ ys) �
 map-both f [] ys = refl
 map-both f (x ∷ xs) ys = ap (λ (l : List _). f x ∷ l) (map-both f xs ys)
 
+-- To map three lists one after the other is to map each.
 pub map-three : {A B : Type 0} (f : A → B) (xs ys zs : List A) → map f (xs ++ (ys ++ zs)) ≡ map f xs ++ (map f ys ++ map f zs)
 map-three f xs ys zs = map-both f xs (ys ++ zs) ∙ ap (λ (l : List _). map f xs ++ l) (map-both f ys zs)
 
+-- If the value of a result has a property, it has each that follows from it.
 pub if_ok : {D E : Type 0} {P Q : D → Type 0} (r : Result D E) → ((d : D) → P d → Q d) → IfOk r P → IfOk r Q
 if_ok (Ok d) step h = step d h
 if_ok (Err e) step h = tt
 
+-- If the value of a result has three properties, it has them together.
 pub if_ok_three : {D E : Type 0} (P Q R : D → Type 0) (r : Result D E) → IfOk r P → IfOk r Q → IfOk r R → IfOk r (λ d. P d × Q d × R d)
 if_ok_three P Q R (Ok d) p q r = (p, q, r)
 if_ok_three P Q R (Err e) p q r = tt
 
+-- If the value of a result has two properties, it has them together.
 pub if_ok_both : {D E : Type 0} (P Q : D → Type 0) (r : Result D E) → IfOk r P → IfOk r Q → IfOk r (λ d. P d × Q d)
 if_ok_both P Q (Ok d) p q = (p, q)
 if_ok_both P Q (Err e) p q = tt
 
+-- What holds if a result is no error implies what follows from it.
 pub on_ok : {D E : Type 0} {P Q : Type 0} (r : Result D E) → (P → Q) → OnOk r P → OnOk r Q
 on_ok (Ok d) step h = step h
 on_ok (Err e) step h = tt
@@ -56,6 +62,7 @@ all_steps-both : (xs ys : List Session) → all_steps (xs ++ ys) ≡ all_steps x
 all_steps-both [] ys = omega arith
 all_steps-both (x ∷ xs) ys = let more = all_steps-both xs ys in omega arith
 
+-- The steps of three lists of sessions are the sum of the steps of each.
 pub steps-three : (xs ys zs : List Session) → all_steps (xs ++ (ys ++ zs)) ≡ all_steps xs + (all_steps ys + all_steps zs)
 steps-three xs ys zs = all_steps-both xs (ys ++ zs) ∙ ap (λ (n : ℕ). all_steps xs + n) (all_steps-both ys zs)
 
@@ -72,6 +79,7 @@ differ-without (x ∷ xs) y ys d = (λ h. d.0 (has-beside x xs y ys h), differ-w
 
 -- ---- the sessions by their classes
 
+-- If each session was served through its participant in a class, all are sessions of this class.
 pub of-class : (class : Class) (sittings : List SessionState) → All (λ (s : SessionState). IsSessionBy class s.participant s.session) sittings → All (IsSessionOf class) (sessions_in sittings)
 of-class class [] h = All-nil (IsSessionOf class)
 of-class class (s ∷ sittings) h =
@@ -81,7 +89,7 @@ of-class class (s ∷ sittings) h =
 of-listener : (class : Class) (count : ℕ) (participant : ParticipantView) (served : ServedListener) → IsServed class count participant served → All (IsSessionOf class) served.sessions.items
 of-listener class count participant served h = subst (λ (l : List Session). All (IsSessionOf class) l) (sym h.sessions) (of-class class h.sittings h.of_class)
 
--- what is in each of three parts, whose lengths are the counts
+-- Three lists whose lengths are the counts are found again as the parts of their joined list.
 pub parted : {A : Type 0} (P Q R : A → Type 0) (counts : Counts) (cards renders roots : List A) → length cards ≡ counts.cards → length renders ≡ counts.renders
     → All P cards → All Q renders → All R roots
     → All P (card_sessions counts (cards ++ (renders ++ roots))) × All Q (render_sessions counts (cards ++ (renders ++ roots))) × All R (root_sessions counts (cards ++ (renders ++ roots)))
@@ -95,6 +103,7 @@ parted {A} P Q R counts cards renders roots c r of_cards of_renders of_roots =
           (ap (λ (n : ℕ). drop (n + counts.renders) all) (sym c) ∙ drop-append-add cards later counts.renders ∙ ap (λ (n : ℕ). drop n later) (sym r) ∙ drop-append_seam renders roots) of_roots,
     )
 
+-- The sessions of three listeners are, class by class, as many as their counts.
 pub are-sessions : (counts : Counts) (participants : ByClass ParticipantView) (served : ByClass ServedListener) → AreServed counts participants served
     → AreSessionsOf counts (served.card.sessions.items ++ (served.render.sessions.items ++ served.root.sessions.items))
 are-sessions counts participants served h =
@@ -118,7 +127,7 @@ number-of class count participant served h = sym (length-sessions h.sittings) �
 numbers-three : (xs ys zs : List SessionState) → numbers_of (participants_in (xs ++ (ys ++ zs))) ≡ numbers_of (participants_in xs) ++ (numbers_of (participants_in ys) ++ numbers_of (participants_in zs))
 numbers-three xs ys zs = ap numbers_of (map-three (λ (s : SessionState). s.participant) xs ys zs) ∙ map-three (λ (s : ParticipantView). s.number) (participants_in xs) (participants_in ys) (participants_in zs)
 
--- sessions of three classes, and the participants that took in theirs
+-- A participant that took in the sessions of three classes has taken in the participant of each.
 pub sat-of : (counts : Counts) (card render root old new : ParticipantView) (cards renders roots : List SessionState) (sessions : List Session) → length cards ≡ counts.cards → length renders ≡ counts.renders
     → All (IsBy Card) cards → All (IsBy Render) renders → All (IsBy Root) roots
     → HasTakenIn card (participants_in cards) → HasTakenIn render (participants_in renders) → HasTakenIn root (participants_in roots)
@@ -146,6 +155,7 @@ sat-of counts card render root old new cards renders roots sessions c r of_cards
       differ = subst AllDiffer numbers (subst (λ (l : List ℕ). AllDiffer (l ++ (card.merged ++ (render.merged ++ root.merged)))) none without_card);
     }
 
+-- A participant that took in all three listeners has taken in the participant of each session.
 pub have-sat : (counts : Counts) (participants : ByClass ParticipantView) (served : ByClass ServedListener) (old new : ParticipantView) (sessions : List Session) → AreServed counts participants served
     → StartsWith new.seen served.card.participant.seen × StartsWith new.seen served.render.participant.seen × StartsWith new.seen served.root.participant.seen
     → old.merged ≡ [] → new.merged ≡ ((old.merged ++ served.card.participant.number ∷ served.card.participant.merged) ++ served.render.participant.number ∷ served.render.participant.merged) ++ served.root.participant.number ∷ served.root.participant.merged
@@ -181,7 +191,7 @@ all-told log class participant more (s ∷ sittings) by seen =
     }
     (all-told log class participant more sittings (All-tail (IsBy class) s sittings by) seen.1)
 
--- the history has each session as one of its class
+-- The history has each session as one of its class.
 pub told-by-class : (log : List Entry) (counts : Counts) (participant : ParticipantView) (sessions : List Session) → StartsWith log participant.seen → (sat : HaveSat counts participant sessions)
     → All (IsTold log Card) (card_sessions counts sat.sittings) × All (IsTold log Render) (render_sessions counts sat.sittings) × All (IsTold log Root) (root_sessions counts sat.sittings)
 told-by-class log counts participant sessions more sat =

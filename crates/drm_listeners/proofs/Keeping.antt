@@ -19,6 +19,7 @@ no-more (x ∷ xs) e = absurd (omega (arith, e))
 device-before : (before : DeviceValue) → device_at before (journaled_before before) ≡ before
 device-before before = ap (λ (es : List Event). record before { journal = es }) (replayed-events (start_of before) before.journal)
 
+-- A device to which no event was sent while it was shared continues unchanged.
 pub as-before : (before : DeviceValue) → FoundRoom (start_of before) before.journal → Continues before before
 as-before before found = record {
   log = journaled_before before;
@@ -27,7 +28,7 @@ as-before before found = record {
   begins = ([], sym (append-nil (journaled_before before)));
 }
 
--- a history that begins with what it had recorded before, and is as long
+-- A device whose history begins with what it recorded before, and is as long, is unchanged.
 pub same-device : (before after : DeviceValue) (log : List Entry) → after ≡ device_at before log → StartsWith log (journaled_before before) → length after.journal ≡ length before.journal → after ≡ before
 same-device before after log is begins count =
     let journaled : List Entry = journaled_before before in

@@ -16,7 +16,7 @@ use Rattle.drm_listeners.specs.Serving.{IsBy}
 use Rattle.drm_listeners.specs.UntilEnded.{ArePromised, HasServed, IsPromised}
 use Rattle.drm_listeners.proofs.Matching.{some_and}
 
--- a participant that has taken in no other
+-- A participant that has taken in no other has served no session.
 pub served-none : (class : Class) (participant : ParticipantView) → participant.merged ≡ [] → participant.journaled ≡ 0 → HasServed class participant
 served-none class participant merged journaled = record {
   sittings = [];
@@ -25,7 +25,7 @@ served-none class participant merged journaled = record {
   journaled = journaled;
 }
 
--- the same participant, of which more are out
+-- A participant of which more are out has served the same sessions.
 pub served-still : (class : Class) (old new : ParticipantView) → new.seen ≡ old.seen → new.merged ≡ old.merged → new.journaled ≡ old.journaled → HasServed class old → HasServed class new
 served-still class old new seen merged journaled h = record {
   sittings = h.sittings;
@@ -38,7 +38,7 @@ served-still class old new seen merged journaled h = record {
   journaled = journaled ∙ h.journaled;
 }
 
--- a participant that has taken in that of one session more
+-- A participant that takes in the one of a session has served one session more.
 pub served-more : (class : Class) (old new other : ParticipantView) (session : Session) → HasServed class old → IsSessionBy class other session
     → StartsWith new.seen old.seen → StartsWith new.seen other.seen → calls_by other.number other.seen ≡ other.mine
     → new.merged ≡ old.merged ++ other.number ∷ other.merged → other.merged ≡ [] → AllDiffer (new.number ∷ new.merged)
@@ -54,7 +54,7 @@ served-more class old new other session h by more seen own merged alone differ j
           let all = ap all_steps (map_push (λ (s : SessionState). s.session) h.sittings last) ∙ all_steps-push (sessions_in h.sittings) session in omega (arith, journaled, before, steps, none, all));
     }
 
--- what was split off a participant stays so
+-- What was split off a participant stays so.
 pub promised-still : {A : Type 0} (promise : A → ConnectionServed) (class : Class) (old new : ParticipantView) (visits : List (Option A)) → Same old new
     → ArePromised promise class old visits → ArePromised promise class new visits
 promised-still {A} promise class old new visits same h =

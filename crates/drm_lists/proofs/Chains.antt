@@ -1,4 +1,4 @@
--- What is in a chain.
+-- Which numbers are in the chain of a number, which one is its top, and how many are above it.
 use Rattle.std.proofs.Common.{◌≡◌, ℕ, zero, suc, ◌<◌, ◌≤◌, ◌==◌, Bool, true, false, ◌||◌, ◌⊎◌, inl, inr, List, [], ◌∷◌, ◌+◌, length, drop, Option, None, Some, refl, sym, ap, ◌∙◌, arith}
 use Rattle.std.proofs.lemmas.Bool.{eqb-true}
 use Rattle.drm_lists.specs.Numbers.{is_among}
@@ -14,6 +14,7 @@ IsFalling above = (n m : ℕ) → above n ≡ Some m → m < n
 abbrev rest : ℕ → (ℕ → Option ℕ) → Option ℕ → List ℕ
 rest s above o = elim o [ None ↦ [] | Some m ↦ chain_within s above m ]
 
+-- A number is in its own chain.
 pub itself : (above : ℕ → Option ℕ) (s n : ℕ) → is_among (chain_within s above n) n ≡ true
 unfolding chain_within
 itself above zero n = among-first [] n
@@ -22,7 +23,7 @@ itself above (suc s) n = among-first (rest s above (above n)) n
 only : (n top : ℕ) → (n == top || false) ≡ true → n ≡ top
 only n top h = (elim (n == top) as (λ b. (n == top) ≡ b → (b || false) ≡ true → n ≡ top) [ true ↦ λ e k. eqb-true n top e | false ↦ λ e k. absurd (let j : false ≡ true = k in cc) ]) refl h
 
--- a number that is in a chain is its first, or above another that exists
+-- A number in a chain is the first of it or above another that is in it.
 pub child : (above : ℕ → Option ℕ) (s top n : ℕ) → is_among (chain_within s above n) top ≡ true → (top ≡ n) ⊎ ((y : ℕ) × (above y ≡ Some top) × (is_among (chain_within s above n) y ≡ true))
 unfolding chain_within
 child above zero top n h = inl (sym (only n top h))
@@ -40,7 +41,7 @@ child above (suc s) top n h =
     higher from None e k = absurd (let j : false ≡ true = k in cc)
     higher from (Some m) e k = of_rest m e (from m k)
 
--- with a number that is in a chain stands the one above it
+-- With each number, a chain contains the one above it.
 pub above_too : (above : ℕ → Option ℕ) → IsFalling above → (s y n top : ℕ) → n ≤ s → above y ≡ Some top → is_among (chain_within s above n) y ≡ true → is_among (chain_within s above n) top ≡ true
 unfolding chain_within
 above_too above falls zero y n top few e h =
@@ -65,7 +66,7 @@ alone : (above : ℕ → Option ℕ) → IsFalling above → (s n : ℕ) → n �
 alone above falls s n low None e = refl
 alone above falls s n low (Some m) e = let lt = falls n m e in absurd (omega (arith, lt, low))
 
--- steps beyond those that are enough change nothing
+-- Once the steps are at least the number, more steps do not change the chain.
 pub enough : (above : ℕ → Option ℕ) → IsFalling above → (s t n : ℕ) → n ≤ s → n ≤ t → chain_within s above n ≡ chain_within t above n
 unfolding chain_within
 enough above falls zero zero n h k = refl
@@ -77,7 +78,7 @@ enough above falls (suc s) (suc t) n h k = higher (λ m i j. enough above falls 
     higher from None e = refl
     higher from (Some m) e = let lt = falls n m e in ap (λ l. n ∷ l) (from m (omega (arith, lt, h)) (omega (arith, lt, k)))
 
--- a chain stays where what is above its numbers stays
+-- If what is above each number of a chain stays the same, the chain does.
 pub same_chain : (P : ℕ → Type 0) (above other : ℕ → Option ℕ) → ((n : ℕ) → P n → other n ≡ above n) → ((n m : ℕ) → P n → above n ≡ Some m → P m) → (s n : ℕ) → P n → chain_within s other n ≡ chain_within s above n
 unfolding chain_within
 same_chain P above other is higher zero n p = refl
@@ -92,13 +93,13 @@ unfolding chain_within
 last_of_chain above zero a b m = refl
 last_of_chain above (suc s) a b m = refl
 
--- the top of what has nothing above
+-- A number with nothing above it is its own top.
 pub top_none : (above : ℕ → Option ℕ) (n : ℕ) → above n ≡ None → n ≡ top_of above n
 unfolding chain_within
 top_none above zero e = refl
 top_none above (suc n) e = ap (λ o. last_of (suc n) (rest n above o)) (sym e)
 
--- the top of anything else
+-- A number has the same top as the number above it.
 pub top_some : (above : ℕ → Option ℕ) → IsFalling above → (n m : ℕ) → above n ≡ Some m → top_of above m ≡ top_of above n
 unfolding chain_within
 top_some above falls zero m e = let lt = falls 0 m e in absurd (omega (arith, lt))
@@ -106,13 +107,13 @@ top_some above falls (suc n) m e =
     let lt = falls (suc n) m e in
     last_of_chain above m m (suc n) m ∙ ap (last_of (suc n)) (enough above falls m n m (omega arith) (omega (arith, lt))) ∙ ap (λ o. last_of (suc n) (rest n above o)) (sym e)
 
--- what has nothing above is under itself alone
+-- A number with nothing above it is under itself only.
 pub under_none : (above : ℕ → Option ℕ) (top n : ℕ) → above n ≡ None → is_under above top n ≡ (n == top)
 unfolding chain_within
 under_none above top zero e = or-false (0 == top)
 under_none above top (suc n) e = ap (λ o. (suc n == top) || is_among (rest n above o) top) e ∙ or-false (suc n == top)
 
--- anything else is under itself, and under all that what is above it is under
+-- A number is under itself and under all that the number above it is under.
 pub under_some : (above : ℕ → Option ℕ) → IsFalling above → (top n m : ℕ) → above n ≡ Some m → is_under above top n ≡ (n == top || is_under above top m)
 unfolding chain_within
 under_some above falls top zero m e = let lt = falls 0 m e in absurd (omega (arith, lt))
@@ -120,7 +121,7 @@ under_some above falls top (suc n) m e =
     let lt = falls (suc n) m e in
     ap (λ o. (suc n == top) || is_among (rest n above o) top) e ∙ ap (λ l. (suc n == top) || is_among l top) (enough above falls n m m (omega (arith, lt)) (omega arith))
 
--- nothing is above what has nothing above
+-- A number with nothing above it has the depth 0.
 pub depth_none : (above : ℕ → Option ℕ) (n : ℕ) → above n ≡ None → depth_of above n ≡ 0
 unfolding chain_within
 depth_none above zero e = refl
@@ -131,7 +132,7 @@ unfolding chain_within
 all_of_chain above zero n = refl
 all_of_chain above (suc s) n = let l = length (rest s above (above n)) in omega arith
 
--- one more is above anything else than above what is above it
+-- A number has a depth one greater than the number above it.
 pub depth_some : (above : ℕ → Option ℕ) → IsFalling above → (n m : ℕ) → above n ≡ Some m → depth_of above n ≡ depth_of above m + 1
 unfolding chain_within
 depth_some above falls zero m e = let lt = falls 0 m e in absurd (omega (arith, lt))
@@ -148,7 +149,7 @@ few_in_chain above (suc s) n = of_rest (λ m. few_in_chain above s m) (above n)
     of_rest few None = omega arith
     of_rest few (Some m) = let fewer = few m in omega (arith, fewer)
 
--- no more are above a number than it is
+-- The depth of a number is at most the number.
 pub depth_low : (above : ℕ → Option ℕ) (n : ℕ) → depth_of above n ≤ n
 depth_low above n =
     let all = all_of_chain above n n in
@@ -167,7 +168,7 @@ shorter above other f (suc s) n = of_rest (λ m. shorter above other f s m) (oth
         let same : length (rest s above (above n)) ≡ length (chain_within s above m) = ap (λ o. length (rest s above o)) (f n m e) in
         omega (arith, fewer, same)
 
--- no more are above a number where nothing new does
+-- If no number gets a new one above it, no depth grows.
 pub depth_fewer : (above other : ℕ → Option ℕ) → ((n m : ℕ) → other n ≡ Some m → above n ≡ Some m) → (n : ℕ) → depth_of other n ≤ depth_of above n
 depth_fewer above other f n =
     let fewer = shorter above other f n n in

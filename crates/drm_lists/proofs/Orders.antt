@@ -9,24 +9,29 @@ use Rattle.drm_lists.proofs.Lists.{filter-map, filter-both, filter_all, all_each
 
 -- ---- the same rows
 
+-- A list has the same rows as itself.
 pub same-refl : {X : Type 0} (xs : List X) → SameRows xs xs
 same-refl xs = λ test. refl
 
+-- If xs has the same rows as ys, ys has the same rows as xs.
 pub same-sym : {X : Type 0} (xs ys : List X) → SameRows xs ys → SameRows ys xs
 same-sym xs ys h = λ test. sym (h test)
 
+-- Two lists with the same rows as a third have the same rows.
 pub same-trans : {X : Type 0} (xs ys zs : List X) → SameRows xs ys → SameRows ys zs → SameRows xs zs
 same-trans xs ys zs h k = λ test. h test ∙ k test
 
 count-map : {X Y : Type 0} (f : X → Y) (test : Y → Bool) (zs : List X) → length (filter test (map f zs)) ≡ length (filter (λ x. test (f x)) zs)
 count-map f test zs = ap length (filter-map test f zs) ∙ length-map (filter (λ x. test (f x)) zs) f
 
+-- Lists with the same rows have the same rows after a map.
 pub same-map : {X Y : Type 0} (f : X → Y) → (xs ys : List X) → SameRows xs ys → SameRows (map f xs) (map f ys)
 same-map f xs ys h = λ test. count-map f test xs ∙ h (λ x. test (f x)) ∙ sym (count-map f test ys)
 
 count-filter : {X : Type 0} (p test : X → Bool) (xs : List X) → length (filter test (filter p xs)) ≡ length (filter (λ x. p x && test x) xs)
 count-filter p test xs = ap length (filter-both test p xs)
 
+-- Lists with the same rows have the same rows after a filter.
 pub same-filter : {X : Type 0} (p : X → Bool) → (xs ys : List X) → SameRows xs ys → SameRows (filter p xs) (filter p ys)
 same-filter p xs ys h = λ test. count-filter p test xs ∙ h (λ x. p x && test x) ∙ sym (count-filter p test ys)
 
@@ -36,27 +41,31 @@ any-count test (x ∷ xs) =
     elim (test x) as (λ b. (b || list_any test xs) ≡ nat_lt 0 (length (cond b (x ∷ filter test xs) (filter test xs))))
     [ true ↦ sym (lt-ltb 0 (suc (length (filter test xs))) (omega arith)) | false ↦ any-count test xs ]
 
--- a test that some row passes
+-- If two lists have the same rows, some row of one passes if and only if one of the other does.
 pub same-any : {X : Type 0} (test : X → Bool) → (xs ys : List X) → SameRows xs ys → list_any test xs ≡ list_any test ys
 same-any test xs ys h = any-count test xs ∙ ap (nat_lt 0) (h test) ∙ sym (any-count test ys)
 
+-- Lists with the same rows have the same length.
 pub same-length : {X : Type 0} (xs ys : List X) → SameRows xs ys → length xs ≡ length ys
 same-length {X} xs ys h = let all = λ (zs : List X). let e : filter (λ x. true) zs ≡ zs = filter_all (λ x. true) zs (all_each (λ x. true ≡ true) (λ x. refl) zs) in e in ap length (sym (all xs)) ∙ h (λ x. true) ∙ ap length (all ys)
 
+-- Lists with the same rows have the same rows with one more in front.
 pub same-cons : {X : Type 0} (x : X) (xs ys : List X) → SameRows xs ys → SameRows (x ∷ xs) (x ∷ ys)
 same-cons x xs ys h = λ test. elim (test x) as (λ b. length (cond b (x ∷ filter test xs) (filter test xs)) ≡ length (cond b (x ∷ filter test ys) (filter test ys))) [ true ↦ ap (λ n. suc n) (h test) | false ↦ h test ]
 
+-- The rows stay the same if the first two change places.
 pub same-swap : {X : Type 0} (x y : X) (xs : List X) → SameRows (x ∷ y ∷ xs) (y ∷ x ∷ xs)
 same-swap x y xs = λ test. elim (test x) as (λ b. length (cond b (x ∷ cond (test y) (y ∷ filter test xs) (filter test xs)) (cond (test y) (y ∷ filter test xs) (filter test xs))) ≡ length (cond (test y) (y ∷ cond b (x ∷ filter test xs) (filter test xs)) (cond b (x ∷ filter test xs) (filter test xs)))) [
   | true ↦ elim (test y) as (λ d. length (x ∷ cond d (y ∷ filter test xs) (filter test xs)) ≡ length (cond d (y ∷ x ∷ filter test xs) (x ∷ filter test xs))) [ true ↦ refl | false ↦ refl ]
   | false ↦ refl
 ]
 
+-- The rows stay the same if the first moves to any place.
 pub moved_in : {X : Type 0} (x : X) → (xs ys : List X) → SameRows (x ∷ (xs ++ ys)) (xs ++ x ∷ ys)
 moved_in x [] ys = λ test. refl
 moved_in x (y ∷ xs) ys = same-trans (x ∷ y ∷ (xs ++ ys)) (y ∷ x ∷ (xs ++ ys)) (y ∷ (xs ++ x ∷ ys)) (same-swap x y (xs ++ ys)) (same-cons y (x ∷ (xs ++ ys)) (xs ++ x ∷ ys) (moved_in x xs ys))
 
--- those that pass, and those that don't
+-- A list has the same rows as those that pass and those that do not together.
 pub same_parts : {X : Type 0} (p : X → Bool) → (xs : List X) → SameRows xs (filter p xs ++ filter (λ x. not (p x)) xs)
 same_parts p [] = λ test. refl
 same_parts {X = X} p (x ∷ xs) =
@@ -67,26 +76,30 @@ same_parts {X = X} p (x ∷ xs) =
       | false ↦ same-trans (x ∷ xs) (x ∷ (yes_part ++ no_part)) (yes_part ++ x ∷ no_part) (same-cons x xs (yes_part ++ no_part) (same_parts p xs)) (moved_in x yes_part no_part)
     ]
 
--- the last, and the first
+-- The rows stay the same if the last one moves to the front.
 pub last_first : {X : Type 0} (xs : List X) (x : X) → SameRows (xs ++ x ∷ []) (x ∷ xs)
 last_first xs x = subst (λ l. SameRows (xs ++ x ∷ []) (x ∷ l)) (append-nil xs) (same-sym (x ∷ (xs ++ [])) (xs ++ x ∷ []) (moved_in x xs []))
 
 -- ---- rows in an order
 
+-- A filter leaves rows in their order.
 pub in_order_filter : {X : Type 0} (before : X → X → Type 0) (p : X → Bool) → (xs : List X) → InOrder before xs → InOrder before (filter p xs)
 in_order_filter before p [] h = tt
 in_order_filter before p (x ∷ xs) h =
     elim (p x) as (λ b. InOrder before (cond b (x ∷ filter p xs) (filter p xs)))
     [ true ↦ (all_filter (before x) p xs h.0, in_order_filter before p xs h.1) | false ↦ in_order_filter before p xs h.1 ]
 
+-- Rows in order stay in order with one more at the end that all of them are before.
 pub in_order_append : {X : Type 0} (before : X → X → Type 0) → (xs : List X) (y : X) → InOrder before xs → AllByRecursion (λ x. before x y) xs → InOrder before (xs ++ y ∷ [])
 in_order_append before [] y h k = (tt, tt)
 in_order_append before (x ∷ xs) y h k = (all_append (before x) xs (y ∷ []) h.0 (k.0, tt), in_order_append before xs y h.1 k.1)
 
+-- Mapped rows are in order if the rows are in the order of their images.
 pub in_order_map : {X Y : Type 0} (before : Y → Y → Type 0) (f : X → Y) → (xs : List X) → InOrder (λ x y. before (f x) (f y)) xs → InOrder before (map f xs)
 in_order_map before f [] h = tt
 in_order_map before f (x ∷ xs) h = (all_mapped (before (f x)) f xs h.0, in_order_map before f xs h.1)
 
+-- Rows in one order are also in any order that this one implies.
 pub in_order_weaker : {X : Type 0} (before after : X → X → Type 0) → ((x y : X) → before x y → after x y) → (xs : List X) → InOrder before xs → InOrder after xs
 in_order_weaker before after f [] h = tt
 in_order_weaker before after f (x ∷ xs) h = (all_weaker (before x) (after x) (f x) xs h.0, in_order_weaker before after f xs h.1)
@@ -111,7 +124,7 @@ inserted-first : {X : Type 0} (before : X → X → Bool) (x : X) → (xs : List
 inserted-first before x [] h = refl
 inserted-first before x (y ∷ ys) h = ap (λ b. cond b (x ∷ y ∷ ys) (y ∷ inserted_by before x ys)) h.0
 
--- rows that are sorted are as they are
+-- Sorting leaves sorted rows unchanged.
 pub sorted-as_is : {X : Type 0} (before : X → X → Bool) → (xs : List X) → InOrder (λ x y. before x y ≡ true) xs → sorted_by before xs ≡ xs
 unfolding sorted_by
 sorted-as_is before [] h = refl
@@ -163,6 +176,7 @@ all_pass : {X : Type 0} (xs : List X) → filter (λ x. true) xs ≡ xs
 all_pass [] = refl
 all_pass (x ∷ xs) = ap (λ l. x ∷ l) (all_pass xs)
 
+-- Sorting keeps the number of rows.
 pub length-sorted : {X : Type 0} (before : X → X → Bool) (xs : List X) → length (sorted_by before xs) ≡ length xs
 length-sorted before xs = sym (ap length (all_pass (sorted_by before xs))) ∙ same-sorted before xs (λ x. true) ∙ ap length (all_pass xs)
 
@@ -204,7 +218,7 @@ rising-unique before is order (x ∷ xs) (y ∷ ys) h k same =
     let same' : SameRows (x ∷ xs) (x ∷ ys) = subst (λ z. SameRows (x ∷ xs) (z ∷ ys)) (sym e) same in
     ap (λ z. z ∷ xs) e ∙ ap (λ zs. y ∷ zs) (rising-unique before is order xs ys h.1 k.1 (same_tail x xs ys same'))
 
--- the rows in their order are those that rise and are the same rows
+-- Sorting rows returns any rising list with the same rows.
 pub sorted-same : {X : Type 0} (before is : X → X → Bool) (order : IsOrder before is) (xs ys : List X) → InOrder (RisesTo before) ys → SameRows xs ys → sorted_by before xs ≡ ys
 sorted-same before is order xs ys h same =
     rising-unique before is order (sorted_by before xs) ys (sorted-in_order before is order xs) h (same-trans (sorted_by before xs) xs ys (same-sorted before xs) same)
@@ -217,5 +231,6 @@ le-total x y h = grind (arith, nat_tests)
 le-trans : (x y z : ℕ) → nat_le x y ≡ true → nat_le y z ≡ true → nat_le x z ≡ true
 le-trans x y z h k = grind (arith, nat_tests)
 
+-- "At most" is an order of numbers, with equality as its test of sameness.
 pub order_of_numbers : IsOrder nat_le (λ x y. x == y)
 order_of_numbers = record { total = le-total; trans = le-trans; itself = λ x. eq-eqb x x refl; same = λ x y h. eqb-true x y h }

@@ -31,10 +31,10 @@ module _ {X : Type 0} where
   take-end (y ∷ ys) (suc place) zero h few = absurd (omega (arith, few))
   take-end (y ∷ ys) (suc place) (suc count) h few = ap (λ zs. y ∷ zs) (take-end ys place count h (omega (arith, few)))
 
-  -- one more row
+  -- A page with the next row of the list is the page of one more row.
   pub page-more : (rows : List X) (from place : ℕ) (x : X) → Some x ≡ slice_get rows (from + place) → take place (drop from rows) ++ x ∷ [] ≡ take (place + 1) (drop from rows)
   page-more rows from place x h = take-more (drop from rows) place x (h ∙ get-drop rows from place) ∙ ap (λ n. take n (drop from rows)) (sym (one_more place))
 
-  -- no more rows
+  -- If the list has no further row, the page so far is the whole page.
   pub page-end : (rows : List X) (from place count : ℕ) → None ≡ slice_get rows (from + place) → place ≤ count → take place (drop from rows) ≡ take count (drop from rows)
   page-end rows from place count h few = take-end (drop from rows) place count (h ∙ get-drop rows from place) few

@@ -12,23 +12,26 @@ placed_by p y xs = filter p xs ++ y ∷ filter (λ x. not (p x)) xs
 
 -- ---- in any order
 
+-- A row put at its place adds this row and changes no other.
 pub same_placed : {X : Type 0} (p : X → Bool) (y : X) (xs : List X) → SameRows (y ∷ xs) (placed_by p y xs)
 same_placed p y xs =
     let front = filter p xs in
     let behind = filter (λ x. not (p x)) xs in
     same-trans (y ∷ xs) (y ∷ (front ++ behind)) (front ++ y ∷ behind) (same-cons y xs (front ++ behind) (same_parts p xs)) (moved_in y front behind)
 
+-- After one is put at its place, some row passes if and only if this one or another does.
 pub any_placed : {X : Type 0} (q p : X → Bool) (y : X) (xs : List X) → list_any q (placed_by p y xs) ≡ (q y || list_any q xs)
 any_placed q p y xs = sym (same-any q (y ∷ xs) (placed_by p y xs) (same_placed p y xs))
 
+-- One row put at its place makes the list longer by one.
 pub length_placed : {X : Type 0} (p : X → Bool) (y : X) (xs : List X) → length (placed_by p y xs) ≡ suc (length xs)
 length_placed p y xs = sym (same-length (y ∷ xs) (placed_by p y xs) (same_placed p y xs))
 
--- what is so of a row and of all others is so of all
+-- What is true of a row and of all others is true of all after it is put at its place.
 pub all_placed : {X : Type 0} (P : X → Type 0) (p : X → Bool) (y : X) (xs : List X) → P y → AllByRecursion P xs → AllByRecursion P (placed_by p y xs)
 all_placed P p y xs h k = all_append P (filter p xs) (y ∷ filter (λ x. not (p x)) xs) (all_filter P p xs k) (h, all_filter P (λ x. not (p x)) xs k)
 
--- it is the one that passes where no other does
+-- If the new row passes and no other does, it is found.
 pub find_placed : {X : Type 0} (q p : X → Bool) (y : X) (xs : List X) → q y ≡ true → AllByRecursion (λ x. q x ≡ false) xs → find q (placed_by p y xs) ≡ Some y
 find_placed {X} q p y xs h none = behind_none (filter p xs) (all_filter (λ x. q x ≡ false) p xs none)
   where
@@ -36,7 +39,7 @@ find_placed {X} q p y xs h none = behind_none (filter p xs) (all_filter (λ x. q
     behind_none [] k = ap (λ b. cond b (Some y) (find q (filter (λ x. not (p x)) xs))) h
     behind_none (z ∷ zs) k = ap (λ b. cond b (Some z) (find q (zs ++ y ∷ filter (λ x. not (p x)) xs))) k.0 ∙ behind_none zs k.1
 
--- the place is the end where all pass
+-- If all rows pass, the place of the new row is the end.
 pub placed_last : {X : Type 0} (p : X → Bool) (y : X) (xs : List X) → AllByRecursion (λ x. p x ≡ true) xs → placed_by p y xs ≡ xs ++ y ∷ []
 placed_last p y xs h = λ i. filter_all p xs h i ++ y ∷ filter_none (λ x. not (p x)) xs (all_weaker (λ x. p x ≡ true) (λ x. not (p x) ≡ false) (λ x e. ap not e) xs h) i
 
@@ -81,13 +84,15 @@ module _ {X : Type 0} (f : X → ℕ) (y : X) where
       stays x z e lt = grind (arith, nat_tests)
 
   module _ (xs : List X) (rise : InOrder (λ (x z : X). f x < f z) xs) where
+    -- A search that the new row fails finds the same as before.
     pub find_other : (q : X → Bool) → q y ≡ false → find q (placed_at xs) ≡ find q xs
     find_other q h = find_between q y (filter (λ x. not (comes_before x)) xs) h (filter comes_before xs) ∙ ap (find q) (rejoined xs rise)
 
-    -- it is taken out again
+    -- A filter that fails only the new row removes it again.
     pub placed_back : (q : X → Bool) → q y ≡ false → AllByRecursion (λ x. q x ≡ true) xs → filter q (placed_at xs) ≡ xs
     placed_back q h all = filter_between q y (filter (λ x. not (comes_before x)) xs) h (filter comes_before xs) ∙ ap (filter q) (rejoined xs rise) ∙ filter_all q xs all
 
+    -- Rows in order stay in order with a new one that fits those before it and those after it.
     pub in_order_placed : (R : X → X → Type 0) → InOrder R xs → AllByRecursion (λ x. f x < f y → R x y) xs → AllByRecursion (λ x. nat_lt (f x) (f y) ≡ false → R y x) xs → InOrder R (placed_at xs)
     in_order_placed R o fore after =
         in_order_between R y (filter (λ x. not (comes_before x)) xs)
@@ -103,7 +108,7 @@ module _ {X : Type 0} (f : X → ℕ) (y : X) where
         less : (x : X) → nat_lt (f x) (f y) ≡ true → f x < f y
         less x e = grind (arith, nat_tests)
 
-    -- they rise with it, where none has its number
+    -- Rows that rise by their numbers still rise with a new row whose number none has.
     pub rise_placed : AllByRecursion (λ x. (f x == f y) ≡ false) xs → InOrder (λ (x z : X). f x < f z) (placed_at xs)
     rise_placed apart = in_order_placed (λ x z. f x < f z) rise (all_weaker (λ x. (f x == f y) ≡ false) (λ x. f x < f y → f x < f y) (λ x e lt. lt) xs apart) (all_weaker (λ x. (f x == f y) ≡ false) (λ x. nat_lt (f x) (f y) ≡ false → f y < f x) (λ x e k. greater x e k) xs apart)
       where

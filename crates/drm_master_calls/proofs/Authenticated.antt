@@ -25,14 +25,15 @@ use Rattle.drm_state.proofs.Represented.{members_open, clients_have, magics_suff
 abbrev pub put : Member → Member → Member
 put y z = if is_client y.client z then y else z
 
+-- A change of a client's entry leaves whose entry it is.
 pub put_client : (y z : Member) → (put y z).client ≡ z.client
 put_client y z = (elim (z.client == y.client) as (λ b. (z.client == y.client) ≡ b → (if b then y else z).client ≡ z.client) [ true ↦ λ e. sym (eqb-true z.client y.client e) | false ↦ λ e. refl ]) refl
 
--- who is found is found yet
+-- A client with an entry still has one after an entry was changed.
 pub found_yet : (y : Member) (xs : List Member) (c : ℕ) → member_of (map (put y) xs) c ≡ option_map (put y) (member_of xs c)
 found_yet y xs c = find-map (is_client c) (put y) xs ∙ ap (option_map (put y)) (find-same (λ z. is_client c (put y z)) (is_client c) xs (all_each (λ z. is_client c (put y z) ≡ is_client c z) (λ z. ap (λ n. n == c) (put_client y z)) xs))
 
--- the invariants, among other masters too
+-- Another entry of a client keeps all invariants, among masters that meet theirs.
 pub changed_invariants : (s : State) (y : Member) (set : MasterSet) → MeetsInvariants s → set.members ≡ (changed_member y s.masters).members → AreMasters set → AreOfLessees s.leases.tokens set.masters → AreKeptBy s.leases.tokens set.masters → AreAgreed s.leases set → set.last_magic ≡ s.masters.last_magic → (invariant : Invariant) → meets_invariant invariant (record s { masters = set })
 unfolding meets_invariant
 changed_invariants s y set t e are lessees kept agreed last MembersOpen =
@@ -59,6 +60,7 @@ open_client_yet fs c n =
     ap is_some (find-map (files.is_client n) (known c) fs.clients ∙ ap (option_map (known c)) (find-same (λ f. files.is_client n (known c f)) (files.is_client n) fs.clients (all_each (λ f. files.is_client n (known c f) ≡ files.is_client n f) (λ f. ap (λ m. m == n) (known_client c f)) fs.clients)))
     ∙ is_some-map (known c) (find (files.is_client n) fs.clients)
 
+-- An authentication keeps all invariants.
 pub authenticated_invariants : (s : State) (c : ℕ) → MeetsInvariants s → (invariant : Invariant) → meets_invariant invariant (record s { files = with_authenticated s.files c })
 unfolding meets_invariant
 authenticated_invariants s c t MembersOpen = all_weaker (λ (z : Member). is_open_client s.files z.client ≡ true) (λ (z : Member). is_open_client (with_authenticated s.files c) z.client ≡ true) (λ z e. open_client_yet s.files c z.client ∙ e) s.masters.members (members_open s t)
@@ -90,6 +92,7 @@ module _ (x y : Member) (g : ClientRow → ClientRow) (members : List Member) (l
       (elim (f.client == x.client) as (λ b. (f.client == x.client) ≡ b → client_row_of (map (put y) members) (if b then authenticated f else f) ≡ (if b then g (client_row_of members f) else client_row_of members f))
       [ true ↦ λ e. here f e | false ↦ λ e. there f e ]) refl
 
+  -- The rows of clients change for one client alone, if its file and its entry change.
   pub changed_clients : (fs : List FileClient) → map (client_row_of (map (put y) members)) (map (known x.client) fs) ≡ map (λ (r : ClientRow). if r.client == x.client then g r else r) (map (client_row_of members) fs)
   changed_clients [] = refl
   changed_clients (f ∷ fs) = λ i. one f i ∷ changed_clients fs i

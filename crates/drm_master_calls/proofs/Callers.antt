@@ -45,15 +45,18 @@ module _ (s : State) (w : Rows) (c : ℕ) (flags : FileFlags) (x : Member) (h : 
   stands : credentials_of w c ≡ record { root = flags.root; render = flags.render; authenticated = flags.authenticated; current = is_current s.masters c }
   stands = ap (credentials_in w) (row_is s w c flags h file) ∙ credentials_is s w h c flags
 
+  -- A client is current by rows exactly if its entry says so.
   pub current_is : (credentials_of w c).current ≡ is_current_member s.masters x
   current_is = ap (λ (t : Standing). t.current) stands ∙ ap (λ o. option_map_or (is_current_member s.masters) o false) look
 
   root_is : (credentials_of w c).root ≡ root_of s c
   root_is = ap (λ (t : Standing). t.root) stands ∙ sym (ap (λ o. option_map_or (λ (f : FileClient). f.flags.root) o false) file)
 
+  -- A client may be master by rows exactly if it was one once or is root.
   pub may_be : may_be_master w c ≡ (x.once_master || root_of s c)
   may_be = λ i. option_map_or (λ (row : ClientRow). row.once_master) (caller_row s w c flags x h file look i) false || root_is i
 
+  -- A client is a master by rows exactly if its entry says so.
   pub master_is : is_master w c ≡ x.is_master
   master_is = ap (λ o. option_map_or (λ (row : ClientRow). row.is_master) o false) (caller_row s w c flags x h file look)
 
@@ -61,7 +64,7 @@ module _ (s : State) (w : Rows) (c : ℕ) (flags : FileFlags) (x : Member) (h : 
   unfolding drop_checks
   drop_checks_are = λ i. check MasterPerm (may_be i) ∷ check NotCurrent (current_is i) ∷ check IsLessee (not (lessee_is s w c flags x h file look i)) ∷ []
 
-  -- what DROP_MASTER is
+  -- DROP_MASTER is denied by the first of its rules that fails in the state.
   pub drop_verdict : (root : Bool) → root ≡ root_of s c → first_failing (admission_checks w c DropMaster) ≡ None → verdict w (Ask c DropMaster) ≡ first_failing (calls.drop_checks s.masters x root)
   unfolding meaning
   drop_verdict root is admitted = call_verdict w c DropMaster admitted ∙ ap first_failing drop_checks_are ∙ ap (λ b. first_failing (calls.drop_checks s.masters x b)) (sym is)
@@ -78,7 +81,7 @@ module _ (s : State) (w : Rows) (c : ℕ) (flags : FileFlags) (x : Member) (h : 
       ∷ check IsLessee (current_is i || not (master_is i && lessee_is s w c flags x h file look i))
       ∷ []
 
-  -- and SET_MASTER
+  -- SET_MASTER is denied by the first of its rules that fails in the state.
   pub set_verdict : (root : Bool) → root ≡ root_of s c → first_failing (admission_checks w c SetMaster) ≡ None → verdict w (Ask c SetMaster) ≡ first_failing (calls.set_checks s.masters x root)
   unfolding meaning
   set_verdict root is admitted = call_verdict w c SetMaster admitted ∙ ap first_failing set_checks_are ∙ ap (λ b. first_failing (calls.set_checks s.masters x b)) (sym is)
@@ -106,11 +109,12 @@ taken_is s w h m n =
     ∙ any-filter_map (λ (row : MagicRow). (row.master == m) && (row.number == n)) magic_row_of s.masters.members
     ∙ list_any_agree (λ x. option_map_or (λ (row : MagicRow). (row.master == m) && (row.number == n)) (magic_row_of x) false) (masters.has_magic m n) (number_is m n) s.masters.members
 
+-- The free magic of a master is the same by rows as in the state.
 pub free_is : (s : State) (w : Rows) → Represents s w → (m : ℕ) → free_magic w m ≡ masters.free_magic s.masters m
 free_is s w h m =
     ap (λ (test : ℕ → Bool). least test 1 w.limits.clients) (λ i n. not (taken_is s w h m n i)) ∙ ap (λ last. least (λ n. not (list_any (masters.has_magic m n) s.masters.members)) 1 last) (sym (bounds_are s w h).5)
 
--- whether a client has the number under the master unspent
+-- A client has a magic unspent by its row exactly if it has it in its entry.
 pub open_is : (m n : ℕ) (x : Member) → option_map_or (is_open_magic m n) (magic_row_of x) false ≡ masters.has_open_magic m n x
 open_is m n x = by_magic x.magic
   where
@@ -122,7 +126,7 @@ open_is m n x = by_magic x.magic
         and_assoc true b c = refl
         and_assoc false b c = refl
 
--- whether AUTH_MAGIC finds a client
+-- AUTH_MAGIC finds a client by rows exactly if it finds one in the state.
 pub opens : (s : State) (w : Rows) → Represents s w → (m n : ℕ) → is_some (magic_client w m n) ≡ is_some (find (masters.has_open_magic m n) s.masters.members)
 opens s w h m n =
     is_some-map (λ (row : MagicRow). row.client) (find (is_open_magic m n) w.magics) ∙ is_some-find (is_open_magic m n) w.magics

@@ -24,13 +24,14 @@ use Rattle.drm_state.specs.Invariants.{Invariant, MembersOpen, ClientsHave, Mast
 use Rattle.drm_state.specs.Refinement.{represents_part, Represents}
 use Rattle.drm_state.proofs.Represented.{members_open, clients_have, clients_are, magics_are, masters_so, leases_agree}
 
--- another master of the device, or none
+-- Another device's master keeps all invariants, if the masters meet theirs.
 pub device_invariants : (s : State) (d : Option ℕ) → MeetsInvariants s → AreMasters (with_device d s.masters) → (invariant : Invariant) → meets_invariant invariant (record s { masters = with_device d s.masters })
 unfolding meets_invariant
 device_invariants s d t are MembersOpen = t MembersOpen
 device_invariants s d t are MastersAre = are
 device_invariants s d t are invariant = t invariant
 
+-- The state with another device's master represents the rows with it.
 pub device_represents : (s : State) (w : Rows) (d : Option ℕ) → Represents s w → (part : Part) → represents_part part (record s { masters = with_device d s.masters }) (record w { device_master = d })
 unfolding represents_part
 device_represents s w d h Clients = h Clients
@@ -47,10 +48,11 @@ module _ (s : State) (x y : Member) (look : member_of s.masters.members x.client
   put_client : (z : Member) → (put z).client ≡ z.client
   put_client z = (elim (z.client == y.client) as (λ b. (z.client == y.client) ≡ b → (if b then y else z).client ≡ z.client) [ true ↦ λ e. sym (eqb-true z.client y.client e) | false ↦ λ e. refl ]) refl
 
-  -- who is found is found yet
+  -- A client with an entry still has one after an entry was changed.
   pub found_yet : (c : ℕ) → member_of (map put s.masters.members) c ≡ option_map put (member_of s.masters.members c)
   found_yet c = find-map (is_client c) put s.masters.members ∙ ap (option_map put) (find-same (λ z. is_client c (put z)) (is_client c) s.masters.members (all_each (λ z. is_client c (put z) ≡ is_client c z) (λ z. ap (λ n. n == c) (put_client z)) s.masters.members))
 
+  -- Another magic of a client keeps all invariants.
   pub magic_invariants : MeetsInvariants s → AreMasters (changed_member y s.masters) → (invariant : Invariant) → meets_invariant invariant (record s { masters = changed_member y s.masters })
   unfolding meets_invariant
   magic_invariants t are MembersOpen = all_mapped (λ (z : Member). is_open_client s.files z.client ≡ true) put s.masters.members (all_weaker (λ (z : Member). is_open_client s.files z.client ≡ true) (λ z. is_open_client s.files (put z).client ≡ true) (λ z e. ap (is_open_client s.files) (put_client z) ∙ e) s.masters.members (members_open s t))
@@ -77,6 +79,7 @@ module _ (s : State) (x y : Member) (look : member_of s.masters.members x.client
           let t : Some z ≡ Some x = sym e ∙ ap (member_of s.masters.members) (sym num ∙ eqb-true z.client y.client k ∙ client) ∙ look in
           cc
 
+  -- Another magic of a client leaves the rows of clients.
   pub clients_yet : (fs : List FileClient) → map (client_row_of (map put s.masters.members)) fs ≡ map (client_row_of s.masters.members) fs
   clients_yet [] = refl
   clients_yet (f ∷ fs) = λ i. (ap (client_row_by f) (found_yet f.client) ∙ row_yet f (member_of s.masters.members f.client) refl) i ∷ clients_yet fs i
@@ -87,7 +90,7 @@ unmoved : (y : Member) → (zs : List Member) → AllByRecursion (λ (u : Member
 unmoved y [] h = refl
 unmoved y (u ∷ zs) h = ap (λ b. (if b then y else u) ∷ map (λ (v : Member). if is_client y.client v then y else v) zs) h.0 ∙ ap (λ l. u ∷ l) (unmoved y zs h.1)
 
--- the row that is new is among those that were
+-- A client that receives a magic adds a row, and all other rows stay.
 pub magic_given : (y : Member) (r : MagicRow) → magic_row_of y ≡ Some r → (x : Member) → magic_row_of x ≡ None → y.client ≡ x.client → (xs : List Member) → InOrder (λ (z u : Member). z.client < u.client) xs → member_of xs x.client ≡ Some x →
     SameRows (filter_map magic_row_of xs ++ r ∷ []) (filter_map magic_row_of (map (λ (z : Member). if is_client y.client z then y else z) xs))
 magic_given y r e x none client [] rise look = absurd (let n : None ≡ Some x = look in cc)
@@ -121,7 +124,7 @@ magic_given y r e x none client (z ∷ zs) rise look =
 same_more : (r : MagicRow) (xs ys : List MagicRow) → SameRows xs ys → SameRows (xs ++ r ∷ []) (ys ++ r ∷ [])
 same_more r xs ys h = same-trans (xs ++ r ∷ []) (r ∷ xs) (ys ++ r ∷ []) (last_first xs r) (same-trans (r ∷ xs) (r ∷ ys) (ys ++ r ∷ []) (same-cons r xs ys h) (same-sym (ys ++ r ∷ []) (r ∷ ys) (last_first ys r)))
 
--- the state represents the rows with one magic more
+-- The state with one magic more represents the rows with it.
 pub given_represents : (s : State) (w : Rows) (x y : Member) (r : MagicRow) (look : member_of s.masters.members x.client ≡ Some x) (client : y.client ≡ x.client) (once : y.once_master ≡ x.once_master) (own : y.is_master ≡ x.is_master) (master : y.master ≡ x.master) → magic_row_of x ≡ None → magic_row_of y ≡ Some r → AreMasters s.masters → Represents s w →
     (part : Part) → represents_part part (record s { masters = changed_member y s.masters }) (record w { magics = w.magics ++ r ∷ [] })
 unfolding represents_part

@@ -52,6 +52,7 @@ own_rows w c b = record w {
 abbrev pub remade_last : ℕ → ℕ → ℕ → MasterSet → MasterSet
 remade_last c key b v = masters_swept (with_device (Some b) (changed_member (owner c b) (with_last_master (founded_master key b) v)))
 
+-- A new master of a client is the last, since it is newer than all.
 pub last_remade : (c key b : ℕ) (v : MasterSet) → IsNewStepNumber v b → remade c key b v ≡ remade_last c key b v
 last_remade c key b v newest = ap (λ u. masters_swept (with_device (Some b) (changed_member (owner c b) u))) (newest_master v (founded_master key b) newest)
 
@@ -73,6 +74,7 @@ module _ (s : State) (x : Member) (key b : ℕ) (t : MeetsInvariants s) (new : A
   non_master_owns : (n : ℕ) → owns n x ≡ true → ⊥
   non_master_owns n its = let no : false ≡ true = sym (ap (λ b. b && (x.master == n)) non_master) ∙ its in cc
 
+  -- A new own master of a client keeps all invariants.
   pub remade_invariants : MeetsInvariants remade_state
   remade_invariants =
       authenticated_invariants (record s { masters = remade_last x.client key b s.masters }) x.client
@@ -104,6 +106,7 @@ module _ (s : State) (x : Member) (key b : ℕ) (t : MeetsInvariants s) (new : A
         subst (SameRows remade_rows.magics) (magics_left x.client s.masters.members ∙ magics_put (owner x.client b) refl s.masters.members)
         (same-filter (λ (row : MagicRow). not (row.client == x.client)) w.magics (magics_of s) (magics_are s w h))
 
+    -- The state with a client's new master represents the swept rows with it.
     pub remade_represents : (part : Part) → represents_part part remade_state (swept remade_rows)
     unfolding represents_part swept
     remade_represents Clients = clients_now

@@ -113,6 +113,7 @@ module _ (m n : ℕ) (y : Member) where
     opens : has_open_magic m n y ≡ true
     opens = (found (has_open_magic m n) (λ _. Unit {0}) y v.members (all_each (λ _. Unit {0}) (λ _. tt) v.members) e).0
 
+    -- The client that has the magic unspent is found by its number.
     pub member_is : member_of v.members y.client ≡ Some y
     member_is = (found (has_open_magic m n) (λ (u : Member). member_of v.members u.client ≡ Some u) y v.members (all_found (λ (u : Member). u.client) v.members are.members_rise) e).1
 
@@ -128,6 +129,7 @@ module _ (m n : ℕ) (y : Member) where
         closed : (u : Member) → (u.client == y.client) ≡ false → (has_open_magic m n u ≡ true → u ≡ y) → has_open_magic m n u ≡ false
         closed u k only = (elim (has_open_magic m n u) as (λ b. has_open_magic m n u ≡ b → b ≡ false) [ true ↦ λ o. absurd (clash (u.client == y.client) k (eq-eqb u.client y.client (ap (λ (z : Member). z.client) (only o)))) | false ↦ λ o. refl ]) refl
 
+    -- The rows of magics change for the spent magic alone.
     pub spent_rows : map spend (filter_map magic_row_of v.members) ≡ filter_map magic_row_of (map (put (with_magic n true y)) v.members)
     spent_rows =
         each_row v.members (all_both (λ (u : Member). has_open_magic m n u ≡ true → u ≡ y) (λ (u : Member). member_of v.members u.client ≡ Some u) (λ (u : Member). option_map spend (magic_row_of u) ≡ magic_row_of (put (with_magic n true y) u)) one v.members
@@ -144,6 +146,7 @@ module _ (m n : ℕ) (y : Member) where
         row_found : find (is_open_magic m n) (filter_map magic_row_of v.members) ≡ magic_row_of y
         row_found = find-filter_map (is_open_magic m n) magic_row_of v.members ∙ ap (λ (test : Member → Bool). option_and_then magic_row_of (find test v.members)) (λ i u. open_is m n u i) ∙ ap (option_and_then magic_row_of) e
 
+    -- The rows find the client of the magic, in any order.
     pub client_is : (w : Rows) → SameRows w.magics (filter_map magic_row_of v.members) → magic_client w m n ≡ Some y.client
     client_is w same =
         ap (option_map (λ (row : MagicRow). row.client)) (found_in_any_order (is_open_magic m n) w.magics (filter_map magic_row_of v.members) same only_row
@@ -167,6 +170,7 @@ module _ (s : State) (w : Rows) (m n : ℕ) (y : Member) (t : MeetsInvariants s)
       subst (SameRows (map (λ (row : MagicRow). if is_open_magic m n row then record row { spent = true } else row) w.magics)) (spent_rows m n y s.masters (masters_so s t) e)
       (same-map (λ (row : MagicRow). if is_open_magic m n row then record row { spent = true } else row) w.magics (magics_of s) (magics_are s w h))
 
+  -- The state in which AUTH_MAGIC spent a magic represents the rows after this call.
   pub spent_represents : (part : Part) → represents_part part (record s { files = files.with_authenticated s.files y.client; masters = changed_member (with_magic n true y) s.masters }) authenticated_rows
   unfolding represents_part
   spent_represents Clients = clients_now

@@ -64,5 +64,6 @@ inside_send =
     inside.the_type.to_one
     (struct_send (shape inside.the_type) (members_send, (table_send, (search sendable depth 20, (search sendable depth 20, (search sendable depth 20, tt))))))
 
+-- A set of masters may cross threads.
 pub masters_send : IsSend masters.the_row
 masters_send = view_send inside.the_row _ _ _ _ inside_send

@@ -22,20 +22,23 @@ module _ (keys : fin.FinMap nat_cmp ℕ) (slab : Slab Master) (keyed : IsKeyed k
   abbrev all : List Master
   all = rows_in nothing slab (fin.entries keys)
 
-  -- the same with room for more
+  -- A larger capacity leaves the slab keyed.
   pub more_room : (capacity : ℕ) → IsKeyed key_of step_number_of keys (record slab { capacity = capacity })
   more_room capacity = record { record_of = keyed.record_of; key_of = keyed.key_of }
 
+  -- The slab has a master at the key of each step number.
   pub key_there : (b k : ℕ) → fin.get keys b ≡ Some k → get slab k ≡ None → ⊥
   key_there b k at none = let w = keyed.record_of b k at in none-some w.0 (sym none ∙ w.1)
 
+  -- The master at the key of a step number has this step number.
   pub at_key : (b k : ℕ) (x : Master) → fin.get keys b ≡ Some k → get slab k ≡ Some x → x.step_number ≡ b
   at_key b k x at there = let w = keyed.record_of b k at in (let one : Some x ≡ Some w.0 = sym there ∙ w.1 in let is : x ≡ w.0 = cc in ap step_number_of is ∙ w.2)
 
-  -- of a step number that is not there nothing is changed, and nothing goes
+  -- for an unused step number nothing is changed or removed
   none_at : (b : ℕ) → fin.get keys b ≡ None → find_row (λ (x : Master). x.step_number == b) all ≡ None
   none_at b none = by_step_number key_of step_number_of nothing keys slab keyed b ∙ ap (option_and_then (get slab)) none
 
+  -- A change of a master that does not exist leaves the list unchanged.
   pub none_changed : (b : ℕ) → fin.get keys b ≡ None → (g : Master → Master) → all ≡ map (λ (x : Master). if x.step_number == b then g x else x) all
   none_changed b none g = same all (none_at b none)
     where
@@ -47,6 +50,7 @@ module _ (keys : fin.FinMap nat_cmp ℕ) (slab : Slab Master) (keyed : IsKeyed k
             | false ↦ λ n. ap (λ l. x ∷ l) (same xs n)
           ] h
 
+  -- The removal of a master that does not exist leaves the list unchanged.
   pub none_gone : (b : ℕ) → fin.get keys b ≡ None → all ≡ filter (λ (x : Master). not (x.step_number == b)) all
   none_gone b none = same all (none_at b none)
     where

@@ -1,4 +1,4 @@
--- The lessees of each master, as masters come and go.
+-- The lessees of each master, as masters are created and freed.
 use Rattle.std.proofs.Common.{◌≡◌, ℕ, ◌<◌, ◌≤◌, ◌==◌, Bool, true, false, not, cond, ◌&&◌, ◌||◌, List, [], ◌∷◌, map, filter, Option, None, Some, refl, sym, ap, ◌∙◌, eq-eqb, arith, nat_cmp}
 use Rattle.std.specs.Prelude.{T, IfNone}
 use Rattle.std.specs.List.{list_any, AllByRecursion}
@@ -48,6 +48,7 @@ module _ (ms : List Master) (x : Master) where
     none_yet : lessor_of ms x.step_number ≡ None
     none_yet = ap (option_and_then (λ (y : Master). y.lessor)) (find_none (is_step_number x.step_number) ms (others_apart ms x.step_number fresh))
 
+    -- After a new master is listed with its lessor, the groups are those of the list with this master.
     pub listed : (old new : Groups) → AreLesseesOf ms old → IsListed old x.lessor x.step_number new → AreLesseesOf (placed master_before x ms) new
     listed old new are added m n =
         added m n
@@ -59,7 +60,7 @@ module _ (ms : List Master) (x : Master) where
           | false ↦ λ e. none_more (old m n) (is_option m x.lessor) ∙ are m n ∙ sym (ap (is_option m) (other_lessors ms x fresh n e))
         ] refl
 
-    -- one that was listed and is not any more
+    -- If a new master is listed with its lessor and removed again, the groups are those of the list before.
     pub back : (old mid new : Groups) → AreLesseesOf ms old → IsListed old x.lessor x.step_number mid → IsUnlisted mid x.lessor x.step_number new → AreLesseesOf ms new
     back old mid new are added taken m n =
         taken m n ∙ ap (λ b. b && not (is_option m x.lessor && (n == x.step_number))) (added m n)
@@ -75,6 +76,7 @@ module _ (ms : List Master) (x : Master) where
         gone true = refl
         gone false = refl
 
+  -- After a master is removed from its lessor's group, the groups are those of the list without this master.
   pub unlisted : master_at ms x.step_number ≡ Some x → (old new : Groups) → AreLesseesOf ms old → IsUnlisted old x.lessor x.step_number new → AreLesseesOf (filter (λ (y : Master). not (is_step_number x.step_number y)) ms) new
   unlisted here old new are taken m n =
       taken m n
@@ -86,7 +88,7 @@ module _ (ms : List Master) (x : Master) where
       ] refl
       ∙ sym (ap (λ o. is_option m (option_and_then (λ (y : Master). y.lessor) o)) (find_where (λ (y : Master). y.step_number) (λ k. not (k == x.step_number)) n ms))
 
--- masters of the same lessors
+-- Masters with the same lessors have the same groups of lessees.
 pub same_lessees : (ms others : List Master) → ((n : ℕ) → lessor_of others n ≡ lessor_of ms n) → (groups : Groups) → AreLesseesOf ms groups → AreLesseesOf others groups
 same_lessees ms others same groups are m n = are m n ∙ ap (is_option m) (sym (same n))
 
@@ -96,6 +98,7 @@ module _ (ms : List Master) (rise : Rise ms) (groups : GroupMap) (are : AreLesse
   row_is : AllByRecursion (λ (x : Master). is_option m x.lessor ≡ has groups m x.step_number) ms
   row_is = all_weaker (λ (x : Master). master_at ms x.step_number ≡ Some x) (λ (x : Master). is_option m x.lessor ≡ has groups m x.step_number) (λ x at. sym (are m x.step_number ∙ ap (λ o. is_option m (option_and_then (λ (y : Master). y.lessor) o)) at)) ms (all_found (λ (x : Master). x.step_number) ms rise)
 
+  -- The master's group has a number if and only if some master has this one as its lessor.
   pub any_lessee : (o : Option ℕ) → o ≡ least (has groups m) 0 4294967295 → IfNone o ((n : ℕ) → 0 ≤ n → has groups m n ≡ false) → is_some o ≡ list_any (λ (x : Master). is_option m x.lessor) ms
   any_lessee None e none = sym (all ms row_is)
     where
@@ -121,6 +124,7 @@ below_none : (x n : ℕ) (xs : List ℕ) → AllByRecursion (λ y. x < y) xs →
 below_none x n [] h le = refl
 below_none x n (y ∷ ys) h le = let lt = h.0 in ap (λ b. b || is_among ys n) (ne_eqb y n (λ same. omega (arith, same, lt, le))) ∙ below_none x n ys h.1 le
 
+-- Two rising lists with the same numbers are equal.
 pub same_up : (xs ys : List ℕ) → Up xs → Up ys → ((n : ℕ) → is_among xs n ≡ is_among ys n) → xs ≡ ys
 same_up [] [] hx hy same = refl
 same_up [] (y ∷ ys) hx hy same = absurd (false≢true (same y ∙ ap (λ b. b || is_among ys y) (eq-eqb y y refl)))
@@ -189,6 +193,7 @@ step_numbers_among m n (x ∷ xs) h =
           ]
     ] refl
 
+-- The numbers in a master's group are its direct lessees, rising.
 pub numbers_are : (ms : List Master) → Rise ms → (groups : GroupMap) → AreLesseesOf ms (has groups) → (m : ℕ) → numbers_of groups m ≡ lessees_of ms m
 numbers_are ms rise groups are m =
     same_up (numbers_of groups m) (lessees_of ms m) (numbers_up (fin.get groups m)) (step_numbers_up m ms rise)

@@ -24,13 +24,13 @@ tied_test : (c k : ℕ) → eq_by_cmp nat_cmp c k ≡ true → k ≡ c
 tied_test c k e = grind (arith, nat_tests)
 
 module _ (m : Clients) where
-  -- the client of a number
+  -- The row of a client is made of its record in the map.
   pub client_is : (c : ℕ) → member_of (members_in m) c ≡ option_map (λ v. member_row (c, v)) (fin.get m c)
   client_is c =
       find_rows nat_cmp nat_cmp_total member_row fin.nat_cmp-IsAntisymmetric c (is_client c) (λ e. same_test c e.0) (fin.entries m)
       ∙ ap (option_map (λ v. member_row (c, v))) (sym (fin.get-entries m c))
 
-  -- the client at a place
+  -- The client at a place is the one of the key at this place.
   pub client_at : (i : ℕ) → option_and_then (λ c. member_of (members_in m) c) (slice_get (fin.keys m) i) ≡ slice_get (members_in m) i
   client_at i = each (slice_get (fin.keys m) i) ∙ row_at m 0 member_row i
     where
@@ -38,9 +38,11 @@ module _ (m : Clients) where
       each None = refl
       each (Some c) = client_is c
 
+  -- The list has as many clients as the map has entries.
   pub clients_many : length (members_in m) ≡ fin.len m
   clients_many = rows_length m 0 member_row
 
+  -- The clients' numbers rise.
   pub clients_rise : InOrder (λ (x y : Member). x.client < y.client) (members_in m)
   clients_rise = rise (fin.entries m) (fin.entries_sorted m)
     where
@@ -52,13 +54,13 @@ module _ (m : Clients) where
       rise [] h = tt
       rise (e ∷ es) h = (above e.0 es (left _ _ h), rise es (right _ _ h))
 
-  -- a new client is at its place
+  -- A new client is put at its place in the list.
   pub client_added : (c : ℕ) (v : Membership) → fin.get m c ≡ None → members_in (fin.insert m c v) ≡ placed member_before (member_row (c, v)) (members_in m)
   client_added c v absent =
       ap (map member_row) (fin.entries-insert nat_cmp_total m c v)
       ∙ rows_put nat_cmp nat_cmp_total member_row member_before (λ e f. before_test e.0 f.0) c v (fin.entries m) (fin.entries_sorted m) (sym (fin.get-entries m c) ∙ absent)
 
-  -- a client's row is another
+  -- A changed record changes the row of its client and no other.
   pub client_changed : (c : ℕ) (v w : Membership) (y : Member) → member_row (c, w) ≡ y → fin.get m c ≡ Some v → members_in (fin.insert m c w) ≡ map (λ (x : Member). if is_client c x then y else x) (members_in m)
   client_changed c v w y is there =
       ap (map member_row) (fin.entries-insert nat_cmp_total m c w)
@@ -68,7 +70,7 @@ module _ (m : Clients) where
       f : Member → Member
       f x = if is_client c x then y else x
 
-  -- no row is that of a client that is not there
+  -- Writing the row of a client that does not exist changes nothing.
   pub client_absent : (c : ℕ) (y : Member) → fin.get m c ≡ None → members_in m ≡ map (λ (x : Member). if is_client c x then y else x) (members_in m)
   client_absent c y none = others (members_in m) (client_is c ∙ ap (option_map (λ v. member_row (c, v))) none)
     where
@@ -80,11 +82,13 @@ module _ (m : Clients) where
             | false ↦ λ e n. ap (λ l. x ∷ l) (others xs n)
           ] refl h
 
+  -- The list after a removal is the list without this client.
   pub client_removed : (c : ℕ) → members_in (fin.remove m c) ≡ filter (λ (x : Member). not (is_client c x)) (members_in m)
   client_removed c =
       ap (map member_row) (entries_removed m c)
       ∙ rows_where nat_cmp nat_cmp_total member_row (λ k. not (eq_by_cmp nat_cmp c k)) (λ (x : Member). not (is_client c x)) (λ e. ap not (same_test c e.0)) (fin.entries m)
 
+-- An empty map has no clients.
 pub no_clients : members_in fin.empty ≡ []
 no_clients = none (fin.entries fin.empty) (sym (fin.len-entries fin.empty) ∙ fin.len-empty nat_cmp Membership)
   where

@@ -22,24 +22,25 @@ Rise ms = InOrder (λ (x y : Master). x.step_number < y.step_number) ms
 abbrev pub IsFresh : List Master → ℕ → Type 0
 IsFresh ms birth = Rise ms × (is_some (master_at ms birth) ≡ false)
 
--- each has another
+-- No master has an unused step number.
 pub others_apart : (ms : List Master) (birth : ℕ) → IsFresh ms birth → AllByRecursion (λ (x : Master). is_step_number birth x ≡ false) ms
 others_apart ms birth fresh = each_fails (is_step_number birth) ms (sym (is_some-find (is_step_number birth) ms) ∙ fresh.1)
 
 abbrev pub Older : List Master → Type 0
 Older ms = AllByRecursion (HasOlderLessor ms) ms
 
--- whether an option is this one, as what it is
+-- An option that tests as a number is `Some` of it.
 pub is_this : (n : ℕ) (o : Option ℕ) → is_option n o ≡ true → o ≡ Some n
 is_this n None e = absurd (let f : false ≡ true = e in cc)
 is_this n (Some m) e = ap Some (eqb-true m n e)
 
+-- Two tests that imply each other are equal.
 pub same_bool : (a b : Bool) → (a ≡ true → b ≡ true) → (b ≡ true → a ≡ true) → a ≡ b
 same_bool true b f g = sym (f refl)
 same_bool false true f g = g refl
 same_bool false false f g = refl
 
--- masters that stay with their lessors
+-- If a chain keeps its lessors, its masters keep their owner.
 pub owner_stays : (P : ℕ → Type 0) (ms others : List Master) → ((n : ℕ) → P n → lessor_of others n ≡ lessor_of ms n) → ((n m : ℕ) → P n → lessor_of ms n ≡ Some m → P m) → (n : ℕ) → P n → owner_of others n ≡ owner_of ms n
 owner_stays P ms others same up n p = ap (last_of n) (same_chain P (lessor_of ms) (lessor_of others) same up n n p)
 
@@ -49,12 +50,12 @@ lessor_found None l e = absurd (let n : None ≡ Some l = e in cc)
 lessor_found (Some x) l e = (x, refl, e)
 
 module _ (ms : List Master) where
-  -- the master of a lessor's lessee
+  -- A master with a lessor exists, and its row names the lessor.
   pub lessee_of : (n l : ℕ) → lessor_of ms n ≡ Some l → (x : Master) × (master_at ms n ≡ Some x) × (x.lessor ≡ Some l)
   lessee_of n l e = lessor_found (master_at ms n) l e
 
   module _ (older : Older ms) where
-    -- a lessor is there, and older
+    -- Each lessor exists and is older than its lessee.
     pub lessor_there : (n l : ℕ) → lessor_of ms n ≡ Some l → (is_some (master_at ms l) ≡ true) × (l < n)
     lessor_there n l e =
         let w = lessee_of n l e in
@@ -62,11 +63,12 @@ module _ (ms : List Master) where
         let known = is.1 l w.2 in
         (known.0, subst (λ m. l < m) (eqb-true w.0.step_number n is.0) known.1)
 
+    -- Each lessor is older than its lessee.
     pub falls : IsFalling (lessor_of ms)
     falls n l e = (lessor_there n l e).1
 
   module _ (members : List Member) where
-    -- a master under which one is held
+    -- A master lives if one at or below it is held.
     pub living_by : (b : ℕ) (z : Master) → master_at ms z.step_number ≡ Some z → is_held members z ≡ true → is_under (lessor_of ms) b z.step_number ≡ true → is_living members ms b ≡ true
     living_by b z here held under = any_found (is_step_number z.step_number) (λ (x : Master). is_held members x && is_under (lessor_of ms) b x.step_number) z ms here (and_from (is_held members z) (is_under (lessor_of ms) b z.step_number) held under)
 
@@ -74,6 +76,7 @@ module _ (ms : List Master) where
       each_found : AllByRecursion (λ (x : Master). master_at ms x.step_number ≡ Some x) ms
       each_found = all_found (λ (x : Master). x.step_number) ms rise
 
+      -- Each living master has a held master at or below it.
       pub held_below : (b : ℕ) → is_living members ms b ≡ true → (z : Master) × (master_at ms z.step_number ≡ Some z) × (is_held members z ≡ true) × (is_under (lessor_of ms) b z.step_number ≡ true)
       held_below b h =
           let w = some_passing (λ (x : Master). is_held members x && is_under (lessor_of ms) b x.step_number) (λ (x : Master). master_at ms x.step_number ≡ Some x) ms each_found h in
@@ -81,14 +84,14 @@ module _ (ms : List Master) where
           (w.0, w.2, t.0, t.1)
 
       module _ (older : Older ms) where
-        -- with a master that stays stays its lessor
+        -- The lessor of a living master lives.
         pub lessor_lives : (y l : ℕ) → is_living members ms y ≡ true → lessor_of ms y ≡ Some l → is_living members ms l ≡ true
         lessor_lives y l h e =
             let w = held_below y h in
             let n = w.0.step_number in
             living_by l w.0 w.1 w.2 (above_too (lessor_of ms) (falls older) n y n l (omega arith) e w.3)
 
-        -- a master stays that is held, or that one which stays names as its lessor
+        -- A master lives if and only if it is held or is the lessor of one that lives.
         pub living_is : (x : Master) → master_at ms x.step_number ≡ Some x → is_living members ms x.step_number ≡ (is_held members x || list_any (λ (y : Master). is_living members ms y.step_number && is_option x.step_number y.lessor) ms)
         living_is x here = same_bool (is_living members ms x.step_number) (is_held members x || list_any q ms) forth back
           where

@@ -22,7 +22,7 @@ abbrev pub master_of : Membership → ℕ
 master_of x = x.master
 
 module _ (m : Clients) where
-  -- of a client that is not found nothing is kept
+  -- A client that is not found has no record.
   pub new_absent : (c : ℕ) → is_some (member_of (members_in m) c) ≡ false → fin.get m c ≡ None
   new_absent c absent = by_row (fin.get m c) (ap is_some (sym (client_is m c)) ∙ absent)
     where
@@ -30,7 +30,7 @@ module _ (m : Clients) where
       by_row None e = refl
       by_row (Some v) e = absurd (false≢true (sym e))
 
-  -- what is kept of a client that is found
+  -- A client that is found has a record with its master.
   pub kept_of : (c : ℕ) (x : Member) → member_of (members_in m) c ≡ Some x → (v : Membership) × (fin.get m c ≡ Some v) × (v.master ≡ x.master)
   kept_of c x e = by_row (fin.get m c) refl (sym (client_is m c) ∙ e)
     where
@@ -49,6 +49,7 @@ module _ (m : Clients) where
     row_is : AllByRecursion (λ (x : Member). (x.master == g) ≡ has groups g x.client) (members_in m)
     row_is = all_weaker (λ (x : Member). member_of (members_in m) x.client ≡ Some x) (λ (x : Member). (x.master == g) ≡ has groups g x.client) (λ x at. sym (named_is x.client ∙ ap (λ o. option_map_or (λ (y : Member). y.master == g) o false) at)) (members_in m) (all_found (λ (x : Member). x.client) (members_in m) (clients_rise m))
 
+    -- A master's group has a number if and only if some client names this master.
     pub any_named : (o : Option ℕ) → o ≡ least (has groups g) 0 4294967295 → IfNone o ((n : ℕ) → 0 ≤ n → has groups g n ≡ false) → is_some o ≡ list_any (λ (x : Member). x.master == g) (members_in m)
     any_named None e none = sym (all (members_in m) row_is)
       where
@@ -61,7 +62,7 @@ module _ (m : Clients) where
         by_row None at h = absurd (false≢true h)
         by_row (Some x) at h = sym (any_found (is_client n) (λ (y : Member). y.master == g) x (members_in m) at h)
 
--- a client that gets another master
+-- If a client changes from one master to another, the groups are those of the changed records.
 pub named_moved : (m : Clients) (old mid new : Groups) → AreGroupsOf master_of m old → (n : ℕ) (x y : Membership) (g h : ℕ) → fin.get m n ≡ Some x → x.master ≡ g → y.master ≡ h → (g == h) ≡ false → IsAdded old h n mid → IsTaken mid g n new →
     AreGroupsOf master_of (fin.insert m n y) new
 named_moved m old mid new are n x y g h there gx hy apart added taken d u =

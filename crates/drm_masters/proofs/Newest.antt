@@ -16,14 +16,14 @@ use Rattle.drm_masters.specs.Calls.{IsNewClient, IsNewStepNumber, with_member, w
 
 -- ---- a client
 
--- it is not there
+-- A client newer than all others does not exist yet.
 pub newest_absent : (v : MasterSet) (c : ℕ) → IsNewClient v c → is_some (member_of v.members c) ≡ false
 newest_absent v c newest = is_some-find (is_client c) v.members ∙ none_passes (is_client c) v.members (all_weaker (λ (x : Member). x.client < c) (λ (x : Member). is_client c x ≡ false) (λ x less. less-differ x.client c less) v.members newest)
 
 abbrev pub with_last_member : Member → MasterSet → MasterSet
 with_last_member y v = record v { members = v.members ++ y ∷ [] }
 
--- its place is the end
+-- The place of a client newer than all others is the end.
 pub newest_last : (v : MasterSet) (y : Member) → IsNewClient v y.client → with_member y v ≡ with_last_member y v
 newest_last v y newest =
     ap (λ (ms : List Member). record v { members = ms })
@@ -31,18 +31,18 @@ newest_last v y newest =
 
 -- ---- a master
 
--- none has its birth
+-- No master has a step number above all others.
 pub newest_unused : (ms : List Master) (birth : ℕ) → AllByRecursion (λ (x : Master). x.step_number < birth) ms → is_some (master_at ms birth) ≡ false
 newest_unused ms birth newest = is_some-find (is_step_number birth) ms ∙ none_passes (is_step_number birth) ms (all_weaker (λ (x : Master). x.step_number < birth) (λ (x : Master). is_step_number birth x ≡ false) (λ x less. less-differ x.step_number birth less) ms newest)
 
--- those that exist are older
+-- Every master that exists is older than a step number above all others.
 pub newest_older : (ms : List Master) (birth : ℕ) → AllByRecursion (λ (x : Master). x.step_number < birth) ms → (m : ℕ) → is_some (master_at ms m) ≡ true → m < birth
 newest_older ms birth newest m there =
     let x = some_found (master_at ms m) there in
     let is = found (is_step_number m) (λ (y : Master). y.step_number < birth) x.0 ms newest x.1 in
     subst (λ n. n < birth) (eqb-true x.0.step_number m is.0) is.1
 
--- the master of a client is older
+-- Every client's master is older than a step number above all others.
 pub member_older : (v : MasterSet) → AreMasters v → (birth : ℕ) → AllByRecursion (λ (x : Master). x.step_number < birth) v.masters → (c : ℕ) → IfSome (member_of v.members c) (λ (x : Member). x.master < birth)
 member_older v are birth newest c =
     all_found (λ (x : Member). x.master < birth) (is_client c) v.members
@@ -51,7 +51,7 @@ member_older v are birth newest c =
 abbrev pub with_last_master : Master → MasterSet → MasterSet
 with_last_master y v = record v { masters = v.masters ++ y ∷ [] }
 
--- its place is the end
+-- The place of a master newer than all others is the end.
 pub newest_master : (v : MasterSet) (y : Master) → IsNewStepNumber v y.step_number → with_master y v ≡ with_last_master y v
 newest_master v y newest =
     ap (λ (ms : List Master). record v { masters = ms })

@@ -14,7 +14,7 @@ use Rattle.drm_masters.specs.declared.rows.Member.{Member}
 use Rattle.drm_masters.specs.Masters.{has_magic, is_client, HaveOtherMagics}
 use Rattle.drm_masters.specs.Calls.{with_magic}
 
--- a client without a number has none
+-- A client without a magic does not have any number.
 pub no_magic : (m n : ℕ) (x : Member) → x.magic ≡ None → has_magic m n x ≡ false
 no_magic m n x e = ap (λ (g : Option Magic). (x.master == m) && option_map_or (λ (h : Magic). h.number == n) g false) e ∙ and-false (x.master == m)
 
@@ -61,7 +61,7 @@ without x (y ∷ ys) e =
       | false ↦ λ k. more x y ys (without x ys k)
     ]) e
 
--- among at most `last` clients, one of which has no number, a number is free
+-- Among at most `last` clients, one of which has no magic, some number is free.
 pub number_free : (m last : ℕ) (x : Member) (xs : List Member) → find (is_client x.client) xs ≡ Some x → x.magic ≡ None → length xs ≤ last → least (λ n. not (list_any (has_magic m n) xs)) 1 last ≡ None → ⊥
 number_free m last x xs here none few taken =
     let all = least_none (λ n. not (list_any (has_magic m n) xs)) 1 last taken in
@@ -72,10 +72,11 @@ number_free m last x xs here none few taken =
 -- ---- no two clients of a master have one number
 
 module _ (x : Member) where
-  -- without a number there is none to share
+  -- No client shares a magic with one that has none.
   pub other_none : x.magic ≡ None → (y : Member) → HaveOtherMagics y x
   other_none e y n h = no_magic y.master n x e
 
+  -- A client without a magic shares none with another client.
   pub none_other : x.magic ≡ None → (y : Member) → HaveOtherMagics x y
   none_other e y n h = absurd (false≢true (sym (no_magic x.master n x e) ∙ h))
 
@@ -89,9 +90,11 @@ number_of m n k spent x h =
 
 -- a row with a number, where no other client of its master has it
 module _ (x : Member) (k : ℕ) (spent : Bool) where
+  -- A client that gets an unused magic shares none with a later client.
   pub given_before : (y : Member) → has_magic x.master k y ≡ false → HaveOtherMagics (with_magic k spent x) y
   given_before y free n h = let w = number_of x.master n k spent x h in subst (λ j. has_magic x.master j y ≡ false) w.1 free
 
+  -- A client that gets an unused magic shares none with an earlier client.
   pub given_behind : (y : Member) → has_magic x.master k y ≡ false → HaveOtherMagics y (with_magic k spent x)
   given_behind y free n h = by_both (has_magic y.master n (with_magic k spent x)) refl
     where
@@ -101,7 +104,7 @@ module _ (x : Member) (k : ℕ) (spent : Bool) where
           let w = number_of y.master n k spent x e in
           absurd (let f : has_magic x.master k y ≡ true = ap (λ m. has_magic m k y) w.0 ∙ ap (λ j. has_magic y.master j y) w.1 ∙ h in let c : false ≡ true = sym free ∙ f in cc)
 
--- a number that is spent, or not, is the same number
+-- Marking a magic as spent, or not, keeps its number.
 pub spent_same : (m n k : ℕ) (spent : Bool) (x : Member) → option_map_or (λ (g : Magic). g.number == k) x.magic false ≡ true → has_magic m n (with_magic k spent x) ≡ has_magic m n x
 spent_same m n k spent x h = by_magic x.magic refl h
   where

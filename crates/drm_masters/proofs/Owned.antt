@@ -1,4 +1,4 @@
--- The ids of each owner's lessees, as masters come and go.
+-- The ids of each owner's lessees, as masters are created and freed.
 use Rattle.std.proofs.Common.{◌≡◌, ℕ, ◌==◌, Bool, true, false, not, cond, ◌&&◌, List, map, filter, find, Option, None, Some, refl, sym, ap, ◌∙◌, eq-eqb}
 use Rattle.std.proofs.Math.Bool.{and_comm}
 use Rattle.std.specs.Prelude.{if◌then◌else◌}
@@ -32,6 +32,7 @@ module _ (ms : List Master) (rise : Rise ms) (ids : Ids) (are : AreIdsOf ms ids)
   named_row : (i b : ℕ) → ids o i ≡ Some b → option_map_or (is_lessee_of ms o i) (master_at ms b) false ≡ true
   named_row i b e = sym (are o i b) ∙ ap (is_option b) e ∙ eq-eqb b b refl
 
+  -- The lessee found by an id is the first of the list with this id under the owner.
   pub found_by : (i : ℕ) → option_and_then (master_at ms) (ids o i) ≡ find (is_lessee_of ms o i) ms
   found_by i = by_id (ids o i) refl (find (is_lessee_of ms o i) ms) refl
     where
@@ -50,6 +51,7 @@ module _ (ms : List Master) (rise : Rise ms) (ids : Ids) (are : AreIdsOf ms ids)
           let same : b ≡ x.step_number = eqb-true b x.step_number (sym (ap (is_option x.step_number) e) ∙ are o i x.step_number ∙ ap (λ s. option_map_or (is_lessee_of ms o i) s false) w.1 ∙ w.0) in
           ap (master_at ms) same ∙ w.1
 
+  -- An id is in use in the map if and only if some lessee has it under the owner.
   pub taken_by : (i : ℕ) → is_some (ids o i) ≡ list_any (is_lessee_of ms o i) ms
   taken_by i = by_id (ids o i) refl ∙ ap is_some (found_by i) ∙ is_some-find (is_lessee_of ms o i) ms
     where
@@ -61,12 +63,13 @@ module _ (ms : List Master) (rise : Rise ms) (ids : Ids) (are : AreIdsOf ms ids)
       by_id None e = refl
       by_id (Some b) e = by_row (master_at ms b) (named_row i b e)
 
+  -- The lowest free id of the map is the lowest that no lessee has under the owner.
   pub free_by : (from last : ℕ) → least (λ i. not (is_some (ids o i))) from last ≡ least (λ i. not (list_any (is_lessee_of ms o i) ms)) from last
   free_by from last = least-same (λ i. not (is_some (ids o i))) (λ i. not (list_any (is_lessee_of ms o i) ms)) from last (λ i low high. ap not (taken_by i))
 
 -- ---- a master and its id
 
--- its row, told by its id under its owner
+-- its row, by its id under its owner
 its_id : (ms : List Master) (o p q : ℕ) (x : Master) → ((l : ℕ) → x.lessor ≡ Some l → owner_of ms x.step_number ≡ o) → has_id o x.lessor x.lessee_id p q ≡ is_lessee_of ms p q x
 its_id ms o p q x owner = by_lessor x.lessor refl
   where
@@ -89,7 +92,7 @@ no_step_number : (b : ℕ) (t : Bool) (o : Option ℕ) → (t ≡ true → is_op
 no_step_number b true o none = sym (none refl)
 no_step_number b false o none = refl
 
--- ---- a master comes
+-- ---- a new master
 
 module _ (ms : List Master) (x : Master) (fresh : IsFresh ms x.step_number) where
   not_yet : master_at ms x.step_number ≡ None
@@ -109,6 +112,7 @@ module _ (ms : List Master) (x : Master) (fresh : IsFresh ms x.step_number) wher
         let is : y.step_number ≡ b = eqb-true y.step_number b (found (is_step_number b) (λ _. Unit {0}) y ms (all_each (λ _. Unit {0}) (λ _. tt) ms) at).0 in
         ap (λ w. (is_some y.lessor && (y.lessee_id == q)) && (w == p)) (pushed_owner ms x fresh older y.step_number (ap (λ n. is_some (master_at ms n)) is ∙ ap is_some at))
 
+    -- After a new master's id is added, the ids are those of the list with this master.
     pub come : (new : Ids) → IsNamed old (owner_to_be ms x) x.lessor x.lessee_id x.step_number new → AreIdsOf now new
     come new named p q b =
         ap (is_option b) (named p q)
@@ -125,7 +129,7 @@ module _ (ms : List Master) (x : Master) (fresh : IsFresh ms x.step_number) wher
               ∙ sym (ap (λ r. option_map_or (is_lessee_of now p q) r false) (others_at ms x fresh b e))
         ] refl
 
-    -- one that came and is taken back
+    -- If a new master's id is added and removed again, the ids are those of the list before.
     pub come_back : (mid new : Ids) → IsNamed old (owner_to_be ms x) x.lessor x.lessee_id x.step_number mid → IsUnnamed mid (owner_to_be ms x) x.lessor x.lessee_id new → AreIdsOf ms new
     come_back mid new named unnamed p q b = ap (is_option b) (unnamed p q ∙ ap (λ n. if has_id (owner_to_be ms x) x.lessor x.lessee_id p q then None else n) (named p q) ∙ by_test (has_id (owner_to_be ms x) x.lessor x.lessee_id p q) refl) ∙ are p q b
       where
@@ -133,7 +137,7 @@ module _ (ms : List Master) (x : Master) (fresh : IsFresh ms x.step_number) wher
         by_test true e = sym (free p q e)
         by_test false e = refl
 
--- a new lessee's id is free, if no lessee of its owner has it
+-- If no lessee under the owner has the new master's id, it is free in the map.
 pub free_id : (ms : List Master) (rise : Rise ms) (x : Master) (ids : Ids) → AreIdsOf ms ids → ((l : ℕ) → x.lessor ≡ Some l → list_any (is_lessee_of ms (owner_of ms l) x.lessee_id) ms ≡ false) → (p q : ℕ) → has_id (owner_to_be ms x) x.lessor x.lessee_id p q ≡ true → ids p q ≡ None
 free_id ms rise x ids are other p q h = by_lessor x.lessor refl h
   where
@@ -143,10 +147,11 @@ free_id ms rise x ids are other p q h = by_lessor x.lessor refl h
         let w = and_parts (p == owner_of ms l) (q == x.lessee_id) k in
         is_some-false (ids p q) ((λ i. is_some (ids (eqb-true p (owner_of ms l) w.0 i) (eqb-true q x.lessee_id w.1 i))) ∙ taken_by ms rise ids are (owner_of ms l) x.lessee_id ∙ other l e)
 
+-- If no lessee under the owner has the new master's id, the map has none at it either.
 pub vacant_id : (ms : List Master) (rise : Rise ms) (x : Master) (ids : Ids) → AreIdsOf ms ids → ((l : ℕ) → x.lessor ≡ Some l → list_any (is_lessee_of ms (owner_of ms l) x.lessee_id) ms ≡ false) → (l : ℕ) → x.lessor ≡ Some l → ids (owner_to_be ms x) x.lessee_id ≡ None
 vacant_id ms rise x ids are other l e = free_id ms rise x ids are other (owner_to_be ms x) x.lessee_id (λ i. is_some (e i) && (eq-eqb (owner_to_be ms x) (owner_to_be ms x) refl i && eq-eqb x.lessee_id x.lessee_id refl i))
 
--- ---- a master goes
+-- ---- a removed master
 
 module _ (ms : List Master) (x : Master) (here : master_at ms x.step_number ≡ Some x) (no_lessee : list_any (λ (y : Master). is_option x.step_number y.lessor) ms ≡ false) where
   abbrev left : List Master
@@ -172,6 +177,7 @@ module _ (ms : List Master) (x : Master) (here : master_at ms x.step_number ≡ 
       let is : y.step_number ≡ b = eqb-true y.step_number b (found (is_step_number b) (λ _. Unit {0}) y ms (all_each (λ _. Unit {0}) (λ _. tt) ms) at).0 in
       ap (λ w. (is_some y.lessor && (y.lessee_id == q)) && (w == p)) (owner_left y.step_number (ap (λ n. n == x.step_number) is ∙ e))
 
+  -- After the id of a master without lessees is removed, the ids are those of the list without this master.
   pub gone : (old new : Ids) → AreIdsOf ms old → IsUnnamed old (owner_of ms x.step_number) x.lessor x.lessee_id new → AreIdsOf left new
   gone old new are unnamed p q b =
       ap (is_option b) (unnamed p q)
@@ -198,6 +204,7 @@ module _ (g : Master → Master) (step_numbers : (x : Master) → (g x).step_num
   owners : (n : ℕ) → owner_of (map g ms) n ≡ owner_of ms n
   owners n = ap (λ (above : ℕ → Option ℕ). top_of above n) (λ i k. over_lessors g step_numbers lessors ms k i)
 
+  -- Changes that keep step numbers, lessors and lessee ids keep the ids.
   pub same_ids : (ids : Ids) → AreIdsOf ms ids → AreIdsOf (map g ms) ids
   same_ids ids are p q b = are p q b ∙ sym (ap (λ r. option_map_or (is_lessee_of (map g ms) p q) r false) (over_at g step_numbers lessors ms b) ∙ row (master_at ms b))
     where
@@ -207,11 +214,11 @@ module _ (g : Master → Master) (step_numbers : (x : Master) → (g x).step_num
 
 -- ---- who is no client's lessor
 
--- a master that isn't used
+-- A master that is not used is no master's lessor.
 pub unnamed : (members : List Member) (ms : List Master) (x : Master) → is_used members ms x ≡ false → list_any (λ (y : Master). is_option x.step_number y.lessor) ms ≡ false
 unnamed members ms x e = (or_parts (is_held members x) (list_any (λ (y : Master). is_option x.step_number y.lessor) ms) e).1
 
--- one that came
+-- A new master without a lessor is no master's lessor.
 pub unnamed_yet : (ms : List Master) (z : Master) → IsFresh ms z.step_number → Older ms → z.lessor ≡ None → list_any (λ (y : Master). is_option z.step_number y.lessor) (placed master_before z ms) ≡ false
 unnamed_yet ms z fresh older top =
     none_passes (λ (y : Master). is_option z.step_number y.lessor) (placed master_before z ms)

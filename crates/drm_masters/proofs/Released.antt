@@ -20,12 +20,15 @@ use Rattle.drm_masters.proofs.Swept.{at_is, under_is}
 abbrev pub marked : (ℕ → Bool) → Master → Master
 marked chosen x = if chosen x.step_number then kept_as false x else x
 
+-- A release keeps a master's step number.
 pub marked_step_number : (chosen : ℕ → Bool) (x : Master) → (marked chosen x).step_number ≡ x.step_number
 marked_step_number chosen x = elim (chosen x.step_number) as (λ b. (if b then kept_as false x else x).step_number ≡ x.step_number) [ true ↦ refl | false ↦ refl ]
 
+-- A release keeps a master's lessor.
 pub marked_lessor : (chosen : ℕ → Bool) (x : Master) → (marked chosen x).lessor ≡ x.lessor
 marked_lessor chosen x = elim (chosen x.step_number) as (λ b. (if b then kept_as false x else x).lessor ≡ x.lessor) [ true ↦ refl | false ↦ refl ]
 
+-- A release keeps a master's key.
 pub marked_key : (chosen : ℕ → Bool) (x : Master) → (marked chosen x).key ≡ x.key
 marked_key chosen x = elim (chosen x.step_number) as (λ b. (if b then kept_as false x else x).key ≡ x.key) [ true ↦ refl | false ↦ refl ]
 
@@ -33,7 +36,7 @@ map_each : {X : Type 0} (f g : X → X) → ((x : X) → f x ≡ g x) → (xs : 
 map_each f g same [] = refl
 map_each f g same (x ∷ xs) = λ i. same x i ∷ map_each f g same xs i
 
--- where none is chosen all is unchanged
+-- A release of no master leaves everything unchanged.
 pub none_released : (v : MasterSet) → AreMasters v → v ≡ swept (released (λ n. false) v)
 none_released v are = λ i. record v { masters = (sym (filter_all (λ (x : Master). is_living v.members v.masters x.step_number) v.masters are.used) ∙ ap (λ (ms : List Master). filter (λ (x : Master). is_living v.members ms x.step_number) ms) (unmarked v.masters)) i }
   where
@@ -119,6 +122,7 @@ module _ (members : List Member) (ms : List Master) (rise : Rise ms) (older : Ol
           let here : master_at left_now k ≡ Some w.0 = left_at k ∙ ap (λ t. cond t (master_at now k) None) lives_k ∙ w.1 in
           and_from (lives b) (is_living members left_now b) (living_by ms members b x.0 x.1 x.2 (ap (is_under (lessor_of ms) b) x.3 ∙ under)) (living_by left_now members b w.0 here w.2 (left_under b k lives_k ∙ under))
 
+  -- A sweep, a release and a sweep leave the same masters as the release and one sweep.
   pub sweep_again : filter (λ (x : Master). is_living members left_now x.step_number) left_now ≡ filter (λ (x : Master). is_living members now x.step_number) now
   sweep_again =
       ap (filter (λ (x : Master). is_living members left_now x.step_number)) same_left
@@ -136,6 +140,7 @@ module _ (v : MasterSet) (rise : Rise v.masters) (older : Older v.masters) (chos
   marks_older : Older marks
   marks_older = over_older (marked chosen) (marked_step_number chosen) (marked_lessor chosen) v.masters older
 
+  -- Releasing one more master after a sweep is the same as releasing all of them and sweeping once.
   pub released_next : (n : ℕ) → swept (with_kept n false (swept (released chosen v))) ≡ swept (released (λ k. chosen k || (k == n)) v)
   released_next n = λ i. record v { masters = (sweep_again v.members marks marks_rise marks_older n ∙ ap (λ (ms : List Master). filter (λ (x : Master). is_living v.members ms x.step_number) ms) both) i }
     where
@@ -157,9 +162,11 @@ module _ (v : MasterSet) (rise : Rise v.masters) (older : Older v.masters) (chos
     lives_yet : is_living v.members marks x.step_number ≡ true
     lives_yet = living_by marks v.members x.step_number x marked_here held (itself (lessor_of marks) x.step_number x.step_number)
 
+    -- A held master that is not released is still there after the sweep.
     pub spared_here : master_at (swept (released chosen v)).masters x.step_number ≡ Some x
     spared_here = at_is v.members marks marks_rise marks_older x.step_number lives_yet ∙ marked_here
 
+    -- The chain of lessors of a held master that is not released stays the same.
     pub spared_under : (top : ℕ) → is_under (lessor_of (swept (released chosen v)).masters) top x.step_number ≡ is_under (lessor_of v.masters) top x.step_number
     spared_under top =
         under_is v.members marks marks_rise marks_older top x.step_number lives_yet

@@ -1,4 +1,4 @@
--- What is so of the masters at all times is so after each change.
+-- What is true of the masters at all times is true after each change.
 use Rattle.std.proofs.Common.{◌≡◌, ℕ, ◌<◌, ◌≤◌, ◌==◌, nat_lt, Bool, true, false, not, ◌&&◌, ◌||◌, List, map, filter, find, length, Option, None, Some, refl, sym, ap, subst, ◌∙◌, eq-eqb, arith}
 use Rattle.std.specs.Prelude.{if◌then◌else◌, IfSome}
 use Rattle.std.specs.List.{list_any, AllByRecursion}
@@ -47,7 +47,7 @@ pub record AreTied (v : MasterSet) : Type 0 where
   pub few : length v.members ≤ v.last_magic
   pub few_ids : v.last_lessee ≤ 64
 
--- a client that is no master stands to one without a lessor
+-- a client that is no master belongs to a master without a lessor
 abbrev IsNonMaster : List Master → Member → Type 0
 IsNonMaster ms x = x.is_master ≡ false → lessor_of ms x.master ≡ None
 
@@ -62,7 +62,7 @@ guests_pushed ms z fresh xs there h = all_both (λ (x : Member). is_some (master
 new_owner : (ms : List Master) (z : Master) → IsFresh ms z.step_number → z.lessor ≡ None → (m : ℕ) → Some z.step_number ≡ Some m → lessor_of (placed master_before z ms) m ≡ None
 new_owner ms z fresh top m e = subst (λ n. lessor_of (placed master_before z ms) n ≡ None) (let s : z.step_number ≡ m = cc in s) (new_lessor ms z fresh ∙ top)
 
--- a sweep makes each used
+-- If all facts but the use of each master hold, all facts hold after a sweep.
 pub swept_are : (v : MasterSet) → AreTied v → AreMasters (swept v)
 swept_are v t = record {
   members_rise = t.members_rise;
@@ -103,18 +103,18 @@ held_more members y x h = or_more x.kept (list_any (λ (z : Member). z.master ==
 few_more : (xs : List Member) (y : Member) (last : ℕ) → length xs < last → length (placed member_before y xs) ≤ last
 few_more xs y last lt = let e = length_placed (λ (x : Member). member_before x y) y xs in omega (arith, e, lt)
 
--- the client that comes names its master
+-- the new client names its master
 names_new : (xs : List Member) (y : Member) (m : ℕ) → y.master ≡ m → list_any (λ (z : Member). z.master == m) (placed member_before y xs) ≡ true
 names_new xs y m e = any_placed (λ (z : Member). z.master == m) (λ x. member_before x y) y xs ∙ or_left (y.master == m) (list_any (λ (z : Member). z.master == m) xs) (eq-eqb y.master m e)
 
 module _ (v : MasterSet) (a : AreMasters v) where
-  -- the device's master is there
+  -- The device's master exists.
   pub device_there : (m : ℕ) → v.device_master ≡ Some m → is_some (master_at v.masters m) ≡ true
   device_there m e =
       let w = some_passing (λ (x : Member). x.is_master && (x.master == m)) (λ (x : Member). is_some (master_at v.masters x.master) ≡ true) v.members a.masters_there (a.device_own m e) in
       subst (λ n. is_some (master_at v.masters n) ≡ true) (eqb-true w.0.master m (and_parts w.0.is_master (w.0.master == m) w.1).1) w.2
 
-  -- a client comes that has no number
+  -- a new client without a magic
   module _ (y : Member) (absent : is_some (member_of v.members y.client) ≡ false) (room : length v.members < v.last_magic) (none : y.magic ≡ None) where
     come_rise : MembersRise (placed member_before y v.members)
     come_rise = rise_placed (λ (x : Member). x.client) y v.members a.members_rise (others_apart v.members y.client absent)
@@ -125,6 +125,7 @@ module _ (v : MasterSet) (a : AreMasters v) where
         (all_each (λ (x : Member). x.client < y.client → HaveOtherMagics x y) (λ x lt. other_none y none x) v.members)
         (all_each (λ (x : Member). nat_lt x.client y.client ≡ false → HaveOtherMagics y x) (λ x e. none_other y none x) v.members)
 
+    -- The facts hold after a client joins an existing master, if a client that is no master joins one without a lessor.
     pub non_master_are : is_some (master_at v.masters y.master) ≡ true → IsNonMaster v.masters y → AreMasters (with_member y v)
     non_master_are there non_master = record {
       members_rise = come_rise;
@@ -140,6 +141,7 @@ module _ (v : MasterSet) (a : AreMasters v) where
       few_ids = a.few_ids;
     }
 
+    -- The facts hold after a client opens with its own new master, which becomes the device's.
     pub opener_are : (z : Master) → z.lessor ≡ None → y.master ≡ z.step_number → y.is_master ≡ true → IsFresh v.masters z.step_number → AreMasters (with_device (Some z.step_number) (with_member y (with_master z v)))
     opener_are z top own is_own fresh = record {
       members_rise = come_rise;
@@ -158,6 +160,7 @@ module _ (v : MasterSet) (a : AreMasters v) where
       few_ids = a.few_ids;
     }
 
+    -- The facts hold after a client redeems an existing lessee.
     pub redeemed_are : is_some (master_at v.masters y.master) ≡ true → y.is_master ≡ true → AreMasters (with_kept y.master false (with_member y v))
     redeemed_are there is_own = record {
       members_rise = come_rise;
@@ -185,10 +188,11 @@ module _ (v : MasterSet) (a : AreMasters v) where
               | false ↦ λ e. held_more v.members y x h
             ]) refl
 
+  -- The facts hold with another device's master that has no lessor and is a client's own.
   pub device_are : (d : Option ℕ) → ((m : ℕ) → d ≡ Some m → list_any (λ (x : Member). x.is_master && (x.master == m)) v.members ≡ true) → ((m : ℕ) → d ≡ Some m → lessor_of v.masters m ≡ None) → AreMasters (with_device d v)
   device_are d own top = record { members_rise = a.members_rise; masters_rise = a.masters_rise; lessors_older = a.lessors_older; masters_there = a.masters_there; device_own = own; device_owner = top; guests_of_owners = a.guests_of_owners; used = a.used; magics_differ = a.magics_differ; few = a.few; few_ids = a.few_ids }
 
-  -- a new master that is kept
+  -- The facts hold after a new master is created that is kept and whose lessor exists.
   pub lessee_are : (z : Master) → z.kept ≡ true → HasOlderLessor v.masters z → IsFresh v.masters z.step_number → AreMasters (with_master z v)
   lessee_are z kept there fresh = record {
     members_rise = a.members_rise;
@@ -204,7 +208,7 @@ module _ (v : MasterSet) (a : AreMasters v) where
     few_ids = a.few_ids;
   }
 
-  -- a master is kept, or not
+  -- The facts but the use of each master hold after a master is kept, or no more.
   pub kept_ties : (m : ℕ) (kept : Bool) → AreTied (with_kept m kept v)
   kept_ties m kept = record {
     members_rise = a.members_rise;
@@ -223,15 +227,15 @@ module _ (v : MasterSet) (a : AreMasters v) where
   clients_found : AllByRecursion (λ (x : Member). member_of v.members x.client ≡ Some x) v.members
   clients_found = all_found (λ (x : Member). x.client) v.members a.members_rise
 
-  -- what a search finds
+  -- A client found by a test passes it and is found by its number.
   pub open_found : (p : Member → Bool) (x : Member) → find p v.members ≡ Some x → (p x ≡ true) × (member_of v.members x.client ≡ Some x)
   open_found p x e = found p (λ (y : Member). member_of v.members y.client ≡ Some y) x v.members clients_found e
 
-  -- a client's master is there
+  -- Each client's master exists.
   pub master_there : (c : ℕ) (x : Member) → member_of v.members c ≡ Some x → is_some (master_at v.masters x.master) ≡ true
   master_there c x e = (found (is_client c) (λ (y : Member). is_some (master_at v.masters y.master) ≡ true) x v.members a.masters_there e).1
 
-  -- a client goes
+  -- a client is removed
   module _ (x : Member) (here : member_of v.members x.client ≡ Some x) where
     is_it : (y : Member) → member_of v.members y.client ≡ Some y → is_client x.client y ≡ true → y ≡ x
     is_it y e is = let s : Some y ≡ Some x = sym e ∙ ap (member_of v.members) (eqb-true y.client x.client is) ∙ here in cc
@@ -248,7 +252,7 @@ module _ (v : MasterSet) (a : AreMasters v) where
     gone_few : length (filter (λ (y : Member). not (is_client x.client y)) v.members) ≤ v.last_magic
     gone_few = let s = filter-shorter (λ (y : Member). not (is_client x.client y)) v.members in let few = a.few in omega (arith, s, few)
 
-    -- that is no master
+    -- The facts but the use of each master hold without a client that is no master.
     pub gone_ties : x.is_master ≡ false → AreTied (without_member x.client v)
     gone_ties not_own = record {
       members_rise = gone_rise;
@@ -263,7 +267,7 @@ module _ (v : MasterSet) (a : AreMasters v) where
       few_ids = a.few_ids;
     }
 
-    -- all masters are used yet, but it may be its own
+    -- Without a client, all masters but its own are still used.
     pub gone_used : OthersUsed (filter (λ (y : Member). not (is_client x.client y)) v.members) v.masters x.master
     gone_used =
         all_weaker (λ (z : Master). is_used v.members v.masters z ≡ true) (λ (z : Master). (z.step_number == x.master) ≡ false → is_used (filter (λ (y : Member). not (is_client x.client y)) v.members) v.masters z ≡ true)
@@ -279,7 +283,7 @@ module _ (v : MasterSet) (a : AreMasters v) where
             either z.kept (list_any (λ (y : Member). y.master == z.step_number) v.members) (list_any (λ (y : Master). is_option z.step_number y.lessor) v.masters) (list_any (λ (y : Member). y.master == z.step_number) (filter (λ (y : Member). not (is_client x.client y)) v.members))
             (still_there (λ (y : Member). y.master == z.step_number) (flipped z.step_number x.master differs)) used
 
-    -- whose own master stays
+    -- The facts hold after a client closes whose own master is kept.
     pub own_are : AreMasters (closed_own x.client x.master v)
     own_are = record {
       members_rise = gone_rise;
@@ -328,6 +332,7 @@ module _ (v : MasterSet) (a : AreMasters v) where
     put_client : (z : Member) → (put z).client ≡ z.client
     put_client z = (elim (z.client == y.client) as (λ b. (z.client == y.client) ≡ b → (if b then y else z).client ≡ z.client) [ true ↦ λ e. sym (eqb-true z.client y.client e) | false ↦ λ e. refl ]) refl
 
+    -- A change of a client's row keeps the order of the clients.
     pub put_rise : MembersRise (map put v.members)
     put_rise = in_order_kept (λ (z u : Member). z.client < u.client) put (λ z u lt. omega (arith, lt, put_client z, put_client u)) v.members a.members_rise
 
@@ -348,7 +353,7 @@ module _ (v : MasterSet) (a : AreMasters v) where
     few_put : length (map put v.members) ≤ v.last_magic
     few_put = let e = length-map v.members put in let few = a.few in omega (arith, e, few)
 
-    -- of the same master
+    -- The facts hold after a client's row is changed with the same master, if no magics become equal.
     pub changed_are : y.master ≡ x.master → y.is_master ≡ x.is_master → InOrder HaveOtherMagics (map put v.members) → AreMasters (changed_member y v)
     changed_are of_one is differ = record {
       members_rise = put_rise;
@@ -370,7 +375,7 @@ module _ (v : MasterSet) (a : AreMasters v) where
       few_ids = a.few_ids;
     }
 
-    -- of a new master of its own
+    -- The facts but the use of each master hold after a client gets a new master.
     pub remade_ties : (z : Master) → z.lessor ≡ None → y.master ≡ z.step_number → y.is_master ≡ true → y.magic ≡ None → IsFresh v.masters z.step_number → AreTied (with_device (Some z.step_number) (changed_member y (with_master z v)))
     remade_ties z top own is_own none fresh = record {
       members_rise = put_rise;
@@ -402,7 +407,7 @@ module _ (v : MasterSet) (a : AreMasters v) where
             by_row (λ b. HaveOtherMagics b (put w)) u at (λ ux n k. absurd (let j : false ≡ true = sym (no_magic y.master n y none) ∙ k in cc))
             (by_row (λ b. HaveOtherMagics u b) w aw (λ wx. other_none y none u) h)
 
-    -- all are used then but the master that it had
+    -- After a client gets a new master, all masters but its former one are used.
     pub remade_used : (z : Master) → y.master ≡ z.step_number → OthersUsed (map put v.members) (placed master_before z v.masters) x.master
     remade_used z own =
         all_placed (λ (u : Master). (u.step_number == x.master) ≡ false → is_used (map put v.members) (placed master_before z v.masters) u ≡ true) (λ (u : Master). master_before u z) z v.masters
@@ -433,7 +438,7 @@ module _ (v : MasterSet) (a : AreMasters v) where
 
   -- a client's number
   module _ (x : Member) (here : member_of v.members x.client ≡ Some x) (n : ℕ) where
-    -- that no client has
+    -- The facts hold after a client gets a magic that no client of its master has.
     pub given_are : list_any (has_magic x.master n) v.members ≡ false → AreMasters (changed_member (with_magic n false x) v)
     given_are free =
         changed_are x (with_magic n false x) here refl refl refl
@@ -450,7 +455,7 @@ module _ (v : MasterSet) (a : AreMasters v) where
             (λ ux. by_row x new here refl (HaveOtherMagics new) w fw.0 (λ wx. absurd (let one : u.client ≡ w.client = ap (λ (b : Member). b.client) (ux ∙ sym wx) in omega (arith, lt, one))) (given_before x n false w fw.1))
             (by_row x new here refl (HaveOtherMagics u) w fw.0 (λ wx. given_behind x n false u fu.1) h)
 
-    -- that it has, unspent
+    -- The facts hold after an unspent magic is spent.
     pub spent_are : (m : ℕ) → has_open_magic m n x ≡ true → AreMasters (changed_member (with_magic n true x) v)
     spent_are m unspent =
         changed_are x (with_magic n true x) here refl refl refl
@@ -471,7 +476,7 @@ module _ (v : MasterSet) (a : AreMasters v) where
             (λ ux. by_row x new here refl (HaveOtherMagics new) w aw (λ wx. absurd (let one : u.client ≡ w.client = ap (λ (b : Member). b.client) (ux ∙ sym wx) in omega (arith, lt, one))) (λ k e. subst (λ (b : Member). HaveOtherMagics b w) ux h k (sym (as_it x.master k) ∙ e)))
             (by_row x new here refl (HaveOtherMagics u) w aw (λ wx k e. as_it u.master k ∙ ap (has_magic u.master k) (sym wx) ∙ h k e) h)
 
--- a master that is kept no more is the one that may be unused
+-- After a master is kept no more, all others are used.
 pub released_used : (v : MasterSet) → AreMasters v → (m : ℕ) → OthersUsed v.members (with_kept m false v).masters m
 released_used v a m =
     all_mapped (λ (z : Master). (z.step_number == m) ≡ false → is_used v.members (with_kept m false v).masters z ≡ true) (kept_at m false) v.masters
@@ -484,7 +489,7 @@ released_used v a m =
 
 -- ---- the fields
 
--- the fields represent a set of which all of it is so
+-- If all facts hold of the set that the fields represent, the fields are sound.
 pub sound : (a : Inside) (v : MasterSet) → set_of a ≡ v → AreMasters v → Keyed v.masters → IsSound a
 sound a v e are keyed = record {
   are = subst AreMasters (sym e) are;
@@ -496,6 +501,7 @@ pub record Known (a : Inside) (v : MasterSet) : Type 0 where
   pub are : AreMasters v
   pub keyed : Keyed v.masters
 
+-- The facts about the fields are facts about the set that they represent.
 pub known : (a : Inside) (v : MasterSet) → set_of a ≡ v → IsSound a → Known a v
 known a v e so = record {
   are = subst AreMasters e so.are;
@@ -506,20 +512,23 @@ known a v e so = record {
 each_keyed : (ms : List Master) → Keyed ms → AllByRecursion (λ (x : Master). find (is_key x.key) ms ≡ Some x) ms
 each_keyed ms keyed = all_found_apart (λ (x : Master). x.key) ms keyed
 
+-- The master at a step number is found by its key.
 pub keyed_found : (ms : List Master) (n : ℕ) (x : Master) → Keyed ms → master_at ms n ≡ Some x → IsKeyOf ms n x.key
 keyed_found ms n x keyed e =
     let is = found (is_step_number n) (λ (y : Master). find (is_key y.key) ms ≡ Some y) x ms (each_keyed ms keyed) e in
     ap (option_map (λ (y : Master). y.step_number)) is.1 ∙ ap Some (eqb-true x.step_number n is.0)
 
+-- The key of a master found at a step number finds this master.
 pub keyed_at : (ms : List Master) (n : ℕ) → Keyed ms → (o : Option Master) → o ≡ master_at ms n → IfSome o (λ x. IsKeyOf ms n x.key)
 keyed_at ms n keyed None e = tt
 keyed_at ms n keyed (Some x) e = keyed_found ms n x keyed (sym e)
 
+-- The key of a master found by any test finds this master.
 pub keyed_each : (ms : List Master) → Keyed ms → (p : Master → Bool) (o : Option Master) → o ≡ find p ms → IfSome o (λ x. IsKeyOf ms x.step_number x.key)
 keyed_each ms keyed p None e = tt
 keyed_each ms keyed p (Some x) e = ap (option_map (λ (y : Master). y.step_number)) (found p (λ (y : Master). find (is_key y.key) ms ≡ Some y) x ms (each_keyed ms keyed) (sym e)).1
 
--- a master comes under a key that none has
+-- With a new master under a free key, no two masters have the same key.
 pub keyed_more : (ms : List Master) (z : Master) (k : ℕ) → Rise ms → Keyed ms → find (is_key k) ms ≡ None → z.key ≡ k → Keyed (placed master_before z ms)
 keyed_more ms z k rise keyed free is =
     let others = none_found (is_key k) ms free in
@@ -527,23 +536,24 @@ keyed_more ms z k rise keyed free is =
     (all_weaker (λ (x : Master). is_key k x ≡ false) (λ (x : Master). x.step_number < z.step_number → (x.key == z.key) ≡ false) (λ x e lt. ap (λ n. x.key == n) is ∙ e) ms others)
     (all_weaker (λ (x : Master). is_key k x ≡ false) (λ (x : Master). nat_lt x.step_number z.step_number ≡ false → (z.key == x.key) ≡ false) (λ x e lt. flipped x.key z.key (ap (λ n. x.key == n) is ∙ e)) ms others)
 
+-- With fewer masters, still no two have the same key.
 pub keyed_fewer : (ms : List Master) (p : Master → Bool) → Keyed ms → Keyed (filter p ms)
 keyed_fewer ms p keyed = in_order_filter (λ (x y : Master). (x.key == y.key) ≡ false) p ms keyed
 
--- what is found has the number, and is found by it
+-- A client that is found has the number, and its row is found by it.
 pub client_found : (xs : List Member) (c : ℕ) (x : Member) → member_of xs c ≡ Some x → (x.client ≡ c) × (member_of xs x.client ≡ Some x)
 client_found xs c x e =
     let num : x.client ≡ c = eqb-true x.client c (found (is_client c) (λ _. Unit {0}) x xs (all_each (λ _. Unit {0}) (λ _. tt) xs) e).0 in
     (num, ap (member_of xs) num ∙ e)
 
--- the master of a key
+-- The master found by a key has the step number of this key and exists.
 pub of_key : (ms : List Master) (key : ℕ) (x : Master) → find (is_key key) ms ≡ Some x → (step_number_at ms key ≡ x.step_number) × (is_some (master_at ms x.step_number) ≡ true)
 of_key ms key x e = (
   ap (λ o. option_map_or (λ (y : Master). y.step_number) o 0) e,
   is_some-find (is_step_number x.step_number) ms ∙ any_found (is_key key) (is_step_number x.step_number) x ms e (eq-eqb x.step_number x.step_number refl),
 )
 
--- what a step number finds has it
+-- The master found by a step number has it.
 pub at_step_number : (ms : List Master) (m : ℕ) (x : Master) → master_at ms m ≡ Some x → (x.step_number ≡ m) × (master_at ms x.step_number ≡ Some x)
 at_step_number ms m x e =
     let num : x.step_number ≡ m = eqb-true x.step_number m (found (is_step_number m) (λ _. Unit {0}) x ms (all_each (λ _. Unit {0}) (λ _. tt) ms) e).0 in

@@ -79,8 +79,10 @@ module _ (v : MasterSet) (are : AreMasters v) (key step_number m id : ℕ) (unus
     it_found : find (is_key key) (placed master_before kept ms) ≡ Some kept
     it_found = find_placed (is_key key) (λ (x : Master). master_before x kept) kept ms (eq-eqb key key refl) (none_found (is_key key) ms free)
 
+    -- The key of a new lessee is in use.
     pub made_there : is_there (with_master kept v).masters key ≡ true
     made_there = ap is_some it_found
 
+    -- A new lessee released by its key leaves the masters unchanged.
     pub unmade_by_key : swept (with_kept (step_number_at (with_master kept v).masters key) false (with_master kept v)) ≡ v
     unmade_by_key = ap (λ (o : Option Master). swept (with_kept (option_map_or (λ (x : Master). x.step_number) o 0) false (with_master kept v))) it_found ∙ unmade

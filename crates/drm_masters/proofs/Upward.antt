@@ -1,4 +1,4 @@
--- A sweep that begins at the one master that may be unused, and goes up.
+-- A sweep from the one master that may be unused up to the last lessor that becomes unused.
 use Rattle.std.proofs.Common.{◌≡◌, ℕ, zero, suc, ◌+◌, ◌<◌, ◌≤◌, ◌==◌, Bool, true, false, not, cond, ◌&&◌, ◌||◌, List, [], ◌∷◌, filter, Option, None, Some, refl, sym, ap, ◌∙◌, arith}
 use Rattle.std.specs.List.{list_any, AllByRecursion}
 use Rattle.std.specs.Option.{is_some, option_and_then}
@@ -48,7 +48,7 @@ module _ (members : List Member) (ms : List Master) (rise : Rise ms) (older : Ol
           let younger = (w.2.lessor x.step_number up).1 in
           lessor_lives ms members rise older w.0.step_number x.step_number (later w.0 w.2 (omega (arith, lt, younger))) (ap (option_and_then (λ (z : Master). z.lessor)) w.2.at ∙ up)
 
-  -- where each is used a sweep takes none
+  -- If each master is used, a sweep removes none.
   pub all_stay : AllByRecursion (λ (x : Master). is_used members ms x ≡ true) ms → ms ≡ filter (λ (x : Master). is_living members ms x.step_number) ms
   all_stay used =
       let last = bounded ms in
@@ -58,7 +58,7 @@ module _ (members : List Member) (ms : List Master) (rise : Rise ms) (older : Ol
       let needed = all_both (λ (x : Master). (is_used members ms x ≡ true) × HasOlderLessor ms x) (λ (x : Master). (master_at ms x.step_number ≡ Some x) × (x.step_number ≤ last.0)) (Needed last.0) (λ x u a. record { at = a.0; used = u.0; low = a.1; lessor = u.1 }) ms both low in
       sym (filter_all (λ (x : Master). is_living members ms x.step_number) ms (all_weaker (Needed last.0) (λ (x : Master). is_living members ms x.step_number ≡ true) (λ x t. lives last.0 needed (last.0 + 1) x t (omega arith)) ms needed))
 
-  -- a master that is not used goes, and nothing else changes
+  -- a master that is not used is removed, and nothing else changes
   module _ (x : Master) (here : master_at ms x.step_number ≡ Some x) (unused : is_used members ms x ≡ false) where
     not_held : is_held members x ≡ false
     not_held = (or_parts (is_held members x) (list_any (λ (z : Master). is_option x.step_number z.lessor) ms) unused).0
@@ -86,9 +86,11 @@ module _ (members : List Member) (ms : List Master) (rise : Rise ms) (older : Ol
     under_is : (b n : ℕ) → (n == x.step_number) ≡ false → is_under (lessor_of gone) b n ≡ is_under (lessor_of ms) b n
     under_is b n differs = ap (λ l. is_among l b) (same_chain (λ k. (k == x.step_number) ≡ false) (lessor_of ms) (lessor_of gone) lessors_are (λ k l p e. apart k l e) n n differs)
 
+    -- The other masters are in the order of step numbers.
     pub gone_rise : Rise gone
     gone_rise = in_order_filter (λ (a b : Master). a.step_number < b.step_number) (λ (z : Master). not (is_step_number x.step_number z)) ms rise
 
+    -- The lessors of the other masters exist and are older.
     pub gone_older : Older gone
     gone_older =
         all_filter (HasOlderLessor gone) (λ (z : Master). not (is_step_number x.step_number z)) ms
@@ -133,7 +135,7 @@ module _ (members : List Member) (ms : List Master) (rise : Rise ms) (older : Ol
         living_is ms members rise older x here ∙ ap (λ b. b || list_any q ms) not_held
         ∙ none_passes q ms (all_weaker (λ (z : Master). is_option x.step_number z.lessor ≡ false) (λ z. q z ≡ false) (λ z e. and_right (is_living members ms z.step_number) (is_option x.step_number z.lessor) e) ms no_lessee)
 
-    -- what a sweep leaves of the others is what it leaves of all
+    -- A sweep of the masters without the unused one leaves the same as a sweep of all.
     pub same_left : filter (λ (z : Master). is_living members gone z.step_number) gone ≡ filter (λ (z : Master). is_living members ms z.step_number) ms
     same_left =
         filter-both (λ (z : Master). is_living members gone z.step_number) (λ (z : Master). not (is_step_number x.step_number z)) ms
@@ -144,7 +146,7 @@ module _ (members : List Member) (ms : List Master) (rise : Rise ms) (older : Ol
           | false ↦ λ e. living_as z.step_number
         ] refl) ms told)
 
-    -- the others are used yet, but it may be its lessor
+    -- After the unused master is removed, all others but its lessor are still used.
     pub lessor_left : (b : ℕ) → ((l : ℕ) → x.lessor ≡ Some l → l ≡ b) → OthersUsed members ms x.step_number → OthersUsed members gone b
     lessor_left b up used =
         all_both (λ (z : Master). (z.step_number == x.step_number) ≡ false → is_used members ms z ≡ true) (λ (z : Master). not (is_step_number x.step_number z) ≡ true) (λ (z : Master). (z.step_number == b) ≡ false → is_used members gone z ≡ true)
@@ -165,7 +167,7 @@ module _ (members : List Member) (ms : List Master) (rise : Rise ms) (older : Ol
                   | false ↦ λ e. refl
                 ] refl
 
--- those that stay are used
+-- If all masters live, all are used.
 pub all_living_used : (members : List Member) (ms : List Master) (rise : Rise ms) (older : Older ms) → AllByRecursion (λ (x : Master). is_living members ms x.step_number ≡ true) ms → AllByRecursion (λ (x : Master). is_used members ms x ≡ true) ms
 all_living_used members ms rise older living =
     all_both (λ (x : Master). is_living members ms x.step_number ≡ true) (λ (x : Master). master_at ms x.step_number ≡ Some x) (λ (x : Master). is_used members ms x ≡ true)
@@ -175,13 +177,13 @@ all_living_used members ms rise older living =
     weaker x true h = refl
     weaker x false h = any_more (λ _. Unit {0}) (λ (y : Master). is_living members ms y.step_number && is_option x.step_number y.lessor) (λ (y : Master). is_option x.step_number y.lessor) (λ y u t. (and_parts (is_living members ms y.step_number) (is_option x.step_number y.lessor) t).1) ms (all_each (λ _. Unit {0}) (λ _. tt) ms) h
 
--- all are used where that one is, or isn't there
+-- If all masters but one are used, and this one is used or does not exist, all are used.
 pub all_used : (members : List Member) (ms : List Master) (b : ℕ) → OthersUsed members ms b → ((x : Master) → master_at ms x.step_number ≡ Some x → (x.step_number == b) ≡ true → is_used members ms x ≡ true) → Rise ms → AllByRecursion (λ (x : Master). is_used members ms x ≡ true) ms
 all_used members ms b others it rise =
     all_both (λ (x : Master). (x.step_number == b) ≡ false → is_used members ms x ≡ true) (λ (x : Master). master_at ms x.step_number ≡ Some x) (λ (x : Master). is_used members ms x ≡ true)
     (λ x u at. elim (x.step_number == b) as (λ c. (x.step_number == b) ≡ c → is_used members ms x ≡ true) [ true ↦ λ e. it x at e | false ↦ λ e. u e ] refl) ms others (all_found (λ (x : Master). x.step_number) ms rise)
 
--- where it has no lessor the others are all that stay
+-- If the unused master has no lessor, a sweep removes this master only.
 pub top_left : (members : List Member) (ms : List Master) (rise : Rise ms) (older : Older ms) (x : Master) (here : master_at ms x.step_number ≡ Some x) (unused : is_used members ms x ≡ false) → x.lessor ≡ None → OthersUsed members ms x.step_number →
     filter (λ (z : Master). not (is_step_number x.step_number z)) ms ≡ filter (λ (z : Master). is_living members ms z.step_number) ms
 top_left members ms rise older x here unused top used =

@@ -348,7 +348,8 @@ module _ (w : Rows) where
   asked c (RevokeLease lessee) = λ i. record (left_alone i) { masters = mapped (master_after w (Ask c (RevokeLease lessee))) w.masters i; grants = left (grant_stays w (Ask c (RevokeLease lessee))) w.grants i }
   asked c call = left_alone
 
-  -- a call that is not told here leaves all lists alone
+  -- An event changes rows as `edited_rows` says: it edits each list, and else only the device's master and the last
+  -- tokens.
   pub each_edits : (event : Event) → changed w event ≡ edited_rows w event (changed w event)
   unfolding changed opened closed
   each_edits (Open (Primary root universal)) = primary root universal w.device_master
@@ -368,7 +369,7 @@ module _ (w : Rows) where
 
 -- ---- steps and runs
 
--- what holds after a step: a denial notes it, and what is accepted is swept too
+-- What holds after a denial, and after an accepted event with its sweep, holds after any event.
 pub by_verdict : (P : Rows → Type 0) (w : Rows) (event : Event) → P (journaled w) → (verdict w event ≡ None → P (journaled (swept (changed w event)))) → P (after w event)
 unfolding after
 by_verdict P w event denied accepted = by (verdict w event) refl
@@ -377,7 +378,7 @@ by_verdict P w event denied accepted = by (verdict w event) refl
     by None e = accepted e
     by (Some rule) e = denied
 
--- what each step keeps, a run keeps
+-- What each step keeps, a run keeps.
 pub along : (P : Rows → Type 0) → ((w : Rows) (event : Event) → P w → P (after w event)) → (events : List Event) (w : Rows) → P w → P (run w events)
 unfolding run
 along P keeps [] w h = h

@@ -20,6 +20,7 @@ longer-not : (w v : Rows) → length v.clients ≤ length w.clients → length v
     length v.grants ≤ length w.grants → length v.framebuffers ≤ length w.framebuffers → IsLonger w v → ⊥
 longer-not w v a b c d e f g h i longer = omega (arith, longer)
 
+-- No list but that of shown rows gets longer by a closing, so a closing never needs memory.
 pub closing_adds_no_row : (w : Rows) (c : ℕ) → Growing w (Close c) → ⊥
 unfolding Growing
 closing_adds_no_row w c grows =
@@ -40,13 +41,16 @@ closing_adds_no_row w c grows =
     shorter : {X : Type 0} (stays : X → Bool) (change : X → X) (xs now : List X) → now ≡ edited stays change [] xs → length now ≤ length xs
     shorter stays change xs now e = let all = length-edited stays change [] xs in let same = ap length e in omega (arith, all, same)
 
+-- A closing is denied only if its client is not open, with `NoClient`.
 pub closing_verdict : (w : Rows) (c : ℕ) → verdict w (Close c) ≡ cond (is_open w c) None (Some NoClient)
 unfolding verdict checks
 closing_verdict w c = refl
 
+-- The closing of an open client is accepted.
 pub closing_accepted : (w : Rows) (c : ℕ) → is_open w c ≡ true → verdict w (Close c) ≡ None
 closing_accepted w c open_client = closing_verdict w c ∙ ap (λ b. cond b None (Some NoClient)) open_client
 
+-- A device answers the closing of an open client with `Closed`: the journal has room, and memory is not refused.
 pub closing_is_carried_out : (w : Rows) (c : ℕ) (result : Result Answer Apart) (v : Rows) → is_open w c ≡ true → Step w (Close c) result v → result ≡ Ok Closed
 unfolding Step reply no_room answer_of
 closing_is_carried_out w c (Ok answer) v open_client step = ap Ok (step.1 ∙ ap (λ r. reply_by r w (Close c)) (closing_accepted w c open_client))

@@ -91,7 +91,7 @@ unfolding count_in
 none_yet h Clients = omega arith
 none_yet h part = omega arith
 
--- the rows of a history: no more than its steps can add
+-- The rows of any history are no more than its steps can add.
 pub few_rows : (h : DeviceValue) → IsTopology h.topology → FewRows (rows_of h).steps (rows_of h)
 unfolding rows_of
 few_rows h topology = (along (λ w. IsTopology w.topology × FewRows w.steps w) after-few h.journal (empty_rows h.topology h.limits) (topology, none_yet h)).1
@@ -99,7 +99,7 @@ few_rows h topology = (along (λ w. IsTopology w.topology × FewRows w.steps w) 
 mapped : {X Y : Type 0} (f : X → Y) (xs : List X) (most : ℕ) → length xs ≤ 64 * most → length (map f xs) ≤ 64 * most + 1
 mapped f xs most h = let l = length-map xs f in omega (arith, l, h)
 
--- so few rows does an audit show
+-- An audit lists no more rows than the steps can have added.
 pub few_audit_rows : (w : Rows) (most : ℕ) → FewRows most w → (kind : AuditKind) → length (audit_rows w kind) ≤ 64 * most + 1
 unfolding audit_rows count_in
 few_audit_rows w most h kinds.Client = mapped _ w.clients most (let few = h Clients in omega (arith, few))

@@ -32,6 +32,7 @@ forgotten w c = record {
   framebuffers = none_left (λ row. row.client == c) (λ row. row.client == c) (λ row e. e) w.framebuffers;
 }
 
+-- After an open client closes, no client, magic, handle, token or framebuffer has its number.
 pub closing_forgets : (w : Rows) (c : ℕ) → is_open w c ≡ true → IsForgotten (after w (Close c)) c
 closing_forgets w c open_client = subst (λ v. IsForgotten v c) (sym (closed_after w c open_client)) (forgotten w c)
 
@@ -70,7 +71,7 @@ closed-ended w c own m under e = record {
       (ap (λ (v : Rows). list_any (is_open_lease m) v.masters) e ∙ no_token w own m under);
 }
 
--- neither the client's own master nor any below it has a grant or an open lease token
+-- After the closing of a master client, neither its own master nor any below it has a grant or an open lease token.
 pub closing_ends : (w : Rows) (c own m : ℕ) → is_open w c ≡ true → is_master w c ≡ true → master_of w c ≡ Some own → is_under w.masters own m ≡ true → HasEnded (after w (Close c)) m
 closing_ends w c own m open_client master its_master under =
     subst (λ v. HasEnded v m) (sym (closed_after w c open_client)) (closed-ended w c own m under (own_ended w own (client_row w c) master its_master))
@@ -88,6 +89,6 @@ revoked_after : (w : Rows) (c lessee : ℕ) → verdict w (Ask c (RevokeLease le
 unfolding after changed meaning
 revoked_after w c lessee accepted = ap (λ v. after_verdict v w (Ask c (RevokeLease lessee))) accepted
 
--- neither the lessee nor any below it has a grant or an open lease token
+-- After an accepted MODE_REVOKE_LEASE, neither the lessee nor any below it has a grant or an open lease token.
 pub revocation_ends : (w : Rows) (c lessee m : ℕ) → verdict w (Ask c (RevokeLease lessee)) ≡ None → is_under w.masters (lessee_master w (caller_master w c) lessee) m ≡ true → HasEnded (after w (Ask c (RevokeLease lessee))) m
 revocation_ends w c lessee m accepted under = subst (λ v. HasEnded v m) (sym (revoked_after w c lessee accepted)) (revoked w (lessee_master w (caller_master w c) lessee) m under)

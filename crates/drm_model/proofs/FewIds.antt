@@ -67,7 +67,7 @@ replied-few : (w : Rows) (event : Event) (v : Option Rule) → IsTopology w.topo
 replied-few w event (Some rule) topology few = tt
 replied-few w event None topology few = answered-few w event topology few
 
--- a frame holds each answer
+-- Each answer fits one frame if there are 64 framebuffers at most.
 pub few_reply : (w : Rows) (event : Event) → IsTopology w.topology → length w.framebuffers ≤ 64 → FitsOneFrame (Ok (reply w event))
 unfolding reply
 few_reply w event topology few = replied-few w event (verdict w event) topology few

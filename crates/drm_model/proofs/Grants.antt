@@ -36,11 +36,12 @@ swept-made : (w : Rows) (last : ℕ) → GrantsMade last w → GrantsMade last (
 unfolding swept
 swept-made w last h = h
 
+-- If earlier steps made the masters of all grants, that is still so after any event.
 pub after-made : (w : Rows) (event : Event) → GrantsMade w.steps w → GrantsMade (after w event).steps (after w event)
 after-made w event h =
     subst (λ n. GrantsMade n (after w event)) (sym (after-steps w event)) (by_verdict (GrantsMade (step_number w)) w event (later w h) (λ accepted. swept-made (changed w event) (step_number w) (changed-made w event h)))
 
--- the rows of a history
+-- In the rows of any history, steps made the masters of all grants.
 pub grants_made : (h : DeviceValue) → GrantsMade (rows_of h).steps (rows_of h)
 unfolding rows_of
 grants_made h = along (λ w. GrantsMade w.steps w) after-made h.journal (empty_rows h.topology h.limits) tt

@@ -19,17 +19,19 @@ use Rattle.drm_model.proofs.Changes.{client_after, opened_row, each_edits}
 use Rattle.drm_model.proofs.Closings.{closing_verdict}
 use Rattle.drm_lists.proofs.Edits.{added, mapped}
 
+-- A run of one more event is the run before, then the step of that event.
 pub run_push : (w : Rows) (events : List Event) (event : Event) → run w (events ++ event ∷ []) ≡ after (run w events) event
 unfolding run
 run_push w [] event = refl
 run_push w (e ∷ es) event = run_push (after w e) es event
 
--- one more event that finds room
+-- If each event found room, and one more finds room after them, each of all found room.
 pub found_room_push : (w : Rows) (events : List Event) (event : Event) → FoundRoom w events → no_room (run w events) event ≡ false → FoundRoom w (events ++ event ∷ [])
 unfolding FoundRoom run
 found_room_push w [] event h room = (room, tt)
 found_room_push w (e ∷ es) event h room = (h.0, found_room_push (after w e) es event h.1 room)
 
+-- The rows of a history with one more event are those after the event.
 pub rows_journaled : (h : DeviceValue) (event : Event) → rows_of (journaled_in h event) ≡ after (rows_of h) event
 unfolding rows_of
 rows_journaled h event = run_push (empty_rows h.topology h.limits) h.journal event
@@ -40,6 +42,7 @@ unfolding swept
 after_verdict-topology w event None = ap (λ (v : Rows). v.topology) (each_edits w event)
 after_verdict-topology w event (Some rule) = refl
 
+-- A step leaves the limits unchanged, accepted or denied.
 pub after_verdict-limits : (w : Rows) (event : Event) (v : Option Rule) → (after_verdict v w event).limits ≡ w.limits
 unfolding swept
 after_verdict-limits w event None = ap (λ (v : Rows). v.limits) (each_edits w event)
@@ -50,14 +53,17 @@ unfolding swept
 after_verdict-steps w event None = ap (λ (v : Rows). v.steps + 1) (each_edits w event)
 after_verdict-steps w event (Some rule) = refl
 
+-- No event changes the fixed mode objects.
 pub after-topology : (w : Rows) (event : Event) → (after w event).topology ≡ w.topology
 unfolding after
 after-topology w event = after_verdict-topology w event (verdict w event)
 
+-- No event changes the limits.
 pub after-limits : (w : Rows) (event : Event) → (after w event).limits ≡ w.limits
 unfolding after
 after-limits w event = after_verdict-limits w event (verdict w event)
 
+-- Each event is one step, accepted or denied.
 pub after-steps : (w : Rows) (event : Event) → (after w event).steps ≡ w.steps + 1
 unfolding after
 after-steps w event = after_verdict-steps w event (verdict w event)
@@ -67,33 +73,39 @@ unfolding run
 run-topology w [] = refl
 run-topology w (e ∷ es) = run-topology (after w e) es ∙ after-topology w e
 
+-- A run leaves the limits unchanged.
 pub run-limits : (w : Rows) (events : List Event) → (run w events).limits ≡ w.limits
 unfolding run
 run-limits w [] = refl
 run-limits w (e ∷ es) = run-limits (after w e) es ∙ after-limits w e
 
+-- A run has one step for each of its events.
 pub run-steps : (w : Rows) (events : List Event) → (run w events).steps ≡ w.steps + length events
 unfolding run
 run-steps w [] = omega arith
 run-steps w (e ∷ es) = let a = run-steps (after w e) es in let b = after-steps w e in omega arith
 
+-- The rows of a history have its fixed mode objects.
 pub rows_of-topology : (h : DeviceValue) → (rows_of h).topology ≡ h.topology
 unfolding rows_of
 rows_of-topology h = run-topology (empty_rows h.topology h.limits) h.journal
 
+-- The rows of a history have its limits.
 pub rows_of-limits : (h : DeviceValue) → (rows_of h).limits ≡ h.limits
 unfolding rows_of
 rows_of-limits h = run-limits (empty_rows h.topology h.limits) h.journal
 
+-- The rows of a history count as many steps as its journal has events.
 pub rows_of-steps : (h : DeviceValue) → (rows_of h).steps ≡ length h.journal
 unfolding rows_of
 rows_of-steps h = let a = run-steps (empty_rows h.topology h.limits) h.journal in omega arith
 
--- how many clients are open afterwards
+-- An opening adds one to the open clients.
 pub opened-count : (w : Rows) (opening : Opening) → length (changed w (Open opening)).clients ≡ length w.clients + 1
 opened-count w opening =
     ap (λ (v : Rows). length v.clients) (each_edits w (Open opening)) ∙ ap length (sym (added w.clients (opened_row w opening ∷ []))) ∙ length-append w.clients (opened_row w opening ∷ [])
 
+-- A request leaves the number of open clients unchanged.
 pub asked-count : (w : Rows) (c : ℕ) (call : Call) → length (changed w (Ask c call)).clients ≡ length w.clients
 asked-count w c call =
     ap (λ (v : Rows). length v.clients) (each_edits w (Ask c call)) ∙ ap length (sym (mapped (client_after w (Ask c call)) w.clients)) ∙ length-map w.clients (client_after w (Ask c call))
@@ -128,7 +140,7 @@ kept_export_order w c true e fits room = tt
 kept_export_order w c false e fits room =
     let left = ltb-false (places_left w) (length w.clients + 1) (ap (λ b. not b && nat_lt (places_left w) (length w.clients + 1)) (sym e) ∙ room) in omega arith
 
--- the journal has places for the closings of the open clients
+-- After an event that found room the journal still has a place for the closing of each open client.
 pub room_after : (w : Rows) (event : Event) → w.steps + length w.clients ≤ w.limits.journal → no_room w event ≡ false → (after w event).steps + length (after w event).clients ≤ w.limits.journal
 unfolding no_room after
 room_after w (Open opening) fits room =

@@ -59,5 +59,6 @@ after-still m w event h = (
   by_verdict (HaveEnded m) w event h.1 (λ accepted. swept-still (changed w event) m (changed-still w event m h.0 h.1)),
 )
 
+-- A master that has no grant and no open lease token has none after any further events.
 pub stays_ended : (w : Rows) (events : List Event) (m : ℕ) → m ≤ w.steps → HasEnded w m → HasEnded (run w events) m
 stays_ended w events m old h = let k = along (λ v. (m ≤ v.steps) × HaveEnded m v) (after-still m) events w (old, (h.grants, h.lease_token)) in record { grants = k.1.0; lease_token = k.1.1 }

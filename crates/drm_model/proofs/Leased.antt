@@ -29,13 +29,14 @@ own_checks (x ∷ xs) ys h =
     (elim x.holds as (λ b. cond b (first_failing (xs ++ ys)) (Some x.rule) ≡ None → first_failing ys ≡ None)
     [ true ↦ own_checks xs ys | false ↦ λ k. absurd (let no : Some x.rule ≡ None = k in cc) ]) h
 
+-- If no check fails, all hold.
 pub all_hold : (xs : List Check) → first_failing xs ≡ None → AllByRecursion (λ (x : Check). x.holds ≡ true) xs
 all_hold [] h = tt
 all_hold (x ∷ xs) h =
     elim x.holds as (λ b. x.holds ≡ b → cond b (first_failing xs) (Some x.rule) ≡ None → AllByRecursion (λ (x : Check). x.holds ≡ true) (x ∷ xs))
     [ true ↦ λ e k. (e, all_hold xs k) | false ↦ λ e k. absurd (let no : Some x.rule ≡ None = k in cc) ] refl h
 
--- its own rules hold
+-- An accepted call passes each rule of the call.
 pub rules_hold : (w : Rows) (c : ℕ) (call : Call) → verdict w (Ask c call) ≡ None → AllByRecursion (λ (x : Check). x.holds ≡ true) (meaning w c call).checks
 unfolding verdict checks
 rules_hold w c call h = all_hold (meaning w c call).checks (own_checks (admission_checks w c call) (meaning w c call).checks h)
@@ -80,6 +81,8 @@ for_a_crtc : (crtcs : List ℕ) (o : Option ℕ) → option_map_or (is_among crt
 for_a_crtc crtcs (Some crtc) h = refl
 for_a_crtc crtcs None h = h
 
+-- A plane that is added to a lease is a primary or cursor plane that the client controls, and the client has universal
+-- planes off.
 pub comes_along : (w : Rows) (c : ℕ) (ids : List ℕ) (x : ℕ) → is_among (brought_along w c ids) x ≡ true → ComesAlong w c x
 comes_along w c ids x =
     elim (has_universal w c) as (λ b. has_universal w c ≡ b → is_among (if b then [] else filter (controls w c) (planes_of w.topology ids)) x ≡ true → ComesAlong w c x) [
@@ -91,7 +94,7 @@ comes_along w c ids x =
           record { off = e; controlled = seen.0; hidden = for_a_crtc ids (crtc_of_plane w.topology x) picked.0; plane = picked.1 }
     ] refl
 
--- each object of an accepted lease is a fixed one
+-- Each object of an accepted lease is a fixed one.
 pub leased_within : (w : Rows) (c : ℕ) (ids : List ℕ) → verdict w (Ask c (CreateLease ids)) ≡ None → (x : ℕ) → is_among (leased w c ids) x ≡ true → (1 ≤ x) × (x ≤ object_count w.topology)
 leased_within w c ids accepted x among =
     elim (is_among ids x) as (λ b. is_among ids x ≡ b → (b || is_among (brought_along w c ids) x) ≡ true → (1 ≤ x) × (x ≤ object_count w.topology)) [
@@ -107,6 +110,7 @@ unseen : (encoder controlled hidden universal : Bool) → encoder ≡ false → 
 unseen encoder true hidden universal e h u = rw (e, h, u) refl
 unseen encoder false hidden universal e h u = rw e refl
 
+-- An id that is seen and is neither an encoder nor a framebuffer is that of an object that the client sees.
 pub seen_named : (known sees encoder framebuffer : Bool) → ((known && sees) || framebuffer) ≡ true → not (encoder || framebuffer) ≡ true → (sees ≡ true) × (encoder ≡ false)
 seen_named known sees true framebuffer seen leasable = absurd (false≢true leasable)
 seen_named known sees false true seen leasable = absurd (false≢true leasable)
@@ -131,11 +135,12 @@ along_once w c ids k =
     elim (has_universal w c) as (λ b. count (if b then [] else filter (controls w c) (planes_of w.topology ids)) k ≤ 1)
     [ true ↦ omega arith | false ↦ picked_once (controls w c) (λ x. option_map_or (is_among ids) (crtc_of_plane w.topology x) false) (first_plane w.topology) (length w.topology.planes) k ]
 
--- and occurs once
+-- Each object of an accepted lease occurs once in it.
 pub leased_once : (w : Rows) (c : ℕ) (ids : List ℕ) → verdict w (Ask c (CreateLease ids)) ≡ None → list_all (stands_once (leased w c ids)) (leased w c ids) ≡ true
 unfolding meaning
 leased_once w c ids accepted = each_once ids (brought_along w c ids) (rules_hold w c (CreateLease ids) accepted).1.1.1.0 (along_once w c ids) (apart w c ids accepted)
 
+-- An accepted MODE_CREATE_LEASE leases 64 objects at most.
 pub few_leased : (w : Rows) (c : ℕ) (ids : List ℕ) → IsTopology w.topology → verdict w (Ask c (CreateLease ids)) ≡ None → length (leased w c ids) ≤ 64
 few_leased w c ids topology accepted =
     let few = few_once (object_count w.topology) (leased w c ids) (leased_once w c ids accepted) (leased_within w c ids accepted) in

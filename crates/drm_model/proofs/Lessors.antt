@@ -53,6 +53,7 @@ none_is_zero : (last : ℕ) (o : Option ℕ) → IfSome o (λ m. m ≤ last) →
 none_is_zero last None h = omega arith
 none_is_zero last (Some m) h = h
 
+-- The caller's master is of a step that was made.
 pub own_master_made : (w : Rows) (c : ℕ) → WereMade w.steps w → caller_master w c ≤ w.steps
 own_master_made w c h = none_is_zero w.steps (master_of w c) (master_up_to w.steps w c h.0)
 
@@ -138,6 +139,8 @@ device-made w (Close c) k = closed-device w (step_number w) (client_row w c) k.3
 
 -- ---- steps and runs
 
+-- If steps made all clients, masters and objects, this step or an earlier one made those after an event, before the
+-- sweep.
 pub changed-made : (w : Rows) (event : Event) → WereMade w.steps w → WereMade (step_number w) (changed w event)
 changed-made w event h =
     let k = later w h in
@@ -161,25 +164,27 @@ swept-made : (w : Rows) (last : ℕ) → WereMade last w → WereMade last (jour
 unfolding swept
 swept-made w last h = (h.0, all_filter (IsMadeMaster last) _ w.masters h.1, all_filter (λ (row : ObjectRow). 1 ≤ row.object) _ w.objects h.2, h.3)
 
+-- If steps made all clients, masters and objects, that is still so after any event.
 pub after-made : (w : Rows) (event : Event) → WereMade w.steps w → WereMade (after w event).steps (after w event)
 after-made w event h =
     subst (λ n. WereMade n (after w event)) (sym (after-steps w event)) (by_verdict (WereMade (step_number w)) w event (later w h) (λ accepted. swept-made (changed w event) (step_number w) (changed-made w event h)))
 
--- the rows of a history
+-- In the rows of any history, its steps made all clients, masters and objects.
 pub were_made : (h : DeviceValue) → WereMade (rows_of h).steps (rows_of h)
 unfolding rows_of
 were_made h = along (λ w. WereMade w.steps w) after-made h.journal (empty_rows h.topology h.limits) (tt, tt, tt, tt)
 
 -- ---- a lessor and its lessee
 
+-- A lessor is older than its lessee, for a row that is found and that a step made.
 pub lessor_there : (last n m : ℕ) (o : Option MasterRow) → IfSome o (IsMadeMaster last) → IfSome o (λ (row : MasterRow). (row.master == n) ≡ true) → option_and_then (λ (row : MasterRow). row.lessor) o ≡ Some m → m < n
 lessor_there last n m None h is e = absurd (let no : None ≡ Some m = e in cc)
 lessor_there last n m (Some row) h is e = subst (λ k. m < k) (eqb-true row.master n is) (subst (λ (o : Option ℕ). IfSome o (λ lessor. lessor < row.master)) e h.2)
 
--- in rows of which steps made the masters
+-- A lessor is older than its lessee in rows that steps made.
 pub lessor_older : (last : ℕ) (rows : List MasterRow) → AllByRecursion (IsMadeMaster last) rows → (n m : ℕ) → lessor_of rows n ≡ Some m → m < n
 lessor_older last rows made n m e = lessor_there last n m (master_row rows n) (all_found (IsMadeMaster last) (λ row. row.master == n) rows made) (found_passes (λ row. row.master == n) rows) e
 
--- what is above a master is less, so that its chain of lessors ends
+-- In the rows of any history a lessor is older than its lessee, so each chain of lessors ends.
 pub lessors_are_older : (h : DeviceValue) (n m : ℕ) → lessor_of (rows_of h).masters n ≡ Some m → m < n
 lessors_are_older h n m e = lessor_older (rows_of h).steps (rows_of h).masters (were_made h).1 n m e

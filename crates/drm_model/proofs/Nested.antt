@@ -371,7 +371,7 @@ nothing-nest w none =
     subst (λ (rows : List MasterRow). Nest (lessor_of rows) w.grants) (sym none)
     (λ m. let nobody = depth_none (lessor_of []) m refl in omega (arith, nobody), λ m l x e lessee it. absurd (let no : None ≡ Some l = e in cc))
 
--- the rows of a history
+-- In the rows of any history leases nest: a lessee has no object that its lessor, if a lessee, does not have.
 pub leases_nest : (h : DeviceValue) → LeasesNest (rows_of h)
 unfolding rows_of
 leases_nest h =

@@ -13,7 +13,7 @@ each_there : (p : ℕ → Bool) (xs : List ℕ) → ((x : ℕ) → is_among xs x
 each_there p [] h = refl
 each_there p (x ∷ xs) h = and_from (p x) (list_all p xs) (h x (among-first xs x)) (each_there p xs (λ y e. h y (among-more xs x y e)))
 
--- what a filter leaves passes it, and was there
+-- A number that a filter leaves passes the test and was in the list.
 pub passes_and_was : (p : ℕ → Bool) (xs : List ℕ) (k : ℕ) → is_among (filter p xs) k ≡ true → (p k ≡ true) × (is_among xs k ≡ true)
 passes_and_was p [] k h = absurd (false≢true h)
 passes_and_was p (x ∷ xs) k h =
@@ -63,7 +63,7 @@ once_from first (suc n) = λ k.
       | false ↦ λ e. once_from (first + 1) n k
     ] refl
 
--- numbers that are picked out of those that follow one another
+-- Numbers that two filters leave of consecutive numbers occur once each.
 pub picked_once : (p q : ℕ → Bool) (first n : ℕ) → AtMostOnce (filter p (filter q (numbers_from first n)))
 picked_once p q first n = once_filtered p (filter q (numbers_from first n)) (once_filtered q (numbers_from first n) (once_from first n))
 
@@ -72,6 +72,7 @@ there_once xs k few there = let some : (count xs k == 0) ≡ false = count-none 
 
 -- ---- two lists
 
+-- Numbers that occur once in each of two lists, and never in both, occur once in the two together.
 pub each_once : (xs ys : List ℕ) → list_all (stands_once xs) xs ≡ true → AtMostOnce ys → ((k : ℕ) → is_among xs k ≡ true → is_among ys k ≡ false) → list_all (stands_once (xs ++ ys)) (xs ++ ys) ≡ true
 each_once xs ys first second apart = each_there (stands_once (xs ++ ys)) (xs ++ ys) (λ k there.
     elim (is_among xs k) as (λ b. is_among xs k ≡ b → (b || is_among ys k) ≡ true → stands_once (xs ++ ys) k ≡ true) [

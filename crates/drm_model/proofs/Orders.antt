@@ -29,6 +29,7 @@ before-total x y h = grind (arith, nat_tests)
 before-trans : (x y z : AuditRow) → is_before x y ≡ true → is_before y z ≡ true → is_before x z ≡ true
 before-trans x y z h k = grind (arith, nat_tests)
 
+-- An audit has a total order of its rows: by the first number, then by the second.
 pub order_of_rows : IsOrder is_before is_row
 order_of_rows = record {
   total = before-total;

@@ -7,6 +7,7 @@ use Rattle.drm_table.specs.declared.events.Event.{Event}
 use Rattle.drm_model.specs.Rows.{Rows}
 use Rattle.drm_model.specs.Run.{Step, Answers, run, journaled_events}
 
+-- If a device answered events, and then one more, it answered them all, one after the other.
 pub answers_push : (w : Rows) (events : List Event) (results : List (Result Answer Apart)) (v : Rows) (event : Event) (result : Result Answer Apart) (u : Rows) →
     Answers w events results v → Step v event result u → Answers w (events ++ event ∷ []) (results ++ result ∷ []) u
 unfolding Answers
@@ -15,7 +16,7 @@ answers_push w (e ∷ es) (r ∷ rs) v event result u h s = (h.0, h.1, answers_p
 answers_push w [] (r ∷ rs) v event result u h s = absurd h
 answers_push w (e ∷ es) [] v event result u h s = absurd h
 
--- the rows afterwards are those of the recorded events alone
+-- The rows after a run are those of its recorded events alone.
 pub answers-run : (w : Rows) (events : List Event) (results : List (Result Answer Apart)) (v : Rows) → Answers w events results v → v ≡ run w (journaled_events events results)
 unfolding Answers run Step
 answers-run w [] [] v h = h

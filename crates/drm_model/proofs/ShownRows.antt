@@ -50,6 +50,7 @@ swept-shown w h = record {
 after-shown : (w : Rows) (event : Event) → EachShowsOne w → EachShowsOne (after w event)
 after-shown w event h = by_verdict EachShowsOne w event (record { one = h.one; there = h.there }) (λ accepted. swept-shown (changed w event) (changed-shown w event h.one))
 
+-- In the rows of any history each CRTC and each plane shows one framebuffer at most, which exists.
 pub each_shows_one : (h : DeviceValue) → EachShowsOne (rows_of h)
 unfolding rows_of
 each_shows_one h = along EachShowsOne after-shown h.journal (empty_rows h.topology h.limits) (record { one = tt; there = tt })

@@ -50,7 +50,7 @@ master_step_number row = row.master
 abbrev object_step_number : ObjectRow → ℕ
 object_step_number row = row.object
 
--- ---- a row that changes stays the one that it is
+-- ---- the same for clients, masters and objects: a row that changes keeps its number
 
 set-same : (w : Rows) (c : ℕ) (current master : Bool) (row : ClientRow) → (set_row w c current master row).client ≡ row.client
 set-same w c true master row = refl
@@ -74,8 +74,9 @@ object-same w (Ask c call) row = refl
 object-same w (Open opening) row = refl
 object-same w (Close c) row = refl
 
--- ---- a new one is of this step
+-- ---- the same for clients, masters and objects: a new row has the number of its step
 
+-- A client of a primary node has the number of the step that opened it.
 pub new_primary : (w : Rows) (root universal : Bool) (m : Option ℕ) → (primary_row w root universal m).client ≡ step_number w
 new_primary w root universal None = refl
 new_primary w root universal (Some m) = refl
@@ -118,6 +119,7 @@ swept-step_numbers : (w : Rows) (last : ℕ) → StepNumbersRise last w → Step
 unfolding swept
 swept-step_numbers w last h = (h.0, turn-filter master_step_number _ last w.masters h.1, turn-filter object_step_number _ last w.objects h.2)
 
+-- If step numbers rise, they rise after an event too, before the sweep.
 pub changed-step_numbers : (w : Rows) (event : Event) → StepNumbersRise w.steps w → StepNumbersRise (step_number w) (changed w event)
 changed-step_numbers w event h =
     let is = each_edits w event in (
@@ -126,13 +128,14 @@ changed-step_numbers w event h =
       turn-edited object_step_number (λ row. true) (object_after w event) (new_object_row w event) w.steps w.objects _ (object-same w event) (object-new w event) (ap (λ (v : Rows). v.objects) is) h.2,
     )
 
+-- If step numbers rise, they rise after any event.
 pub after-step_numbers : (w : Rows) (event : Event) → StepNumbersRise w.steps w → StepNumbersRise (after w event).steps (after w event)
 after-step_numbers w event h =
     subst (λ n. StepNumbersRise n (after w event)) (sym (after-steps w event))
     (by_verdict (StepNumbersRise (step_number w)) w event (turn-later client_step_number w.steps w.clients h.0, turn-later master_step_number w.steps w.masters h.1, turn-later object_step_number w.steps w.objects h.2)
     (λ accepted. swept-step_numbers (changed w event) (step_number w) (changed-step_numbers w event h)))
 
--- the rows of a history
+-- In the rows of any history step numbers rise.
 pub step_numbers_rise : (h : DeviceValue) → StepNumbersRise (rows_of h).steps (rows_of h)
 unfolding rows_of
 step_numbers_rise h = along (λ w. StepNumbersRise w.steps w) after-step_numbers h.journal (empty_rows h.topology h.limits) ((tt, tt), (tt, tt), (tt, tt))

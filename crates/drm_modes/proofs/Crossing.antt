@@ -9,6 +9,7 @@ use Rattle.drm_modes.specs.contracts.rows.Fb as pixels
 use Rattle.drm_modes.specs.contracts.modes.Modes as modes
 use Rattle.drm_modes.specs.contracts.modes.Modes.TheInside as modes_inside
 
+-- A topology may cross threads.
 pub topology_send : IsSend topology.the_row
 topology_send =
     view_send topology_inside.the_row _ _ _ _
@@ -25,5 +26,6 @@ modes_inside_send =
     recorded_send modes_inside.the_field.row _ _ modes_inside.the_type.to_one
     (struct_send (shape modes_inside.the_type) (topology_send, (search (table_send, pixels_send, sendable) depth 20, (groups_send, (search (list.the_send, sendable) depth 20, tt)))))
 
+-- A set of modes may cross threads.
 pub modes_send : IsSend modes.the_row
 modes_send = view_send modes_inside.the_row _ _ _ _ modes_inside_send

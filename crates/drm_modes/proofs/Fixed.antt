@@ -1,4 +1,4 @@
--- What is so of each topology.
+-- What is true of each topology.
 use Rattle.std.proofs.Common.{◌≡◌, ℕ, zero, suc, ◌+◌, ◌≤◌, ◌<◌, ◌&&◌, ◌==◌, Bool, true, false, cond, List, [], ◌∷◌, length, filter, nat_lt, refl, sym, ◌∙◌, arith}
 use Rattle.std.specs.Prelude.{nat_le}
 use Rattle.std.specs.List.{list_all, zip, AllByRecursion}
@@ -16,6 +16,7 @@ use Rattle.drm_modes.proofs.Ids.{is_among-numbers_from}
 at_most : (a b : ℕ) → nat_le a b ≡ true → a ≤ b
 at_most a b h = grind (arith, nat_tests)
 
+-- A topology that passes the test has the facts of a topology.
 pub topology_is : (t : Topology) → is_topology t ≡ true → IsTopology t
 unfolding are_objects are_kinds
 topology_is t h =
@@ -31,13 +32,14 @@ topology_is t h =
     let ends = and_parts (nat_le 1 t.crtcs) (nat_le t.crtcs 8) fits.0 in
     record { is = h; one_kind_each = eqb-true (length t.kinds) (length t.planes) one_each.0; some = at_most _ _ ends.0; few_crtcs = at_most _ _ ends.1; few = at_most _ _ fits.1 }
 
+-- Each number of a run lies between its first number and its end.
 pub within : (first count x : ℕ) → is_among (numbers_from first count) x ≡ true → (first ≤ x) × (x < first + count)
 within first count x h =
     let between = sym (is_among-numbers_from first count x) ∙ h in
     let ends = and_parts _ _ between in
     (at_most _ _ ends.0, let less = ends.1 in grind (arith, nat_tests))
 
--- numbers that rise from one on to another are no more than those between
+-- Rising numbers between two ends are at most as many as fit between them.
 pub few_rising : (low high : ℕ) (xs : List ℕ) → AllByRecursion (λ x. (low ≤ x) × (x < high)) xs → InOrder nat_lt xs → low ≤ high → low + length xs ≤ high
 few_rising low high [] all rise le = omega (arith, le)
 few_rising low high (x ∷ xs) all rise le =
@@ -52,6 +54,7 @@ ranged : (t : Topology) (xs : List ℕ) → AllByRecursion (λ x. is_crtc t x �
 ranged t [] all = tt
 ranged t (x ∷ xs) all = (within 1 t.crtcs x all.0, ranged t xs all.1)
 
+-- A list of CRTCs of a topology has at most 8.
 pub few_seen : (t : Topology) (xs : List ℕ) → IsTopology t → AreCrtcs t xs → length xs ≤ 8
 few_seen t xs is are =
     let few = few_rising 1 (1 + t.crtcs) xs (ranged t xs are.each) are.rise (omega arith) in
@@ -80,5 +83,6 @@ module _ (p : ℕ → Bool) where
   picked_each : (all : List ℕ) → (xs : List ℕ) → AllByRecursion (λ x. is_among all x ≡ true) xs → AllByRecursion (λ x. is_among all x ≡ true) (filter p xs)
   picked_each all xs each = all_filter (λ x. is_among all x ≡ true) p xs each
 
+  -- The CRTCs of a topology that pass a test are CRTCs of the topology.
   pub picked_crtcs : (t : Topology) → AreCrtcs t (filter p (crtc_ids t))
   picked_crtcs t = record { each = picked_each (crtc_ids t) (crtc_ids t) (each_is_there (λ x. x) (crtc_ids t)); rise = picked_rise 1 t.crtcs }

@@ -68,33 +68,40 @@ without_id : (f : ℕ) (o : Option Fb) → o ≡ option_map fb_of (option_map (�
 without_id f None = refl
 without_id f (Some v) = refl
 
+-- A framebuffer is found if and only if the set has it.
 pub is_some_fb : (f : ℕ) (set : ModeSet) → is_some (option_map fb_of (find (is_framebuffer f) set.framebuffers)) ≡ has_framebuffer set f
 is_some_fb f set = is_some-map fb_of (find (is_framebuffer f) set.framebuffers) ∙ is_some-find (is_framebuffer f) set.framebuffers
 
 module _ (t : Topology) (table : Table Fb) (scanouts : List ℕ) where
+  -- The lowest free framebuffer of the set is the lowest free key of the table.
   pub free_is : table.first ≡ first_framebuffer t → free_framebuffer (mode_set t table scanouts) ≡ least_free table
   free_is first = least_free_is framebuffer_row number (λ e. refl) table.slots (first_framebuffer t) table.last ∙ ap (λ n. least (is_free_in table) n table.last) (sym first)
 
+  -- The framebuffer found by its number is the entry of the table.
   pub found_is : (f : ℕ) → find (is_framebuffer f) (framebuffers_in table.slots) ≡ option_map (λ v. framebuffer_row (f, v)) (fin.get table.slots f)
   found_is f = find_number framebuffer_row number (λ e. refl) table.slots f
 
+  -- A client's framebuffer found by its number is the entry of the table, if the client is its owner.
   pub found_of_is : (c f : ℕ) → find (is_framebuffer_of c f) (framebuffers_in table.slots) ≡ option_and_then (λ (v : Fb). cond (v.client == c) (Some (framebuffer_row (f, v))) None) (fin.get table.slots f)
   found_of_is c f = find_also framebuffer_row number (λ e. refl) table.slots f (is_made_by c)
 
   -- the same of the value that contracts see
   module _ (seen : ModeSet) (is : mode_set t table scanouts ≡ seen) where
+    -- The entry of the table is the framebuffer of the set.
     pub framebuffer_is : (f : ℕ) → option_map (λ v. framebuffer_row (f, v)) (fin.get table.slots f) ≡ find (is_framebuffer f) seen.framebuffers
     framebuffer_is f = sym (found_is f) ∙ ap (λ (set : ModeSet). find (is_framebuffer f) set.framebuffers) is
 
+    -- The record in the table is that of the framebuffer in the set.
     pub fb_is : (f : ℕ) → fin.get table.slots f ≡ option_map fb_of (find (is_framebuffer f) seen.framebuffers)
     fb_is f = without_id f (fin.get table.slots f) ∙ ap (option_map fb_of) (framebuffer_is f)
 
+    -- The object of a client's removed framebuffer is the one that the set has for it.
     pub removed_is : (c f : ℕ) → removes c f (fin.get table.slots f) ≡ option_map (λ (row : Framebuffer). row.object) (find (is_framebuffer_of c f) seen.framebuffers)
     removed_is c f =
         ap (option_map (λ (row : Framebuffer). row.object)) (sym (found_of_is c f))
         ∙ ap (λ (set : ModeSet). option_map (λ (row : Framebuffer). row.object) (find (is_framebuffer_of c f) set.framebuffers)) is
 
-    -- a framebuffer of a client is there, and the client made it
+    -- A framebuffer found as a client's is in the table, with this client.
     pub made_by : (c f : ℕ) → is_some (find (is_framebuffer_of c f) seen.framebuffers) ≡ true → (v : Fb) × (fin.get table.slots f ≡ Some v) × (v.client ≡ c)
     made_by c f made = by_cases (fin.get table.slots f) refl (ap is_some (sym (found_of_is c f) ∙ ap (λ (set : ModeSet). find (is_framebuffer_of c f) set.framebuffers) is) ∙ made)
       where
@@ -106,18 +113,22 @@ module _ (t : Topology) (table : Table Fb) (scanouts : List ℕ) where
         by_cases None at h = absurd (false≢true h)
         by_cases (Some v) at h = (v, at, by_client v (v.client == c) refl h)
 
+    -- A framebuffer that is in the table with this client is found as the client's in the set.
     pub is_made : (c f : ℕ) (v : Fb) → fin.get table.slots f ≡ Some v → v.client ≡ c → is_some (find (is_framebuffer_of c f) seen.framebuffers) ≡ true
     is_made c f v at mine =
         ap (λ (set : ModeSet). is_some (find (is_framebuffer_of c f) set.framebuffers)) (sym is)
         ∙ ap is_some (found_of_is c f ∙ ap (option_and_then (λ (w : Fb). cond (w.client == c) (Some (framebuffer_row (f, w))) None)) at)
         ∙ ap (λ b. is_some (cond b (Some (framebuffer_row (f, v))) None)) (eq-eqb v.client c mine)
 
+  -- The set has a framebuffer if and only if the table has its key.
   pub has_is : (f : ℕ) → list_any (is_framebuffer f) (framebuffers_in table.slots) ≡ fin.contains_key table.slots f
   has_is f = sym (is_some-find (is_framebuffer f) (framebuffers_in table.slots)) ∙ ap is_some (found_is f) ∙ is_some-map (λ v. framebuffer_row (f, v)) (fin.get table.slots f)
 
+  -- A new entry of the table is a new framebuffer of the set.
   pub added : (n : ℕ) (v : Fb) → fin.get table.slots n ≡ None → mode_set t (with_entry table n v) scanouts ≡ with_framebuffer (mode_set t table scanouts) (framebuffer_row (n, v))
   added n v none = λ i. record { topology = t; framebuffers = rows_added framebuffer_row number (λ e. refl) table.slots n v none i; scanouts = scanouts; last = table.last }
 
+  -- An entry removed from the table, with its scanouts dark, is a framebuffer removed from the set.
   pub removed : (n : ℕ) → mode_set t (without_entry table n) (map (dark_of n) scanouts) ≡ without_framebuffer (mode_set t table scanouts) n
   removed n = λ i. record { topology = t; framebuffers = rows_removed framebuffer_row number (λ e. refl) table.slots n i; scanouts = map (dark_of n) scanouts; last = table.last }
 
@@ -133,6 +144,7 @@ module _ (t : Topology) (table : Table Fb) (scanouts : List ℕ) where
         let fits = few_between (first_framebuffer t) table.last (omega (arith, has.first_is, has.within.in_order)) (framebuffers_in table.slots) framebuffers_between (rows_rise framebuffer_row number (λ e. refl) table.slots) in
         omega (arith, fits, has.last_high)
 
+    -- The facts of modes hold for the set that the fields represent.
     pub modes_are : AreModes (mode_set t table scanouts)
     modes_are = record {
       topology = has.topology;
@@ -145,6 +157,7 @@ module _ (t : Topology) (table : Table Fb) (scanouts : List ℕ) where
       scanouts_are = all_weaker (λ f. is_scanout table.slots f ≡ true) (λ f. ((f == 0) || list_any (is_framebuffer f) (framebuffers_in table.slots)) ≡ true) (λ f h. ap (λ b. (f == 0) || b) (has_is f) ∙ h) scanouts has.scanouts_are;
     }
 
+    -- The facts about the fields hold after a framebuffer is added with its client.
     pub has-added : (now : GroupMap) (n : ℕ) (v : Fb) → fin.get table.slots n ≡ None → table.first ≤ n → n ≤ table.last → IsAdded (in_group owned) v.client n (in_group now) → HasModes t (with_entry table n v) now scanouts
     has-added now n v fresh low high noted = record {
       topology = has.topology;
@@ -161,6 +174,7 @@ module _ (t : Topology) (table : Table Fb) (scanouts : List ℕ) where
     stays n f true same h = refl
     stays n f false other h = ap (λ o. (f == 0) || is_some o) (get-remove table.slots n f ∙ ap (λ b. cond b None (fin.get table.slots f)) other) ∙ h
 
+    -- The facts about the fields hold after a framebuffer is removed and its scanouts are dark.
     pub has-removed : (now : GroupMap) (n : ℕ) (v : Fb) (c : ℕ) → fin.get table.slots n ≡ Some v → v.client ≡ c → IsTaken (in_group owned) c n (in_group now) → HasModes t (without_entry table n) now (map (dark_of n) scanouts)
     has-removed now n v c there mine taken = record {
       topology = has.topology;
@@ -173,6 +187,7 @@ module _ (t : Topology) (table : Table Fb) (scanouts : List ℕ) where
           (all_weaker (λ f. is_scanout table.slots f ≡ true) (λ f. is_scanout (fin.remove table.slots n) (dark_of n f) ≡ true) (λ f h. stays n f (f == n) refl h) scanouts has.scanouts_are);
     }
 
+    -- The facts about the fields hold after a scanout gets an existing framebuffer or none.
     pub has-shown : (i f : ℕ) → is_scanout table.slots f ≡ true → HasModes t table owned (set scanouts i f)
     has-shown i f there = record {
       topology = has.topology;
@@ -184,7 +199,7 @@ module _ (t : Topology) (table : Table Fb) (scanouts : List ℕ) where
       scanouts_are = all_set (λ f. is_scanout table.slots f ≡ true) f there scanouts i has.scanouts_are;
     }
 
--- before the first framebuffer
+-- The facts about the fields hold for an empty table and dark scanouts.
 pub has-none : (t : Topology) (n : ℕ) (owned : GroupMap) → IsTopology t → 1 ≤ n → n ≤ 64 → ((c f : ℕ) → in_group owned c f ≡ false) → HasModes t (empty_table (first_framebuffer t) (object_count t + n)) owned (replicate (scanout_count t) 0)
 has-none t n owned is some few none = record {
   topology = is;
@@ -196,5 +211,6 @@ has-none t n owned is some few none = record {
   scanouts_are = all_dark fin.empty (scanout_count t);
 }
 
+-- An empty table and dark scanouts are a set without framebuffers.
 pub none_made : (t : Topology) (n : ℕ) → mode_set t (empty_table (first_framebuffer t) (object_count t + n)) (replicate (scanout_count t) 0) ≡ empty_modes t n
 none_made t n = λ i. record { topology = t; framebuffers = no_rows framebuffer_row i; scanouts = replicate (scanout_count t) 0; last = object_count t + n }

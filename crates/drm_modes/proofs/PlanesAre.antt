@@ -17,18 +17,19 @@ overlays_stand : (kinds : List PlaneKind) (n : ℕ) → list_all (stands_once ki
 overlays_stand kinds zero = refl
 overlays_stand kinds (suc n) = overlays_stand kinds n
 
--- there may be any overlay planes
+-- A topology may have only overlay planes.
 pub overlays_are : (crtcs : ℕ) (planes : List ℕ) → are_kinds crtcs (replicate (length planes) Overlay) planes ≡ true
 unfolding are_kinds
 overlays_are crtcs planes =
     let kinds = replicate (length planes) Overlay in
     and_from _ _ (and_from (length kinds == length planes) (list_all (fits crtcs) (zip kinds planes)) (eq-eqb _ _ (length-replicate (length planes) Overlay)) (overlays_fit crtcs planes)) (overlays_stand kinds (length planes))
 
--- of the objects alone nothing asks what planes are for
+-- If the objects and the kinds of planes pass their tests, the topology passes its test.
 pub topology_made : (crtcs : ℕ) (planes : List ℕ) (kinds : List PlaneKind) (encoders connectors : List ℕ) → are_objects (topology_of crtcs planes encoders connectors) ≡ true → are_kinds crtcs kinds planes ≡ true → is_topology (topology_with crtcs planes kinds encoders connectors) ≡ true
 unfolding are_objects
 topology_made crtcs planes kinds encoders connectors objects are = and_from _ _ objects are
 
+-- If a topology with kinds of planes passes the test, its lists of objects pass theirs.
 pub objects_named : (crtcs : ℕ) (planes : List ℕ) (kinds : List PlaneKind) (encoders connectors : List ℕ) → is_topology (topology_with crtcs planes kinds encoders connectors) ≡ true → are_objects (topology_of crtcs planes encoders connectors) ≡ true
 unfolding are_objects
 objects_named crtcs planes kinds encoders connectors is = first_of _ _ is

@@ -25,6 +25,7 @@ none_at : (found : Option At) (count : ℕ) → count ≡ 0 → is_some found �
 none_at None count zero numbers = refl
 none_at (Some told) count zero numbers = absurd (let e : true ≡ false = numbers ∙ ap (λ n. nat_le 1 n && nat_le n n) zero in cc)
 
+-- The number of the step that is reported is that of the history's last step.
 pub last_reported : (steps : List Step) (history : List AnsweredEvent) (found : Option At) → history_of steps ≡ history → IfSome found (λ (told : At). told.step ≡ length steps)
     → is_some found ≡ (nat_le 1 (length steps) && nat_le (length steps) (length steps)) → option_map (λ (told : At). told.step) found ≡ last_number history
 last_reported steps [] found e is numbers = none_at found (length steps) (steps_of steps [] e) numbers
@@ -40,14 +41,16 @@ newest steps step e =
     ap history_of (sym (take_all (length steps) steps (omega arith)) ∙ ap (λ n. take n steps) (sym all))
     ∙ history-more steps (length steps - 1) step within (sym (get_or_from_slice_get steps (length steps - 1) step step e))
 
+-- The rule of the newest step's denial is that of the history's last step.
 pub rule_of_newest : (steps : List Step) (history : List AnsweredEvent) (step : Step) → history_of steps ≡ history → slice_get steps (length steps - 1) ≡ Some step → option_map rule_number (denied_by step.answer) ≡ last_rule history
 rule_of_newest steps history step e there = ap last_rule (sym (newest steps step there) ∙ e)
 
--- what the model denies is reported by the rule of its verdict
+-- An event that the model denies is reported with the rule of its verdict.
 pub denial_reported : (h : DeviceValue) (event : Event) (rule : Rule) (history : List AnsweredEvent) → history ≡ past.history_of (journaled_in h event) → verdict (rows_of h) event ≡ Some rule → last_rule history ≡ Some (rule_number rule)
 unfolding reply
 denial_reported h event rule history is fails = ap last_rule (is ∙ history_grows h event) ∙ ap (λ v. option_map rule_number (denied_by (reply_by v (rows_of h) event))) fails
 
+-- A history without a newest step is empty.
 pub none_newest : (steps : List Step) (history : List AnsweredEvent) → history_of steps ≡ history → None ≡ slice_get steps (length steps - 1) → [] ≡ history
 unfolding followed_by
 none_newest [] history e none = e

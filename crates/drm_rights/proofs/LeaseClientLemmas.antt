@@ -80,7 +80,7 @@ newest past lessee (told.SetsMaster c) s = of (s.is_master c)
     of false = no_client (noted (next_number past) c true (Some (next_number past))) _ (not_set (next_number past) c lessee)
 newest past lessee _ s = refl
 
--- the client that redeemed a lease
+-- The client that the notes say redeemed a lease is the one that the history says.
 pub lease_client_told : (history : List AnsweredEvent) (lessee : ℕ) → client_of (find (is_redemption lessee) (standings_in history)) ≡ lease_client_in history lessee
 unfolding standings_in lease_client_in
 lease_client_told [] lessee = refl

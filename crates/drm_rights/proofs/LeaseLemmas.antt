@@ -41,7 +41,7 @@ token_by past token (told.Leases c ids lessee answered) k =
     ∙ if-master (answered == token) (note_of past c lessee answered) (lease_of_token (leases_in past) token) ∙ ap (cond (answered == token) (Some (next_number past))) k
 token_by past token _ k = ap (λ l. master_of_lease (lease_of_token l token)) (append-none (leases_in past)) ∙ k
 
--- the last lease that was answered a token
+-- The lessee of a token by the notes is the one that the history says.
 pub token_noted : (history : List AnsweredEvent) (token : ℕ) → master_of_lease (lease_of_token (leases_in history) token) ≡ lease_in history token
 unfolding leases_in lease_in
 token_noted [] token = refl
@@ -56,7 +56,7 @@ id_by past owner id (told.Leases c ids lessee answered) k =
     ∙ if-master its note (lease_of_id (leases_in past) owner id) ∙ ap (cond its (Some (next_number past))) k
 id_by past owner id _ k = ap (λ l. master_of_lease (lease_of_id l owner id)) (append-none (leases_in past)) ∙ k
 
--- the last lease that was answered an id under an owner
+-- The lessee of an id below an owner by the notes is the one that the history says.
 pub id_noted : (history : List AnsweredEvent) (owner id : ℕ) → master_of_lease (lease_of_id (leases_in history) owner id) ≡ lessee_in history owner id
 unfolding leases_in lessee_in
 id_noted [] owner id = refl
@@ -64,7 +64,7 @@ id_noted (step ∷ past) owner id = id_by past owner id (effect step) (id_noted 
 
 -- ---- lessors
 
--- no master has a lessor before its step
+-- A master of a step to come has no lessor.
 pub unborn : (past : List AnsweredEvent) (m : ℕ) → length past < m → lessor_in past m ≡ None
 unborn past m late = (elim (lessor_in past m) as (λ o. lessor_in past m ≡ o → o ≡ None) [
   | None ↦ λ e. refl
@@ -83,6 +83,7 @@ then-if : (m : ℕ) (b : Bool) (note : Lease) (others : Option Lease) →
 then-if m true note others = refl
 then-if m false note others = refl
 
+-- The note of a lease that was just made is found for its step, and an older one for any other.
 pub at-newest : (past : List AnsweredEvent) (m c lessee token : ℕ) → lease_at (leases_in past ++ note_of past c lessee token ∷ []) m ≡ cond (m == next_number past) (Some (note_of past c lessee token)) (lease_at (leases_in past) m)
 at-newest past m c lessee token = find-newest (λ (l : Lease). m == l.master) (leases_in past) (note_of past c lessee token)
 
@@ -102,15 +103,17 @@ lessor_by_effect past m _ k =
       | false ↦ λ e. refl
     ]) refl
 
+-- The lessor of a recorded lease is the one that the history says.
 pub lessor_told : (history : List AnsweredEvent) (m : ℕ) → lessor_noted (leases_in history) m ≡ lessor_in history m
 unfolding leases_in lessor_in
 lessor_told [] m = refl
 lessor_told (step ∷ past) m = lessor_by_effect past m (effect step) (lessor_told past m)
 
+-- The lessors of all recorded leases are those that the history says.
 pub lessors_told : (history : List AnsweredEvent) → lessor_noted (leases_in history) ≡ lessor_in history
 lessors_told history = λ i. λ m. lessor_told history m i
 
--- in the notes too a lessor is older
+-- By the notes, too, a lessor is older than its lessee.
 pub noted_falls : (notes : List Lease) → IsFalling (lessor_noted notes)
 noted_falls notes n m e = of_lease (lease_at notes n) e
   where
@@ -128,13 +131,14 @@ noted_falls notes n m e = of_lease (lease_at notes n) e
 
 -- ---- ends
 
--- what a step ends was made before
+-- No step ends a master of a step to come.
 pub ends_none : (past : List AnsweredEvent) (o : Option ℕ) (m : ℕ) → UpTo (length past) o → length past < m → is_under_any past o m ≡ false
 ends_none past None m up late = refl
 ends_none past (Some top) m up late =
     let old = up top refl in
     under_none (lessor_in past) top m (unborn past m late) ∙ flipped top m (less-differ top m (omega (arith, old, late)))
 
+-- A master of a step to come has not ended.
 pub not_ended : (past : List AnsweredEvent) (m : ℕ) → length past < m → has_ended past m ≡ false
 unfolding has_ended ends
 not_ended [] m late = refl
@@ -205,7 +209,7 @@ end_told (step ∷ past) m =
     ∙ step_of-or (find (ended_told (step ∷ past) m) (ends_in past)) (find (ended_told (step ∷ past) m) new)
     ∙ (λ i. option_or (before i) (newest_end step past m (ended_by (effect step) past) (ended_up (effect step) past) i))
 
--- the first end of a master
+-- The first step that ended a master by the notes is the one that the history says.
 pub end_noted : (history : List AnsweredEvent) (m : ℕ) → step_of (find (is_ended_by (leases_in history) m) (ends_in history)) ≡ ended_at history m
 end_noted history m = ap (λ p. step_of (find p (ends_in history))) (ended_by_told history m) ∙ end_told history m
 
@@ -215,6 +219,7 @@ is_some-or None false n = refl
 is_some-or (Some k) true n = refl
 is_some-or (Some k) false n = refl
 
+-- A master has an end exactly if the history says that it has ended.
 pub has_ended_at : (history : List AnsweredEvent) (m : ℕ) → is_some (ended_at history m) ≡ has_ended history m
 unfolding ended_at has_ended
 has_ended_at [] m = refl
@@ -233,6 +238,7 @@ leases_born (step ∷ past) =
     newest (told.Leases c ids lessee token) = (omega arith, tt)
     newest _ = tt
 
+-- Recorded leases are in the order of their steps.
 pub leases_rise : (history : List AnsweredEvent) → LeasesRise (leases_in history)
 unfolding leases_in
 leases_rise [] = tt
@@ -244,6 +250,7 @@ leases_rise (step ∷ past) = newest (leases_rise past) (effect step)
         (all_weaker (λ (l : Lease). l.master ≤ length past) (λ (l : Lease). l.master < next_number past) (λ l old. omega (arith, old)) (leases_in past) (leases_born past))
     newest rise _ = subst LeasesRise (sym (append-none (leases_in past))) rise
 
+-- Recorded ends are in the order of their steps.
 pub ends_rise : (history : List AnsweredEvent) → EndsRise (ends_in history)
 unfolding ends_in
 ends_rise [] = tt

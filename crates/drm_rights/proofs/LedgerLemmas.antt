@@ -68,6 +68,7 @@ stands_set : (notes : List MasterState) (number c : ℕ) (is_master : Bool) (s :
 stands_set notes number c true s k = stands_still notes s.is_master s.master k
 stands_set notes number c false s k = stands_put notes (noted number c true (Some number)) s.is_master s.master k
 
+-- With one more step, the notes of masters say what the history does.
 pub stands_after : (notes : List MasterState) (d : told.Effect) (number : ℕ) (lease : ℕ → Option ℕ) (s : standings.MasterState) → Stands notes s.is_master s.master →
     Stands (notes ++ option_to_list (new_master_state d number lease s)) (transition d number lease s).is_master (transition d number lease s).master
 stands_after notes (told.OpensPrimary root universal) number lease s k = stands_opened notes number s.owner s k
@@ -91,6 +92,7 @@ magic_put notes note master number =
 magic_still : (notes : List Magic) (master number : ℕ) → client_noted (notes ++ []) master number ≡ client_noted notes master number
 magic_still notes master number = ap (λ l. client_noted l master number) (append-none notes)
 
+-- With one more step, the notes of magics say what the history does.
 pub magics_after : (notes : List Magic) (d : told.Effect) (past : List AnsweredEvent) (number master magic : ℕ) → client_noted notes master magic ≡ magic_in past master magic →
     client_noted (notes ++ option_to_list (new_magic d number (caller_master_in past))) master magic ≡ magic_by d past master magic (magic_in past master magic)
 magics_after notes (told.GetsMagic c answered) past number master magic k =
@@ -106,6 +108,7 @@ named_by : (notes : List Authentication) (number caller magic c : ℕ) (client :
 named_by notes number caller magic c None = named_still notes c
 named_by notes number caller magic c (Some named) = any-newest (λ (a : Authentication). a.client == c) notes (record { step = number; client = named; by = caller; magic = magic })
 
+-- With one more step, the notes of authentications say what the history does.
 pub named_after : (notes : List Authentication) (d : told.Effect) (past : List AnsweredEvent) (number c : ℕ) → is_named_noted notes c ≡ is_named_in past c →
     is_named_noted (notes ++ option_to_list (new_authentication d number (caller_master_in past) (magic_in past))) c ≡ (is_named_by d past c || is_named_in past c)
 named_after notes (told.Authenticates caller magic) past number c k =
@@ -118,6 +121,7 @@ roots_by : (notes : List ℕ) (root : Bool) (number c : ℕ) → is_root_noted (
 roots_by notes true number c = any-newest (λ client. client == c) notes number
 roots_by notes false number c = ap (λ l. is_root_noted l c) (append-none notes)
 
+-- With one more step, the notes of root openings say what the history does.
 pub roots_after : (notes : List ℕ) (d : told.Effect) (number c : ℕ) (older : Bool) → is_root_noted notes c ≡ older → is_root_noted (notes ++ option_to_list (new_root d number)) c ≡ (is_root_by d number c || older)
 roots_after notes (told.OpensPrimary root universal) number c older k = roots_by notes root number c ∙ ap (λ b. (root && (number == c)) || b) k
 roots_after notes (told.Redeems token root universal) number c older k = roots_by notes root number c ∙ ap (λ b. (root && (number == c)) || b) k
@@ -133,6 +137,7 @@ capability_put : (notes : List Capability) (note : Capability) (c : ℕ) → is_
 capability_put notes note c =
     ap (λ o. option_map_or (λ (k : Capability). k.universal) o false) (find-newest (λ (k : Capability). k.client == c) notes note) ∙ if-universal (note.client == c) note (capability_of notes c)
 
+-- With one more step, the notes of universal planes say what the history does.
 pub capabilities_after : (notes : List Capability) (d : told.Effect) (number c : ℕ) (older : Bool) → is_universal_noted notes c ≡ older → is_universal_noted (notes ++ option_to_list (new_capability d number)) c ≡ universal_by d number c older
 capabilities_after notes (told.OpensPrimary root universal) number c older k = capability_put notes (capable number number universal) c ∙ ap (λ b. cond (number == c) universal b) k
 capabilities_after notes told.OpensRender number c older k = capability_put notes (capable number number true) c ∙ ap (λ b. cond (number == c) true b) k
@@ -142,6 +147,7 @@ capabilities_after notes _ number c older k = ap (λ l. is_universal_noted l c) 
 
 -- ---- a step more
 
+-- A history without steps has an empty ledger.
 pub no_ledger : IsLedger [] None 0 [] [] [] [] [] [] []
 unfolding master_state owner_since_in standings_in authentications_in capabilities_in leases_in ends_in magic_in is_named_in is_root_in is_universal_in
 no_ledger = record {
@@ -160,6 +166,7 @@ no_ledger = record {
   universals = λ c. refl;
 }
 
+-- The ledger of one more step is that of the history with the step.
 pub ledger_after : (past : List AnsweredEvent) (step : AnsweredEvent) (owner owner' : Option ℕ) (owner_since since' : ℕ) (standings' : List MasterState) (leases : List Lease) (ends : List End) (magics : List Magic) (authentications : List Authentication) (roots : List ℕ) (capabilities : List Capability) →
     IsLedger past owner owner_since standings' leases ends magics authentications roots capabilities → owner' ≡ (transition (effect step) (next_number past) (lease_in past) (master_state past)).owner → since' ≡ (if is_same_master (owner_in past) owner' then owner_since_in past else next_number past) →
     IsLedger (step ∷ past) owner' since'
@@ -190,7 +197,7 @@ ledger_after past step owner owner' owner_since since' standings' leases ends ma
       universals = λ c. capabilities_after capabilities (effect step) number c (is_universal_in past c) (k.universals c);
     }
 
--- the notes are told in other words
+-- A ledger of a history carries over to equal notes.
 pub ledger_along : (past past' : List AnsweredEvent) (owner : Option ℕ) (since : ℕ) (standings' standings'' : List MasterState) (leases leases' : List Lease) (ends ends' : List End) (magics magics' : List Magic) (authentications authentications' : List Authentication) (roots roots' : List ℕ) (capabilities capabilities' : List Capability) →
     past' ≡ past → standings'' ≡ standings' → leases' ≡ leases → ends' ≡ ends → magics' ≡ magics → authentications' ≡ authentications → roots' ≡ roots → capabilities' ≡ capabilities →
     IsLedger past owner since standings' leases ends magics authentications roots capabilities → IsLedger past' owner since standings'' leases' ends' magics' authentications' roots' capabilities'

@@ -91,6 +91,7 @@ and_not true true h = refl
 and_not true false h = refl
 and_not false l h = refl
 
+-- A lease has a mode object exactly if it was lent and the lease has not ended.
 pub granted_was_lent : (t : Topology) (past : List AnsweredEvent) (m x : ℕ) → granted t past m x ≡ (lent_in t past m x && not (has_ended past m))
 unfolding granted lent_in has_ended ends
 granted_was_lent t [] m x = refl
@@ -110,6 +111,7 @@ granted_was_lent t (step ∷ past) m x =
         and_true (is_lent t (effect step) past x (λ n. granted t past n x))
         ∙ (λ i. is_lent t (effect step) past x (λ n. granted t past n x) && not (sym none i || sym never i))
 
+-- Two tests fail together if the second fails.
 pub none_of : (b : Bool) → false ≡ (b && false)
 none_of true = refl
 none_of false = refl
@@ -210,12 +212,13 @@ lent_with t step past m x _ is k = other (is_next past m) refl ∙ ap (λ l. len
     other true next = ap (lent_by t (step ∷ past) m x) (sym (none_yet past m (eqb-true m (next_number past) next)))
     other false next = k ∙ lent_by_still t step past m x (lease_at (leases_in past) m) (λ l e. lease_fits past m l e)
 
+-- A step lent a mode object exactly if the note of its lease says so.
 pub lent_told : (t : Topology) (past : List AnsweredEvent) (m x : ℕ) → lent_in t past m x ≡ lent_by t past m x (lease_at (leases_in past) m)
 unfolding leases_in lent_in
 lent_told t [] m x = refl
 lent_told t (step ∷ past) m x = lent_with t step past m x (effect step) refl (lent_told t past m x)
 
--- what is noted of a lease, by what was found of it: whether it lists the mode object, and whether that comes along
+-- What a recorded lease lends follows from its list, from the planes of its CRTCs and from its lessor.
 pub lends_by : (t : Topology) (past : List AnsweredEvent) (m x : ℕ) (l : Lease) (listed : List ℕ) (has along : Bool) (lessor : Option ℕ) →
     lease_at (leases_in past) m ≡ Some l → listed ≡ listed_in past m → has ≡ is_among listed x → along ≡ comes_along t l.universal listed x → lessor ≡ lessor_in past m →
     (has || (along && had_to_lend t past m x lessor)) ≡ lent_in t past m x
@@ -253,7 +256,7 @@ plane_if t ids x = by (is_plane t x) (slice_get t.kinds (x - first_plane t))
 among-planes : (t : Topology) (ids : List ℕ) (x : ℕ) → is_among (planes_of t ids) x ≡ is_plane_of t ids x
 among-planes t ids x = among-filter (is_plane_of t ids) (plane_ids t) x ∙ plane_if t ids x
 
--- it lists what it lends, or that is a plane of a CRTC that it lists
+-- A lease lends what it lists, and planes of CRTCs that it lists.
 pub all_lent : (t : Topology) (past : List AnsweredEvent) (m x : ℕ) → (is_among (listed_in past m) x || (is_among (planes_of t (listed_in past m)) x && lent_in t past m x)) ≡ lent_in t past m x
 all_lent t past m x = ap (λ b. is_among (listed_in past m) x || (b && lent_in t past m x)) (among-planes t (listed_in past m) x) ∙ of (lease_at (leases_in past) m) refl
   where
@@ -330,11 +333,11 @@ listed_take steps (suc n) m step within some low is =
       | false ↦ λ e. listed_take steps n m step (omega (arith, before)) some (let other : m ≡ n + 1 → ⊥ = λ k. absurd (let no : false ≡ true = sym e ∙ eq-eqb m (next_number past) (k ∙ sym number) in cc) in omega (arith, low, other)) is
     ]) refl
 
--- a step lists what its event and its answer say
+-- A step lists the mode objects that its event and its answer say.
 pub listed_at : (steps : List Step) (m : ℕ) (step : Step) → 0 < m → m ≤ length steps → step ≡ get_or steps (m - 1) step → listed_in (history_of steps) m ≡ leased_by step.event step.answer
 listed_at steps m step some within is = ap (λ xs. listed_in (history_of xs) m) (sym (take-length steps)) ∙ listed_take steps (length steps) m step (omega arith) some within is
 
--- no step has another number
+-- No step with this number lists anything, if the history has no such step.
 pub listed_none : (history : List AnsweredEvent) (m : ℕ) → (m ≡ 0) ⊎ (length history < m) → listed_in history m ≡ []
 unfolding listed_in
 listed_none [] m out = refl

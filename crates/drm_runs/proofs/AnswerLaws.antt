@@ -47,6 +47,7 @@ one_more : (topology : Topology) (limits : Limits) (journal : List Event) (befor
 one_more topology limits journal before after event (Ok answer) h e = e ∙ ap (λ (b : DeviceValue). journaled_in b event) h
 one_more topology limits journal before after event (Err apart) h e = e ∙ h ∙ ap (with_journal topology limits) (sym (append-nil journal))
 
+-- The results of a script are the answers of an empty device to the events of its lines.
 pub answered : {setting : Setting} {lines : List (List ℕ)} {results : List (Result Answer Apart)} {device : Place} {labels : List ℕ} → Script setting lines results device labels
     → AnswersFromEmpty setting.topology lines results device labels
 unfolding Answers rows_of run

@@ -12,14 +12,17 @@ use Rattle.drm_runs.specs.declared.stops.ScriptEnd.TheVariants as ends
 use Rattle.drm_runs.specs.declared.reader.NextLine.{NextLine}
 use Rattle.drm_runs.specs.declared.reader.NextLine.TheVariants as next_line
 
+-- The text of one more line is the old text, the line and its end.
 pub joined-push : (lines : List (List ℕ)) (l rest : List ℕ) → joined (lines ++ l ∷ []) ++ rest ≡ joined lines ++ (l ++ 10 ∷ rest)
 joined-push [] l rest = append_assoc l (10 ∷ []) rest
 joined-push (x ∷ xs) l rest =
     append_assoc x (10 ∷ joined (xs ++ l ∷ [])) rest ∙ ap (λ z. x ++ 10 ∷ z) (joined-push xs l rest) ∙ sym (append_assoc x (10 ∷ joined xs) (l ++ 10 ∷ rest))
 
+-- Before the first read no line is read.
 pub no_lines_read : (source : SourceTrace) → LinesRead source source no_lines [] []
 no_lines_read source = record { given = record { gave = Gave-none source; chunks = omega arith }; are_lines = refl; number = refl }
 
+-- Lines at the front of what was read cover it up to the rest.
 pub covers_lines : (is_last : Bool) {ended : Type 0} {read rest : List ℕ} {lines : List (List ℕ)} → AreLines is_last ended read lines rest → Covers ended read lines rest
 covers_lines false a = inl a
 covers_lines true a = inr a
@@ -49,6 +52,7 @@ module _ {source source' : SourceTrace} {had has : ℕ} {given : List ℕ} (old 
       reaches = λ (start : SourceTrace) (read : List ℕ) (lines : List (List ℕ)) (so : LinesRead start source (lines_state old n false) read lines). (read ++ given, record { given = given_then so; why = h start read lines so });
     }
 
+  -- If the reader has read a line, this line is the next one.
   pub reads_line : (is_last : Bool) → is_last ≡ false → Reads old reader source source' had has next_line.Line given
       → ReadsNext (lines_state old n is_last) (lines_state reader (n + 1) is_last) source source' had has None
   reads_line true h r = absurd (cc)
@@ -96,6 +100,7 @@ module _ {source source' : SourceTrace} {had has : ℕ} {given : List ℕ} (old 
             );
       }
 
+  -- If the input has ended, the next line is what is held, if it is not empty; otherwise no line is left.
   pub reads_last : (is_last : Bool) → is_last ≡ false → Reads old reader source source' had has next_line.End given → (new : LinesState) (end : Option ScriptEnd) → HoldsLast (lines_state reader n is_last) new end
       → ReadsNext (lines_state old n is_last) new source source' had has end
   reads_last true h r new end last = absurd (cc)
@@ -107,6 +112,7 @@ module _ {source source' : SourceTrace} {had has : ℕ} {given : List ℕ} (old 
       let ended : start.counts.ends < source'.counts.ends = let a = so.given.gave.counts.ends in let b = r.splits.4 in omega (arith, a, b) in
       (inl (whole_then r so [] (r.splits.0 ∙ last.1)), ended))))
 
+  -- If the reader finds the line too long, the script ends there as malformed.
   pub reads_too_long : (is_last : Bool) → is_last ≡ false → (end : ScriptEnd) → end ≡ ends.Malformed (n + 1) → Reads old reader source source' had has next_line.TooLong given
       → ReadsNext (lines_state old n is_last) (lines_state reader n is_last) source source' had has (Some end)
   reads_too_long true h end same r = absurd (cc)
@@ -114,6 +120,7 @@ module _ {source source' : SourceTrace} {had has : ℕ} {given : List ℕ} (old 
       subst (λ (e : ScriptEnd). ReadsNext (lines_state old n false) (lines_state reader n false) source source' had has (Some e)) (sym same)
       (ends_with r (ends.Malformed (n + 1)) (λ start read lines so. (ap (λ m. m + 1) so.number, old.pending ++ given, whole_then r so _ refl, r.splits.0, r.splits.1, r.splits.2)))
 
+  -- If the source fails, the script ends with a read fault.
   pub reads_fault : (is_last : Bool) → is_last ≡ false → (end : ScriptEnd) → end ≡ ends.ReadFault → Reads old reader source source' had has next_line.ReadFault given
       → ReadsNext (lines_state old n is_last) (lines_state reader n is_last) source source' had has (Some end)
   reads_fault true h end same r = absurd (cc)
@@ -122,6 +129,7 @@ module _ {source source' : SourceTrace} {had has : ℕ} {given : List ℕ} (old 
       (ends_with r ends.ReadFault (λ start read lines so.
       (reader.held, whole_then r so _ r.splits.0, (r.splits.2, r.splits.3), (let a = so.given.gave.counts.faults in let b = r.splits.4 in omega (arith, a, b)))))
 
+  -- If no turn is left, the script ends with its turns used.
   pub reads_no_turn : (is_last : Bool) → is_last ≡ false → (end : ScriptEnd) → end ≡ ends.TurnsUsed → Reads old reader source source' had has next_line.TurnsUsed given
       → ReadsNext (lines_state old n is_last) (lines_state reader n is_last) source source' had has (Some end)
   reads_no_turn true h end same r = absurd (cc)

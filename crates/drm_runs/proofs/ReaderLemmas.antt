@@ -10,7 +10,7 @@ use Rattle.drm_runs.specs.Reader.{Buffered, Scans, Refilled, ReadsOn, ReadsSoFar
 use Rattle.drm_runs.specs.declared.reader.Scan.TheVariants as scan
 use Rattle.drm_runs.proofs.LineLemmas.{more_given, more_fuel, more_chunks}
 
--- no byte came, and the line stays as it was
+-- If no byte arrived, the line is unchanged.
 pub refilled_other : (r : Refill) (old new : Buffered) (before after : SourceTrace) (buffer : List ℕ) (had has : ℕ) → ((n : ℕ) → r ≡ refill.Got n → ⊥)
     → new ≡ old → Refills r before after buffer had has → Refilled r old new before after had has
 refilled_other (refill.Got n) old new before after buffer had has got same h = absurd (got n refl)
@@ -18,7 +18,7 @@ refilled_other refill.End old new before after buffer had has got same h = (h.0,
 refilled_other refill.Fault old new before after buffer had has got same h = (h.0, same, h.1)
 refilled_other refill.TurnsUsed old new before after buffer had has got same h = (h.0, same, h.1)
 
--- more bytes came for a line whose bytes at hand are all used
+-- If more bytes arrived for a line whose bytes at hand are used, the reader reads on.
 pub reads_piece : {mid scanned new : Buffered} {between after : SourceTrace} {left has : ℕ} (n : ℕ) → Scans mid scanned scan.Wanting → Refilled (refill.Got n) scanned new between after left has
     → ReadsOn mid new between after left has None
 reads_piece {mid} {scanned} {new} {between} {after} {left} {has} n s r = (

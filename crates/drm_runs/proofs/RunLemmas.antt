@@ -23,11 +23,12 @@ use Rattle.drm_runs.specs.declared.stops.ScriptEnd.{ScriptEnd}
 use Rattle.drm_runs.specs.declared.stops.ScriptEnd.TheVariants as ends
 use Rattle.drm_runs.proofs.LineStepLemmas.{covers_lines}
 
+-- The text of two lists of results is the text of each, one after the other.
 pub script_text-append : (xs ys : Results) → script_text (xs ++ ys) ≡ script_text xs ++ script_text ys
 script_text-append [] ys = refl
 script_text-append (x ∷ xs) ys = ap (λ z. answer_line x ++ z) (script_text-append xs ys) ∙ sym (append_assoc (answer_line x) (script_text xs) (script_text ys))
 
--- before the device is made nothing was answered
+-- Before the device is made a script has no result.
 pub unmade : {setting : Setting} {lines : List (List ℕ)} {results : Results} {device : Place} {labels : List ℕ} → Script setting lines results device labels → IsNowhere device
     → (results ≡ []) × (device ≡ Planned setting)
 unmade start e = (refl, refl)
@@ -52,7 +53,7 @@ module _ {setting : Setting} {s0 s : SourceTrace} {k0 k : SinkTrace} {read : Lis
   cut_short : (rest : List ℕ) → read ≡ joined lines ++ rest → IsPart rest → IsCutShort setting read (script_text results) old.device old.labels
   cut_short rest whole part = record { lines = lines; results = results; rest = rest; script = script; whole = whole; bare = part.0; short = part.1; text = refl }
 
-  -- no line is behind those that were used
+  -- A run without a further line ends with its device and labels so far.
   pub run_ends : (end : ScriptEnd) → IsEndOfLines end s0 s has read lines → RunsOn setting s0 s k0 k turns end old.device old.labels
   run_ends ends.Done h = ran old.device old.labels ends.Done (record { lines = lines; results = results; script = script; covers = h.0; text = refl }, h.1)
   run_ends (ends.Malformed number) h =
@@ -91,6 +92,7 @@ module _ {setting : Setting} {s0 s : SourceTrace} {k0 k : SinkTrace} {read : Lis
       cut = record { before = results; last = result; sent = p.front; unsent = p.rest; whole = refl; parts = p.parts; more = p.more; text = refl };
     }
 
+    -- If a line stops the run, the run ends there, with what the line left.
     pub run_stop : (end : ScriptEnd) → UsesLine old new state k k' has has' (Some end) → RunsOn setting s0 s k0 k' turns end new.device new.labels
     run_stop ends.Done u = absurd u
     run_stop ends.ReadFault u = absurd u
@@ -149,6 +151,7 @@ module _ {setting : Setting} {s0 s : SourceTrace} {k0 k : SinkTrace} {read : Lis
           nothing = ap script_text nothing.0;
         })))
 
+    -- After one more line was used, each line so far was used.
     pub so_far_used : UsesLine old new state k k' has has' None → SoFar setting s0 s k0 k' turns (record { lines = state; interpreter = new; turns = has' })
     so_far_used u = record {
       read = read;

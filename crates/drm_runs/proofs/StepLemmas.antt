@@ -20,12 +20,14 @@ use Rattle.drm_runs.specs.declared.stops.ScriptEnd.TheVariants as ends
 use Rattle.drm_runs.proofs.LineStepLemmas.{no_lines_read}
 use Rattle.drm_runs.proofs.RunLemmas.{run_ends, run_stop, so_far_used}
 
+-- A run that begins has used no line.
 pub first_so_far : (setting : Setting) (run : Run) (source : SourceTrace) (sink : SinkTrace) (turns : ℕ) → run ≡ at_first setting turns → SoFar setting source source sink sink turns run
 first_so_far setting run source sink turns e =
     subst (SoFar setting source source sink sink turns) (sym e)
     (record { read = []; lines = []; results = []; has_read = no_lines_read source; took = Took-none sink; cost = refl; script = script_start })
 
 module _ (old : Run) (lines : LinesState) (source source' : SourceTrace) (sink : SinkTrace) (has : ℕ) where
+  -- A run ends when no further line is read, with its interpreter unchanged.
   pub advances_end : (end : ScriptEnd) → ReadsNext old.lines lines source source' old.turns has (Some end)
       → Advances old (record { lines = lines; interpreter = old.interpreter; turns = has }) source source' sink sink (Some end)
   advances_end end r setting start first turns so =
@@ -48,6 +50,7 @@ module _ (old : Run) (lines : LinesState) (source source' : SourceTrace) (sink :
           fuel = (let fuel = counted.1 in omega (arith, fuel, cost, calls));
         }
 
+    -- A run that read and used one more line advances by it.
     pub advances_used : (end : Option ScriptEnd) → UsesLine old.interpreter interpreter lines sink sink' has has' end
         → Advances old (record { lines = lines; interpreter = interpreter; turns = has' }) source source' sink sink' end
     advances_used None u = goes_on u
@@ -63,17 +66,21 @@ module _ (old new : InterpreterState) (lines : LinesState) (line : List ℕ) (he
   written_uses r sink sink' had has written.Fault u p = (r, u, p.0, p.1)
   written_uses r sink sink' had has written.TurnsUsed u p = (r, u, p.0, p.1)
 
+  -- A line with an answer is used, and its answer is written as far as the sink took it.
   pub answered_uses : (r : Result Answer Apart) (sink sink' : SinkTrace) (had has : ℕ) (w : Written) (end : Option ScriptEnd) → end ≡ end_of_writing w
       → Uses old.device old.labels line (r ∷ []) new.device new.labels → Writes w sink sink' (answer_line r) had has → UsesLine old new lines sink sink' had has end
   answered_uses r sink sink' had has w end e u p =
       subst (UsesLine old new lines sink sink' had has) (sym e) (written_uses r sink sink' had has w (subst (λ (l : List ℕ). Uses old.device old.labels l (r ∷ []) new.device new.labels) held u) p)
 
   module _ (sink : SinkTrace) (had : ℕ) where
+    -- A line without an answer is used and writes nothing.
     pub unanswered_uses : Uses old.device old.labels line [] new.device new.labels → UsesLine old new lines sink sink had had None
     unanswered_uses u = ([], subst (λ (l : List ℕ). Uses old.device old.labels l [] new.device new.labels) held u, WriteCost-none sink had)
 
+    -- A line out of place ends the script as malformed, and the state is unchanged.
     pub malformed_uses : (end : ScriptEnd) → end ≡ ends.Malformed lines.number → IsMisplaced old.device line → new ≡ old → UsesLine old new lines sink sink had had (Some end)
     malformed_uses end e m same = subst (λ (x : ScriptEnd). UsesLine old new lines sink sink had had (Some x)) (sym e) (refl, subst (IsMisplaced old.device) held m, refl, refl, same)
 
+    -- A line that requires a device ends the script when there is no memory to make one.
     pub unmade_uses : (end : ScriptEnd) → end ≡ ends.NoMemory → IsNowhere old.device → WantsDevice line → IsNowhere new.device → new.labels ≡ old.labels → UsesLine old new lines sink sink had had (Some end)
     unmade_uses end e none wants nowhere labels = subst (λ (x : ScriptEnd). UsesLine old new lines sink sink had had (Some x)) (sym e) (none, subst WantsDevice held wants, refl, refl, nowhere, labels)

@@ -74,6 +74,7 @@ numbers_were vs ws fs e =
     subst (λ (xs : List Field). AreSpelled vs ws xs) (some_same a.step.0 fs z.1)
     (record { spells = subst (λ (x : Words). SpellEach (map field_part a.step.0) x) words were.spells; widths = were.widths; fits = were.fits })
 
+-- Words that are read as fields spell these fields, and the fields fit the layout.
 pub fields_were : (layout : Layout) (ws : Words) (fs : List Field) → IsShort layout → fields_at layout ws ≡ Some fs → SpellEach (map field_part fs) ws × FitsLayout layout fs
 unfolding fields_at
 fields_were (numbers vs) ws fs few e =
@@ -109,6 +110,7 @@ length_spelled [] (w ∷ ws) s = absurd s
 length_spelled (part ∷ parts) [] s = absurd s
 length_spelled (part ∷ parts) (w ∷ ws) s = ap (λ (n : ℕ). suc n) (length_spelled parts ws s.1)
 
+-- Words that spell fields of a layout are read as these fields.
 pub fields_read : (layout : Layout) (fs : List Field) (ws : Words) → FitsLayout layout fs → SpellEach (map field_part fs) ws → fields_at layout ws ≡ Some fs
 unfolding fields_at
 fields_read (numbers vs) fs ws h s = ap (λ (us : List Width). numbers_at us ws) (sym h.widths) ∙ numbers_read fs ws s

@@ -89,6 +89,7 @@ behind_reads : (b : Bool) (w : List ℕ) (ws : Words) (call : Call) → bytes_eq
 behind_reads true w ws call t e = subst (λ (v : List ℕ). SpellsCall call (v ∷ ws)) (sym ((bytes_eq-Decides w (codes "raw")).0 t)) (raw_reads ws call e)
 behind_reads false w ws call t e = row_call_reads w ws call e
 
+-- Words that are read as a call spell it.
 pub call_reads : (ws : Words) (call : Call) → call_at ws ≡ Some call → SpellsCall call ws
 unfolding call_at
 call_reads ws call e =
@@ -116,6 +117,7 @@ no_call (calls.Unknown n) s = s
 no_call (calls.BadLayout n) s = s
 no_call call s = no_row (call_row call) s
 
+-- Words that spell a call are read as this call.
 pub call_read : (ws : Words) (call : Call) → SpellsCall call ws → call_at ws ≡ Some call
 call_read [] call s = absurd (no_call call s)
 call_read (w ∷ ws) call s = call_word_read w ws call s

@@ -31,12 +31,14 @@ kind_case None w ws ps e h = rw e refl
 kind_case (Some n) w ws ps e (inl h) = absurd (cc)
 kind_case (Some n) w ws ps e (inr h) = rw (h, e) refl
 
+-- If the kind of audit fits, the first misfit of the fields is that of the call.
 pub kind_passed : (kind : CallKind) (ws : Words) (cause : Malformation) (at : Words) → KindFits kind ws → IsFirstMisfit (layout_places (kind_layout kind) ws) ws cause at → IsFirstMisfit (call_fields (Some kind) ws) ws cause at
 unfolding kind_row
 kind_passed kinds.Audit [] cause at h m = m
 kind_passed kinds.Audit (w ∷ ws) cause at h m = kind_case (number_in_bits 32 w) w ws (Place.number 32 ∷ []) refl h ∙ m
 kind_passed _ ws cause at h m = m
 
+-- If the number names no kind of audit, the first misfit is that word.
 pub kind_unfit : (ws : Words) (found : ℕ × Words) → Some found ≡ number_at 32 ws → audits.kind_of found.0 ≡ None → IsFirstMisfit (call_fields (Some kinds.Audit) ws) ws (causes.Unfit wanted.AuditKind) ws
 unfolding kind_row
 kind_unfit ws found e n =
@@ -65,10 +67,12 @@ from_unread : (o : Option (ℕ × Words)) (n : ℕ) → audits.kind_of n ≡ Non
 from_unread None n e = refl
 from_unread (Some m) n e = end_unread n m.0 m.1 e
 
+-- If the number names no kind of audit, no call is read.
 pub kind_unread : (ws : Words) (found : ℕ × Words) → Some found ≡ number_at 32 ws → audits.kind_of found.0 ≡ None → option_and_then (call_with kinds.Audit) (fields_at (kind_layout kinds.Audit) ws) ≡ None
 unfolding kind_row fields_at numbers_at field_at
 kind_unread ws found e n = rw (← e) (from_unread (number_at 32 found.1) found.0 n)
 
+-- If the number names a kind of audit, the kind fits.
 pub kind_fits : (ws : Words) (found : ℕ × Words) → Some found ≡ number_at 32 ws → is_some (audits.kind_of found.0) ≡ true → KindFits kinds.Audit ws
 kind_fits ws found e n =
     let is = number_was 32 ws found e in
@@ -159,7 +163,7 @@ audit_call (w ∷ ws) (fields.U32 n ∷ fields.U32 m ∷ []) h s e none = no_non
 audit_call [] (f ∷ fs) h s e none = absurd s
 audit_call ws _ h s e none = absurd (cc)
 
--- a call is made of the fields that were read
+-- If the kind fits and the fields are read, a call is made of them.
 pub no_call : (kind : CallKind) (ws : Words) (fs : List Field) → KindFits kind ws → fields_at (kind_layout kind) ws ≡ Some fs → call_with kind fs ≡ None → ⊥
 unfolding kind_row
 no_call kinds.Audit ws fs h e n =

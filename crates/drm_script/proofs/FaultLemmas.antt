@@ -6,11 +6,12 @@ use Rattle.drm_script.specs.Fields.{Words, ◌>>=◌, number_of, number_at, of_b
 use Rattle.drm_script.proofs.FieldLaws.{some_same}
 use Rattle.drm_script.specs.Faults.{Place, fault_at, fault_or, first_misfit, number_in_bits, IsFirstMisfit, IsFault, IsPassed}
 
+-- A fault at the first place is the first misfit.
 pub misfit_here : (p : Place) (ps : List Place) (ws : Words) (cause : Malformation) (at : Words) → IsFault p ws cause at → IsFirstMisfit (p ∷ ps) ws cause at
 misfit_here p ps [] cause at h = rw (h.0, h.1) refl
 misfit_here p ps (w ∷ ws) cause at h = rw (h.0, h.1) refl
 
--- a word that fits is at fault nowhere
+-- After a word that fits, the first misfit is that of the words after it.
 pub passed : (p : Place) (ps : List Place) (ws rest : Words) → IsPassed p ws rest → first_misfit (p ∷ ps) ws ≡ first_misfit ps rest
 passed p ps [] rest h = absurd h
 passed p ps (w ∷ ws) rest h = rw h.0 (rw h.1 refl)
@@ -42,7 +43,7 @@ misfit_last [] (w ∷ ws) cause at e = all_last _ at (ap (λ p. p.1) (sym (some_
 misfit_last (p ∷ ps) [] cause at e = all_last _ at (ap (λ p. p.1) (sym (some_same _ _ e)))
 misfit_last (p ∷ ps) (w ∷ ws) cause at e = misfit_case (fault_at p w) w ws (first_misfit ps ws) cause at (misfit_last ps ws cause at) e
 
--- the words from the one at fault on are the last of all
+-- The words from the misfit on are the last ones of all.
 pub misfit_at : (ps : List Place) (ws : Words) (cause : Malformation) (at : Words) → IsFirstMisfit ps ws cause at → drop (length ws - length at) ws ≡ at
 misfit_at ps ws cause at e =
     let h = misfit_last ps ws cause at e in
@@ -71,6 +72,7 @@ number_case : (o : Option ℕ) (bits : ℕ) (w : List ℕ) (ws : Words) (found :
 number_case None bits w ws found h e = absurd (cc)
 number_case (Some m) bits w ws found h e = fitting_case (nat_lt m (2 ^ bits)) bits m w ws found refl h e
 
+-- Words that a number is read from begin with a word that is this number.
 pub number_was : (bits : ℕ) (ws : Words) (found : ℕ × Words) → Some found ≡ number_at bits ws → IsNumberOf bits ws found.0 found.1
 unfolding number_at
 number_was bits [] found e = absurd (cc)

@@ -11,6 +11,7 @@ use Rattle.drm_script.specs.Grammar.Part.{label}
 use Rattle.drm_script.specs.Fields.{Words, ◌>>=◌, word_at, end_at, number_of, number_at, place_of, label_of}
 use Rattle.drm_script.proofs.NumberLemmas.{own, IsNumber, number_some, number_is, and_true}
 
+-- Equal options have equal values.
 pub some_same : {A : Type 0} (x y : A) → Some x ≡ Some y → x ≡ y
 some_same x y e = cc
 
@@ -20,6 +21,7 @@ pub record Steps {A B : Type 0} (o : Option A) (f : A → Option B) (y : B) : Ty
   pub made : o ≡ Some step
   pub goes_on : f step ≡ Some y
 
+-- If two steps together return a value, the first one does, and the second one with its value.
 pub bind_some : {A B : Type 0} (o : Option A) (f : A → Option B) (y : B) → (o >>= f) ≡ Some y → Steps o f y
 bind_some None f y e = absurd (cc)
 bind_some (Some x) f y e = record { step = x; made = refl; goes_on = e }
@@ -31,29 +33,30 @@ pub record ReadsWord {B : Type 0} (ws : Words) (f : List ℕ × Words → Option
   pub words : ws ≡ w ∷ rest
   pub goes_on : f (w, rest) ≡ Some y
 
+-- If a step after reading a word returns a value, there was a word.
 pub word_bind : {B : Type 0} (ws : Words) (f : List ℕ × Words → Option B) (y : B) → (word_at ws >>= f) ≡ Some y → ReadsWord ws f y
 word_bind [] f y e = absurd (cc)
 word_bind (w ∷ ws) f y e = record { w = w; rest = ws; words = refl; goes_on = e }
 
--- the words that were read, with those after them
+-- The words are the one that was read and those after it.
 pub words_behind : {w : List ℕ} {ws rest vs : Words} → ws ≡ w ∷ rest → rest ≡ vs → ws ≡ w ∷ vs
 words_behind {w} e f = e ∙ ap (λ v. w ∷ v) f
 
--- parts that were read are those of what was made of them
+-- If the words spell what was read, they spell an equal value.
 pub spelled : {A : Type 0} (parts : A → List Part) (name : List ℕ) (ws vs : Words) (x this : A) → ws ≡ vs → this ≡ x → SpellEach (parts this) (name ∷ vs) → SpellEach (parts x) (name ∷ ws)
 spelled {A} parts name ws vs x this words same s =
     let P : Words → Type 0 = λ v. SpellEach (parts x) (name ∷ v) in
     let Q : A → Type 0 = λ y. SpellEach (parts y) (name ∷ vs) in
     subst P (sym words) (subst Q same s)
 
--- what the words say is said of what was made of them
+-- If the words say what was read, they say an equal value.
 pub same_said : {A : Type 0} (Says : A → Words → Type 0) (name : List ℕ) (ws vs : Words) (x this : A) → ws ≡ vs → this ≡ x → Says this (name ∷ vs) → Says x (name ∷ ws)
 same_said {A} Says name ws vs x this words same s =
     let P : Words → Type 0 = λ v. Says x (name ∷ v) in
     let Q : A → Type 0 = λ y. Says y (name ∷ vs) in
     subst P (sym words) (subst Q same s)
 
--- nothing more was read
+-- If a step after the end of the words returns a value, no words are left.
 pub end_bind : {B : Type 0} (ws : Words) (f : Unit {0} → Option B) (y : B) → (end_at ws >>= f) ≡ Some y → (ws ≡ []) × (f tt ≡ Some y)
 end_bind [] f y e = (refl, e)
 end_bind (w ∷ ws) f y e = absurd (cc)
@@ -81,11 +84,13 @@ number_case : {B : Type 0} (o : Option ℕ) (bits : ℕ) (w : List ℕ) (rest : 
 number_case None bits w rest f y h e = absurd (cc)
 number_case (Some n) bits w rest f y h e = fits_case (nat_lt n (2 ^ bits)) bits n w rest f y refl h e
 
+-- If a step after reading a number returns a value, the first word spells a number.
 pub number_bind : {B : Type 0} (bits : ℕ) (ws : Words) (f : ℕ × Words → Option B) (y : B) → (number_at bits ws >>= f) ≡ Some y → ReadsNumber bits ws f y
 unfolding number_at
 number_bind bits [] f y e = absurd (cc)
 number_bind bits (w ∷ rest) f y e = number_case (number_of w) bits w rest f y refl e
 
+-- A word that spells a number of up to 64 bits is read as this number.
 pub number_at_some : (bits : ℕ) (w : List ℕ) (ws : Words) (n : ℕ) → 2 ^ bits ≤ 2 ^ 64 → SpellsNumber bits n w → number_at bits (w ∷ ws) ≡ Some (n, ws)
 unfolding number_at
 number_at_some bits w ws n most s =
@@ -94,9 +99,11 @@ number_at_some bits w ws n most s =
     let fits : nat_lt n (2 ^ bits) ≡ true = grind (arith, nat_tests) in
     rw (← number_some w i) (rw s.1 (rw fits refl))
 
+-- A word that spells a number of 32 bits is read as this number.
 pub number32_at_some : (w : List ℕ) (ws : Words) (n : ℕ) → SpellsNumber 32 n w → number_at 32 (w ∷ ws) ≡ Some (n, ws)
 number32_at_some w ws n s = number_at_some 32 w ws n (lit≤ tt) s
 
+-- A word that spells a number of 16 bits is read as this number.
 pub number16_at_some : (w : List ℕ) (ws : Words) (n : ℕ) → SpellsNumber 16 n w → number_at 16 (w ∷ ws) ≡ Some (n, ws)
 number16_at_some w ws n s = number_at_some 16 w ws n (lit≤ tt) s
 
@@ -112,6 +119,7 @@ letter_case true b place t e =
     (omega arith, ap (λ x. x ∷ []) whole)
 letter_case false b place t e = absurd (cc)
 
+-- A word that is read as a label spells it.
 pub label_spells : (w : List ℕ) (place : ℕ) → label_of w ≡ Some place → Spells (label place) w
 unfolding label_of place_of
 label_spells [] place e = absurd (cc)
@@ -125,11 +133,13 @@ letter_read b place h e =
     let back : b - 97 ≡ place = omega arith in
     rw low (rw high (ap Some back))
 
+-- A word that spells a label is read as this label.
 pub label_read : (w : List ℕ) (place : ℕ) → Spells (label place) w → label_of w ≡ Some place
 unfolding label_of place_of
 label_read w place s = rw s.1 (letter_read (97 + place) place s.0 refl)
 
 -- ---- words that are looked up by their texts
 
+-- A word that is found by its text is this text.
 pub found : {W : Type 0} (text : W → List ℕ) (w : List ℕ) (all : List W) (name : W) → find (λ v. bytes_eq (text v) w) all ≡ Some name → w ≡ text name
 found text w all name e = sym ((bytes_eq-Decides (text name) w).0 (found-passes (λ v. bytes_eq (text v) w) all name e))

@@ -36,6 +36,6 @@ places : (xs : List ℕ) → not (nat_lt (position_or_len (nat_lt 127) xs) (leng
 places [] = refl
 places (x ∷ xs) = place_case x xs (nat_lt 127 x) refl (places xs)
 
--- all bytes are ASCII where none is above 127
+-- All bytes are ASCII if and only if none is above 127.
 pub all_ascii : (line : List ℕ) → list_all is_ascii line ≡ is_none (position (nat_lt 127) line)
 all_ascii line = sym (none_case (nat_lt (position_or_len (nat_lt 127) line) (length line)) _ ∙ places line)

@@ -12,6 +12,7 @@ front_at p b bs false h =
     let e : 1 + position_or_len p bs ≡ suc (position_or_len p bs) = omega arith in
     rw e (ap (λ l. b ∷ l) h)
 
+-- The front of a text is what is before the first byte that passes, or all of it.
 pub front-take : (p : ℕ → Bool) (text : List ℕ) → front p text ≡ take (position_or_len p text) text
 front-take p [] = refl
 front-take p (b ∷ bs) = front_at p b bs (p b) (front-take p bs)

@@ -100,7 +100,7 @@ apart l b = record {
   journal = rw b.journal refl;
 }
 
--- limits each of which is in its range are all so
+-- If each limit is in its range, the limits are in range.
 pub all_in_range : (l : Limits) → AreFit l → are_in_range l ≡ true
 all_in_range l fit = together l (record {
   clients = (between _ fit.clients).clients;
@@ -113,6 +113,7 @@ all_in_range l fit = together l (record {
   journal = (between _ fit.journal).journal;
 })
 
+-- Words that are read as limits spell them, and the limits are in range.
 pub limits_reads : (ws : Words) (limits : Limits) → limits_at ws ≡ Some limits → SpellEach (limits_parts limits) (codes "limits" ∷ ws) × IsTrue (are_in_range limits)
 unfolding limits_at
 limits_reads ws limits e =
@@ -144,6 +145,7 @@ limit_read : (limit : Limit) (w : List ℕ) (ws : Words) (n : ℕ) → SpellsNum
 unfolding limit_at
 limit_read limit w ws n s r = rw (number32_at_some w ws n s) (rw r refl)
 
+-- Words that spell limits in range are read as these limits.
 pub limits_read : (w : List ℕ) (ws : Words) (limits : Limits) → SpellEach (limits_parts limits) (w ∷ ws) → IsTrue (are_in_range limits) → limits_at ws ≡ Some limits
 unfolding limits_at
 limits_read w (a ∷ b ∷ c ∷ d ∷ f ∷ g ∷ h ∷ i ∷ []) limits s r =

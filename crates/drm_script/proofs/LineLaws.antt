@@ -95,5 +95,6 @@ outcome_bare : (outcome : Result Answer Apart) → is_bare (answer_words outcome
 outcome_bare (Ok answer) = told_bare (told answer)
 outcome_bare (Err apart) = simp (list_all-append, decimal_bare, apart_name_bare)
 
+-- The words of an answer contain no line end.
 pub answer_bare : (outcome : Result Answer Apart) → All (λ b. b ≢ 10) (answer_words outcome)
 answer_bare outcome = bare-from_test (answer_words outcome) (outcome_bare outcome)

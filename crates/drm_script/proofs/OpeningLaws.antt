@@ -58,6 +58,7 @@ lease_read universal root (w ∷ v ∷ ws) token s = absurd s.1
 
 -- ---- an opening
 
+-- Words that are read as an opening spell it.
 pub opening_reads : (universal : Bool) (ws : Words) (opening : Opening) → opening_at universal ws ≡ Some opening → Opens universal opening × SpellEach (opening_parts opening) ws
 unfolding opening_at opening_word_of
 opening_reads universal ws opening e =
@@ -100,6 +101,7 @@ no_opening openings.Render s = s
 no_opening (openings.Lease token false universal) s = s
 no_opening (openings.Lease token true universal) s = s
 
+-- Words that spell an opening are read as this opening.
 pub opening_read : (on : Bool) (ws : Words) (opening : Opening) → Opens on opening → SpellEach (opening_parts opening) ws → opening_at on ws ≡ Some opening
 opening_read on [] opening o s = absurd (no_opening opening s)
 opening_read on (w ∷ ws) opening o s = opening_word_read on w ws opening o s

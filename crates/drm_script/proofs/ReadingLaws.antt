@@ -231,17 +231,20 @@ not_skipped : (c : Bool) (r x : Option Reading) → (Some readings.Skipped ≡ x
 not_skipped true r x n e = absurd (n e)
 not_skipped false r x n e = e
 
+-- A line that is read as a command spells it.
 pub command_line : (line : List ℕ) (command : Command) → reading_of line ≡ Some (readings.Says command) → IsCommandLine line command
 command_line line command e =
     let p = passes line (Some (readings.Says command)) (λ f. cc) e in
     let r = not_skipped (is_comment line) _ (Some (readings.Says command)) (λ f. cc) p.rest in
     record { plain = p.plain; says = words_command (words_of line) command r }
 
+-- A line that spells a command is read as this command.
 pub line_command : (line : List ℕ) (command : Command) → IsCommandLine line command → reading_of line ≡ Some (readings.Says command)
 line_command line command h =
     let no = uncommented line (λ hash. no_command_hash command (words_of line) hash h.says) in
     reading-plain line h.plain ∙ rw no (command_words_said (words_of line) command h.says)
 
+-- A line that is read as limits spells them, in range.
 pub limits_line : (line : List ℕ) (limits : Limits) → reading_of line ≡ Some (readings.Limits limits) → IsLimitsLine line limits
 limits_line line limits e =
     let p = passes line (Some (readings.Limits limits)) (λ f. cc) e in
@@ -249,6 +252,7 @@ limits_line line limits e =
     let s = words_limits (words_of line) limits r in
     record { plain = p.plain; says = s.0; in_range = s.1 }
 
+-- A line that spells limits in range is read as these limits.
 pub line_limits : (line : List ℕ) (limits : Limits) → IsLimitsLine line limits → reading_of line ≡ Some (readings.Limits limits)
 line_limits line limits h =
     let no = uncommented line (λ hash. no_limits_hash limits (words_of line) hash h.says) in
@@ -258,6 +262,7 @@ says_nothing : (c : Bool) (line : List ℕ) → is_comment line ≡ c → cond c
 says_nothing true line t e = inl (comment_test line t)
 says_nothing false line t e = inr (words_skipped (words_of line) e)
 
+-- A line that is skipped is blank or a comment.
 pub skipped_line : (line : List ℕ) → reading_of line ≡ Some readings.Skipped → IsSkippedLine line
 skipped_line line e =
     let p = passes line (Some readings.Skipped) (λ f. cc) e in
@@ -268,9 +273,11 @@ nothing_said true line t h = refl
 nothing_said false line t (inl h) = let u = test_comment line h in absurd (cc)
 nothing_said false line t (inr h) = ap words_said h
 
+-- A blank line or a comment is skipped.
 pub line_skipped : (line : List ℕ) → IsSkippedLine line → reading_of line ≡ Some readings.Skipped
 line_skipped line h = reading-plain line h.plain ∙ nothing_said (is_comment line) line refl h.says_nothing
 
+-- A line that is not read spells nothing.
 pub other_line : (line : List ℕ) → reading_of line ≡ None → IsOtherLine line
 other_line line e =
     record {
@@ -285,10 +292,11 @@ other_at (Some (readings.Limits limits)) line e h = absurd (h.no_limits limits (
 other_at (Some (readings.Says command)) line e h = absurd (h.no_command command (command_line line command e))
 other_at None line e h = e
 
+-- A line that spells nothing is not read.
 pub line_other : (line : List ℕ) → IsOtherLine line → reading_of line ≡ None
 line_other line h = other_at (reading_of line) line refl h
 
--- a line of more than 255 bytes is malformed
+-- A line of more than 255 bytes is malformed.
 pub reading_of-long : (line : List ℕ) → 255 < length line → reading_of line ≡ None
 unfolding reading_of
 reading_of-long line h = let t : nat_lt 255 (length line) ≡ true = grind (arith, nat_tests) in rw t refl

@@ -31,6 +31,7 @@ with_first b bs true t h =
     subst P (sym blank) (space h)
 with_first b bs false t h = with_letter b bs (begins_word bs) (grind (arith, nat_tests)) refl h
 
+-- The words of a text are what is between its spaces.
 pub words_of-stand : (text : List ℕ) → AreWords text (words_of text)
 words_of-stand [] = none
 words_of-stand (b ∷ bs) = with_first b bs (is_space b) refl (words_of-stand bs)
@@ -53,6 +54,7 @@ words_of-word (b ∷ c ∷ w) text h end =
     let second = no_space c h.1.1.0 in
     rw first (rw rest (rw second refl))
 
+-- What is between the spaces of a text are its words.
 pub words_of-are : {text : List ℕ} {words : List (List ℕ)} → AreWords text words → words_of text ≡ words
 words_of-are none = refl
 words_of-are (space h) = words_of-are h

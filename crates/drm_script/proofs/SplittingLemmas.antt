@@ -38,6 +38,7 @@ behind-drop (b ∷ bs) = behind_at b bs (is_line_end b) (behind-drop bs)
 
 -- ---- the result of `first_line`
 
+-- If a text has a line end, its first line is before it and the others follow it.
 pub ended_line : (text : List ℕ) (at : ℕ) → position is_line_end text ≡ Some at → text ≢ [] → lines_of text ≡ take at text ∷ lines_of (drop (at + 1) text)
 ended_line [] at p some = absurd (some refl)
 ended_line (b ∷ bs) at p some =
@@ -51,6 +52,7 @@ no_end : (e : Bool) (m n : ℕ) → e ≡ nat_lt m n → cond e (Some m) None �
 no_end true m n is h = absurd (none-some m (sym h))
 no_end false m n is h = grind (arith, nat_tests)
 
+-- If a text has no line end, it is its only line.
 pub last_line : (text : List ℕ) → position is_line_end text ≡ None → text ≢ [] → lines_of text ≡ text ∷ lines_of []
 last_line [] p some = absurd (some refl)
 last_line (b ∷ bs) p some =

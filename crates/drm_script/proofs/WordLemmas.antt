@@ -16,6 +16,7 @@ trimmed_at : (x : ℕ) (xs : List ℕ) (b : Bool) → is_space x ≡ b → words
 trimmed_at x xs true e h = rw e h
 trimmed_at x xs false e h = refl
 
+-- The first spaces of a text do not change its words.
 pub words-trimmed : (xs : List ℕ) → words_of (trimmed xs) ≡ words_of xs
 words-trimmed [] = refl
 words-trimmed (x ∷ xs) = trimmed_at x xs (is_space x) refl (words-trimmed xs)
@@ -29,6 +30,7 @@ trimmed_begins_at : (x : ℕ) (xs : List ℕ) (b : Bool) → is_space x ≡ b �
 trimmed_begins_at x xs true e h = h
 trimmed_begins_at x xs false e h = e
 
+-- A text without its first spaces is empty or begins with a word.
 pub trimmed_begins : (xs : List ℕ) → BeginsWord (trimmed xs)
 trimmed_begins [] = tt
 trimmed_begins (x ∷ xs) = trimmed_begins_at x xs (is_space x) refl (trimmed_begins xs)
@@ -42,7 +44,7 @@ first_word : (x : ℕ) (xs : List ℕ) → with_byte x (begins_word xs) (words_o
 first_word x [] = refl
 first_word x (y ∷ ys) = first_word_at x y ys (is_space y) refl (first_word y ys)
 
--- a text that begins with a word
+-- A text that begins with a word has this word first and the words after it.
 pub words-begin : (xs : List ℕ) → 0 < length xs → BeginsWord xs → words_of xs ≡ front is_space xs ∷ words_of (behind xs)
 words-begin [] h p = absurd (omega arith)
 words-begin (x ∷ xs) h p = rw p (first_word x xs)
@@ -54,12 +56,14 @@ behind_at x xs false h =
     let e : 1 + position_or_len is_space xs ≡ suc (position_or_len is_space xs) = omega arith in
     rw e h
 
+-- What is after the first word is what begins with the first space.
 pub behind-drop : (xs : List ℕ) → behind xs ≡ drop (position_or_len is_space xs) xs
 behind-drop [] = refl
 behind-drop (x ∷ xs) = behind_at x xs (is_space x) (behind-drop xs)
 
 -- ---- what `next_word` answers
 
+-- If a space follows the first word, the words are this one and those of the rest.
 pub next_found : (text word : List ℕ) (n : ℕ) → word ≡ trimmed text → 0 < length word → position is_space word ≡ Some n
     → words_of text ≡ take n word ∷ words_of (drop n word)
 next_found text word n e h p =
@@ -73,6 +77,7 @@ no_space : (b : Bool) (m n : ℕ) → b ≡ nat_lt m n → cond b (Some m) None 
 no_space true m n e h = absurd (none-some m (sym h))
 no_space false m n e h = grind (arith, nat_tests)
 
+-- If no space follows the first word, it is the only one.
 pub next_last : (text word : List ℕ) → word ≡ trimmed text → 0 < length word → position is_space word ≡ None
     → words_of text ≡ word ∷ words_of []
 next_last text word e h p =
@@ -82,5 +87,6 @@ next_last text word e h p =
     ∙ ap (λ w. w ∷ words_of (behind word)) (front-take is_space word ∙ take_all _ word past)
     ∙ ap (λ r. word ∷ words_of r) (behind-drop word ∙ drop_all _ word past)
 
+-- If nothing but spaces is left, there are no words.
 pub next_none : (text word : List ℕ) → word ≡ trimmed text → length word ≡ 0 → words_of text ≡ []
 next_none text word e h = sym (words-trimmed text) ∙ sym (ap words_of e) ∙ ap words_of (nil_from_length word h)

@@ -18,6 +18,7 @@ nothing (suc k) (suc j) = refl
 -- ---- rows by pages
 
 module _ {X : Type 0} (line : X → List ℕ) where
+  -- A text of rows is that of a page, of the next page and of all that follow.
   pub whole-page : (rows : List X) (n m : ℕ) → flat_map line rows ≡ flat_map line (take n rows) ++ (flat_map line (take m (drop n rows)) ++ flat_map line (drop m (drop n rows)))
   whole-page rows n m =
       ap (flat_map line) (sym (take-append-drop n rows)) ∙ flat_map-append line (take n rows) (drop n rows)
@@ -34,10 +35,11 @@ module _ {X : Type 0} (line : X → List ℕ) where
       more : (k j : ℕ) → suc (k + j) ≡ suc k + j
       more k j = omega arith
 
+  -- The rows so far and the next page are the rows up to the end of the page.
   pub next-page : (rows : List X) (n m : ℕ) → flat_map line (take n rows) ++ flat_map line (take m (drop n rows)) ≡ flat_map line (take (n + m) rows)
   next-page rows n m = sym (flat_map-append line (take n rows) (take m (drop n rows))) ∙ ap (flat_map line) (take-add rows n m)
 
-  -- an empty page is the end
+  -- An empty page ends the rows.
   pub last-page : (rows : List X) (n m : ℕ) → 0 < m → take m (drop n rows) ≡ [] → take n rows ≡ rows
   last-page rows n m h e = sym (append-nil (take n rows)) ∙ ap (λ l. take n rows ++ l) (sym (none_left (drop n rows) m h e)) ∙ take-append-drop n rows
     where
@@ -48,6 +50,7 @@ module _ {X : Type 0} (line : X → List ℕ) where
 
 -- ---- the ends of a listing
 
+-- A listing that was written whole is done.
 pub listed : (w : Rows) (a b : SinkTrace) (t u : ℕ) → WriteCost a b (audit_text w) t u → Lists w a b t ends.Done
 listed w a b t u h = record {
   written = audit_text w;
@@ -58,6 +61,7 @@ listed w a b t u h = record {
   end_condition = refl;
 }
 
+-- If the sink fails, a listing ends with a write fault.
 pub listed-fault : (w : Rows) (a b : SinkTrace) (t u : ℕ) → PartialWriteCost a b (audit_text w) t u → a.counts.faults < b.counts.faults → Lists w a b t ends.WriteFault
 listed-fault w a b t u h f = record {
   written = h.front;
@@ -68,6 +72,7 @@ listed-fault w a b t u h f = record {
   end_condition = (h.more, f);
 }
 
+-- If no turn is left, a listing ends with its turns used.
 pub listed-turns : (w : Rows) (a b : SinkTrace) (t u : ℕ) → PartialWriteCost a b (audit_text w) t u → u ≡ 0 → Lists w a b t ends.TurnsUsed
 listed-turns w a b t u h e = record {
   written = h.front;

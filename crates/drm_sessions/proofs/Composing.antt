@@ -16,21 +16,26 @@ All-push : {X : Type 0} (P : X → Type 0) (xs : List X) (x : X) → AllByRecurs
 All-push P [] x h p = (p, tt)
 All-push P (y ∷ xs) x h p = (h.0, All-push P xs x h.1 p)
 
+-- Calls that lead from one value to another lead further by one more call.
 pub Runs-push : {A : Type 0} (answers : A → Event → CallResult → A → Type 0) (a b c : A) (log : List RequestReply) (call : RequestReply) → Runs answers a log b → answers b call.event call.outcome c → Runs answers a (log ++ call ∷ []) c
 Runs-push answers a b c [] call r h = (c, subst (λ x. answers x call.event call.outcome c) r h, refl)
 Runs-push answers a b c (first ∷ log) call r h = (r.0, r.1, Runs-push answers r.0 b c log call r.2 h)
 
+-- One more result adds one to the recorded results if the journal has recorded it.
 pub journaled-push : (results : List CallResult) (result : CallResult) → journaled (results ++ result ∷ []) ≡ journaled results + one_if_journaled result
 journaled-push [] result = omega arith
 journaled-push (first ∷ results) result = let e = journaled-push results result in omega (arith, e)
 
+-- The results of one more call are the old ones, then its result.
 pub outcomes-push : (log : List RequestReply) (call : RequestReply) → outcomes (log ++ call ∷ []) ≡ outcomes log ++ call.outcome ∷ []
 outcomes-push log call = map_push (λ (x : RequestReply). x.outcome) log call
 
+-- The text of one more result is the old text, then the text of its answer.
 pub session_text-push : (results : List CallResult) (result : CallResult) → session_text (results ++ result ∷ []) ≡ session_text results ++ answer_text result
 session_text-push results result = sym (flat_map_more answer_text [] results result)
 
 module _ {A : Type 0} (answers : A → Event → CallResult → A → Type 0) (client : ℕ) where
+  -- A client that has sent nothing has no requests answered.
   pub none-yet : (a : A) (source : SourceTrace) (waits : List ℕ) → Requests answers client a a source source waits waits [] 0 false
   none-yet a source waits = record {
     read = [];
@@ -48,6 +53,7 @@ module _ {A : Type 0} (answers : A → Event → CallResult → A → Type 0) (c
     last = refl;
   }
 
+  -- More bytes that were read leave the requests that were answered.
   pub bytes-more : {a0 a1 : A} {s0 s1 s2 : SourceTrace} {w0 w1 w2 : List ℕ} {results : List CallResult} {steps t u : ℕ} {behind : Bool}
       → Requests answers client a0 a1 s0 s1 w0 w1 results steps behind → (m : Comes s1 s2 w1 w2 t u)
       → Requests answers client a0 a1 s0 s2 w0 w2 results steps (ends_in_chunk m.chunks behind)
@@ -68,6 +74,7 @@ module _ {A : Type 0} (answers : A → Event → CallResult → A → Type 0) (c
     last = ends_in_chunk-then r.chunks m.chunks false ∙ ap (λ (was : Bool). ends_in_chunk m.chunks was) r.last;
   }
 
+  -- One more frame is one more request, with the answer of its call.
   pub frame-more : {a0 a1 a2 : A} {s0 s1 s2 : SourceTrace} {w0 w1 w2 : List ℕ} {results : List CallResult} {steps t u : ℕ} {behind : Bool} {frame : FrameValue} {result : CallResult}
       → Requests answers client a0 a1 s0 s1 w0 w1 results steps behind → Uses s1 s2 w1 w2 t u frame → answers a1 (asked client frame) result a2
       → Requests answers client a0 a2 s0 s2 w0 w2 (results ++ result ∷ []) (steps + one_if_journaled result) false

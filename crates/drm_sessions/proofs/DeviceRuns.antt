@@ -18,6 +18,7 @@ use Rattle.drm_sessions.specs.Runs.{RequestReply, request_reply, Runs, events, o
 use Rattle.drm_sessions.specs.Serving.{Makes, Follows}
 use Rattle.drm_sessions.specs.Device.{journaled_all, HasMemory, result_of, asks_after, results_from, session_results}
 
+-- A session on a device alone gets what the device answers from its rows.
 pub Runs-answers : (old new : DeviceValue) (log : List RequestReply) → Runs DeviceSteps old log new → Answers (rows_of old) (events log) (outcomes log) (rows_of new)
 unfolding Answers
 Runs-answers old new [] e = ap rows_of e
@@ -32,6 +33,7 @@ journaled_one old mid event (Ok answer) more rest e =
     ∙ ap (λ (j : List Event). let h : DeviceValue = record old { journal = j } in h) (append_assoc old.journal (event ∷ []) (journaled_events more rest))
 journaled_one old mid event (Err apart) more rest e = ap (λ (h : DeviceValue). journaled_all h (journaled_events more rest)) e
 
+-- A session on a device alone leaves a journal with its recorded events more.
 pub Runs-history : (old new : DeviceValue) (log : List RequestReply) → Runs DeviceSteps old log new → new ≡ journaled_all old (journaled_events (events log) (outcomes log))
 Runs-history old new [] e = e ∙ ap (λ (j : List Event). let h : DeviceValue = record old { journal = j } in h) (sym (append-nil old.journal))
 Runs-history old new (call ∷ log) r = Runs-history r.0 new log r.2 ∙ journaled_one old r.0 call.event call.outcome (events log) (outcomes log) r.1.history
@@ -53,6 +55,7 @@ Runs-results old new (call ∷ log) r m =
     ap (λ (x : CallResult). x ∷ outcomes log) one.0
     ∙ ap (λ (xs : List CallResult). result_of (rows_of old) call.event ∷ xs) (Runs-results r.0 new log r.2 m.1 ∙ ap (λ (w : Rows). results w (events log)) one.1)
 
+-- The first part of a session's calls leads to some value in between.
 pub Runs-front : {A : Type 0} (answers : A → Event → CallResult → A → Type 0) (a b : A) (log more : List RequestReply) → Runs answers a (log ++ more) b → (mid : A) × Runs answers a log mid
 Runs-front answers a b [] more r = (a, refl)
 Runs-front answers a b (call ∷ log) more r = let rest = Runs-front answers r.0 b log more r.2 in (rest.0, (r.0, r.1, rest.1))
@@ -62,6 +65,7 @@ follows-asks (Ok (Opened c)) frames asks closing client h = h.0
 follows-asks (Ok _) frames asks closing client h = ap events h.1
 follows-asks (Err apart) frames asks closing client h = ap events h.1
 
+-- If no memory is refused, a session's results are computed from the rows and the frames.
 pub session-results-found : (class : Class) (old mid : DeviceValue) (frames : List FrameValue) (answered closing : List RequestReply) (client : ℕ) → Makes class frames answered closing client
     → Runs DeviceSteps old answered mid → AllByRecursion HasMemory (outcomes answered) → outcomes answered ≡ session_results (rows_of old) class frames
 session-results-found class old mid [] answered closing client h r m = ap outcomes h.0

@@ -30,6 +30,7 @@ leaves-read ends.BadHello waits results h = h
 leaves-read (ends.OpenRefused rule) waits results h = h
 leaves-read (ends.Apart apart) waits results h = h
 
+-- If writing stops a session, part of the last answer is not written.
 pub leaves-write : (e : SessionEnd) (waits : List ℕ) (results : List CallResult) (later : List ℕ) (from to : SinkTrace) (has : ℕ) → WriteShows e from to has → TruncatesLastAnswer results later → Leaves e waits results later
 leaves-write ends.WriteFault waits results later from to has h cut = cut
 leaves-write ends.TurnsUsed waits results later from to has h cut = inr cut
@@ -43,6 +44,7 @@ leaves-write (ends.Apart apart) waits results later from to has h cut = absurd h
 
 -- ---- what the traces show
 
+-- If reading stops a session, the traces of its last read show why.
 pub shows-read : (e : SessionEnd) (waits : List ℕ) (in0 in1 in2 : SourceTrace) (out0 out1 : SinkTrace) (has : ℕ) → StopsAt e waits
     → NeverFall in0.counts in1.counts → ReadShows e in1 in2 has → Shows e in0 in2 out0 out1 has
 shows-read ends.Ended waits in0 in1 in2 out0 out1 has h n r = (r.0, omega arith)
@@ -57,6 +59,7 @@ shows-read (ends.Apart apart) waits in0 in1 in2 out0 out1 has h n r = tt
 
 -- ---- turns
 
+-- No calls of source and sink cost no turns.
 pub IoCost-none : (source : SourceTrace) (sink : SinkTrace) (turns : ℕ) → IoCost source source sink sink turns turns
 IoCost-none source sink turns = record {
   each = refl;
@@ -64,6 +67,7 @@ IoCost-none source sink turns = record {
   sink = record { calls = omega arith; ends = omega arith; faults = omega arith };
 }
 
+-- Two parts of a session, one after the other, cost the turns of both.
 pub IoCost-then : {in0 in1 in2 : SourceTrace} {out0 out1 out2 : SinkTrace} {s t u : ℕ} → IoCost in0 in1 out0 out1 s t → IoCost in1 in2 out1 out2 t u → IoCost in0 in2 out0 out2 s u
 IoCost-then p q = record {
   each = omega arith;
@@ -71,6 +75,7 @@ IoCost-then p q = record {
   sink = record { calls = omega arith; ends = omega arith; faults = omega arith };
 }
 
+-- What was read costs the turns of the reads.
 pub IoCost-read : {in0 in1 : SourceTrace} {bytes : List ℕ} {s t : ℕ} (sink : SinkTrace) → ReadCost in0 in1 bytes s t → IoCost in0 in1 sink sink s t
 IoCost-read sink p = record {
   each = omega arith;
@@ -78,6 +83,7 @@ IoCost-read sink p = record {
   sink = record { calls = omega arith; ends = omega arith; faults = omega arith };
 }
 
+-- What was written costs the turns of the writes.
 pub IoCost-write : {out0 out1 : SinkTrace} {bytes : List ℕ} {s t : ℕ} (source : SourceTrace) → WriteCost out0 out1 bytes s t → IoCost source source out0 out1 s t
 IoCost-write source p = record {
   each = omega arith;
@@ -85,12 +91,14 @@ IoCost-write source p = record {
   sink = p.took.counts;
 }
 
+-- A call adds one step to the journal at most.
 pub one_if_journaled-at-most : (result : CallResult) → one_if_journaled result ≤ 1
 one_if_journaled-at-most (Ok answer) = omega arith
 one_if_journaled-at-most (Err apart) = omega arith
 
 -- ---- the ends
 
+-- A session that has not read past its last frame is not one that has.
 pub not-behind : false ≡ true → ⊥
 not-behind e = cc
 
@@ -101,9 +109,11 @@ module _ {A : Type 0} (answers : A → Event → CallResult → A → Type 0) (c
     pub did : Requests answers client old new in0 in1 waited waits results steps false
     pub wrote : Appends out0.written out1.written (session_text results)
 
+  -- Before the first request nothing is answered and nothing written.
   pub SoFar-none : (a : A) (source : SourceTrace) (sink : SinkTrace) (waits : List ℕ) → SoFar a a source source sink sink waits waits 0
   SoFar-none a source sink waits = record { results = []; did = none-yet answers client a source waits; wrote = Appends-nil sink.written }
 
+  -- One more request with its answer written whole leaves each answer so far written whole.
   pub SoFar-more : {a0 a1 a2 : A} {in0 in1 in2 : SourceTrace} {out0 out1 out2 : SinkTrace} {w0 w1 w2 : List ℕ} {steps one s t u v : ℕ} {frame : FrameValue} {result : CallResult}
       → SoFar a0 a1 in0 in1 out0 out1 w0 w1 steps → Uses in1 in2 w1 w2 s t frame → answers a1 (asked client frame) result a2 → one ≡ one_if_journaled result
       → WriteCost out1 out2 (answer_text result) u v → SoFar a0 a2 in0 in2 out0 out2 w0 w2 (steps + one)
@@ -114,6 +124,7 @@ module _ {A : Type 0} (answers : A → Event → CallResult → A → Type 0) (c
         (Appends-trans out0.written out1.written out2.written (session_text r.results) (answer_text result) r.wrote p.took.taken);
   }
 
+  -- If reading stops, the requests end with all answers written.
   pub stopped-reading : {a0 a1 : A} {in0 in1 in2 : SourceTrace} {out0 out1 : SinkTrace} {w0 w1 w2 : List ℕ} {steps s t : ℕ} (e : SessionEnd)
       → SoFar a0 a1 in0 in1 out0 out1 w0 w1 steps → Comes in1 in2 w1 w2 s t → StopsAt e w2 → Ends answers client a0 a1 in0 in2 out0 out1 [] w0 steps e
   stopped-reading {out1} {w2} e r m h = record {
@@ -129,7 +140,7 @@ module _ {A : Type 0} (answers : A → Event → CallResult → A → Type 0) (c
     handed = hands-read e w2 out1 h;
   }
 
-  -- the last answer is written in part
+  -- If writing stops, the requests end with the last answer written in part.
   pub stopped-writing : {a0 a1 a2 : A} {in0 in1 in2 : SourceTrace} {out0 out1 out2 : SinkTrace} {w0 w1 w2 : List ℕ} {steps one s t u v : ℕ} {frame : FrameValue} {result : CallResult} (e : SessionEnd)
       → SoFar a0 a1 in0 in1 out0 out1 w0 w1 steps → Uses in1 in2 w1 w2 s t frame → answers a1 (asked client frame) result a2 → one ≡ one_if_journaled result
       → (p : PartialWriteCost out1 out2 (answer_text result) u v) → WriteShows e out1 out2 v → HandsLater e out2 p.rest → Ends answers client a0 a2 in0 in2 out0 out2 [] w0 (steps + one) e

@@ -141,6 +141,7 @@ cut-of-part : (result : CallResult) {out0 out1 : SinkTrace} {said : List ℕ} {t
 cut-of-part result is p = record { before = []; last = result; sent = p.front; whole = refl; parts = sym is ∙ p.parts; more = p.more }
 
 module _ {A : Type 0} (answers : A → Event → CallResult → A → Type 0) where
+  -- If the answer to the opening is written whole, a session's requests end as they do after it.
   pub said-whole : {client : ℕ} {a0 a1 : A} {in0 in1 : SourceTrace} {out0 out1 out2 : SinkTrace} {said waited : List ℕ} {steps t u : ℕ} {e : SessionEnd} (result : CallResult)
       → said ≡ answer_text result → WriteCost out0 out1 said t u → Ends answers client a0 a1 in0 in1 out1 out2 [] waited steps e
       → Ends answers client a0 a1 in0 in1 out0 out2 (result ∷ []) waited steps e
@@ -162,6 +163,7 @@ module _ {A : Type 0} (answers : A → Event → CallResult → A → Type 0) wh
         handed = h.handed;
       }
 
+  -- If the answer to the opening is written in part, the session ends with no request.
   pub said-in-part : {client : ℕ} {a : A} {source : SourceTrace} {out0 out1 : SinkTrace} {said : List ℕ} {waited : List ℕ} {t u : ℕ} {e : SessionEnd} (result : CallResult)
       → said ≡ answer_text result → (p : PartialWriteCost out0 out1 said t u) → WriteShows e out0 out1 u → HandsLater e out1 p.rest → Ends answers client a a source source out0 out1 (result ∷ []) waited 0 e
   said-in-part {client} {a} {source} {out0} {out1} {said} {waited} {t} {u} {e} result is p shows handed = record {
@@ -177,6 +179,7 @@ module _ {A : Type 0} (answers : A → Event → CallResult → A → Type 0) wh
     handed = handed;
   }
 
+  -- An opened client's session is its opening, its requests and its closing.
   pub continues-client : {class : Class} {opening : Opening} {client : ℕ} {a0 a1 a2 a3 : A} {in0 in1 : SourceTrace} {out0 out1 : SinkTrace} {waited : List ℕ} {steps : ℕ} {e : SessionEnd} {r : CallResult} {s : Session}
       → answers a0 (Open opening) (Ok (Opened client)) a1 → Ends answers client a1 a2 in0 in1 out0 out1 (Ok (Opened client) ∷ []) waited steps e
       → answers a2 (Close client) r a3 → s.client ≡ client → s.steps ≡ 1 + (steps + one_if_journaled r) → EndsClosed e r s.end
@@ -266,11 +269,14 @@ module _ {A : Type 0} (answers : A → Event → CallResult → A → Type 0) wh
     handed = p.2;
   }
 
+  -- A session with a denied opening ends as refused by its rule, unless writing stops it. The client sends no
+  -- request.
   pub continues-denied : {class : Class} {opening : Opening} (rule : Rule) {a0 a1 : A} {source : SourceTrace} {out0 out1 : SinkTrace} {waited said : List ℕ} {s : Session} {t u : ℕ}
       → answers a0 (Open opening) (Ok (Denied rule)) a1 → said ≡ answer_text (Ok (Denied rule)) → s.client ≡ 0 → s.steps ≡ 1 → Refuses (ends.OpenRefused rule) s.end out0 out1 said t u
       → Continues answers class opening a0 a1 source source out0 out1 waited s
   continues-denied {opening} rule opened is c n r = continues-refused (Ok (Denied rule)) (ends.OpenRefused rule) opened is (refl, refl, refl, c) (sym n) ((opening, refl), refl) (λ end later h. h) tt r
 
+  -- A session whose opening has a fault ends with this fault, unless writing stops it. The client sends no request.
   pub continues-apart : {class : Class} {opening : Opening} (apart : Apart) {a0 a1 : A} {source : SourceTrace} {out0 out1 : SinkTrace} {waited said : List ℕ} {s : Session} {t u : ℕ}
       → answers a0 (Open opening) (Err apart) a1 → said ≡ answer_text (Err apart) → s.client ≡ 0 → s.steps ≡ 0 → Refuses (ends.Apart apart) s.end out0 out1 said t u
       → Continues answers class opening a0 a1 source source out0 out1 waited s
@@ -278,6 +284,7 @@ module _ {A : Type 0} (answers : A → Event → CallResult → A → Type 0) wh
 
   -- ---- from the first frame
 
+  -- A session that ends before its first frame changes nothing.
   pub serves-unread : (class : Class) (a : A) (sink : SinkTrace) {in0 in1 : SourceTrace} {rest : List ℕ} {t u : ℕ} (e : SessionEnd)
       → Comes in0 in1 [] rest t u → StopsAt e rest → Serves answers class a a in0 in1 sink sink (record { end = e; client = 0; steps = 0 })
   serves-unread class a sink {in0} {in1} {rest} e m h = record {
@@ -303,6 +310,7 @@ module _ {A : Type 0} (answers : A → Event → CallResult → A → Type 0) wh
     handed = hands-read e rest sink h;
   }
 
+  -- A session whose first frame is no hello ends as such and changes nothing.
   pub serves-no-hello : (class : Class) (a : A) (sink : SinkTrace) {in0 in1 : SourceTrace} {waits : List ℕ} {t u : ℕ} {frame : FrameValue} {found : Option Opening}
       → Uses in0 in1 [] waits t u frame → found ≡ opening_in class frame → found ≡ None
       → Serves answers class a a in0 in1 sink sink (record { end = ends.BadHello; client = 0; steps = 0 })
@@ -329,6 +337,7 @@ module _ {A : Type 0} (answers : A → Event → CallResult → A → Type 0) wh
     handed = tt;
   }
 
+  -- A session whose first frame is a hello continues with its opening.
   pub serves-session : {class : Class} {opening : Opening} {a0 a1 : A} {in0 in1 in2 : SourceTrace} {out0 out1 : SinkTrace} {waits : List ℕ} {t u : ℕ} {frame : FrameValue} {found : Option Opening} {s : Session}
       → Uses in0 in1 [] waits t u frame → found ≡ opening_in class frame → found ≡ Some opening → Continues answers class opening a0 a1 in1 in2 out0 out1 waits s
       → Serves answers class a0 a1 in0 in2 out0 out1 s

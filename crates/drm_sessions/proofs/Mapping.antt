@@ -9,6 +9,7 @@ use Rattle.drm_sessions.specs.Runs.{RequestReply, Runs}
 use Rattle.drm_sessions.specs.Serving.{Serves}
 
 module _ {A B : Type 0} (view : A → B) (p : A → Event → CallResult → A → Type 0) (q : B → Event → CallResult → B → Type 0) (seen : (a : A) (event : Event) (result : CallResult) (b : A) → p a event result b → q (view a) event result (view b)) where
+  -- A session's calls are those of what is seen of its access.
   pub Runs-map : (a b : A) (log : List RequestReply) → Runs p a log b → Runs q (view a) log (view b)
   Runs-map a b [] e = ap view e
   Runs-map a b (call ∷ log) r = (view r.0, seen a call.event call.outcome r.0 r.1, Runs-map r.0 b log r.2)
@@ -39,6 +40,7 @@ module _ {A B : Type 0} (view : A → B) (p : A → Event → CallResult → A �
 
 -- what each call keeps, a session keeps
 module _ {A X : Type 0} (name : A → X) (p : A → Event → CallResult → A → Type 0) (same : (a : A) (event : Event) (result : CallResult) (b : A) → p a event result b → name b ≡ name a) where
+  -- What each call keeps, all calls of a session keep.
   pub Runs-same : (a b : A) (log : List RequestReply) → Runs p a log b → name b ≡ name a
   Runs-same a b [] e = ap name e
   Runs-same a b (call ∷ log) r = Runs-same r.0 b log r.2 ∙ same a call.event call.outcome r.0 r.1

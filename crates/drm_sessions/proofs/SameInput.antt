@@ -141,6 +141,7 @@ read-outstanding (ends.Apart apart) class rest answered closing later i h = absu
 
 -- ---- the laws
 
+-- If no memory is refused, a session's results follow from the rows before it and from its frames.
 pub results-found : (class : Class) (one : DeviceSession class) → AllByRecursion HasMemory (outcomes one.did.answered) → outcomes one.did.answered ≡ session_results (rows_of one.before) class one.did.frames
 results-found class one memory =
     let run = Runs-front DeviceSteps one.before one.after one.did.answered one.did.closing one.did.made in
@@ -150,6 +151,7 @@ text-found : (class : Class) (one : DeviceSession class) (w : Rows) → rows_of 
     → session_text (session_results w class one.did.frames) ≡ one.did.front ++ one.did.later
 text-found class one w e memory = ap (λ (v : Rows). session_text (session_results v class one.did.frames)) (sym e) ∙ ap session_text (sym (results-found class one memory)) ∙ one.did.puts.parts
 
+-- Two sessions from the same rows over the same bytes write the same, up to the end of the shorter text.
 pub fronts-one-begins : (class : Class) (one other : DeviceSession class) → HaveSameInput one other → OneBegins one.did.front other.did.front
 fronts-one-begins class one other same =
     let w : Rows = rows_of other.before in
@@ -157,6 +159,7 @@ fronts-one-begins class one other same =
     cuts-begin _ _ one.did.front one.did.later other.did.front other.did.later (text-found class one w same.rows same.memory_of_one) (text-found class other w refl same.memory_of_other)
     (texts-begin w class one.did.frames other.did.frames begin)
 
+-- Two sessions from the same rows over the same bytes write the same text if both used all whole frames.
 pub fronts-same : (class : Class) (one other : DeviceSession class) → HaveSameInput one other → IsReadOut one.session.end → IsReadOut other.session.end → one.did.front ≡ other.did.front
 fronts-same class one other same i j =
     let w : Rows = rows_of other.before in

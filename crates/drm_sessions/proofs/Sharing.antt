@@ -65,6 +65,7 @@ journaled-one : (number : ℕ) (event : Event) (result : CallResult) → length 
 journaled-one number event (Ok answer) = refl
 journaled-one number event (Err apart) = refl
 
+-- A participant has as many entries in a session as the journal has recorded results.
 pub entries-counted : (number : ℕ) (log : List RequestReply) → length (entries_by number log) ≡ journaled (outcomes log)
 entries-counted number [] = refl
 entries-counted number (call ∷ log) =
@@ -73,6 +74,7 @@ entries-counted number (call ∷ log) =
     let both = length-append (journaled_by number call.event call.outcome) (entries_by number log) in
     omega (arith, first, rest, both)
 
+-- A session whose calls each took a turn is one through a participant of a shared device.
 pub Serves-shared : {class : Class} {old new : ParticipantView} {in0 in1 : SourceTrace} {out0 out1 : SinkTrace} {session : Session}
     → Serves TakesTurn class old new in0 in1 out0 out1 session → ServesShared class old new in0 in1 out0 out1 session
 Serves-shared {old} {new} {session} h =
@@ -100,7 +102,7 @@ Serves-shared {old} {new} {session} h =
 
 -- ---- with the gate
 
--- the session through a participant, seen as through the participants that these are
+-- A session whose calls each took a turn is one through a shared device, also for equal participants.
 pub Serves-through : {G : Type 0} (passes : G → ℕ → G → Type 0) (g0 g1 : G) {class : Class} (before participant after done : ParticipantView) {in0 in1 : SourceTrace} {out0 out1 : SinkTrace} {session : Session} → before ≡ participant → done ≡ after
     → (s : Serves TakesTurn class before after in0 in1 out0 out1 session) × LetsAllPass passes g0 (calls_made s) g1
     → (s : ServesShared class participant done in0 in1 out0 out1 session) × LetsAllPass passes g0 (calls_made s.serves) g1
@@ -109,6 +111,7 @@ Serves-through passes g0 g1 {class} before participant after done {in0} {in1} {o
     let Gated : ParticipantView → ParticipantView → Type 0 = λ x y. (s : ServesShared class x y in0 in1 out0 out1 session) × LetsAllPass passes g0 (calls_made s.serves) g1 in
     subst (λ (y : ParticipantView). Gated participant y) (sym to) (subst (λ (x : ParticipantView). Gated x after) from (Serves-shared served.0, served.1))
 
+-- A session through a participant that leaves one participant leaves each equal one.
 pub Served-as : {G : Type 0} (passes : G → ℕ → G → Type 0) (g0 g1 : G) {class : Class} {participant : ParticipantView} (after done : ParticipantView) {in0 in1 : SourceTrace} {out0 out1 : SinkTrace} {session : Session} → done ≡ after
     → (s : ServesShared class participant after in0 in1 out0 out1 session) × LetsAllPass passes g0 (calls_made s.serves) g1
     → (s : ServesShared class participant done in0 in1 out0 out1 session) × LetsAllPass passes g0 (calls_made s.serves) g1

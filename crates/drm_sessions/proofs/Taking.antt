@@ -29,14 +29,17 @@ last_chunk-then [] ys gave = refl
 last_chunk-then (Chunk bytes ∷ xs) ys gave = last_chunk-then xs ys (length bytes)
 last_chunk-then (Used frame ∷ xs) ys gave = last_chunk-then xs ys gave
 
+-- Whether bytes follow the last frame of two lists of chunks is decided by the second, if it has any.
 pub ends_in_chunk-then : (xs ys : List ReadChunk) (was : Bool) → ends_in_chunk (xs ++ ys) was ≡ ends_in_chunk ys (ends_in_chunk xs was)
 ends_in_chunk-then [] ys was = refl
 ends_in_chunk-then (Chunk bytes ∷ xs) ys was = ends_in_chunk-then xs ys true
 ends_in_chunk-then (Used frame ∷ xs) ys was = ends_in_chunk-then xs ys false
 
+-- Nothing taken leaves the source and the waiting bytes unchanged.
 pub Takes-none : (source : SourceTrace) (waits : List ℕ) → Takes source source waits waits [] [] []
 Takes-none source waits = record { in_turn = refl; gave = refl; bytes = refl; used = refl }
 
+-- Bytes and frames taken in two parts, one after the other, are all taken together.
 pub Takes-then : {a b c : SourceTrace} {w0 w1 w2 : List ℕ} {xs ys : List ReadChunk} {r s : List ℕ} {fs gs : List FrameValue}
     → Takes a b w0 w1 xs r fs → Takes b c w1 w2 ys s gs → Takes a c w0 w2 (xs ++ ys) (r ++ s) (fs ++ gs)
 Takes-then {a} {b} {c} {w0} {w1} {w2} {xs} {ys} {r} {s} {fs} {gs} p q = record {
@@ -46,7 +49,7 @@ Takes-then {a} {b} {c} {w0} {w1} {w2} {xs} {ys} {r} {s} {fs} {gs} p q = record {
   used = frames_used-then xs ys ∙ ap (λ (l : List FrameValue). l ++ frames_used ys) p.used ∙ ap (λ (l : List FrameValue). fs ++ l) q.used;
 }
 
--- bytes alone
+-- Bytes that are taken without a frame continue what was taken.
 pub Takes-read : {a b c : SourceTrace} {w0 w1 w2 : List ℕ} {xs ys : List ReadChunk} {r s : List ℕ} {fs : List FrameValue}
     → Takes a b w0 w1 xs r fs → Takes b c w1 w2 ys s [] → Takes a c w0 w2 (xs ++ ys) (r ++ s) fs
 Takes-read {a} {b} {c} {w0} {w1} {w2} {xs} {ys} {r} {s} {fs} p q =
@@ -60,6 +63,7 @@ Takes-frame source waited waits frame parts = record { in_turn = (waits, parts, 
 
 -- ---- reading for a frame
 
+-- No bytes read leave the source and the turns unchanged.
 pub Comes-none : (source : SourceTrace) (waits : List ℕ) (turns : ℕ) → Comes source source waits waits turns turns
 Comes-none source waits turns = record {
   more = [];
@@ -69,6 +73,7 @@ Comes-none source waits turns = record {
   takes = Takes-none source waits;
 }
 
+-- Bytes read in two parts, one after the other, are read together.
 pub Comes-more : {a b c : SourceTrace} {w0 w1 w2 : List ℕ} {s t u : ℕ} → Comes a b w0 w1 s t → IsPart w1 → Gives b c w1 w2 t u → Comes a c w0 w2 s u
 Comes-more {w0} p part m = record {
   more = p.more ++ m.more;
@@ -78,7 +83,7 @@ Comes-more {w0} p part m = record {
   takes = Takes-read p.takes (Takes-chunk part m);
 }
 
--- the bytes that came, and then the frame
+-- Bytes that are read for a frame, and the frame, are taken one after the other.
 pub Uses-takes : {a b : SourceTrace} {w0 w1 : List ℕ} {s t : ℕ} {frame : FrameValue} (m : Uses a b w0 w1 s t frame) → Takes a b w0 w1 (m.chunks ++ Used frame ∷ []) m.more (frame ∷ [])
 Uses-takes {a} {b} {w0} {w1} {frame} m =
     subst (λ (l : List ℕ). Takes a b w0 w1 (m.chunks ++ Used frame ∷ []) l (frame ∷ [])) (append-nil m.more)

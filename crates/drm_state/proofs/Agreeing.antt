@@ -13,7 +13,7 @@ use Rattle.drm_leases.specs.Agreed.{IsAgreed, AreAgreed}
 use Rattle.drm_leases.proofs.Agreeing.{agreed_left, agreed_released}
 use Rattle.drm_state.specs.Parts.{own_master, is_below, released, ends_with, without_its_master, without_its_leases}
 
--- the leases that are left agree with the masters that are
+-- Without a client, leases still agree with masters.
 pub agreed_yet : (v : MasterSet) (l : LeaseSet) (c : ℕ) → AreMasters v → AreAgreed l v → AreAgreed (without_its_leases c v l) (without_its_master c v)
 agreed_yet v l c are agreed =
     let below = ends_with v c in

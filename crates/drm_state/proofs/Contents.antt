@@ -41,7 +41,7 @@ use Rattle.drm_state.proofs.Made.{hold_row_is}
 abbrev object_behind : FileHandle → ℕ
 object_behind x = x.object
 
--- whether the client has the handle, by what a look-up found
+-- A client has a handle by rows exactly if a look-up found it in the state.
 pub holds_it : (s : State) (w : Rows) → Represents s w → (c n : ℕ) (r o : Option ℕ) → r ≡ option_map object_behind (find (files.is_handle c n) s.files.holds) → r ≡ o → is_some (handle_row w c n) ≡ is_some o
 holds_it s w h c n r o e g = hold_row_is s w h c n ∙ sym (is_some-map object_behind (find (files.is_handle c n) s.files.holds)) ∙ ap is_some (sym e ∙ g)
 
@@ -55,10 +55,11 @@ number_named s w t h c n key (Some y) e f =
     let some : is_some (handle_row w c n) ≡ true = hold_row_is s w h c n ∙ ap is_some e in
     ap (λ o. unwrap_or o 0) (found-number (is_handle c n) (λ (row : HandleRow). row.object) (number y.object) w.holds one some) ∙ ap number (sym same)
 
--- the number of the object that a handle names
+-- A handle that a look-up found names the object of its key.
 pub object_found : (s : State) (w : Rows) → MeetsInvariants s → Represents s w → (c n key : ℕ) (r : Option ℕ) → r ≡ option_map object_behind (find (files.is_handle c n) s.files.holds) → r ≡ Some key → object_of w c n ≡ step_number_at s.objects.objects key
 object_found s w t h c n key r e g = number_named s w t h c n key (find (files.is_handle c n) s.files.holds) refl (sym g ∙ e)
 
+-- The key that a client's handle names is among the keys that handles name.
 pub key_found : (c n key : ℕ) → (hs : List FileHandle) → Some key ≡ option_map object_behind (find (files.is_handle c n) hs) → is_among (keys_of hs) key ≡ true
 key_found c n key [] e = absurd (let k : Some key ≡ None = e in cc)
 key_found c n key (x ∷ xs) e =
@@ -67,12 +68,13 @@ key_found c n key (x ∷ xs) e =
       | false ↦ λ f. among-more (keys_of xs) x.object key (key_found c n key xs f)
     ] e
 
--- its object is there
+-- The object of a handle that a look-up found exists.
 pub key_there : (s : State) (c n key : ℕ) (r : Option ℕ) → MeetsInvariants s → r ≡ option_map object_behind (find (files.is_handle c n) s.files.holds) → r ≡ Some key → is_some (find (is_key key) s.objects.objects) ≡ true
 key_there s c n key r t e g = (objects_counted s t).there key (among-left (keys_of s.files.holds) (referring_keys s) key (key_found c n key s.files.holds (sym g ∙ e)))
 
 -- ---- the list of handles
 
+-- The list of a client's handles from a number on is the same by rows, 64 at most.
 pub handles_listed : (s : State) (w : Rows) → MeetsInvariants s → Represents s w → (c from : ℕ) → take 64 (filter (λ h. nat_le from h) (files.handles_of s.files c)) ≡ take 64 (filter (λ handle. nat_le from handle) (rising (handles_of w c)))
 handles_listed s w t h c from =
     let mine = λ (row : HandleRow). row.client == c in
@@ -122,6 +124,7 @@ rows_stamped key stamp number (x ∷ xs) h =
 abbrev pub with_stamped : State → ℕ → ℕ → State
 with_stamped s key stamp = record s { objects = changed_at key (stamped stamp) s.objects }
 
+-- A state with another stamp of an object represents the rows with this stamp.
 pub stamped_represents : (s : State) (w : Rows) (key stamp : ℕ) → MeetsInvariants s → is_among (keys_of s.files.holds) key ≡ true → Represents s w → (part : Part) → represents_part part (with_stamped s key stamp) (record w { objects = with_stamp (step_number_at s.objects.objects key) stamp w.objects })
 unfolding represents_part
 stamped_represents s w key stamp t e h Holds = subst (SameRows w.holds) (sym (holds_stamped key stamp s.objects.objects s.files.holds)) (holds_are s w h)
@@ -133,6 +136,7 @@ stamped_represents s w key stamp t e h Framebuffers = subst (SameRows w.framebuf
 stamped_represents s w key stamp t e h Names = subst (SameRows w.names) (sym (names_stamped key stamp s.objects.objects s.names.names)) (names_are s w h)
 stamped_represents s w key stamp t e h part = h part
 
+-- Another stamp of an object keeps all invariants.
 pub stamped_invariants : (s : State) (key stamp : ℕ) → MeetsInvariants s → (invariant : Invariant) → meets_invariant invariant (with_stamped s key stamp)
 unfolding meets_invariant
 stamped_invariants s key stamp t ObjectsCounted =
@@ -156,18 +160,18 @@ field_found f g is s w key n t e h k =
     sym (ap (λ rows. unwrap_or (option_map g (find (λ (row : ObjectRow). row.object == number) rows)) 0) (objects_are s w h)
     ∙ ap (λ o. unwrap_or (option_map g o) 0) (find-map (λ (row : ObjectRow). row.object == number) object_row_of s.objects.objects ∙ ap (option_map object_row_of) same) ∙ read_field f g is (find (is_key key) s.objects.objects) n k)
 
--- the stamp of the object of a key
+-- The stamp of the object of a key is that of the object's row.
 pub stamp_found : (s : State) (w : Rows) (key n : ℕ) → MeetsInvariants s → is_among (keys_of s.files.holds) key ≡ true → Represents s w → option_map (λ (x : Object). x.stamp) (find (is_key key) s.objects.objects) ≡ Some n →
     n ≡ unwrap_or (option_map (λ (row : ObjectRow). row.stamp) (object_row w (step_number_at s.objects.objects key))) 0
 stamp_found s w key n t e h k = field_found (λ (x : Object). x.stamp) (λ (row : ObjectRow). row.stamp) (λ x. refl) s w key n t (among-left (keys_of s.files.holds) (referring_keys s) key e) h k
 
--- its size
+-- The size of the object of a key is that of the object's row.
 pub size_found : (s : State) (w : Rows) (key n : ℕ) → MeetsInvariants s → is_among (keys_of s.files.holds ++ referring_keys s) key ≡ true → Represents s w → option_map (λ (x : Object). x.size) (find (is_key key) s.objects.objects) ≡ Some n → n ≡ size_of w (step_number_at s.objects.objects key)
 size_found s w key n t e h k = field_found (λ (x : Object). x.size) (λ (row : ObjectRow). row.size) (λ x. refl) s w key n t e h k
 
 -- ---- a handle fewer
 
--- the object of a key has a handle to lose
+-- An object that a handle names has a handle to lose.
 pub has_handle : (set : ObjectSet) (k : ℕ) (keys refs : List ℕ) → AreCounted (k ∷ keys) refs set.objects → passes (λ x. nat_le 1 x.holds) set k ≡ true
 has_handle set k keys refs h =
     let it = is_found k set.objects (h.there k (among-first (keys ++ refs) k)) (Counts (k ∷ keys) refs) h.counted in
@@ -177,14 +181,15 @@ has_handle set k keys refs h =
     at_least : (n m : ℕ) → n ≡ suc m → 1 ≤ n
     at_least n m e = omega (arith, e)
 
--- the keys of the handles, of which one goes
+-- Objects count the key of a client's handle, and the keys of all other handles.
 pub first_invariants : (s : State) (c n key : ℕ) (r : Option ℕ) → MeetsInvariants s → r ≡ option_map object_behind (find (files.is_handle c n) s.files.holds) → r ≡ Some key → AreCounted (key ∷ keys_of (without_handle_row s.files c n).holds) (referring_keys s) s.objects.objects
 first_invariants s c n key r t e g = same_invariants (keys_of s.files.holds) (key ∷ keys_of (without_handle_row s.files c n).holds) (referring_keys s) s.objects.objects (one_goes c n key s.files.holds (holds_rise s t) (sym g ∙ e)) (objects_counted s t)
 
+-- An object counts one handle fewer, or is freed with the last that named it, and the others stay.
 pub unheld_step : (set new : ObjectSet) (k : ℕ) (keys refs : List ℕ) (left : Option Dead) → AreCounted (k ∷ keys) refs set.objects → left ≡ dead_after unheld set k → OnSome left (new ≡ without_key k set) → IfNone left (new ≡ changed_at k unheld set) → IsStep set.objects keys refs new
 unheld_step set new k keys refs left h e gone same = fewer_step k unheld (k ∷ keys) refs keys refs set new left (handle_fewer k keys refs) h e gone same
 
--- the same of a token or a framebuffer
+-- An object that a token or a framebuffer names has a reference to lose.
 pub has_reference : (set : ObjectSet) (k : ℕ) (keys refs : List ℕ) → AreCounted keys (k ∷ refs) set.objects → passes (λ x. nat_le 1 x.refs) set k ≡ true
 has_reference set k keys refs h =
     let it = is_found k set.objects (h.there k (among-right keys (k ∷ refs) k (among-first refs k))) (Counts keys (k ∷ refs)) h.counted in
@@ -194,9 +199,11 @@ has_reference set k keys refs h =
     at_least : (n m : ℕ) → n ≡ suc m → 1 ≤ n
     at_least n m e = omega (arith, e)
 
+-- An object counts one token or framebuffer fewer, or is freed with the last, and the others stay.
 pub unreferred_step : (set new : ObjectSet) (k : ℕ) (keys refs : List ℕ) (left : Option Dead) → AreCounted keys (k ∷ refs) set.objects → left ≡ dead_after unreferred set k → OnSome left (new ≡ without_key k set) → IfNone left (new ≡ changed_at k unreferred set) → IsStep set.objects keys refs new
 unreferred_step set new k keys refs left h e gone same = fewer_step k unreferred keys (k ∷ refs) keys refs set new left (reference_fewer k keys refs) h e gone same
 
+-- A state without a handle, and without what it alone named, keeps all invariants.
 pub handle_gone_invariants : (s : State) (c n : ℕ) (names : NameList) (set : ObjectSet) → MeetsInvariants s → Leaves s.names s.objects (keys_of (without_handle_row s.files c n).holds) (referring_keys s) names set → (invariant : Invariant) → meets_invariant invariant (without_handle s c n names set)
 unfolding meets_invariant
 handle_gone_invariants s c n names set t left HoldsRise = in_order_filter (λ (x y : FileHandle). files.handle_before x y ≡ true) _ s.files.holds (holds_rise s t)
@@ -204,7 +211,7 @@ handle_gone_invariants s c n names set t left ObjectsCounted = left.invariants
 handle_gone_invariants s c n names set t left NamesHeld = named_left s.names names s.objects set (keys_of (without_handle_row s.files c n).holds) (referring_keys s) left
 handle_gone_invariants s c n names set t left invariant = t invariant
 
--- the names are of the key's object, and of those that the other handles name
+-- Each name is of the handle's object or of one that another handle names.
 pub first_named : (s : State) (c n key : ℕ) (r : Option ℕ) → MeetsInvariants s → r ≡ option_map object_behind (find (files.is_handle c n) s.files.holds) → r ≡ Some key → AreNamed (key ∷ keys_of (without_handle_row s.files c n).holds) s.names.names
 first_named s c n key r t e g =
     all_weaker (λ (x : SharedName). is_among (keys_of s.files.holds) x.object ≡ true) (λ (x : SharedName). is_among (key ∷ keys_of (without_handle_row s.files c n).holds) x.object ≡ true)
@@ -214,9 +221,11 @@ limit_kept : (old set : ObjectSet) (key : ℕ) (f : Object → Object) → (left
 limit_kept old set key f None gone stays = ap (λ (o : ObjectSet). o.limit) stays
 limit_kept old set key f (Some x) gone stays = ap (λ (o : ObjectSet). o.limit) gone
 
+-- The limit of objects is unchanged when an object loses a handle.
 pub unhold_limit : (old set : ObjectSet) (key : ℕ) (left : Option Dead) → OnSome left (set ≡ without_key key old) → IfNone left (set ≡ changed_at key unheld old) → set.limit ≡ old.limit
 unhold_limit old set key left gone stays = limit_kept old set key unheld left gone stays
 
+-- The limit of objects is unchanged when an object loses a token or a framebuffer.
 pub unrefer_limit : (old set : ObjectSet) (key : ℕ) (left : Option Dead) → OnSome left (set ≡ without_key key old) → IfNone left (set ≡ changed_at key unreferred old) → set.limit ≡ old.limit
 unrefer_limit old set key left gone stays = limit_kept old set key unreferred left gone stays
 
@@ -225,18 +234,22 @@ unrefer_limit old set key left gone stays = limit_kept old set key unreferred le
 abbrev pub rest_keys : List (ℕ × ℕ) → List ℕ
 rest_keys rest = map (λ p. p.1) rest
 
+-- The keys that are left to release begin with the key of the first handle that is left.
 pub first_rest : (rest : List (ℕ × ℕ)) (h k : ℕ) → Some (h, k) ≡ slice_get rest 0 → rest_keys rest ≡ k ∷ rest_keys (drop 1 rest)
 first_rest [] h k e = absurd (let n : Some (h, k) ≡ None = e in cc)
 first_rest (p ∷ ps) h k e = ap (λ n. n ∷ rest_keys ps) (let s : Some (h, k) ≡ Some p = e in sym (ap (λ q. option_map_or (λ (r : ℕ × ℕ). r.1) q 0) s))
 
+-- Each released handle leaves fewer to release.
 pub shorter_rest : (rest : List (ℕ × ℕ)) (h k : ℕ) → Some (h, k) ≡ slice_get rest 0 → length (drop 1 rest) < length rest
 shorter_rest [] h k e = absurd (let n : Some (h, k) ≡ None = e in cc)
 shorter_rest (p ∷ ps) h k e = omega arith
 
+-- If there is no first handle to release, none is left.
 pub no_rest : (rest : List (ℕ × ℕ)) → None ≡ slice_get rest 0 → rest ≡ []
 no_rest [] e = refl
 no_rest (p ∷ ps) e = absurd (let n : None ≡ Some p = e in cc)
 
+-- The keys that handles name are those of a client's handles and those of all others.
 pub all_keys : (lists : FileLists) (c : ℕ) → SameRows (keys_of lists.holds) (rest_keys (left_by lists c) ++ keys_of (without_client lists c).holds)
 all_keys lists c =
     let mine = filter (of_client c) lists.holds in

@@ -19,7 +19,7 @@ not_or : (a b : Bool) → (not a && not b) ≡ not (a || b)
 not_or true b = refl
 not_or false b = refl
 
--- nothing refers to an object that no key names
+-- An object is unused exactly if no key names it.
 pub unused_is : (keys refs : List ℕ) (x : Object) (n : ℕ) → x.key ≡ n → Counts keys refs x → is_unused x ≡ not (is_among (keys ++ refs) n)
 unused_is keys refs x n e h =
     ap (λ m. (m == 0) && (x.refs == 0)) h.0 ∙ ap (λ m. (count keys x.key == 0) && (m == 0)) h.1
@@ -28,6 +28,7 @@ unused_is keys refs x n e h =
 
 -- ---- what is found of a key
 
+-- An object whose key is found has this key and what holds for all objects.
 pub is_found : (k : ℕ) → (xs : List Object) → is_some (find (is_key k) xs) ≡ true → (P : Object → Type 0) → AllByRecursion P xs → (x : Object) × (find (is_key k) xs ≡ Some x) × (x.key ≡ k) × P x
 is_found k [] h P all = absurd (let e : false ≡ true = h in cc)
 is_found k (x ∷ xs) h P all =
@@ -83,7 +84,7 @@ in_order_changed number k f is (x ∷ xs) h =
       in_order_changed number k f is xs h.1,
     )
 
--- the invariants of other lists, which name the same keys
+-- Objects still count what names them after one of them changed, if it counts what is new and all keys stay.
 pub changed_invariants : (keys refs new_keys new_refs : List ℕ) (k : ℕ) (f : Object → Object) → IsChange f → ((n : ℕ) → is_among (new_keys ++ new_refs) n ≡ is_among (keys ++ refs) n) →
     ((x : Object) → (x.key == k) ≡ true → Counts keys refs x → Counts new_keys new_refs (f x)) → ((x : Object) → (x.key == k) ≡ false → Counts keys refs x → Counts new_keys new_refs x) →
     (objects : List Object) → AreCounted keys refs objects → AreCounted new_keys new_refs (at_key k f objects)
@@ -95,7 +96,7 @@ changed_invariants keys refs new_keys new_refs k f is same own others objects h 
   step_numbers_differ = in_order_changed (λ (x : Object). x.step_number) k f is.step_number objects h.step_numbers_differ;
 }
 
--- the same keys in another order
+-- Objects count the same if the keys of handles are in another order.
 pub same_invariants : (keys others refs : List ℕ) (objects : List Object) → SameRows keys others → AreCounted keys refs objects → AreCounted others refs objects
 same_invariants keys others refs objects same h =
     let agree = λ (n : ℕ). let a : is_among (keys ++ refs) n ≡ is_among (others ++ refs) n = among-append keys refs n ∙ ap (λ b. b || is_among refs n) (same-any (λ k. k == n) keys others same) ∙ sym (among-append others refs n) in a in
@@ -109,7 +110,7 @@ same_invariants keys others refs objects same h =
 
 -- ---- those that are named
 
--- at first each object is named
+-- If objects count what names them, each of them is named.
 pub all_named : (keys refs : List ℕ) (objects : List Object) → AreCounted keys refs objects → AreThoseNamed objects (keys ++ refs) objects
 all_named keys refs objects h = ap (map core) (sym (filter_all (λ (x : Object). is_among (keys ++ refs) x.key) objects h.used))
 
@@ -119,18 +120,20 @@ core-named keys (x ∷ xs) =
     elim (is_among keys x.key) as (λ b. map core (cond b (x ∷ filter (λ (x : Object). is_among keys x.key) xs) (filter (λ (x : Object). is_among keys x.key) xs)) ≡ cond b (core x ∷ filter (λ (x : Object). is_among keys x.key) (map core xs)) (filter (λ (x : Object). is_among keys x.key) (map core xs)))
     [ true ↦ ap (λ l. core x ∷ l) (core-named keys xs) | false ↦ core-named keys xs ]
 
+-- If one test implies another, both pass exactly if the first does.
 pub and_weaker : (a b : Bool) → (b ≡ true → a ≡ true) → (a && b) ≡ b
 and_weaker true b f = refl
 and_weaker false true f = f refl
 and_weaker false false f = refl
 
--- of those that are named, those that fewer keys name
+-- The objects that fewer keys leave of those that some keys leave are those that the fewer keys leave.
 pub named_trans : (objects middle now : List Object) (keys fewer : List ℕ) → ((n : ℕ) → is_among fewer n ≡ true → is_among keys n ≡ true) → AreThoseNamed objects keys middle → AreThoseNamed middle fewer now → AreThoseNamed objects fewer now
 named_trans objects middle now keys fewer f h k =
     k ∙ core-named fewer middle ∙ ap (filter (λ (x : Object). is_among fewer x.key)) h ∙ sym (core-named fewer (filter (λ (x : Object). is_among keys x.key) objects))
     ∙ ap (map core) (filter-both (λ (x : Object). is_among fewer x.key) (λ (x : Object). is_among keys x.key) objects
     ∙ filter-same _ (λ (x : Object). is_among fewer x.key) objects (all_each _ (λ x. and_weaker (is_among keys x.key) (is_among fewer x.key) (f x.key)) objects))
 
+-- Lists with the same keys name the same objects.
 pub same_named : (objects : List Object) (keys others : List ℕ) (now : List Object) → ((n : ℕ) → is_among keys n ≡ is_among others n) → AreThoseNamed objects keys now → AreThoseNamed objects others now
 same_named objects keys others now agree h = h ∙ ap (map core) (filter-same (λ (x : Object). is_among keys x.key) (λ (x : Object). is_among others x.key) objects (all_each _ (λ x. agree x.key) objects))
 
@@ -164,7 +167,7 @@ all_without P Q k f (x ∷ xs) h =
     elim (x.key == k) as (λ b. (x.key == k) ≡ b → AllByRecursion Q (cond (not b) (x ∷ without_it k xs) (without_it k xs)))
     [ true ↦ λ e. all_without P Q k f xs h.1 | false ↦ λ e. (f x e h.0, all_without P Q k f xs h.1) ] refl
 
--- of the objects, which are all named, the others are those that the fewer keys name
+-- If a key is not among the rest, a key of both together is another exactly if it is among the rest.
 pub left_alone : (rest : List ℕ) (k n : ℕ) → is_among rest k ≡ false → (k == n || is_among rest n) ≡ true → not (n == k) ≡ is_among rest n
 left_alone rest k n h e =
     elim (n == k) as (λ b. (n == k) ≡ b → not b ≡ is_among rest n) [
@@ -211,7 +214,7 @@ lives k f keys refs fewer_keys fewer_refs set is h more =
     ap (option_map dead_of) (none_passing k (λ x. is_unused (f x)) set.objects
     (all_weaker (Counts keys refs) (λ (x : Object). (x.key == k) ≡ true → is_unused (f x) ≡ false) (λ x c e. unused_is fewer_keys fewer_refs (f x) k (is.change.key x ∙ eqb-true x.key k e) (is.own x e c) ∙ ap not more) set.objects h.counted))
 
--- one fewer, whatever becomes of its object
+-- With one key fewer, its object counts one fewer, or is freed with its last key, and the others stay.
 pub fewer_step : (k : ℕ) (f : Object → Object) (keys refs fewer_keys fewer_refs : List ℕ) (set new : ObjectSet) (left : Option Dead) → IsFewer k f keys refs fewer_keys fewer_refs → AreCounted keys refs set.objects → left ≡ dead_after f set k →
     OnSome left (new ≡ without_key k set) → IfNone left (new ≡ changed_at k f set) → IsStep set.objects fewer_keys fewer_refs new
 fewer_step k f keys refs fewer_keys fewer_refs set new left is h e gone same =
@@ -227,7 +230,7 @@ fewer_step k f keys refs fewer_keys fewer_refs set new left is h e gone same =
 one_less : (n m : ℕ) → n ≡ suc m → n - 1 ≡ m
 one_less n m h = omega (arith, h)
 
--- a handle fewer
+-- Without a handle, one key fewer is counted as a handle.
 pub handle_fewer : (k : ℕ) (keys refs : List ℕ) → IsFewer k unheld (k ∷ keys) refs keys refs
 handle_fewer k keys refs = record {
   change = record { key = λ x. refl; step_number = λ x. refl };
@@ -237,13 +240,13 @@ handle_fewer k keys refs = record {
   others = λ x e c. (c.0 ∙ count-other keys k x.key e, c.1);
 }
 
--- a key that is between others
+-- A key is in two lists with one in between exactly if it is this one or in one of the lists.
 pub among-between : (keys refs : List ℕ) (k n : ℕ) → is_among (keys ++ k ∷ refs) n ≡ (k == n || is_among (keys ++ refs) n)
 among-between [] refs k n = refl
 among-between (x ∷ keys) refs k n = ap (λ b. x == n || b) (among-between keys refs k n) ∙ elim (x == n) as (λ b. (b || (k == n || is_among (keys ++ refs) n)) ≡ (k == n || (b || is_among (keys ++ refs) n)))
     [ true ↦ sym (or_right (k == n) true refl) | false ↦ refl ]
 
--- a token or a framebuffer fewer
+-- Without a token or a framebuffer, one key fewer is counted as a reference.
 pub reference_fewer : (k : ℕ) (keys refs : List ℕ) → IsFewer k unreferred keys (k ∷ refs) keys refs
 reference_fewer k keys refs = record {
   change = record { key = λ x. refl; step_number = λ x. refl };
@@ -263,10 +266,11 @@ among_already false d f = refl
 one_more : (n m : ℕ) → n ≡ m → n + 1 ≡ suc m
 one_more n m h = omega (arith, h)
 
+-- A key that equals one of a list is in the list.
 pub already : (keys : List ℕ) (k n : ℕ) → is_among keys k ≡ true → (k == n) ≡ true → is_among keys n ≡ true
 already keys k n h e = ap (is_among keys) (sym (eqb-true k n e)) ∙ h
 
--- a handle more
+-- With one handle more, its object counts one more, and the others count the same.
 pub handle_more : (k : ℕ) (keys refs : List ℕ) (objects : List Object) → is_among (keys ++ refs) k ≡ true → AreCounted keys refs objects → AreCounted (k ∷ keys) refs (at_key k held objects)
 handle_more k keys refs objects e h =
     changed_invariants keys refs (k ∷ keys) refs k held (record { key = λ x. refl; step_number = λ x. refl }) (λ n. among_already (k == n) (is_among (keys ++ refs) n) (already (keys ++ refs) k n e))
@@ -275,13 +279,13 @@ handle_more k keys refs objects e h =
     flip : (a b : ℕ) → (a == b) ≡ true → (a == b) ≡ true
     flip a b h = h
 
--- a token or a framebuffer more
+-- With one token or framebuffer more, its object counts one more, and the others count the same.
 pub reference_more : (k : ℕ) (keys refs : List ℕ) (objects : List Object) → is_among (keys ++ refs) k ≡ true → AreCounted keys refs objects → AreCounted keys (k ∷ refs) (at_key k referred objects)
 reference_more k keys refs objects e h =
     changed_invariants keys refs keys (k ∷ refs) k referred (record { key = λ x. refl; step_number = λ x. refl }) (λ n. among-between keys refs k n ∙ among_already (k == n) (is_among (keys ++ refs) n) (already (keys ++ refs) k n e))
     (λ x is c. (c.0, one_more x.refs _ c.1 ∙ sym (count-it refs k x.key is))) (λ x is c. (c.0, c.1 ∙ sym (count-other refs k x.key is))) objects h
 
--- other references in another order
+-- Objects count the same if the keys of tokens and framebuffers are in another order.
 pub same_references : (keys refs others : List ℕ) (objects : List Object) → SameRows refs others → AreCounted keys refs objects → AreCounted keys others objects
 same_references keys refs others objects same h =
     let agree = λ (n : ℕ). let a : is_among (keys ++ refs) n ≡ is_among (keys ++ others) n = among-append keys refs n ∙ ap (λ b. is_among keys n || b) (same-any (λ k. k == n) refs others same) ∙ sym (among-append keys others n) in a in
@@ -293,12 +297,12 @@ same_references keys refs others objects same h =
       step_numbers_differ = h.step_numbers_differ;
     }
 
--- the objects whose counts alone changed are those that more keys name
+-- A change of counts alone leaves the objects those that more keys name.
 pub more_named : (k : ℕ) (f : Object → Object) (keys refs more : List ℕ) (objects : List Object) → ((x : Object) → core (f x) ≡ core x) → ((n : ℕ) → is_among (keys ++ refs) n ≡ true → is_among more n ≡ true) → AreCounted keys refs objects → AreThoseNamed objects more (at_key k f objects)
 more_named k f keys refs more objects bare sub h =
     core-changed k f bare objects ∙ ap (map core) (sym (filter_all (λ (x : Object). is_among more x.key) objects (all_weaker (λ (x : Object). is_among (keys ++ refs) x.key ≡ true) (λ (x : Object). is_among more x.key ≡ true) (λ x u. sub x.key u) objects h.used)))
 
--- how many handles name the object of the first key
+-- The handles of the first key's object are one more than the other handles that name it.
 pub handle_count : (set : ObjectSet) (k : ℕ) (keys refs : List ℕ) (n : ℕ) → AreCounted (k ∷ keys) refs set.objects → option_map (λ (x : Object). x.holds) (object_at set k) ≡ Some n → n ≡ suc (count keys k)
 handle_count set k keys refs n h e =
     let it = is_found k set.objects (h.there k (among-first (keys ++ refs) k)) (Counts (k ∷ keys) refs) h.counted in
@@ -318,6 +322,7 @@ fresh_key : (keys refs : List ℕ) (key : ℕ) (objects : List Object) → AreCo
 fresh_key keys refs key objects h e =
     elim (is_among (keys ++ refs) key) as (λ b. is_among (keys ++ refs) key ≡ b → b ≡ false) [ true ↦ λ j. absurd (let k : false ≡ true = sym (ap is_some e) ∙ h.there key j in cc) | false ↦ λ j. refl ] refl
 
+-- Objects count what refers to them after a new one was added, which one handle names.
 pub created_invariants : (keys refs : List ℕ) (objects : List Object) (new : Object) → AreCounted keys refs objects → find (is_key new.key) objects ≡ None → AllByRecursion (λ (x : Object). x.step_number < new.step_number) objects → new.holds ≡ 1 → new.refs ≡ 0 →
     AreCounted (new.key ∷ keys) refs (objects ++ new ∷ [])
 created_invariants keys refs objects new h fresh newest one none =

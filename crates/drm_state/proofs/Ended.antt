@@ -26,6 +26,7 @@ use Rattle.drm_state.specs.Invariants.{AreOfLessees, AreKeptBy}
 
 -- ---- open lease tokens
 
+-- A master that ends has no open lease token, and every other master keeps its own.
 pub token_left : (below : ℕ → Bool) (tokens : List LeaseToken) (m : ℕ) → token_of (filter (λ (row : LeaseToken). not (below row.master)) tokens) m ≡ (if below m then None else token_of tokens m)
 token_left below tokens m = ap (option_map (λ (row : LeaseToken). row.token)) (find_where (λ (row : LeaseToken). row.master) (λ n. not (below n)) m tokens) ∙ by_test (below m)
   where
@@ -33,18 +34,19 @@ token_left below tokens m = ap (option_map (λ (row : LeaseToken). row.token)) (
     by_test true = refl
     by_test false = refl
 
--- a lessee that is made now has none yet
+-- A master newer than all that have tokens has none.
 pub fresh_token : (m : ℕ) (tokens : List LeaseToken) → AllByRecursion (λ (row : LeaseToken). row.master < m) tokens → token_of tokens m ≡ None
 fresh_token m tokens h = ap (option_map (λ (row : LeaseToken). row.token)) (find_none (is_token_of m) tokens (all_weaker (λ (row : LeaseToken). row.master < m) (λ (row : LeaseToken). (row.master == m) ≡ false) (λ row lt. less-differ row.master m lt) tokens h))
 
 -- ---- the rows of masters
 
--- whether they are kept is nothing to their rows
+-- A release leaves the rows of masters, which do not say what is kept.
 pub rows_released : (tokens : List LeaseToken) (below : ℕ → Bool) → (ms : List Master) → map (master_row_of tokens) (released below ms) ≡ map (master_row_of tokens) ms
 rows_released tokens below [] = refl
 rows_released tokens below (x ∷ xs) =
     λ i. (elim (below x.step_number) as (λ b. master_row_of tokens (if b then kept_as false x else x) ≡ master_row_of tokens x) [ true ↦ refl | false ↦ refl ]) i ∷ rows_released tokens below xs i
 
+-- The rows of masters lose the tokens of those that end.
 pub rows_ended : (below : ℕ → Bool) (tokens : List LeaseToken) → (ms : List Master) → map (λ (row : MasterRow). if below row.master then record row { lease_token = None } else row) (map (master_row_of tokens) ms) ≡ map (master_row_of (filter (λ (row : LeaseToken). not (below row.master)) tokens)) ms
 rows_ended below tokens [] = refl
 rows_ended below tokens (x ∷ xs) = λ i. (by_test (below x.step_number) ∙ ap row (sym (token_left below tokens x.step_number))) i ∷ rows_ended below tokens xs i
@@ -56,15 +58,18 @@ rows_ended below tokens (x ∷ xs) = λ i. (by_test (below x.step_number) ∙ ap
     by_test true = refl
     by_test false = refl
 
+-- The rows of grants lose those of masters that end.
 pub grants_ended : (below : ℕ → Bool) (rows : List GrantRow) (grants : List Grant) → SameRows rows (map grant_row_of grants) → SameRows (filter (λ (row : GrantRow). not (below row.master)) rows) (map grant_row_of (filter (λ (g : Grant). not (below g.master)) grants))
 grants_ended below rows grants h = subst (SameRows (filter (λ (row : GrantRow). not (below row.master)) rows)) (filter-map (λ (row : GrantRow). not (below row.master)) grant_row_of grants) (same-filter (λ (row : GrantRow). not (below row.master)) rows (map grant_row_of grants) h)
 
 -- ---- nothing ends
 
+-- If no master ends, all stay as kept.
 pub none_released : (ms : List Master) → released (λ _. false) ms ≡ ms
 none_released [] = refl
 none_released (x ∷ xs) = ap (λ l. x ∷ l) (none_released xs)
 
+-- If no master ends, all leases stay.
 pub none_ended : (l : LeaseSet) → ended (λ _. false) l ≡ l
 none_ended l =
     λ i. record l {
@@ -75,6 +80,7 @@ none_ended l =
 
 -- ---- the invariants of masters and leases
 
+-- Exactly the masters that have an open lease token are kept, also after some masters end.
 pub kept_ended : (below : ℕ → Bool) (tokens : List LeaseToken) (ms : List Master) → AreKeptBy tokens ms → AreKeptBy (filter (λ (row : LeaseToken). not (below row.master)) tokens) (released below ms)
 kept_ended below tokens ms h =
     let left = filter (λ (row : LeaseToken). not (below row.master)) tokens in
@@ -85,6 +91,7 @@ kept_ended below tokens ms h =
       | false ↦ λ k. e ∙ sym (ap is_some (token_left below tokens x.step_number) ∙ ap (λ b. is_some (if b then None else token_of tokens x.step_number)) k)
     ]) refl) ms h)
 
+-- A release leaves the lessor of each master.
 pub released_lessor : (below : ℕ → Bool) (ms : List Master) (m : ℕ) → masters.lessor_of (released below ms) m ≡ masters.lessor_of ms m
 released_lessor below ms m =
     let change = λ (x : Master). if below x.step_number then kept_as false x else x in
@@ -97,12 +104,13 @@ released_lessor below ms m =
     by_row None = refl
     by_row (Some x) = elim (below x.step_number) as (λ b. (if b then kept_as false x else x).lessor ≡ x.lessor) [ true ↦ refl | false ↦ refl ]
 
+-- Each open lease token is that of a lessee, also after some masters end.
 pub of_lessees_ended : (below : ℕ → Bool) (tokens : List LeaseToken) (ms : List Master) → AreOfLessees tokens ms → AreOfLessees (filter (λ (row : LeaseToken). not (below row.master)) tokens) (released below ms)
 of_lessees_ended below tokens ms h =
     all_filter (λ (row : LeaseToken). is_lessee (released below ms) row.master ≡ true) (λ (row : LeaseToken). not (below row.master)) tokens
     (all_weaker (λ (row : LeaseToken). is_lessee ms row.master ≡ true) (λ (row : LeaseToken). is_lessee (released below ms) row.master ≡ true) (λ row e. ap is_some (released_lessor below ms row.master) ∙ e) tokens h)
 
--- one more master, which is no lessee
+-- Exactly the masters that have an open lease token are kept, also with one more master that has none.
 pub kept_more : (tokens : List LeaseToken) (ms : List Master) (y : Master) → AreKeptBy tokens ms → y.kept ≡ false → AllByRecursion (λ (row : LeaseToken). row.master < y.step_number) tokens → AreKeptBy tokens (ms ++ y ∷ [])
 kept_more tokens ms y h unkept new = all_append (λ (x : Master). x.kept ≡ is_some (token_of tokens x.step_number)) ms (y ∷ []) h (unkept ∙ sym (ap is_some (fresh_token y.step_number tokens new)), tt)
 
@@ -117,6 +125,7 @@ lessee_more ms y m h = by_row (find (is_step_number m) ms) refl h
     by_row None e k = absurd (let n : false ≡ true = k in cc)
     by_row (Some x) e k = ap (λ o. is_some (option_and_then (λ (x : Master). x.lessor) o)) (found_more (is_step_number m) y x ms e) ∙ k
 
+-- Each open lease token is that of a lessee, also with one more master.
 pub of_lessees_more : (tokens : List LeaseToken) (ms : List Master) (y : Master) → AreOfLessees tokens ms → AreOfLessees tokens (ms ++ y ∷ [])
 of_lessees_more tokens ms y h = all_weaker (λ (row : LeaseToken). is_lessee ms row.master ≡ true) (λ (row : LeaseToken). is_lessee (ms ++ y ∷ []) row.master ≡ true) (λ row e. lessee_more ms y row.master e) tokens h
 
@@ -141,6 +150,7 @@ module _ (members : List Member) (tokens : List LeaseToken) (ms : List Master) (
           any_found (is_step_number m) (λ (y : Master). masters.is_held members y && chains.is_under (masters.lessor_of ms) m y.step_number) x ms e
           (λ i. (held i || list_any (λ (y : Member). y.master == x.step_number) members) && top i)
 
+  -- Each open lease token is that of a lessee, also after a sweep.
   pub of_lessees_swept : AreOfLessees tokens ms → AreOfLessees tokens left
   of_lessees_swept h =
       all_both (λ (row : LeaseToken). is_lessee ms row.master ≡ true) (λ (row : LeaseToken). list_any (λ (y : LeaseToken). y.master == row.master) tokens ≡ true) (λ (row : LeaseToken). is_lessee left row.master ≡ true) (λ row e there.
@@ -152,6 +162,7 @@ module _ (members : List Member) (tokens : List LeaseToken) (ms : List Master) (
       some_map None e = e
       some_map (Some row) e = refl
 
+  -- Exactly the masters that have an open lease token are kept, also after a sweep.
   pub kept_swept : AreKeptBy tokens left
   kept_swept = all_filter (λ (x : Master). x.kept ≡ is_some (token_of tokens x.step_number)) (λ (x : Master). lives x.step_number) ms kept
 
@@ -173,11 +184,12 @@ one_released tokens below f x kept is = ap (λ b. if b then kept_as false x else
         ap (λ b. if below x.step_number && b then kept_as false x else x) e
         ∙ (elim (below x.step_number) as (λ b. (if b && false then kept_as false x else x) ≡ (if b then kept_as false x else x)) [ true ↦ sym (unkept x (kept ∙ kept_is tokens x.step_number ∙ e)) | false ↦ refl ])
 
+-- To release the masters of open tokens releases all that end, since no other is kept.
 pub opened_released : (tokens : List LeaseToken) (below : ℕ → Bool) → (ms : List Master) → AreKeptBy tokens ms → released (λ m. below m && has_token tokens m) ms ≡ released below ms
 opened_released tokens below [] h = refl
 opened_released tokens below (x ∷ xs) h = λ i. one_released tokens below (λ m. below m && has_token tokens m) x h.0 refl i ∷ opened_released tokens below xs h.1 i
 
--- the own master of a client that closes is kept until it is released too
+-- A closing that keeps the client's own master at first releases it too in the end.
 pub closed_released : (tokens : List LeaseToken) (below f : ℕ → Bool) (own : ℕ) → ((m : ℕ) → (m == own) ≡ false → f m ≡ (below m && has_token tokens m)) → f own ≡ true → below own ≡ true → (ms : List Master) → AreKeptBy tokens ms →
     released f (map (λ (x : Master). if is_step_number own x then kept_as true x else x) ms) ≡ released below (map (λ (x : Master). if is_step_number own x then kept_as true x else x) ms)
 closed_released tokens below f own others its under [] h = refl

@@ -21,20 +21,20 @@ use Rattle.drm_state.specs.Invariants.{MeetsInvariants}
 use Rattle.drm_state.specs.Refinement.{Represents}
 use Rattle.drm_state.proofs.Represented.{framebuffers_are, shown_are, modes_so}
 
--- a framebuffer has a row exactly if it is there
+-- A framebuffer has a row exactly if the state has it.
 pub framebuffer_there : (v : Rows) (objects : List Object) (fs : List Framebuffer) (f : ℕ) → SameRows v.framebuffers (map (framebuffer_row_of objects) fs) → is_framebuffer v f ≡ list_any (modes.is_framebuffer f) fs
 framebuffer_there v objects fs f h =
     let is = λ (row : FramebufferRow). row.framebuffer == f in
     is_some-find is v.framebuffers ∙ same-any is v.framebuffers (map (framebuffer_row_of objects) fs) h ∙ list_any-map is (framebuffer_row_of objects) fs
 
--- what is lit shows what may be shown
+-- If each scanout shows nothing or what passes a test, each lit row shows what passes it.
 pub lit_shows : (p : ℕ → Bool) (x : ℕ) → (scanouts : List ℕ) → AllByRecursion (λ f. ((f == 0) || p f) ≡ true) scanouts → AllByRecursion (λ (row : Shown). p row.framebuffer ≡ true) (lit_rows x scanouts)
 lit_shows p x [] h = tt
 lit_shows p x (f ∷ fs) h =
     elim (f == 0) as (λ b. (b || p f) ≡ true → AllByRecursion (λ (row : Shown). p row.framebuffer ≡ true) (cond (not b) (shown x f ∷ lit_rows (x + 1) fs) (lit_rows (x + 1) fs)))
     [ true ↦ λ e. lit_shows p (x + 1) fs h.1 | false ↦ λ e. (e, lit_shows p (x + 1) fs h.1) ] h.0
 
--- of what is shown stays what shows a framebuffer that exists
+-- Of what is shown, a sweep leaves what shows a framebuffer that exists.
 pub shown_left : (v : Rows) (objects : List Object) (old now : ModeSet) → SameRows v.framebuffers (map (framebuffer_row_of objects) now.framebuffers) → SameRows v.shown (map shown_row_of (shown_rows old)) →
     shown_rows now ≡ filter (λ (x : Shown). has_framebuffer now x.framebuffer) (shown_rows old) → SameRows (filter (λ (row : ShownRow). is_framebuffer v row.framebuffer) v.shown) (map shown_row_of (shown_rows now))
 shown_left v objects old now h k e =
@@ -46,10 +46,11 @@ shown_left v objects old now h k e =
     ∙ ap (map shown_row_of) (sym e) in
     subst (SameRows (filter stays v.shown)) same (same-filter stays v.shown (map shown_row_of (shown_rows old)) k)
 
--- all of it, where framebuffers are unchanged
+-- A state whose mode objects meet their facts shows only framebuffers that exist.
 pub all_shown : (set : ModeSet) → AreModes set → shown_rows set ≡ filter (λ (x : Shown). has_framebuffer set x.framebuffer) (shown_rows set)
 all_shown set are = sym (filter_all (λ (x : Shown). has_framebuffer set x.framebuffer) (shown_rows set) (lit_shows (has_framebuffer set) 1 set.scanouts are.scanouts_are))
 
+-- A state that meets the invariants shows only framebuffers that exist.
 pub shown_yet : (s : State) (w : Rows) → MeetsInvariants s → Represents s w → SameRows (filter (λ (row : ShownRow). is_framebuffer w row.framebuffer) w.shown) (shown_of s)
 shown_yet s w t h = shown_left w s.objects.objects s.modes s.modes (framebuffers_are s w h) (shown_are s w h) (all_shown s.modes (modes_so s t))
 
@@ -75,6 +76,7 @@ dark_rows g x (f ∷ fs) =
           | false ↦ ap (λ b. cond (not b) (shown x f ∷ filter (λ (row : Shown). not (row.framebuffer == g)) (lit_rows (x + 1) fs)) (filter (λ (row : Shown). not (row.framebuffer == g)) (lit_rows (x + 1) fs))) e
         ]
 
+-- Without a framebuffer, what showed it is dark, and all else is shown unchanged.
 pub one_dark : (set : ModeSet) (g : ℕ) → shown_rows (modes.without_framebuffer set g) ≡ filter (λ (row : Shown). not (row.framebuffer == g)) (shown_rows set)
 one_dark set g = dark_rows g 1 set.scanouts
 
@@ -112,13 +114,14 @@ left_of p q f h (x ∷ xs) =
       | false ↦ left_of p q f h xs
     ]) ∙ sym (ap (λ b. cond b (x ∷ now) now) (h x.framebuffer))
 
+-- Without one framebuffer more, what shows one of those that remain is shown unchanged.
 pub dark_further : (set : ModeSet) (f : ℕ) (start : List Shown) → shown_rows set ≡ filter (λ (x : Shown). has_framebuffer set x.framebuffer) start →
     shown_rows (modes.without_framebuffer set f) ≡ filter (λ (x : Shown). has_framebuffer (modes.without_framebuffer set f) x.framebuffer) start
 dark_further set f start e =
     one_dark set f ∙ ap (filter (λ (row : Shown). not (row.framebuffer == f))) e
     ∙ left_of (has_framebuffer set) (has_framebuffer (modes.without_framebuffer set f)) f (λ g. others_there f g set.framebuffers) start
 
--- fewer framebuffers name fewer keys
+-- Fewer framebuffers name no other keys.
 pub some_framed : (p : Framebuffer → Bool) → (fs : List Framebuffer) (n : ℕ) → is_among (framebuffer_keys (filter p fs)) n ≡ true → is_among (framebuffer_keys fs) n ≡ true
 some_framed p [] n h = h
 some_framed p (x ∷ xs) n h =
@@ -127,6 +130,6 @@ some_framed p (x ∷ xs) n h =
       | false ↦ λ e. among-more (framebuffer_keys xs) x.object n (some_framed p xs n e)
     ] h
 
--- the framebuffers that pass a test
+-- The rows of framebuffers that pass a test are those of the framebuffers that pass it.
 pub framed_left : (rows : List FramebufferRow) (p : FramebufferRow → Bool) (objects : List Object) (fs : List Framebuffer) → SameRows rows (map (framebuffer_row_of objects) fs) → SameRows (filter p rows) (map (framebuffer_row_of objects) (filter (λ x. p (framebuffer_row_of objects x)) fs))
 framed_left rows p objects fs h = subst (SameRows (filter p rows)) (filter-map p (framebuffer_row_of objects) fs) (same-filter p rows (map (framebuffer_row_of objects) fs) h)

@@ -65,7 +65,7 @@ through_fb of None = refl
 through_fb of (Some x) = refl
 
 module _ (s : State) (w : Rows) (t : MeetsInvariants s) (h : Represents s w) where
-  -- a framebuffer has a row exactly if it is there
+  -- A framebuffer has a row exactly if the state has it.
   pub framebuffer_is : (f : ℕ) → is_framebuffer w f ≡ has_framebuffer s.modes f
   framebuffer_is f = framebuffer_there w s.objects.objects s.modes.framebuffers f (framebuffers_are s w h)
 
@@ -83,17 +83,17 @@ module _ (s : State) (w : Rows) (t : MeetsInvariants s) (h : Represents s w) whe
         number_is f told (λ y. of (modes.fb_of y)) number is ∙ through_fb (λ v. number (of v)) (find (modes.is_framebuffer f) s.modes.framebuffers)
         ∙ ap (option_map (λ v. number (of v))) found
 
-    -- what holds for a framebuffer
+    -- The answer of a framebuffer has the shape that the state has.
     pub framebuffer_told : (handle : ℕ) → framebuffer_answer handle (framebuffer_row w f) ≡ FramebufferIs x.shape.width x.shape.height x.shape.pitch x.shape.bpp handle
     framebuffer_told handle =
         told_by handle (framebuffer_row w f) x.shape.width x.shape.height x.shape.pitch x.shape.bpp (number_found (λ row. row.width) (λ y. y.shape.width) itself (λ y. refl)) (number_found (λ row. row.height) (λ y. y.shape.height) itself (λ y. refl))
         (number_found (λ row. row.pitch) (λ y. y.shape.pitch) itself (λ y. refl)) (number_found (λ row. row.bpp) (λ y. y.shape.bpp) itself (λ y. refl))
 
-    -- the number of its object
+    -- The object of a framebuffer is that of its key.
     pub framebuffer_object_is : framebuffer_object w f ≡ step_number_at s.objects.objects x.object
     framebuffer_object_is = ap (λ o. unwrap_or o 0) (number_found (λ row. row.object) (λ y. y.object) (step_number_at s.objects.objects) (λ y. refl))
 
-  -- the framebuffer of a client
+  -- A client owns a framebuffer by rows exactly if it owns it in the state.
   pub own_framebuffer : (c f : ℕ) → is_some (find (model.is_framebuffer_of c f) w.framebuffers) ≡ is_some (find (modes.is_framebuffer_of c f) s.modes.framebuffers)
   own_framebuffer c f =
       is_some-find (model.is_framebuffer_of c f) w.framebuffers ∙ same-any (model.is_framebuffer_of c f) w.framebuffers (framebuffers_of s) (framebuffers_are s w h)
@@ -101,7 +101,7 @@ module _ (s : State) (w : Rows) (t : MeetsInvariants s) (h : Represents s w) whe
       ∙ list_any_agree (λ x. model.is_framebuffer_of c f (framebuffer_row_of s.objects.objects x)) (modes.is_framebuffer_of c f) (λ x. and_comm (x.client == c) (x.framebuffer == f)) s.modes.framebuffers
       ∙ sym (is_some-find (modes.is_framebuffer_of c f) s.modes.framebuffers)
 
-  -- the free id
+  -- The free id of a framebuffer is the same by rows as in the state.
   pub free_framebuffer_is : model.free_framebuffer w ≡ modes.free_framebuffer s.modes
   free_framebuffer_is =
       let id = λ (row : FramebufferRow). row.framebuffer in
@@ -112,7 +112,7 @@ module _ (s : State) (w : Rows) (t : MeetsInvariants s) (h : Represents s w) whe
       least-same (model.is_free_framebuffer w) (modes.is_free s.modes) (modes.first_framebuffer w.topology) _ (λ n _ _. ap not (agree n))
       ∙ ap (least (modes.is_free s.modes) (modes.first_framebuffer w.topology)) (sym bounds.6) ∙ ap (λ (topology : Topology). least (modes.is_free s.modes) (modes.first_framebuffer topology) s.modes.last) (sym bounds.7)
 
--- the object of a framebuffer is known
+-- The key of a framebuffer is among the keys that something names.
 pub framebuffer_known : (s : State) (f key : ℕ) → Some key ≡ option_map (λ (x : Fb). x.object) (option_map modes.fb_of (find (modes.is_framebuffer f) s.modes.framebuffers)) → is_among (keys_of s.files.holds ++ referring_keys s) key ≡ true
 framebuffer_known s f key e =
     among-right (keys_of s.files.holds) (referring_keys s) key
@@ -160,6 +160,7 @@ module _ (s : State) (n c key : ℕ) (shape : Shape) (t : MeetsInvariants s) (na
       let keys = keys_of s.files.holds in
       same_references keys (key ∷ referring_keys s) refs_more _ one_reference_more (reference_more key keys (referring_keys s) s.objects.objects (among-left keys (referring_keys s) key named) (objects_counted s t))
 
+  -- One framebuffer more keeps all invariants.
   pub framed_invariants : MeetsInvariants (with_frame s n c shape key)
   framed_invariants = all_moved_invariants s s.files.holds s.tokens.tokens s.tokens.last_given (with_framebuffer s.modes (framebuffer n c shape key)) s.names.names (changed_at key referred s.objects) t (holds_rise s t) are more_counted (names_held s t)
 
@@ -167,6 +168,7 @@ module _ (s : State) (n c key : ℕ) (shape : Shape) (t : MeetsInvariants s) (na
   abbrev row_more : Rows → ℕ → FramebufferRow
   row_more w o = record { framebuffer = new_framebuffer w; client = c; object = o; width = shape.width; height = shape.height; pitch = shape.pitch; bpp = shape.bpp }
 
+  -- The state with one framebuffer more represents the rows with it, after a sweep.
   pub framed : (w : Rows) (o : ℕ) → Represents s w → o ≡ step_number_at s.objects.objects key → new_framebuffer w ≡ n → Represents (with_frame s n c shape key) (swept (record w { framebuffers = w.framebuffers ++ row_more w o ∷ [] }))
   framed w o r e number =
       let now = with_framebuffer s.modes (framebuffer n c shape key) in
@@ -266,7 +268,7 @@ module _ (s : State) (c f key : ℕ) (t : MeetsInvariants s) (of : Some key ≡ 
   goes : Goes c f key s.modes.framebuffers
   goes = one_goes c f key s.modes.framebuffers (modes_so s t).framebuffers_rise of
 
-  -- the references, of which one goes
+  -- Objects count the key of the framebuffer, and the keys of all others.
   pub frame_invariants : AreCounted (keys_of s.files.holds) (key ∷ referring s.tokens.tokens left) s.objects.objects
   frame_invariants =
       let opened = token_keys s.tokens.tokens in
@@ -281,9 +283,11 @@ module _ (s : State) (c f key : ℕ) (t : MeetsInvariants s) (of : Some key ≡ 
       (λ k. among-right (token_keys s.tokens.tokens) (framebuffer_keys s.modes.framebuffers) m (some_framed (λ (x : Framebuffer). not (modes.is_framebuffer f x)) s.modes.framebuffers m k)) j
 
   module _ (set : ObjectSet) (step : IsStep s.objects.objects (keys_of s.files.holds) (referring s.tokens.tokens left) set) (limit : set.limit ≡ s.objects.limit) (are : AreModes (without_framebuffer s.modes f)) where
+    -- One framebuffer fewer keeps all invariants.
     pub unframed_invariants : MeetsInvariants (without_frame s f set)
     unframed_invariants = all_moved_invariants s s.files.holds s.tokens.tokens s.tokens.last_given (without_framebuffer s.modes f) s.names.names set t (holds_rise s t) are step.invariants (names_held s t)
 
+    -- The state without a framebuffer represents the rows without it, after a sweep.
     pub unframed : (w : Rows) → Represents s w → Represents (without_frame s f set) (swept (record w { framebuffers = without (model.is_framebuffer_of c f) w.framebuffers }))
     unframed w r =
         let now = without_framebuffer s.modes f in

@@ -17,24 +17,24 @@ use Rattle.drm_state.proofs.Contents.{holds_it, object_found, key_found}
 use Rattle.drm_state.proofs.SharedLookups.{name_found}
 
 module _ (s : State) (c n key : ℕ) (t : MeetsInvariants s) (found : Some key ≡ option_map (λ (x : FileHandle). x.object) (find (files.is_handle c n) s.files.holds)) where
-  -- a handle names the object
+  -- The key of a handle that was looked up is among the keys that handles name.
   pub among : is_among (keys_of s.files.holds) key ≡ true
   among = key_found c n key s.files.holds found
 
   module _ (w : Rows) (r : Represents s w) where
-    -- the client has it
+    -- A client has by rows a handle that was looked up.
     pub has_it : has_handle w c n ≡ true
     has_it = holds_it s w r c n (Some key) (Some key) found refl
 
-    -- the number of its object
+    -- The object of a handle that was looked up is that of its key.
     pub object_is : object_of w c n ≡ step_number_at s.objects.objects key
     object_is = object_found s w t r c n key (Some key) found refl
 
-    -- and the name
+    -- The name of a handle's object is the same by rows as in the state.
     pub name_is : AreNames s.names → name_of w (step_number_at s.objects.objects key) ≡ names.name_of s.names key
     name_is are = name_found s w key t are r (among-left (keys_of s.files.holds) (referring_keys s) key among)
 
--- a number that exists, since it is not none
+-- An option that is not empty holds a number.
 pub some_free : (o : Option ℕ) → (o ≡ None → ⊥) → is_some o ≡ true
 some_free None h = absurd (h refl)
 some_free (Some n) h = refl

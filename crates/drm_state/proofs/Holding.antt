@@ -18,14 +18,15 @@ use Rattle.std.proofs.lemmas.Bool.{not-true}
 abbrev AreInOrder : List FileHandle → Type 0
 AreInOrder holds = InOrder (λ x y. handle_before x y ≡ true) holds
 
--- one more row, where it belongs
+-- A row that is put in its place is among the others, up to order.
 pub placed_same : {X : Type 0} (before : X → X → Bool) (x : X) (xs : List X) → SameRows (x ∷ xs) (placed before x xs)
 placed_same before x xs = lists.same_placed (λ y. before y x) x xs
 
+-- A handle that is put in its place is among the others, up to order.
 pub same_placed : (h : FileHandle) (hs : List FileHandle) → SameRows (h ∷ hs) (placed handle_before h hs)
 same_placed h hs = placed_same handle_before h hs
 
--- what is so of a row and of all others is so of all
+-- What holds of a row and of all others holds of all after it was put in its place.
 pub all_placed : {X : Type 0} (before : X → X → Bool) (P : X → Type 0) (x : X) (xs : List X) → P x → AllByRecursion P xs → AllByRecursion P (placed before x xs)
 all_placed before P x xs h k = lists.all_placed P (λ y. before y x) x xs h k
 
@@ -42,6 +43,7 @@ in_order_join y zs e k (x ∷ xs) h o = (
   in_order_join y zs e k xs h.1 o.1,
 )
 
+-- A handle that is put in its place leaves handles in order, if no other has its number.
 pub in_order_placed : (y : FileHandle) (hs : List FileHandle) → AreInOrder hs → AllByRecursion (λ x. is_handle y.client y.handle x ≡ false) hs → AreInOrder (placed handle_before y hs)
 in_order_placed y hs o new =
     let behind = filter (λ z. not (handle_before z y)) hs in
@@ -56,7 +58,7 @@ none_passes p (x ∷ xs) h =
     elim (p x) as (λ b. p x ≡ b → (b || list_any p xs) ≡ false → (p x ≡ false) × AllByRecursion (λ x. p x ≡ false) xs)
     [ true ↦ λ e k. absurd (let no : true ≡ false = k in cc) | false ↦ λ e k. (e, none_passes p xs k) ] refl h
 
--- no handle is the free one
+-- No row has the free handle of the client.
 pub free_is_new : (files : FileLists) (c n : ℕ) → free_handle files c ≡ Some n → AllByRecursion (λ (x : FileHandle). is_handle c n x ≡ false) files.holds
 free_is_new files c n h =
     none_passes (is_handle c n) files.holds
@@ -72,6 +74,7 @@ keeps_rest : (x : FileHandle) (c n : ℕ) → is_handle c n x ≡ true → (xs :
 keeps_rest x c n h [] k = refl
 keeps_rest x c n h (z ∷ zs) k = ap (λ b. cond (not b) (z ∷ filter (λ (z : FileHandle). not (is_handle c n z)) zs) (filter (λ (z : FileHandle). not (is_handle c n z)) zs)) (key_after x z c n h k.0) ∙ ap (λ l. z ∷ l) (keeps_rest x c n h zs k.1)
 
+-- Without a handle of a client, one key fewer is named: the key of that handle.
 pub one_goes : (c n key : ℕ) → (hs : List FileHandle) → InOrder (λ x y. handle_before x y ≡ true) hs → Some key ≡ option_map (λ (x : FileHandle). x.object) (find (is_handle c n) hs) → SameRows (keys_of hs) (key ∷ keys_of (filter (λ (z : FileHandle). not (is_handle c n z)) hs))
 one_goes c n key [] h e = absurd (let k : Some key ≡ None = e in cc)
 one_goes c n key (x ∷ xs) h e =
@@ -84,7 +87,7 @@ one_goes c n key (x ∷ xs) h e =
           same-trans (x.object ∷ keys_of xs) (x.object ∷ key ∷ keys_of rest) (key ∷ x.object ∷ keys_of rest) (same-cons x.object (keys_of xs) (key ∷ keys_of rest) (one_goes c n key xs h.1 f)) (same-swap x.object key (keys_of rest))
     ] refl e
 
--- the holds of a key name one object
+-- All rows of a client's handle name the object of the first.
 pub one_object : (c n : ℕ) (number : ℕ → ℕ) → (xs : List FileHandle) → AreInOrder xs → (y : FileHandle) → find (is_handle c n) xs ≡ Some y → list_any (λ (x : FileHandle). is_handle c n x && not (number x.object == number y.object)) xs ≡ false
 one_object c n number [] k y e = refl
 one_object c n number (x ∷ xs) k y e =
@@ -109,7 +112,7 @@ later_handles x c e (z ∷ zs) h =
     elim (of_client c z) as (λ b. of_client c z ≡ b → AllByRecursion (RisesTo nat_le x.handle) (map (λ (x : FileHandle). x.handle) (cond b (z ∷ filter (of_client c) zs) (filter (of_client c) zs))))
     [ true ↦ λ f. (handle_after x z c e f h.0, later_handles x c e zs h.1) | false ↦ λ f. later_handles x c e zs h.1 ] refl
 
--- handles of one client rise
+-- The handles of a client are in rising order.
 pub handles_rise : (c : ℕ) → (xs : List FileHandle) → AreInOrder xs → InOrder (RisesTo nat_le) (map (λ (x : FileHandle). x.handle) (filter (of_client c) xs))
 handles_rise c [] h = tt
 handles_rise c (x ∷ xs) h =

@@ -53,11 +53,13 @@ not_last keys k n e is = among (is_among keys k) (sym is ∙ only_one n (count k
 
 module _ (names : NameList) (set new : ObjectSet) (k n : ℕ) (keys refs : List ℕ) (dead : Option Dead) (invariants : AreCounted (k ∷ keys) refs set.objects) (named : AreNamed (k ∷ keys) names.names) (number : option_map (λ (x : Object). x.holds) (object_at set k) ≡ Some n)
     (is : dead ≡ dead_after unheld set k) (gone : OnSome dead (new ≡ without_key k set)) (stays : IfNone dead (new ≡ changed_at k unheld set)) where
+  -- Without the only handle of an object, its name is removed too.
   pub leaves_last : (now : NameList) → n ≡ 1 → now ≡ without_name_of names k → Leaves names set keys refs now new
   leaves_last now one e =
       let step = unheld_step set new k keys refs dead invariants is gone stays in
       record { invariants = step.invariants; those = step.named; limit = unhold_limit set new k dead gone stays; names = e ∙ forgotten names k keys (last_one keys k n (handle_count set k keys refs n invariants number) (eq-eqb n 1 one)) named }
 
+  -- Without one handle of several of an object, its name stays.
   pub leaves_others : (n ≡ 1 → ⊥) → Leaves names set keys refs names new
   leaves_others more =
       let step = unheld_step set new k keys refs dead invariants is gone stays in

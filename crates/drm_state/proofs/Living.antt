@@ -17,6 +17,7 @@ use Rattle.drm_leases.specs.Leases.{token_of}
 use Rattle.drm_state.specs.Parts.{master_row_of}
 use Rattle.drm_state.specs.Invariants.{AreKeptBy}
 
+-- A master has the same lessor by rows as in the state.
 pub lessors_are : (tokens : List LeaseToken) (ms : List Master) (n : ℕ) → lessor_of (map (master_row_of tokens) ms) n ≡ masters.lessor_of ms n
 lessors_are tokens ms n = ap (option_and_then (λ (row : MasterRow). row.lessor)) (find-map (λ (row : MasterRow). row.master == n) (master_row_of tokens) ms) ∙ same (find (masters.is_step_number n) ms)
   where
@@ -27,7 +28,7 @@ lessors_are tokens ms n = ap (option_and_then (λ (row : MasterRow). row.lessor)
 abbrev pub above_is : (tokens : List LeaseToken) (ms : List Master) → lessor_of (map (master_row_of tokens) ms) ≡ masters.lessor_of ms
 above_is tokens ms = λ i n. lessors_are tokens ms n i
 
--- whether a client is current, by its row and by how it belongs to masters
+-- A client is current by its row exactly if it is by how it belongs to masters.
 pub current_is : (tokens : List LeaseToken) (ms : List Master) (device : Option ℕ) (o : Option Member) →
     (option_map_or (λ (x : Member). x.is_master) o false && is_owner (map (master_row_of tokens) ms) device (option_map (λ (x : Member). x.master) o)) ≡ option_map_or (λ (x : Member). x.is_master && masters.is_option (masters.owner_of ms x.master) device) o false
 current_is tokens ms device None = refl
@@ -52,6 +53,7 @@ module _ (v : Rows) (tokens : List LeaseToken) (ms : List Master) (members : Lis
       (all_weaker (λ (x : Master). x.kept ≡ is_some (token_of tokens x.step_number)) (λ (x : Master). (is_held v (master_row_of tokens x) && is_under (map (master_row_of tokens) ms) m x.step_number) ≡ (masters.is_held members x && chains.is_under (masters.lessor_of ms) m x.step_number))
       (λ x e i. held_is x e i && chains.is_under (above_is tokens ms i) m x.step_number) ms kept)
 
+  -- A sweep of the rows leaves the rows of the masters that live in the state.
   pub swept_masters : filter (λ (row : MasterRow). is_living v row.master) v.masters ≡ map (master_row_of tokens) (filter (λ (x : Master). masters.is_living members ms x.step_number) ms)
   swept_masters =
       ap (filter (λ (row : MasterRow). is_living v row.master)) are ∙ filter-map (λ (row : MasterRow). is_living v row.master) (master_row_of tokens) ms

@@ -17,21 +17,24 @@ use Rattle.drm_state.proofs.Living.{current_is}
 use Rattle.drm_table.specs.declared.permits.Standing.{Standing}
 use Rattle.drm_masters.specs.declared.rows.Member.{Member}
 
+-- The row of a client is that of its file, if the client is open.
 pub client_found : (s : State) (w : Rows) → Represents s w → (c : ℕ) → client_row w c ≡ option_map (client_row_of s.masters.members) (find (files.is_client c) s.files.clients)
 client_found s w h c = ap (find (is_client c)) (clients_are s w h) ∙ find-map (is_client c) (client_row_of s.masters.members) s.files.clients
 
+-- A client is open by rows exactly if it has a file.
 pub is_open_is : (s : State) (w : Rows) → Represents s w → (c : ℕ) → is_open w c ≡ files.is_open_client s.files c
 is_open_is s w h c = ap is_some (client_found s w h c) ∙ is_some-map (client_row_of s.masters.members) (find (files.is_client c) s.files.clients)
 
--- the row of a client whose flags were looked up
+-- The row of a client whose flags were looked up has these flags and its master.
 pub client_row_is : (s : State) (w : Rows) → Represents s w → (c : ℕ) (flags : FileFlags) → Some flags ≡ option_map (λ (f : FileClient). f.flags) (find (files.is_client c) s.files.clients) →
     client_row w c ≡ Some (client_row_by (record { client = c; flags = flags }) (member_of s.masters.members c))
 client_row_is s w h c flags e = client_found s w h c ∙ row_found c flags s.masters.members s.files.clients e
 
+-- A client without a file is not open.
 pub no_client : (s : State) (w : Rows) → Represents s w → (c : ℕ) → None ≡ option_map (λ (f : FileClient). f.flags) (find (files.is_client c) s.files.clients) → is_open w c ≡ false
 no_client s w h c e = is_open_is s w h c ∙ not_found c s.files.clients e
 
--- what the tests of a row's flags ask of the client
+-- A client's credentials by rows are those of its flags, and whether it is current.
 pub credentials_is : (s : State) (w : Rows) → Represents s w → (c : ℕ) (flags : FileFlags) → credentials_in w (Some (client_row_by (record { client = c; flags = flags }) (member_of s.masters.members c))) ≡
     record { root = flags.root; render = flags.render; authenticated = flags.authenticated; current = is_current s.masters c }
 credentials_is s w h c flags =

@@ -45,11 +45,13 @@ drop_last key y e [] h = ap (λ b. cond (not b) (y ∷ []) []) e
 drop_last key y e (x ∷ xs) h =
     ap (λ b. cond (not b) (x ∷ filter (λ (x : Object). not (x.key == key)) (xs ++ y ∷ [])) (filter (λ (x : Object). not (x.key == key)) (xs ++ y ∷ []))) h.0 ∙ ap (λ l. x ∷ l) (drop_last key y e xs h.1)
 
+-- The object that was just created has a handle to lose.
 pub made_there : (old set : ObjectSet) (key step_number size : ℕ) → object_at old key ≡ None → set ≡ with_newest old key step_number size → passes (λ x. nat_le 1 x.holds) set key ≡ true
 made_there old set key step_number size fresh e =
     ap (λ (o : ObjectSet). passes (λ x. nat_le 1 x.holds) o key) e
     ∙ ap (λ o. option_map_or (λ (x : Object). nat_le 1 x.holds) o false) (find_last (is_key key) (new_object key step_number size) (eq-eqb key key refl) old.objects (none_found (is_key key) old.objects fresh))
 
+-- Without its only handle, the object that was just created is removed, and all others are as before.
 pub taken_back : (old set new : ObjectSet) (key step_number size : ℕ) (left : Option Dead) → object_at old key ≡ None → set ≡ with_newest old key step_number size → left ≡ dead_after unheld set key → OnSome left (new ≡ without_key key set) → new ≡ old
 taken_back old set new key step_number size left fresh e is gone =
     let others = none_found (is_key key) old.objects fresh in
@@ -61,6 +63,7 @@ taken_back old set new key step_number size left fresh e is gone =
 
 -- ---- which handle is free
 
+-- A client has a handle by rows exactly if it has it in the state.
 pub hold_row_is : (s : State) (w : Rows) → Represents s w → (c n : ℕ) → is_some (handle_row w c n) ≡ is_some (find (files.is_handle c n) s.files.holds)
 hold_row_is s w h c n =
     is_some-find (is_handle c n) w.holds ∙ same-any (is_handle c n) w.holds (holds_of s) (holds_are s w h) ∙ list_any-map (is_handle c n) (handle_row_of s.objects.objects) s.files.holds ∙ sym (is_some-find (files.is_handle c n) s.files.holds)
@@ -70,6 +73,7 @@ handles_are s w h c n =
     is_among-map_filter (λ (row : HandleRow). row.client == c) (λ (row : HandleRow). row.handle) n w.holds ∙ hold_row_is s w h c n
     ∙ sym (is_among-map_filter (files.of_client c) (λ (x : FileHandle). x.handle) n s.files.holds)
 
+-- The free handle of a client is the same by rows as in the state.
 pub free_handle_is : (s : State) (w : Rows) → Represents s w → (c : ℕ) → free_handle w c ≡ files.free_handle s.files c
 free_handle_is s w h c =
     least-same (λ n. not (is_among (handles_of w c) n)) (λ n. not (is_among (files.handles_of s.files c) n)) 1 w.limits.handles (λ n _ _. ap not (handles_are s w h c n))
@@ -112,6 +116,7 @@ new_number key step_number size objects fresh = ap (λ o. option_map_or (λ (x :
 abbrev pub with_made : State → ℕ → ℕ → ℕ → ℕ → ℕ → State
 with_made s c handle key step_number size = record s { files = with_handle_row s.files (hold c handle key None); objects = with_newest s.objects key step_number size }
 
+-- The state with a new object and its handle represents the rows with both.
 pub made : (s : State) (w : Rows) (c handle key b size : ℕ) → MeetsInvariants s → RepresentsAt s b w → object_at s.objects key ≡ None → files.free_handle s.files c ≡ Some handle → (part : Part) → represents_part part (with_made s c handle key b size) (with_object w c size)
 unfolding represents_part with_object
 made s w c handle key b size t h fresh free Objects =
@@ -142,13 +147,14 @@ made s w c handle key b size t h fresh free Names =
     subst (SameRows w.names) (sym (names_kept (new_object key b size) s.objects.objects (keys_of s.files.holds) s.names.names (names_held s t) (λ n e. (objects_counted s t).there n (among-left (keys_of s.files.holds) (referring_keys s) n e)))) (names_are s w h.rows)
 made s w c handle key b size t h fresh free part = h.rows part
 
--- names are of objects that handles name yet
+-- Each name is still of an object that a handle names after one more handle.
 pub named_yet : (c handle key : ℕ) (export_order : Option ℕ) (hs : List FileHandle) (ns : List SharedName) → AreNamed (keys_of hs) ns → AreNamed (keys_of (placed handle_before (hold c handle key export_order) hs)) ns
 named_yet c handle key export_order hs ns h =
     let y : FileHandle = hold c handle key export_order in
     all_weaker (λ (x : SharedName). is_among (keys_of hs) x.object ≡ true) (λ (x : SharedName). is_among (keys_of (placed handle_before y hs)) x.object ≡ true)
     (λ x e. sym (same-any (λ n. n == x.object) (key ∷ keys_of hs) (keys_of (placed handle_before y hs)) (same-map (λ (z : FileHandle). z.object) (y ∷ hs) (placed handle_before y hs) (same_placed y hs))) ∙ among-more (keys_of hs) key x.object e) ns h
 
+-- A new object with its handle keeps all invariants.
 pub made_invariants : (s : State) (c handle key b size : ℕ) → MeetsInvariants s → IsNewStepNumber s.objects b → object_at s.objects key ≡ None → files.free_handle s.files c ≡ Some handle → (invariant : Invariant) → meets_invariant invariant (with_made s c handle key b size)
 unfolding meets_invariant
 made_invariants s c handle key b size t newest fresh free HoldsRise = in_order_placed (hold c handle key None) s.files.holds (holds_rise s t) (free_is_new s.files c handle free)

@@ -21,7 +21,7 @@ use Rattle.drm_state.specs.Refinement.{Represents}
 use Rattle.drm_state.proofs.Represented.{magics_are, masters_so}
 use Rattle.drm_lists.proofs.Each.{none_passes}
 
--- ---- lists that some elements return a row of
+-- ---- the same for a search, a test and a property: of optional rows it concerns those that exist
 
 pub find-filter_map : {X Y : Type 0} (p : Y → Bool) (h : X → Option Y) → (xs : List X) → find p (filter_map h xs) ≡ option_and_then h (find (λ x. option_map_or p (h x) false) xs)
 find-filter_map p h [] = refl
@@ -77,6 +77,7 @@ module _ (p : MagicRow → Bool) (rows ys : List MagicRow) (same : SameRows rows
   same_flag false true e = absurd (cc)
   same_flag false false e = refl
 
+  -- A row that alone passes a test is found in any order of the rows.
   pub found_in_any_order : ((y : MagicRow) → find p ys ≡ Some y → OnlyIt p ys y) → find p rows ≡ find p ys
   found_in_any_order only = by_found (find p ys) refl (find p rows) refl
     where
@@ -130,6 +131,7 @@ only_client c y xs rise e =
     let s : Some z ≡ Some y = sym k ∙ ap (option_and_then magic_row_of) (sym at) ∙ ap (λ n. option_and_then magic_row_of (masters.member_of xs n)) num ∙ sym (of_client c xs rise) ∙ e in
     cc) xs (all_found (λ (x : Member). x.client) xs rise))
 
+-- The row of a client's magic is that of the client's entry.
 pub magic_is : (s : State) (w : Rows) → MeetsInvariants s → Represents s w → (c : ℕ) → magic_row w c ≡ option_and_then magic_row_of (masters.member_of s.masters.members c)
 magic_is s w t h c =
     found_in_any_order (λ (row : MagicRow). row.client == c) w.magics (magics_of s) (magics_are s w h) (λ y e. only_client c y s.masters.members (masters_so s t).members_rise e)

@@ -22,7 +22,7 @@ use Rattle.drm_state.specs.Parts.{client_row_by, client_row_of}
 abbrev IsThere : List FileClient → Member → Type 0
 IsThere fs m = is_some (find (is_client m.client) fs) ≡ true
 
--- the row of a client that was looked up
+-- The row of a client that was looked up has its flags and how it belongs to masters.
 pub row_found : (c : ℕ) (flags : FileFlags) (ms : List Member) → (fs : List FileClient) → Some flags ≡ option_map (λ (f : FileClient). f.flags) (find (is_client c) fs) →
     option_map (client_row_of ms) (find (is_client c) fs) ≡ Some (client_row_by (record { client = c; flags = flags }) (member_of ms c))
 row_found c flags ms [] e = absurd (let n : Some flags ≡ None = e in cc)
@@ -34,6 +34,7 @@ row_found c flags ms (f ∷ fs) e =
       | false ↦ λ is j. row_found c flags ms fs j
     ] refl e
 
+-- A client whose flags are not found has no file.
 pub not_found : (c : ℕ) (fs : List FileClient) → None ≡ option_map (λ (f : FileClient). f.flags) (find (is_client c) fs) → is_some (find (is_client c) fs) ≡ false
 not_found c fs e = nothing (find (is_client c) fs) e
   where
@@ -41,6 +42,7 @@ not_found c fs e = nothing (find (is_client c) fs) e
     nothing None h = refl
     nothing (Some f) h = absurd (let n : None ≡ Some f.flags = h in cc)
 
+-- A client whose flags are found has a file.
 pub found : (c : ℕ) (flags : FileFlags) (fs : List FileClient) → Some flags ≡ option_map (λ (f : FileClient). f.flags) (find (is_client c) fs) → is_some (find (is_client c) fs) ≡ true
 found c flags fs e = something (find (is_client c) fs) e
   where
@@ -50,13 +52,14 @@ found c flags fs e = something (find (is_client c) fs) e
 
 -- ---- one more client
 
+-- An open client is older than the next one, if all are.
 pub older : (c b : ℕ) → (fs : List FileClient) → AllByRecursion (λ (f : FileClient). f.client < b) fs → is_some (find (is_client c) fs) ≡ true → c < b
 older c b [] h e = absurd (let k : false ≡ true = e in cc)
 older c b (f ∷ fs) h e =
     elim (f.client == c) as (λ t. (f.client == c) ≡ t → is_some (cond t (Some f) (find (is_client c) fs)) ≡ true → c < b)
     [ true ↦ λ is k. subst (λ n. n < b) (eqb-true f.client c is) h.0 | false ↦ λ is k. older c b fs h.1 k ] refl e
 
--- those that belong to masters are older than a new client
+-- Those that belong to masters are older than a new client.
 pub members_older : (b : ℕ) (fs : List FileClient) (ms : List Member) → AllByRecursion (λ (f : FileClient). f.client < b) fs → AllByRecursion (IsThere fs) ms → AllByRecursion (λ (m : Member). (m.client == b) ≡ false) ms
 members_older b fs ms h k = all_weaker (IsThere fs) (λ (m : Member). (m.client == b) ≡ false) (λ m e. less-differ m.client b (older m.client b fs h e)) ms k
 
@@ -69,7 +72,7 @@ rows_before m ms [] h = refl
 rows_before m ms (f ∷ fs) h =
     ap (λ o. client_row_by f o ∷ map (client_row_of (ms ++ m ∷ [])) fs) (find_before f.client m (flipped f.client m.client (less-differ f.client m.client h.0)) ms) ∙ ap (λ l. client_row_of ms f ∷ l) (rows_before m ms fs h.1)
 
--- the rows with one more client, which belongs to masters
+-- One more client that belongs to a master adds its row.
 pub client_pushed : (flags : FileFlags) (m : Member) (fs : List FileClient) (ms : List Member) → AllByRecursion (λ (f : FileClient). f.client < m.client) fs → AllByRecursion (IsThere fs) ms →
     map (client_row_of (ms ++ m ∷ [])) (fs ++ record { client = m.client; flags = flags } ∷ []) ≡ map (client_row_of ms) fs ++ client_row_by (record { client = m.client; flags = flags }) (Some m) ∷ []
 client_pushed flags m fs ms h k =
@@ -77,7 +80,7 @@ client_pushed flags m fs ms h k =
     map-append (client_row_of (ms ++ m ∷ [])) fs (f ∷ []) ∙ ap (λ l. l ++ client_row_of (ms ++ m ∷ []) f ∷ []) (rows_before m ms fs h)
     ∙ ap (λ o. map (client_row_of ms) fs ++ client_row_by f o ∷ []) (find_last (masters.is_client m.client) m (eq-eqb m.client m.client refl) ms (members_older m.client fs ms h k))
 
--- and with one that doesn't
+-- One more client that belongs to no master adds its row, without a master.
 pub render_pushed : (f : FileClient) (fs : List FileClient) (ms : List Member) → AllByRecursion (λ (g : FileClient). g.client < f.client) fs → AllByRecursion (IsThere fs) ms →
     map (client_row_of ms) (fs ++ f ∷ []) ≡ map (client_row_of ms) fs ++ client_row_by f None ∷ []
 render_pushed f fs ms h k =
@@ -87,15 +90,17 @@ render_pushed f fs ms h k =
 some-append : (c : ℕ) (f : FileClient) (fs : List FileClient) → is_some (find (is_client c) fs) ≡ true → is_some (find (is_client c) (fs ++ f ∷ [])) ≡ true
 some-append c f fs h = is_some-find (is_client c) (fs ++ f ∷ []) ∙ list_any_left (is_client c) fs (f ∷ []) (sym (is_some-find (is_client c) fs) ∙ h)
 
--- they are open among more clients
+-- Each client that belongs to a master is still open after one more opened.
 pub members_open_yet : (f : FileClient) (fs : List FileClient) (ms : List Member) → AllByRecursion (IsThere fs) ms → AllByRecursion (IsThere (fs ++ f ∷ [])) ms
 members_open_yet f fs ms h = all_weaker (IsThere fs) (IsThere (fs ++ f ∷ [])) (λ m e. some-append m.client f fs e) ms h
 
+-- A file that is added is found.
 pub found_last : (f : FileClient) (fs : List FileClient) → is_some (find (is_client f.client) (fs ++ f ∷ [])) ≡ true
 found_last f fs = is_some-find (is_client f.client) (fs ++ f ∷ []) ∙ list_any_right (is_client f.client) fs (f ∷ []) (or_left (f.client == f.client) false (eq-eqb f.client f.client refl))
 
 -- ---- a client fewer
 
+-- Without a client, the rows are those of all other clients.
 pub rows_left : (c : ℕ) (ms : List Member) → (fs : List FileClient) →
     map (client_row_of (filter (λ (x : Member). not (x.client == c)) ms)) (filter (λ (f : FileClient). not (is_client c f)) fs) ≡ filter (λ (row : ClientRow). not (row.client == c)) (map (client_row_of ms) fs)
 rows_left c ms [] = refl
@@ -107,7 +112,7 @@ rows_left c ms (f ∷ fs) =
       | false ↦ λ e. ap (λ o. client_row_by f o ∷ map (client_row_of left) rest) (find_others (λ (x : Member). x.client) f.client c e ms) ∙ ap (λ l. client_row_of ms f ∷ l) (rows_left c ms fs)
     ] refl
 
--- those that are left are open
+-- Each client that belongs to a master is still open after one was removed.
 pub members_open_left : (c : ℕ) (fs : List FileClient) (ms : List Member) → AllByRecursion (IsThere fs) ms → AllByRecursion (IsThere (filter (λ (f : FileClient). not (is_client c f)) fs)) (filter (λ (x : Member). not (x.client == c)) ms)
 members_open_left c fs [] h = tt
 members_open_left c fs (m ∷ ms) h =
@@ -131,7 +136,7 @@ any_of_client c q g (f ∷ fs) h =
     elim (f.client == c) as (λ b. (f.client == c) ≡ b → is_some (cond b (Some f) (find (is_client c) fs)) ≡ true → (q f || list_any q fs) ≡ true)
     [ true ↦ λ e k. or_left (q f) _ (g f (eqb-true f.client c e)) | false ↦ λ e k. or_right (q f) _ (any_of_client c q g fs k) ] refl h
 
--- the clients' rows name the masters that the members name
+-- A master is named by a client's row exactly if a client belongs to it.
 pub masters_named : (m : ℕ) (fs : List FileClient) (ms : List Member) → AllByRecursion (IsThere fs) ms → InOrder (λ (x y : Member). x.client < y.client) ms → list_any (λ (row : ClientRow). is_option m row.master) (map (client_row_of ms) fs) ≡ list_any (λ (x : Member). x.master == m) ms
 masters_named m fs ms there rise =
     let test = λ (f : FileClient). is_option m (option_map (λ (x : Member). x.master) (masters.member_of ms f.client)) in

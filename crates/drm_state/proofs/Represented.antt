@@ -16,6 +16,8 @@ use Rattle.drm_state.specs.Invariants.{MembersOpen, ClientsHave, MastersAre, Mag
 use Rattle.drm_model.specs.Parts.{Bounds, Clients, Masters, Magics, Holds, Objects, Names, Tokens, Grants, Framebuffers, Shown, DeviceMaster, LastToken, LastLeaseToken}
 use Rattle.drm_state.specs.Refinement.{represents_part, Represents, HaveBounds}
 
+-- ---- the same for each part: if a state represents rows, this list or number of the rows is that of the state
+
 module _ (s : State) (w : Rows) (h : Represents s w) where
   pub bounds_are : HaveBounds s w
   unfolding represents_part
@@ -72,6 +74,8 @@ module _ (s : State) (w : Rows) (h : Represents s w) where
   pub last_lease_token_is : w.last_lease_token ≡ last_lease_token_of s
   unfolding represents_part
   last_lease_token_is = h LastLeaseToken
+
+-- ---- the same for each invariant: a state that meets all of them meets this one
 
 module _ (s : State) (t : MeetsInvariants s) where
   pub members_open : AllByRecursion (λ (x : Member). is_open_client s.files x.client ≡ true) s.masters.members

@@ -59,7 +59,7 @@ module _ (q : ℕ → Bool) where
       apart : (i k : ℕ) → i ≡ i + suc k → ⊥
       apart i k same = omega (arith, same)
 
-  -- whether one that shows something passes a test of what it shows
+  -- A CRTC or plane shows a framebuffer that passes a test exactly if it shows it in the state.
   pub shows : (s : State) (w : Rows) → Represents s w → (x : ℕ) → list_any (λ (row : ShownRow). (row.engine == x) && q row.framebuffer) w.shown ≡ (not (modes.shown_by s.modes x == 0) && q (modes.shown_by s.modes x))
   shows s w h x =
       let is = λ (row : ShownRow). (row.engine == x) && q row.framebuffer in
@@ -76,7 +76,7 @@ module _ (q : ℕ → Bool) where
           from_one zero some = absurd (some refl)
           from_one (suc x) some = omega arith
 
--- what is shown by rows
+-- What a CRTC or a plane shows is the same by rows as in the state.
 pub shown_is : (s : State) (w : Rows) → Represents s w → (x : ℕ) → model.shown_by w x ≡ modes.shown_by s.modes x
 shown_is s w h x =
     let g = modes.shown_by s.modes x in
@@ -93,7 +93,7 @@ shown_is s w h x =
     dark None e = refl
     dark (Some row) e = absurd (let n : true ≡ false = e in cc)
 
--- what may be shown
+-- A framebuffer may be shown by rows exactly if it may be in the state.
 pub may_show : (s : State) (w : Rows) → Represents s w → (f : ℕ) → model.is_framebuffer_or_none w f ≡ can_show s.modes f
 may_show s w h f = ap (λ b. (f == 0) || b) (framebuffer_there w s.objects.objects s.modes.framebuffers f (framebuffers_are s w h))
 
@@ -163,12 +163,13 @@ shown_now s w x f h first within =
     (subst (λ l. SameRows l (shown_of (with_scanout s x f))) (sym same)
     (same-map shown_row_of (filter (stays x) old ++ one x f) (shown_rows (modes.with_shown s.modes x f)) (set_rows x 1 (x - 1) f first s.modes.scanouts within)))
 
+-- The state in which a CRTC or plane shows another framebuffer represents the rows in which it does.
 pub scanout_represents : (s : State) (w : Rows) (x f : ℕ) → Represents s w → x ≡ 1 + (x - 1) → x - 1 < length s.modes.scanouts → (part : Part) → represents_part part (with_scanout s x f) (record w { shown = model.with_shown w x f })
 unfolding represents_part
 scanout_represents s w x f h first within ShownIs = shown_now s w x f h first within
 scanout_represents s w x f h first within part = h part
 
--- the invariants, where what is shown changes and no framebuffer
+-- A change of what is shown keeps all invariants, if no framebuffer changes.
 pub shown_invariants : (s : State) (now : ModeSet) → MeetsInvariants s → AreModes now → now.framebuffers ≡ s.modes.framebuffers → (invariant : Invariant) → meets_invariant invariant (record s { modes = now })
 unfolding meets_invariant
 shown_invariants s now t are same ModesAre = are

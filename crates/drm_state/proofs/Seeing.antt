@@ -27,10 +27,11 @@ use Rattle.drm_state.proofs.Represented.{bounds_are, masters_are, grants_are, fr
 use Rattle.drm_state.proofs.Lookups.{client_row_is}
 use Rattle.drm_state.proofs.Living.{lessors_are}
 
+-- The rows have the fixed mode objects of the state.
 pub topology_is : (s : State) (w : Rows) → Represents s w → w.topology ≡ s.modes.topology
 topology_is s w h = sym (bounds_are s w h).7
 
--- ---- what a client sees
+-- ---- the same for each test and list: what a client sees by rows is what it sees in the state
 
 module _ (s : State) (w : Rows) (k : PrimaryCaller) (is : IsPrimaryCaller s k) (h : Represents s w) where
   row_here : client_row w k.client ≡ Some (client_row_by (record { client = k.client; flags = k.flags }) (Some k.member))
@@ -39,7 +40,7 @@ module _ (s : State) (w : Rows) (k : PrimaryCaller) (is : IsPrimaryCaller s k) (
   master_is : master_of w k.client ≡ Some k.member.master
   master_is = ap (option_and_then (λ (row : ClientRow). row.master)) row_here
 
-  -- whether the lease of a master has the mode object
+  -- A lease has a mode object by rows exactly if it has it in the state.
   pub granted_is : (m x : ℕ) → model.is_granted w m x ≡ leases.is_granted s.leases.grants m x
   granted_is m x =
       let has = λ (row : GrantRow). (row.master == m) && (row.mode_object == x) in
@@ -80,7 +81,7 @@ module _ (s : State) (w : Rows) (k : PrimaryCaller) (is : IsPrimaryCaller s k) (
   pub mask_visible : (x : ℕ) → model.visible_mask w k.client x ≡ mask_over s.modes.topology x (visible s k Crtc)
   mask_visible x = λ i. mask_over (topology_is s w h i) x (crtcs_visible i)
 
--- an encoder is seen by all
+-- Each client sees each encoder.
 pub encoder_seen : (s : State) (w : Rows) (k : PrimaryCaller) → Represents s w → (x : ℕ) → is_encoder w.topology x ≡ (is_encoder s.modes.topology x && sees s k x)
 encoder_seen s w k h x = ap (λ t. is_encoder t x) (topology_is s w h) ∙ itself (is_encoder s.modes.topology x) _
   where
@@ -88,6 +89,7 @@ encoder_seen s w k h x = ap (λ t. is_encoder t x) (topology_is s w h) ∙ itsel
     itself true other = refl
     itself false other = refl
 
+-- The rows list the same encoders as the state.
 pub encoders_listed : (s : State) (w : Rows) → Represents s w → encoder_ids w.topology ≡ encoder_ids s.modes.topology
 encoders_listed s w h = ap encoder_ids (topology_is s w h)
 
@@ -100,6 +102,7 @@ in_order : (fs : List Framebuffer) → arrays.InOrder framebuffer_before fs → 
 in_order [] h = tt
 in_order (x ∷ xs) h = (all_weaker (λ (y : Framebuffer). framebuffer_before x y ≡ true) (λ (y : Framebuffer). RisesTo nat_le x.framebuffer y.framebuffer) (λ y lt. rises x.framebuffer y.framebuffer lt) xs h.0, in_order xs h.1)
 
+-- A client's framebuffers are the same by rows as in the state.
 pub framebuffers_listed : (s : State) (w : Rows) → MeetsInvariants s → Represents s w → (c : ℕ) → model.own_framebuffers w c ≡ modes.framebuffers_of s.modes c
 framebuffers_listed s w t h c =
     let mine = λ (row : FramebufferRow). row.client == c in

@@ -40,18 +40,19 @@ use Rattle.drm_state.proofs.Naming.{same-append}
 use Rattle.drm_state.proofs.Frames.{shown_yet}
 use Rattle.drm_state.proofs.Sweeps.{moved, moved_invariants, names_known, opened_left, some_opened}
 
--- one more row, told by one more item
+-- A new row at the end of the rows is that of a new item in its place, up to order.
 pub pushed_same : {X Y : Type 0} (f : X → Y) (before : X → X → Bool) (rows : List Y) (row : Y) (x : X) (xs : List X) → row ≡ f x → SameRows rows (map f xs) → SameRows (rows ++ row ∷ []) (map f (placed before x xs))
 pushed_same f before rows row x xs e h =
     same-trans (rows ++ row ∷ []) (row ∷ rows) (map f (placed before x xs)) (last_first rows row)
     (same-trans (row ∷ rows) (row ∷ map f xs) (map f (placed before x xs)) (same-cons row rows (map f xs) h)
     (subst (λ y. SameRows (y ∷ map f xs) (map f (placed before x xs))) (sym e) (same-map f (x ∷ xs) (placed before x xs) (placed_same before x xs))))
 
--- a key more among keys that are known
+-- If keys are known, a further known key leaves them known.
 pub known_too : (keys known : List ℕ) (k n : ℕ) → is_among known k ≡ true → (is_among keys n ≡ true → is_among known n ≡ true) → (k == n || is_among keys n) ≡ true → is_among known n ≡ true
 known_too keys known k n h f e =
     elim (k == n) as (λ b. (k == n) ≡ b → (b || is_among keys n) ≡ true → is_among known n ≡ true) [ true ↦ λ is j. ap (is_among known) (sym (eqb-true k n is)) ∙ h | false ↦ λ is j. f j ] refl e
 
+-- What is so of each key of two lists is so of each key of both together.
 pub either : (xs ys : List ℕ) (n : ℕ) (b : Bool) → (is_among xs n ≡ true → b ≡ true) → (is_among ys n ≡ true → b ≡ true) → is_among (xs ++ ys) n ≡ true → b ≡ true
 either xs ys n b f g e =
     elim (is_among xs n) as (λ d. is_among xs n ≡ d → (d || is_among ys n) ≡ true → b ≡ true) [ true ↦ λ is j. f is | false ↦ λ is j. g j ] refl (sym (among-append xs ys n) ∙ e)
@@ -93,10 +94,12 @@ module _ (s : State) (c h key : ℕ) (export_order : Option ℕ) (t : MeetsInvar
   more_names : AreNamed (keys_of more) s.names.names
   more_names = named_yet c h key export_order s.files.holds s.names.names (names_held s t)
 
+  -- One handle more keeps all invariants.
   pub added_invariants : MeetsInvariants (with_handle s c h key export_order)
   added_invariants =
       moved_invariants s more s.tokens.tokens s.tokens.last_given s.names.names (changed_at key held s.objects) t (in_order_placed (hold c h key export_order) s.files.holds (holds_rise s t) (free_is_new s.files c h free)) more_invariants more_names
 
+  -- The state with one handle more represents the rows with it.
   pub added : (w : Rows) (o : ℕ) → Represents s w → o ≡ step_number_at s.objects.objects key → Represents (with_handle s c h key export_order) (swept (record w { holds = with_handle_row w c o export_order }))
   added w o r e =
       let number : unwrap_or (free_handle w c) 0 ≡ h = ap (λ f. unwrap_or f 0) (free_handle_is s w r c ∙ free) in
@@ -115,7 +118,7 @@ module _ (s : State) (c h key : ℕ) (export_order : Option ℕ) (t : MeetsInvar
         those = more_named key held (keys_of s.files.holds) (referring_keys s) (keys_of more ++ referring_keys s) s.objects.objects (λ x. refl) yet_known (objects_counted s t);
       }) refl (last_token_is s w r)
 
--- the object of a key can count one more handle
+-- An object that a key names can count one more handle.
 pub can_hold : (s : State) (key last : ℕ) → MeetsInvariants s → is_among (keys_of s.files.holds ++ referring_keys s) key ≡ true → length s.files.holds < last → last ≤ 100001 → passes (λ x. nat_lt x.holds 4294967295) s.objects key ≡ true
 can_hold s key last t known few fits =
     let keys = keys_of s.files.holds in
@@ -123,7 +126,7 @@ can_hold s key last t known few fits =
     let most : count keys it.0.key ≤ length s.files.holds = let a = filter-shorter (λ k. k == it.0.key) keys in let b = length-map s.files.holds (λ (x : FileHandle). x.object) in omega (arith, a, b) in
     ap (λ o. option_map_or (λ (x : Object). nat_lt x.holds 4294967295) o false) it.1 ∙ lt-ltb it.0.holds 4294967295 (fewer_than it.0.holds (length s.files.holds) last (let e = it.3.0 in omega (arith, e, most)) few fits)
 
--- and one more token or framebuffer
+-- An object that a key names can count one more token or framebuffer.
 pub can_refer : (s : State) (key last : ℕ) → MeetsInvariants s → is_among (keys_of s.files.holds ++ referring_keys s) key ≡ true → length s.tokens.tokens < last → length s.modes.framebuffers < last → last ≤ 100001 → passes (λ x. nat_lt x.refs 4294967295) s.objects key ≡ true
 can_refer s key last t known few framed fits =
     let refs = referring_keys s in
@@ -144,9 +147,11 @@ module _ (s : State) (n key : ℕ) (t : MeetsInvariants s) (named : is_among (ke
   all_held : AreNamed (keys_of s.files.holds) names_more
   all_held = all_placed name_before (λ (x : SharedName). is_among (keys_of s.files.holds) x.object ≡ true) (shared_name n key) s.names.names named (names_held s t)
 
+  -- One name more keeps all invariants.
   pub flinked_invariants : MeetsInvariants (record s { names = with_name s.names n key })
   flinked_invariants = moved_invariants s s.files.holds s.tokens.tokens s.tokens.last_given names_more s.objects t (holds_rise s t) (objects_counted s t) all_held
 
+  -- The state with one name more represents the rows with it.
   pub flinked : (w : Rows) (o : ℕ) → Represents s w → o ≡ step_number_at s.objects.objects key → unwrap_or (free_name w) 0 ≡ n → Represents (record s { names = with_name s.names n key }) (swept (record w { names = w.names ++ record { name = unwrap_or (free_name w) 0; object = o } ∷ [] }))
   flinked w o r e number =
       let row : NameRow = record { name = unwrap_or (free_name w) 0; object = o } in
@@ -254,11 +259,13 @@ module _ (s : State) (c h key export_order n : ℕ) (t : MeetsInvariants s) (nam
   names_yet : AreNamed (keys_of holds_placed) s.names.names
   names_yet = subst (λ l. AreNamed l s.names.names) (sym same_keys) (names_held s t)
 
+  -- One token more keeps all invariants.
   pub exported_invariants : MeetsInvariants (with_export s c h key export_order n)
   exported_invariants =
       moved_invariants s holds_placed tokens_more (Some n) s.names.names (changed_at key referred s.objects) t
       (in_order_map (λ (x y : FileHandle). handle_before x y ≡ true) (placed_at c h export_order) s.files.holds (in_order_weaker _ _ (λ x y e. order_stays c h export_order x y e) s.files.holds (holds_rise s t))) export_invariants names_yet
 
+  -- The state with one token more represents the rows with it, and with the export order of its handle.
   pub exported : (w : Rows) (o : ℕ) → Represents s w → o ≡ step_number_at s.objects.objects key → new_token w ≡ n → step_number w ≡ export_order →
       Represents (with_export s c h key export_order n) (swept (record w { tokens = w.tokens ++ record { token = new_token w; client = c; object = o } ∷ []; last_token = new_token w; holds = with_export_order c h (step_number w) w.holds }))
   exported w o r e number at =
@@ -286,7 +293,7 @@ keeps_tokens : (n : ℕ) (x : SharedToken) → is_token n x ≡ true → (xs : L
 keeps_tokens n x h [] k = refl
 keeps_tokens n x h (z ∷ zs) k = ap (λ b. cond (not b) (z ∷ filter (λ (z : SharedToken). not (is_token n z)) zs) (filter (λ (z : SharedToken). not (is_token n z)) zs)) (other_token n x z h k.0) ∙ ap (λ l. z ∷ l) (keeps_tokens n x h zs k.1)
 
--- of tokens in their order one is freed with its number
+-- Without a token, one key fewer is named: the key of that token.
 pub one_token_goes : (n : ℕ) (x : SharedToken) → (ts : List SharedToken) → rows.InOrder token_before ts → find (is_token n) ts ≡ Some x → SameRows (token_keys ts) (x.object ∷ token_keys (filter (λ (z : SharedToken). not (is_token n z)) ts))
 one_token_goes n x [] o e = absurd (let k : None ≡ Some x = e in cc)
 one_token_goes n x (y ∷ ys) o e =
@@ -345,7 +352,7 @@ module _ (s : State) (c n key : ℕ) (t : MeetsInvariants s) (are : AreTokens s.
   abbrev others : List SharedToken
   others = (without_token s.tokens n).tokens
 
-  -- the references, of which one goes
+  -- Objects count the key of the token, and the keys of all others.
   pub token_invariants : AreCounted (keys_of s.files.holds) (key ∷ referring others s.modes.framebuffers) s.objects.objects
   token_invariants =
       let it = behind_token (find (tokens.is_token_of c n) s.tokens.tokens) key of in
@@ -360,9 +367,11 @@ module _ (s : State) (c n key : ℕ) (t : MeetsInvariants s) (are : AreTokens s.
       (λ k. among-right (token_keys s.tokens.tokens) (framebuffer_keys s.modes.framebuffers) m k) j
 
   module _ (set : ObjectSet) (step : IsStep s.objects.objects (keys_of s.files.holds) (referring others s.modes.framebuffers) set) (limit : set.limit ≡ s.objects.limit) where
+    -- One token fewer keeps all invariants.
     pub closed_invariants : MeetsInvariants (without_open s n set)
     closed_invariants = moved_invariants s s.files.holds others s.tokens.last_given s.names.names set t (holds_rise s t) step.invariants (names_held s t)
 
+    -- The state without a token represents the rows without it, after a sweep.
     pub closed : (w : Rows) → Represents s w → Represents (without_open s n set) (swept (record w { tokens = without (model.is_token_of c n) w.tokens }))
     closed w r =
         let it = behind_token (find (tokens.is_token_of c n) s.tokens.tokens) key of in

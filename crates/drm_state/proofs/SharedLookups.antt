@@ -34,7 +34,7 @@ use Rattle.drm_state.proofs.Sweeps.{names_known}
 
 -- ---- one row that passes a test
 
--- where two rows in an order never both pass, all that pass have the number of the first
+-- Where two rows in order never both pass a test, all that pass have the number of the first.
 pub one_passes : {X : Type 0} (before : X → X → Bool) (p : X → Bool) (f : X → ℕ) → ((x y : X) → p x ≡ true → before x y ≡ true → p y ≡ false) → (xs : List X) → InOrder before xs → (y : X) → find p xs ≡ Some y → list_any (λ x. p x && not (f x == f y)) xs ≡ false
 one_passes before p f apart [] o y e = refl
 one_passes {X} before p f apart (x ∷ xs) o y e =
@@ -50,7 +50,7 @@ one_passes {X} before p f apart (x ∷ xs) o y e =
     none_more is [] k = refl
     none_more is (z ∷ zs) k = rw (apart x z is k.0) (none_more is zs k.1)
 
--- the number of the row that passes, among rows that are mapped and in another order
+-- The number of the row that passes is the same by rows as in the state, in any order.
 pub number_by : {X Y : Type 0} (row : X → Y) (p : Y → Bool) (q : X → Bool) (f : Y → ℕ) (g : X → ℕ) (number : ℕ → ℕ) → ((x : X) → f (row x) ≡ number (g x)) → (rows : List Y) (xs : List X) → SameRows rows (map row xs) → AllByRecursion (λ x. p (row x) ≡ q x) xs →
     ((y : X) → find q xs ≡ Some y → list_any (λ x. q x && not (number (g x) == number (g y))) xs ≡ false) → option_map f (find p rows) ≡ option_map (λ x. number (g x)) (find q xs)
 number_by {X} {Y} row p q f g number is rows xs h agree one =
@@ -96,12 +96,12 @@ same_number {X} q g number n (x ∷ xs) h =
 abbrev pub itself : ℕ → ℕ
 itself n = n
 
--- each number is among those of all
+-- Each number of a list is among the numbers of its items.
 pub its_key : {X : Type 0} (f : X → ℕ) → (xs : List X) → AllByRecursion (λ x. is_among (map f xs) (f x) ≡ true) xs
 its_key f [] = tt
 its_key f (x ∷ xs) = (among-first (map f xs) (f x), all_weaker (λ y. is_among (map f xs) (f y) ≡ true) (λ y. is_among (map f (x ∷ xs)) (f y) ≡ true) (λ y e. among-more (map f xs) (f x) (f y) e) xs (its_key f xs))
 
--- what is so of all is so of what was found
+-- What holds of all items of a list holds of the one that was found.
 pub of_found : {X : Type 0} (P : ℕ → Type 0) (p : X → Bool) (f : X → ℕ) → (xs : List X) → AllByRecursion (λ x. P (f x)) xs → (n : ℕ) → Some n ≡ option_map f (find p xs) → P n
 of_found P p f [] h n e = absurd (let k : Some n ≡ None = e in cc)
 of_found P p f (x ∷ xs) h n e =
@@ -127,7 +127,7 @@ differ k x y h e = grind (arith, nat_tests)
 later_name : (n : ℕ) (x y : SharedName) → is_name n x ≡ true → name_before x y ≡ true → is_name n y ≡ false
 later_name n x y h e = grind (arith, nat_tests)
 
--- the name of the object of a key
+-- The name of a key's object is the same by rows as in the state.
 pub name_found : (s : State) (w : Rows) (key : ℕ) → MeetsInvariants s → AreNames s.names → Represents s w → is_among (keys_of s.files.holds ++ referring_keys s) key ≡ true → model.name_of w (step_number_at s.objects.objects key) ≡ names.name_of s.names key
 name_found s w key t are h known =
     let objects = s.objects.objects in
@@ -138,14 +138,14 @@ name_found s w key t are h known =
     (λ x e. one_key keys refs objects x.object key (objects_counted s t) e known) s.names.names (names_known s t))
     (λ y e. one_passes have_other_objects (names_object key) (λ (x : SharedName). x.name) (differ key) s.names.names are.objects_differ y e)
 
--- the object that has a name, by its key
+-- The object that has a name is the same by rows as in the state.
 pub named_found : (s : State) (w : Rows) (n : ℕ) → AreNames s.names → Represents s w → model.named_object w n ≡ option_map (λ (x : SharedName). step_number_at s.objects.objects x.object) (find (is_name n) s.names.names)
 named_found s w n are h =
     number_by (name_row_of s.objects.objects) (λ (row : NameRow). row.name == n) (is_name n) (λ (row : NameRow). row.object) (λ (x : SharedName). x.object) (step_number_at s.objects.objects) (λ x. refl) w.names s.names.names (names_are s w h)
     (all_each _ (λ x. refl) s.names.names)
     (λ y e. same_number (is_name n) (λ (x : SharedName). x.object) (step_number_at s.objects.objects) y.object s.names.names (one_passes name_before (is_name n) (λ (x : SharedName). x.object) (later_name n) s.names.names are.names_rise y e))
 
--- the free name
+-- The free name is the same by rows as in the state.
 pub free_name_found : (s : State) (w : Rows) → Represents s w → model.free_name w ≡ names.free_name s.names
 free_name_found s w h =
     let row = name_row_of s.objects.objects in
@@ -161,18 +161,19 @@ free_name_found s w h =
 later_token : (n : ℕ) (x y : SharedToken) → is_token n x ≡ true → token_before x y ≡ true → is_token n y ≡ false
 later_token n x y h e = grind (arith, nat_tests)
 
--- the object of a token, by its key
+-- The object of a token is the same by rows as in the state.
 pub exported_found : (s : State) (w : Rows) (n : ℕ) → AreTokens s.tokens → Represents s w → model.exported_object w n ≡ option_map (λ (x : SharedToken). step_number_at s.objects.objects x.object) (find (is_token n) s.tokens.tokens)
 exported_found s w n are h =
     number_by (token_row_of s.objects.objects) (λ (row : TokenRow). row.token == n) (is_token n) (λ (row : TokenRow). row.object) (λ (x : SharedToken). x.object) (step_number_at s.objects.objects) (λ x. refl) w.tokens s.tokens.tokens (tokens_are s w h)
     (all_each _ (λ x. refl) s.tokens.tokens)
     (λ y e. same_number (is_token n) (λ (x : SharedToken). x.object) (step_number_at s.objects.objects) y.object s.tokens.tokens (one_passes token_before (is_token n) (λ (x : SharedToken). x.object) (later_token n) s.tokens.tokens are.tokens_rise y e))
 
+-- The definition of an option, or else another, is the same for rows and for the state.
 pub or_else_is : (x y : Option ℕ) → option_or x y ≡ or_else x y
 or_else_is None y = refl
 or_else_is (Some n) y = refl
 
--- the next token
+-- The next token is the same by rows as in the state.
 pub next_token_found : (s : State) (w : Rows) → Represents s w → model.next_token w ≡ tokens.next_token s.tokens
 next_token_found s w h =
     let row = token_row_of s.objects.objects in
@@ -188,7 +189,7 @@ next_token_found s w h =
     ap (λ o. option_or o (least (model.is_free_token w) 1 w.limits.tokens)) above ∙ ap (option_or (least (tokens.is_free s.tokens) (unwrap_or s.tokens.last_given 0 + 1) s.tokens.last)) (from 1)
     ∙ or_else_is (least (tokens.is_free s.tokens) (unwrap_or s.tokens.last_given 0 + 1) s.tokens.last) (least (tokens.is_free s.tokens) 1 s.tokens.last)
 
--- whether the token is one of the client's
+-- A token is the client's by rows exactly if it is in the state.
 pub own_token_found : (s : State) (w : Rows) (c n : ℕ) → Represents s w → is_some (find (model.is_token_of c n) w.tokens) ≡ is_some (find (tokens.is_token_of c n) s.tokens.tokens)
 own_token_found s w c n h =
     is_some-find (model.is_token_of c n) w.tokens ∙ same-any (model.is_token_of c n) w.tokens (tokens_of s) (tokens_are s w h) ∙ list_any-map (model.is_token_of c n) (token_row_of s.objects.objects) s.tokens.tokens
@@ -216,7 +217,7 @@ held_for s c key t known =
     all_weaker (λ (x : FileHandle). is_among keys x.object ≡ true) (λ (x : FileHandle). model.is_handle_of c (step_number_at s.objects.objects key) (handle_row_of s.objects.objects x) ≡ files.is_handle_of c key x)
     (λ x e. ap (λ b. (x.client == c) && b) (one_key keys (referring_keys s) s.objects.objects x.object key (objects_counted s t) (among-left keys (referring_keys s) x.object e) known)) s.files.holds (its_key (λ (x : FileHandle). x.object) s.files.holds)
 
--- the PRIME handle of a key's object
+-- The PRIME handle of a key's object is the same by rows as in the state.
 pub prime_found : (s : State) (w : Rows) (c key : ℕ) → MeetsInvariants s → Represents s w → is_among (keys_of s.files.holds ++ referring_keys s) key ≡ true → model.prime_handle w c (step_number_at s.objects.objects key) ≡ files.prime_handle s.files c key
 unfolding model.prime_handle
 prime_found s w c key t h known =
@@ -246,24 +247,27 @@ prime_found s w c key t h known =
 -- ---- by what a look-up found
 
 module _ (s : State) (w : Rows) (r : Represents s w) where
-  -- a name that exists, or not
+  -- A name that the state has is one by rows, of the same object.
   pub name_there : (n key : ℕ) → AreNames s.names → Some key ≡ option_map (λ (x : SharedName). x.object) (find (is_name n) s.names.names) → model.named_object w n ≡ Some (step_number_at s.objects.objects key)
   name_there n key are e = named_found s w n are r ∙ told_some (λ (x : SharedName). x.object) (step_number_at s.objects.objects) (find (is_name n) s.names.names) key e
 
+  -- A name that the state does not have is none by rows.
   pub no_name : (n : ℕ) → AreNames s.names → None ≡ option_map (λ (x : SharedName). x.object) (find (is_name n) s.names.names) → model.named_object w n ≡ None
   no_name n are e = named_found s w n are r ∙ told_none (λ (x : SharedName). x.object) (step_number_at s.objects.objects) (find (is_name n) s.names.names) e
 
-  -- a token that is open, or not
+  -- A token that is open in the state is open by rows, of the same object.
   pub token_there : (n key : ℕ) → AreTokens s.tokens → Some key ≡ option_map (λ (x : SharedToken). x.object) (find (is_token n) s.tokens.tokens) → model.exported_object w n ≡ Some (step_number_at s.objects.objects key)
   token_there n key are e = exported_found s w n are r ∙ told_some (λ (x : SharedToken). x.object) (step_number_at s.objects.objects) (find (is_token n) s.tokens.tokens) key e
 
+  -- A token that is not open in the state is none by rows.
   pub no_token : (n : ℕ) → AreTokens s.tokens → None ≡ option_map (λ (x : SharedToken). x.object) (find (is_token n) s.tokens.tokens) → model.exported_object w n ≡ None
   no_token n are e = exported_found s w n are r ∙ told_none (λ (x : SharedToken). x.object) (step_number_at s.objects.objects) (find (is_token n) s.tokens.tokens) e
 
--- their objects are known
+-- The key of a name is among the keys that something names.
 pub name_known : (s : State) → MeetsInvariants s → (n key : ℕ) → Some key ≡ option_map (λ (x : SharedName). x.object) (find (is_name n) s.names.names) → is_among (keys_of s.files.holds ++ referring_keys s) key ≡ true
 name_known s t n key e = of_found (λ k. is_among (keys_of s.files.holds ++ referring_keys s) k ≡ true) (is_name n) (λ (x : SharedName). x.object) s.names.names (names_known s t) key e
 
+-- The key of an open token is among the keys that something names.
 pub token_known : (s : State) (n key : ℕ) → Some key ≡ option_map (λ (x : SharedToken). x.object) (find (is_token n) s.tokens.tokens) → is_among (keys_of s.files.holds ++ referring_keys s) key ≡ true
 token_known s n key e =
     among-right (keys_of s.files.holds) (referring_keys s) key

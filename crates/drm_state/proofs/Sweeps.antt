@@ -83,6 +83,7 @@ swept_objects v objects left keys refs hs now invariants h r sub o named =
 held_left : (rows : List HandleRow) (p : HandleRow → Bool) (objects : List Object) (hs : List FileHandle) → SameRows rows (map (handle_row_of objects) hs) → SameRows (filter p rows) (map (handle_row_of objects) (filter (λ x. p (handle_row_of objects x)) hs))
 held_left rows p objects hs h = subst (SameRows (filter p rows)) (filter-map p (handle_row_of objects) hs) (same-filter p rows (map (handle_row_of objects) hs) h)
 
+-- The handles that pass a test name only keys that handles name.
 pub some_pass : (p : FileHandle → Bool) → (hs : List FileHandle) (n : ℕ) → is_among (keys_of (filter p hs)) n ≡ true → is_among (keys_of hs) n ≡ true
 some_pass p [] n h = h
 some_pass p (x ∷ xs) n h =
@@ -91,13 +92,13 @@ some_pass p (x ∷ xs) n h =
       | false ↦ λ e. among-more (keys_of xs) x.object n (some_pass p xs n e)
     ] h
 
--- names are of objects that are named
+-- Each name is of an object that something names.
 pub names_known : (s : State) → MeetsInvariants s → AreNamed (keys_of s.files.holds ++ referring_keys s) s.names.names
 names_known s t = all_weaker (λ (x : SharedName). is_among (keys_of s.files.holds) x.object ≡ true) (λ (x : SharedName). is_among (keys_of s.files.holds ++ referring_keys s) x.object ≡ true) (λ x e. among-left (keys_of s.files.holds) (referring_keys s) x.object e) s.names.names (names_held s t)
 
 -- ---- masters
 
--- the clients' rows name the masters that clients stand to
+-- A master is named by a client's row exactly if a client belongs to it.
 pub named_by_clients : (v : Rows) (s : State) → MeetsInvariants s → v.clients ≡ clients_of s → (m : ℕ) → list_any (λ (row : ClientRow). is_option m row.master) v.clients ≡ list_any (λ (x : Member). x.master == m) s.masters.members
 named_by_clients v s t e m = ap (list_any (λ (row : ClientRow). is_option m row.master)) e ∙ masters_named m s.files.clients s.masters.members (members_open s t) (masters_so s t).members_rise
 
@@ -151,6 +152,8 @@ module _ (s : State) (v : Rows) (hs : List FileHandle) (ts : List SharedToken) (
   abbrev others : List ℕ
   others = referring ts ms.framebuffers
 
+  -- ---- the same for handles, tokens and framebuffers: rows before a sweep are those of the new state
+
   pub holds_moved : SameRows v.holds (map (handle_row_of set.objects) hs)
   holds_moved = subst (SameRows v.holds) (sym (holds_as_before s.objects.objects set.objects _ hs m.those (λ n e. among-left (keys_of hs) others n e))) m.holds
 
@@ -161,6 +164,7 @@ module _ (s : State) (v : Rows) (hs : List FileHandle) (ts : List SharedToken) (
   framebuffers_moved =
       subst (SameRows v.framebuffers) (sym (framebuffers_as_before s.objects.objects set.objects _ ms.framebuffers m.those (λ n e. among-right (keys_of hs) others n (among-right (token_keys ts) (framebuffer_keys ms.framebuffers) n e)))) m.framebuffers
 
+  -- A sweep leaves the rows of the names whose objects a handle names.
   pub names_moved : SameRows (filter (λ (row : NameRow). list_any (λ (hold : HandleRow). hold.object == row.object) v.holds) v.names) (map (name_row_of set.objects) left)
   names_moved =
       let kept = filter (λ (x : SharedName). is_among (keys_of hs) x.object) ns in
@@ -169,6 +173,7 @@ module _ (s : State) (v : Rows) (hs : List FileHandle) (ts : List SharedToken) (
       (subst (SameRows swept_rows) (sym (names_as_before s.objects.objects set.objects _ kept m.those (λ n e. among-left (keys_of hs) others n (name_keys (keys_of hs) ns n e))))
       (swept_names v s.objects.objects (keys_of s.files.holds) (referring_keys s) hs ns (objects_counted s t) m.holds m.names (λ n e. m.known n (among-left (keys_of hs) others n e)) m.known_names))
 
+  -- A sweep leaves the rows of the objects that handles, tokens or framebuffers name.
   pub objects_moved : v.objects ≡ objects_of s → filter (λ (row : ObjectRow). is_referred v row.object) v.objects ≡ map object_row_of set.objects
   objects_moved o =
       swept_objects v s.objects.objects set.objects (keys_of s.files.holds) (referring_keys s) hs others (objects_counted s t) m.holds (references_by v s.objects.objects ts ms.framebuffers m.tokens m.framebuffers) m.known o m.those
@@ -187,7 +192,8 @@ all_moved_to s hs ts given ms left set = record s {
 abbrev pub all_shared_rows : Rows → List HandleRow → List TokenRow → ℕ → List FramebufferRow → List NameRow → Rows
 all_shared_rows w holds tokens last framebuffers names = record w { holds = holds; tokens = tokens; last_token = last; framebuffers = framebuffers; names = names }
 
--- the state represents them when they are swept
+-- A state whose handles, tokens, framebuffers, names and objects changed represents the swept rows with the same
+-- changes.
 pub all_moved : (s : State) (w : Rows) (holds : List HandleRow) (tokens : List TokenRow) (last : ℕ) (framebuffers : List FramebufferRow) (names : List NameRow) (hs : List FileHandle) (ts : List SharedToken) (given : Option ℕ) (ms : ModeSet) (ns left : List SharedName) (set : ObjectSet) →
     MeetsInvariants s → Represents s w → Moves s (all_shared_rows w holds tokens last framebuffers names) hs ts ms ns left set → set.limit ≡ s.objects.limit → ms.topology ≡ s.modes.topology → ms.last ≡ s.modes.last → last ≡ unwrap_or given 0 →
     (part : Part) → represents_part part (all_moved_to s hs ts given ms left set) (swept (all_shared_rows w holds tokens last framebuffers names))
@@ -203,7 +209,8 @@ all_moved s w holds tokens last framebuffers names hs ts given ms ns left set t 
 all_moved s w holds tokens last framebuffers names hs ts given ms ns left set t h m l fixed most e LastToken = e
 all_moved s w holds tokens last framebuffers names hs ts given ms ns left set t h m l fixed most e part = h part
 
--- and it meets the invariants
+-- A state whose handles, tokens, framebuffers and names changed keeps all invariants, if objects count what names
+-- them.
 pub all_moved_invariants : (s : State) (hs : List FileHandle) (ts : List SharedToken) (given : Option ℕ) (ms : ModeSet) (left : List SharedName) (set : ObjectSet) → MeetsInvariants s → InOrder (λ (x y : FileHandle). files.handle_before x y ≡ true) hs → AreModes ms →
     AreCounted (keys_of hs) (referring ts ms.framebuffers) set.objects → AreNamed (keys_of hs) left → (invariant : Invariant) → meets_invariant invariant (all_moved_to s hs ts given ms left set)
 unfolding meets_invariant
@@ -220,10 +227,12 @@ moved_to s hs ts given left set = all_moved_to s hs ts given s.modes left set
 abbrev pub shared_rows : Rows → List HandleRow → List TokenRow → ℕ → List NameRow → Rows
 shared_rows w holds tokens last names = all_shared_rows w holds tokens last w.framebuffers names
 
+-- A state whose handles, tokens and names changed represents the rows with the same changes, after a sweep.
 pub moved : (s : State) (w : Rows) (holds : List HandleRow) (tokens : List TokenRow) (last : ℕ) (names : List NameRow) (hs : List FileHandle) (ts : List SharedToken) (given : Option ℕ) (ns left : List SharedName) (set : ObjectSet) →
     MeetsInvariants s → Represents s w → Moves s (shared_rows w holds tokens last names) hs ts s.modes ns left set → set.limit ≡ s.objects.limit → last ≡ unwrap_or given 0 → Represents (moved_to s hs ts given left set) (swept (shared_rows w holds tokens last names))
 moved s w holds tokens last names hs ts given ns left set t h m l e = all_moved s w holds tokens last w.framebuffers names hs ts given s.modes ns left set t h m l refl refl e
 
+-- A state whose handles, tokens and names changed keeps all invariants, if objects count what names them.
 pub moved_invariants : (s : State) (hs : List FileHandle) (ts : List SharedToken) (given : Option ℕ) (left : List SharedName) (set : ObjectSet) → MeetsInvariants s → InOrder (λ (x y : FileHandle). files.handle_before x y ≡ true) hs →
     AreCounted (keys_of hs) (referring ts s.modes.framebuffers) set.objects → AreNamed (keys_of hs) left → MeetsInvariants (moved_to s hs ts given left set)
 moved_invariants s hs ts given left set t o invariants named = all_moved_invariants s hs ts given s.modes left set t o (modes_so s t) invariants named
@@ -243,7 +252,7 @@ nothing_moves s v t h = record {
   those = all_named (keys_of s.files.holds) (referring_keys s) s.objects.objects (objects_counted s t);
 }
 
--- a sweep takes nothing of rows that a state represents that meets the invariants
+-- A sweep removes nothing of rows that a state represents that meets the invariants.
 pub unswept : (s : State) (v : Rows) → MeetsInvariants s → Represents s v → (part : Part) → represents_part part s (swept v)
 unfolding represents_part swept
 unswept s v t h Masters = masters_left v s t (clients_are s v h) (masters_are s v h)
@@ -254,7 +263,7 @@ unswept s v t h part = h part
 
 -- ---- fewer handles or tokens, and what they alone named
 
--- what is left by fewer keys
+-- With fewer handles and tokens, and with the names and objects that they leave, rows and state change together.
 pub leaving : (s : State) (w v : Rows) (hs : List FileHandle) (ts : List SharedToken) (names : NameList) (set : ObjectSet) → MeetsInvariants s → Represents s w → v.names ≡ w.names → SameRows v.holds (map (handle_row_of s.objects.objects) hs) → SameRows v.tokens (map (token_row_of s.objects.objects) ts) →
     SameRows v.framebuffers (framebuffers_of s) → SameRows (filter (λ (row : ShownRow). is_framebuffer v row.framebuffer) v.shown) (map shown_row_of (shown_rows s.modes)) →
     ((n : ℕ) → is_among (keys_of hs ++ referring ts s.modes.framebuffers) n ≡ true → is_among (keys_of s.files.holds ++ referring_keys s) n ≡ true) → Leaves s.names s.objects (keys_of hs) (referring ts s.modes.framebuffers) names set → Moves s v hs ts s.modes s.names.names names.names set
@@ -274,6 +283,7 @@ leaving s w v hs ts names set t h e held opened framed lit known left = record {
 abbrev pub without_handle : State → ℕ → ℕ → NameList → ObjectSet → State
 without_handle s c n names set = record s { files = without_handle_row s.files c n; names = names; objects = set }
 
+-- The state without a handle, and without what it alone named, represents the swept rows without the handle.
 pub handle_gone : (s : State) (w : Rows) (c n : ℕ) (names : NameList) (set : ObjectSet) → MeetsInvariants s → Leaves s.names s.objects (keys_of (without_handle_row s.files c n).holds) (referring_keys s) names set → Represents s w →
     Represents (without_handle s c n names set) (swept (record w { holds = without (is_handle c n) w.holds }))
 handle_gone s w c n names set t left h =
@@ -300,11 +310,11 @@ same_option m (Some n) = refl
 abbrev pub with_ended : State → (ℕ → Bool) → Option ℕ → State
 with_ended s below d = record s { masters = record s.masters { masters = released below s.masters.masters; device_master = d }; leases = ended below s.leases }
 
--- whether a master's row is below another's
+-- A master is below another by rows exactly if it is in the state.
 pub under_is : (s : State) (w : Rows) (top : ℕ) → Represents s w → is_under w.masters top ≡ is_below (Some top) s.masters.masters
 under_is s w top h = (λ i. is_under (masters_are s w h i) top) ∙ (λ i. chains.is_under (above_is s.leases.tokens s.masters.masters i) top)
 
--- the leases of a master and of all below it end
+-- A state in which leases of a master and of all below it ended represents the rows in which they did.
 pub ended_represents : (s : State) (w : Rows) (top : ℕ) → Represents s w → (part : Part) → represents_part part (with_ended s (is_below (Some top) s.masters.masters) s.masters.device_master) (model.ended w top)
 unfolding represents_part model.ended
 ended_represents s w top h Masters =
@@ -316,7 +326,7 @@ ended_represents s w top h Grants =
     subst (λ (p : ℕ → Bool). SameRows (filter (λ (row : GrantRow). not (p row.master)) w.grants) (grants_of (with_ended s below s.masters.device_master))) (sym (under_is s w top h)) (grants_ended below w.grants s.leases.grants (grants_are s w h))
 ended_represents s w top h part = h part
 
--- no lease ends
+-- A state in which no lease ended represents the rows unchanged.
 pub none_ended_represents : (s : State) (w : Rows) → Represents s w → (part : Part) → represents_part part (with_ended s (λ _. false) s.masters.device_master) w
 unfolding represents_part
 none_ended_represents s w h Masters = masters_are s w h ∙ (λ i. map (master_row_of (sym (none_ended s.leases) i).tokens) (sym (none_released s.masters.masters) i))
@@ -357,7 +367,7 @@ references_without s c ms = referring (without_tokens_of c s.tokens).tokens ms.f
 all_among : (keys : List ℕ) → (ns : List SharedName) → AreNamed keys (filter (λ (x : SharedName). is_among keys x.object) ns)
 all_among keys ns = filter_true (λ (x : SharedName). is_among keys x.object) ns
 
--- the names that are left are of objects that handles name
+-- The names that remain are of objects that handles name.
 pub named_left : (names now : NameList) (objects set : ObjectSet) (keys refs : List ℕ) → Leaves names objects keys refs now set → AreNamed keys now.names
 named_left names now objects set keys refs left = subst (λ (l : NameList). AreNamed keys l.names) (sym left.names) (all_among keys names.names)
 
@@ -371,7 +381,7 @@ have_left v c (f ∷ fs) h =
       | false ↦ λ e. (ap (λ o. f.flags.render || is_some o) (find_others (λ (x : Member). x.client) f.client c e v.members) ∙ h.0, have_left v c fs h.1)
     ]) refl
 
--- the invariants without a client
+-- A state without a client keeps all invariants.
 pub client_gone_invariants : (s : State) (c : ℕ) (ms : ModeSet) (names : NameList) (set : ObjectSet) → MeetsInvariants s → AreMasters (without_its_master c s.masters) → AreLeases (without_its_leases c s.masters s.leases) → AreModes ms → Leaves s.names s.objects (keys_without s c) (references_without s c ms) names set →
     (invariant : Invariant) → meets_invariant invariant (without_its s c ms names set)
 unfolding meets_invariant
@@ -392,6 +402,7 @@ client_gone_invariants s c ms names set t are leases_are modes_are left HoldsRis
 client_gone_invariants s c ms names set t are leases_are modes_are left ObjectsCounted = left.invariants
 client_gone_invariants s c ms names set t are leases_are modes_are left NamesHeld = named_left s.names names s.objects set (keys_without s c) (references_without s c ms) left
 
+-- The tokens that pass a test name only keys that tokens name.
 pub some_opened : (p : SharedToken → Bool) → (ts : List SharedToken) (n : ℕ) → is_among (token_keys (filter p ts)) n ≡ true → is_among (token_keys ts) n ≡ true
 some_opened p [] n h = h
 some_opened p (x ∷ xs) n h =
@@ -400,11 +411,11 @@ some_opened p (x ∷ xs) n h =
       | false ↦ λ e. among-more (token_keys xs) x.object n (some_opened p xs n e)
     ] h
 
--- the tokens that pass a test
+-- The rows of tokens that pass a test are those of the tokens that pass it.
 pub opened_left : (rows : List TokenRow) (p : TokenRow → Bool) (objects : List Object) (ts : List SharedToken) → SameRows rows (map (token_row_of objects) ts) → SameRows (filter p rows) (map (token_row_of objects) (filter (λ x. p (token_row_of objects x)) ts))
 opened_left rows p objects ts h = subst (SameRows (filter p rows)) (filter-map p (token_row_of objects) ts) (same-filter p rows (map (token_row_of objects) ts) h)
 
--- fewer tokens and framebuffers name fewer keys
+-- Fewer tokens and framebuffers name no other keys.
 pub fewer_referring : (p : SharedToken → Bool) (q : Framebuffer → Bool) (ts : List SharedToken) (fs : List Framebuffer) (n : ℕ) → is_among (referring (filter p ts) (filter q fs)) n ≡ true → is_among (referring ts fs) n ≡ true
 fewer_referring p q ts fs n e =
     let fewer = token_keys (filter p ts) in
@@ -415,7 +426,7 @@ fewer_referring p q ts fs n e =
       | false ↦ λ is k. among-right (token_keys ts) (framebuffer_keys fs) n (some_framed q fs n k)
     ] refl split
 
--- so do fewer handles, tokens and framebuffers
+-- Fewer handles, tokens and framebuffers name no other keys.
 pub fewer_known : (s : State) (p : FileHandle → Bool) (q : SharedToken → Bool) (r : Framebuffer → Bool) (n : ℕ) → is_among (keys_of (filter p s.files.holds) ++ referring (filter q s.tokens.tokens) (filter r s.modes.framebuffers)) n ≡ true →
     is_among (keys_of s.files.holds ++ referring_keys s) n ≡ true
 fewer_known s p q r n e =
@@ -442,7 +453,7 @@ magic_client x o e c xs = ap (λ (g : Option Magic). filter (λ (row : MagicRow)
         none false = refl
     by_magic (Some d) = refl
 
--- the magics that are left
+-- Without a client, the rows of magics are those of all other clients.
 pub magics_left : (c : ℕ) → (xs : List Member) → filter (λ (row : MagicRow). not (row.client == c)) (filter_map magic_row_of xs) ≡ filter_map magic_row_of (filter (λ (x : Member). not (masters.is_client c x)) xs)
 magics_left c [] = refl
 magics_left c (x ∷ xs) =
@@ -499,7 +510,7 @@ module _ (s : State) (w : Rows) (c : ℕ) (flags : FileFlags) (ms : ModeSet) (na
   unfolding closed
   objects_yet = objects_are _ _ own_ended
 
-  -- and the masters that no client names any more
+  -- A state without a client represents the swept rows after its closing.
   pub client_gone : (part : Part) → represents_part part (without_its s c ms names set) (swept (closed w c))
   unfolding represents_part swept closed
   client_gone Bounds = let k = bounds_are _ _ own_ended in (k.0, k.1, gone.limit ∙ k.2, ap (λ (l : NameList). l.last) gone.names ∙ k.3, k.4, k.5, loses.last ∙ k.6, loses.topology ∙ k.7, k.8, k.9)

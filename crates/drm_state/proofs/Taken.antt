@@ -74,7 +74,7 @@ module _ {X : Type 0} (number client key : X → ℕ) where
         | false ↦ λ is j. taken_later c x row xs is (less (number x) (number row) (found_one (λ x. client x == c) (λ y. nat_lt (number x) (number y) ≡ true) xs row o.0 j)) (taken c xs row o.1 j)
       ] refl e
 
-  -- the least row of a client, by what taking it answered
+  -- The row that was taken was the client's and named this key, and the rows of other clients remain.
   pub first_taken : (c n k : ℕ) (xs : List X) → InOrder (λ x y. nat_lt (number x) (number y)) xs → Some (n, k) ≡ option_map (number_and_key number key) (find (λ x. client x == c) xs) → IsTaken client key c k xs (except number n xs)
   first_taken c n k xs o e =
       elim (find (λ x. client x == c) xs) as (λ (found : Option X). find (λ x. client x == c) xs ≡ found → Some (n, k) ≡ option_map (number_and_key number key) found → IsTaken client key c k xs (except number n xs)) [
@@ -86,7 +86,7 @@ module _ {X : Type 0} (number client key : X → ℕ) where
             subst (λ m. IsTaken client key c m xs (except number n xs)) named (subst (λ m. IsTaken client key c (key row) xs (except number m xs)) at (taken c xs row o is))
       ] refl e
 
-  -- at the end the client has none
+  -- If nothing was taken, the client has no row.
   pub none_taken : (c : ℕ) (xs : List X) → None ≡ option_map (number_and_key number key) (find (λ x. client x == c) xs) → others client c xs ≡ xs
   none_taken c xs e =
       let none : find (λ x. client x == c) xs ≡ None =

@@ -28,6 +28,7 @@ taken-is-call zero text c some within = absurd (omega arith)
 taken-is-call (suc n) [] c some within = absurd (omega arith)
 taken-is-call (suc n) (b ∷ text) c some within = refl
 
+-- A call that takes some bytes adds one piece, after fewer than 1,000 interruptions.
 pub PutPieces-took : {a b c : Counts} {row : ℕ} (n : ℕ) (text : List ℕ) → PutPieces a b row → row < 1000 → 0 < n → n ≤ length text
     → c ≡ counts_put (put.Took n) text b → PutPieces a c 0
 PutPieces-took {a} {b} {c} {row} n text so patient some within e = record {

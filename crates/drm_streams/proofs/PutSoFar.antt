@@ -1,4 +1,4 @@
--- How far putting a text has come.
+-- How far putting a text has progressed.
 use Rattle.std.proofs.Common.{◌≡◌, ℕ, ◌+◌, ◌-◌, ◌*◌, ◌<◌, ◌≤◌, zero, suc, List, [], ◌∷◌, ◌++◌, length, take, drop, refl, sym, ap, ◌∙◌, arith, append_assoc, length-append, length-take-le, take-append-drop}
 use Rattle.drm_streams.specs.Streams.{Counts, SinkTrace, PutGives, counts_put}
 use Rattle.drm_streams.specs.Turns.{WriteCost, Tries}
@@ -29,7 +29,7 @@ counts_put-calls n [] c = refl
 counts_put-calls zero (b ∷ text) c = refl
 counts_put-calls (suc n) (b ∷ text) c = refl
 
--- the sink took some bytes of the rest
+-- After a call that took some bytes of the rest, the put has progressed by them.
 pub PutSoFar-took : (a b c : SinkTrace) (text rest later : List ℕ) (s t i n : ℕ) → PutSoFar a b text rest s t i → 0 < t → 0 < n
     → PutGives (put.Took n) b.written c.written rest → c.counts ≡ counts_put (put.Took n) rest b.counts → later ≡ drop n rest → PutSoFar a c text later s (t - 1) 0
 PutSoFar-took a b c text rest later s t i n so some_turn some gives counts e =
@@ -48,7 +48,7 @@ PutSoFar-took a b c text rest later s t i n so some_turn some gives counts e =
       faults = rw len (omega arith);
     }
 
--- each byte took one call that was no fault at most, and 1,000 that were
+-- For each byte at most one call was no fault and at most 1,000 calls were one.
 pub PutSoFar-Tries : (a b : SinkTrace) (text rest : List ℕ) (s t i : ℕ) → PutSoFar a b text rest s t i → Tries a.counts b.counts (length text)
 PutSoFar-Tries a b text rest s t i so =
     let len : length text ≡ length so.front + length rest = ap length so.parts ∙ length-append so.front rest in

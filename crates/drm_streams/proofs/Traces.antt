@@ -9,9 +9,11 @@ use Rattle.drm_streams.specs.declared.sink.Put.TheVariants as put
 
 -- ---- counts
 
+-- Without a call no count falls.
 pub NeverFall-none : (c : Counts) → NeverFall c c
 NeverFall-none c = record { calls = omega arith; ends = omega arith; faults = omega arith }
 
+-- If no count falls in each of two runs, none falls in both together.
 pub NeverFall-then : {c d e : Counts} → NeverFall c d → NeverFall d e → NeverFall c e
 NeverFall-then p q = record { calls = omega arith; ends = omega arith; faults = omega arith }
 
@@ -38,18 +40,22 @@ IsNext-counts_put put.Fault text c = IsNext-one_failure c
 
 -- ---- the bytes that a source returned
 
+-- Without a call the source returns no bytes.
 pub Gave-none : (a : SourceTrace) → Gave a a []
 Gave-none a = record { given = Consumes-nil a.left; counts = NeverFall-none a.counts }
 
+-- Two runs return the bytes of the first and then those of the second.
 pub Gave-then : {a b c : SourceTrace} {x y : List ℕ} → Gave a b x → Gave b c y → Gave a c (x ++ y)
 Gave-then {a} {b} {c} {x} {y} p q =
     record { given = Consumes-trans a.left b.left c.left x y p.given q.given; counts = NeverFall-then p.counts q.counts }
 
 -- ---- what a sink took
 
+-- Without a call the sink takes no bytes.
 pub Took-none : (a : SinkTrace) → Took a a []
 Took-none a = record { taken = Appends-nil a.written; counts = NeverFall-none a.counts }
 
+-- In two runs the sink takes the bytes of the first and then those of the second.
 pub Took-then : {a b c : SinkTrace} {x y : List ℕ} → Took a b x → Took b c y → Took a c (x ++ y)
 Took-then {a} {b} {c} {x} {y} p q =
     record { taken = Appends-trans a.written b.written c.written x y p.taken q.taken; counts = NeverFall-then p.counts q.counts }
@@ -65,6 +71,7 @@ PutGives-Appends (put.Took n) old new text h = h.1
 PutGives-Appends put.Interrupted old new text h = Appends-kept old old new [] (Appends-nil old) h
 PutGives-Appends put.Fault old new text h = Appends-kept old old new [] (Appends-nil old) h
 
+-- In one call the sink takes the bytes that its result counts.
 pub Took-one : (a b : SinkTrace) (r : Put) (text : List ℕ) → PutGives r a.written b.written text → b.counts ≡ counts_put r text a.counts
     → Took a b (bytes_put r text)
 Took-one a b r text h e = record {
@@ -74,17 +81,21 @@ Took-one a b r text h e = record {
 
 -- ---- the bytes that a source returned, with its turns
 
+-- Two runs return the bytes of both and cost the turns of both.
 pub ReadCost-then : {a b c : SourceTrace} {x y : List ℕ} {s t u : ℕ} → ReadCost a b x s t → ReadCost b c y t u → ReadCost a c (x ++ y) s u
 ReadCost-then p q = record { gave = Gave-then p.gave q.gave; cost = omega arith }
 
 -- ---- what a sink took, with its turns
 
+-- Without a call the sink takes no bytes and no turn is used.
 pub WriteCost-none : (a : SinkTrace) (turns : ℕ) → WriteCost a a [] turns turns
 WriteCost-none a turns = record { took = Took-none a; cost = refl }
 
+-- In two runs the sink takes the bytes of both, at the cost of the turns of both.
 pub WriteCost-then : {a b c : SinkTrace} {x y : List ℕ} {s t u : ℕ} → WriteCost a b x s t → WriteCost b c y t u → WriteCost a c (x ++ y) s u
 WriteCost-then p q = record { took = Took-then p.took q.took; cost = omega arith }
 
+-- In one call the sink takes the bytes that its result counts, at the cost of one turn.
 pub WriteCost-one : (a b : SinkTrace) (r : Put) (text : List ℕ) (turns : ℕ) → 0 < turns → PutGives r a.written b.written text
     → b.counts ≡ counts_put r text a.counts → WriteCost a b (bytes_put r text) turns (turns - 1)
 WriteCost-one a b r text turns some h e =

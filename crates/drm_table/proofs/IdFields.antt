@@ -9,6 +9,7 @@ use Rattle.drm_table.specs.declared.fields.Width.TheVariants as widths
 use Rattle.drm_table.specs.Fields.{width_of}
 use Rattle.drm_table.specs.Fields.{ids_in}
 
+-- Ids written as fields are read as the same ids.
 pub ids-back : (ids : List ℕ) → ids_in (map U32 ids) ≡ Some ids
 ids-back [] = refl
 ids-back (id ∷ ids) = rw (ids-back ids) refl
@@ -17,11 +18,13 @@ ids-before : (id : ℕ) (fs : List Field) (o : Option (List ℕ)) (ids : List �
 ids-before id fs None ids each e = absurd (cc)
 ids-before id fs (Some more) ids each e = let same : ids ≡ id ∷ more = cc in ap (map U32) same ∙ ap (λ (xs : List Field). U32 id ∷ xs) (each more refl)
 
+-- Fields that are read as ids are the fields of these ids.
 pub ids-are : (fs : List Field) (ids : List ℕ) → ids_in fs ≡ Some ids → map U32 ids ≡ fs
 ids-are [] ids e = let same : ids ≡ [] = cc in ap (map U32) same
 ids-are (U32 id ∷ fs) ids e = ids-before id fs (ids_in fs) ids (ids-are fs) e
 ids-are (U64 n ∷ fs) ids e = absurd (cc)
 
+-- All fields of ids have 32 bits.
 pub ids-widths : (ids : List ℕ) → map width_of (map U32 ids) ≡ replicate (length (map U32 ids)) widths.U32
 ids-widths [] = refl
 ids-widths (id ∷ ids) = ap (λ (xs : List Width). widths.U32 ∷ xs) (ids-widths ids)

@@ -25,6 +25,7 @@ first-by : {S : Type 0} (read_one : Width → S → Option (Field × S)) (P : Li
 first-by read_one P w ws s None read each e = absurd (cc)
 first-by read_one P w ws s (Some one) read each e = more-by P w ws s one.0 (read_each read_one ws one.1) read (λ more. each one more refl) e
 
+-- What holds of no fields, and of one more in front of others, holds of all that are read.
 pub each-by : {S : Type 0} (read_one : Width → S → Option (Field × S)) (P : List Width → S → List Field → S → Type 0) → ((s : S) → P [] s [] s)
     → ((w : Width) (ws : List Width) (s : S) (one : Field × S) (more : List Field × S) → read_one w s ≡ Some one → P ws one.1 more.0 more.1 → P (w ∷ ws) s (one.0 ∷ more.0) more.1)
     → (ws : List Width) (s : S) (read : List Field × S) → read_each read_one ws s ≡ Some read → P ws s read.0 read.1
@@ -34,15 +35,19 @@ each-by read_one P none step (w ∷ ws) s read e =
 
 -- ---- fields that fit, one by one
 
+-- If all fields fit, the first one does.
 pub first-fits : (f : Field) (fs : List Field) → All FitsField (f ∷ fs) → FitsField f
 first-fits f fs each = each 0 f (omega arith)
 
+-- If all fields fit, those after the first one do.
 pub others-fit : (f : Field) (fs : List Field) → All FitsField (f ∷ fs) → All FitsField fs
 others-fit f fs each = λ k d h. each (suc k) d (omega arith)
 
+-- No fields all fit.
 pub none-fit : All FitsField []
 none-fit k d few = absurd (omega arith)
 
+-- If the first field fits and the others do, all fit.
 pub all-fit : (f : Field) (fs : List Field) → FitsField f → All FitsField fs → All FitsField (f ∷ fs)
 all-fit f fs here there zero d h = here
 all-fit f fs here there (suc k) d h = there k d (omega arith)

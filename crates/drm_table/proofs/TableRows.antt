@@ -24,26 +24,30 @@ use Rattle.drm_table.proofs.IdFields.{ids-back, ids-are, ids-widths}
 
 -- ---- a row by its number and by its word
 
+-- The number of each kind of call fits 16 bits.
 pub number-small : (kind : CallKind) → kind_number kind < 2 ^ 16
 unfolding kind_row
 number-small kinds.Version = lit< tt
 number-small _ = lit< tt
 
+-- The layout of each kind of call is short.
 pub kind-short : (kind : CallKind) → IsShort (kind_layout kind)
 unfolding kind_row
 kind-short kinds.Version = lit≤ tt
 kind-short kinds.CreateLease = tt
 kind-short _ = lit≤ tt
 
--- the same of a layout that is the kind's
+-- A layout that is a kind's is short.
 pub short : (kind : CallKind) (layout : Layout) → layout ≡ kind_layout kind → IsShort layout
 short kind layout e = subst IsShort (sym e) (kind-short kind)
 
+-- Each kind of call is found by its number.
 pub kind-found : (kind : CallKind) → call_kind_of (kind_number kind) ≡ Some kind
 unfolding call_kind_of kind_row
 kind-found kinds.Version = refl
 kind-found _ = refl
 
+-- A number finds only the kind of call that has it.
 pub kind-of-its-own : (number : ℕ) (kind : CallKind) → call_kind_of number ≡ Some kind → kind_number kind ≡ number
 unfolding call_kind_of
 kind-of-its-own number kind e = eqb-true (kind_number kind) number (found-passes (λ (k : CallKind). kind_number k == number) all_kinds kind e)
@@ -52,7 +56,7 @@ numbered : (row : Option (CallKind × List Field)) (asked : ℕ) (kind : CallKin
 numbered None asked kind e = absurd cc
 numbered (Some row) asked kind e = let same : row.0 ≡ kind = cc in ap kind_number same
 
--- the flags of a call are those of its kind's row
+-- The flags of a call are those of its kind's row.
 pub flags-by-kind : (call : Call) (kind : CallKind) → option_map (λ (row : CallKind × List Field). row.0) (call_row call) ≡ Some kind → flags_of call ≡ (kind_row kind).flags
 unfolding flags_of call_number row_of
 flags-by-kind call kind e =
@@ -60,11 +64,13 @@ flags-by-kind call kind e =
     let found : row_of (call_number call) ≡ Some (kind_row kind) = ap row_of number ∙ ap (option_map kind_row) (kind-found kind) in
     ap (λ (row : Option TableRow). option_map_or (λ (r : TableRow). r.flags) row no_flags) found
 
+-- Each kind of call is found by its word.
 pub word-found : (kind : CallKind) → call_kind_of_word (kind_word kind) ≡ Some kind
 unfolding call_kind_of_word kind_row
 word-found kinds.Version = refl
 word-found _ = refl
 
+-- A word finds only the kind of call that has it.
 pub word-of-its-own : (word : List ℕ) (kind : CallKind) → call_kind_of_word word ≡ Some kind → kind_word kind ≡ word
 unfolding call_kind_of_word
 word-of-its-own word kind e = (bytes_eq-Decides (kind_word kind) word).0 (found-passes (λ (k : CallKind). bytes_eq (kind_word k) word) all_kinds kind e)
@@ -75,6 +81,7 @@ audit-back : (kind : AuditKind) (from : ℕ) → call_with kinds.Audit (U32 (aud
 unfolding call_with kind_row
 audit-back kind from = rw (kinds_of_audits.kind-found kind) refl
 
+-- A call of a row is made again from its row and its fields.
 pub read-back : (call : Call) → IsReadBack call (call_row call)
 unfolding call_row call_with kind_row
 read-back (calls.Unknown n) = tt
@@ -83,11 +90,11 @@ read-back (calls.Audit kind from) = audit-back kind from
 read-back (calls.CreateLease ids) = ap (λ (o : Option (List ℕ)). option_map calls.CreateLease o) (ids-back ids)
 read-back _ = refl
 
--- the call of the row and the fields of a call is that call
+-- The call made of a call's kind and fields is this call.
 pub read-again : (call : Call) (kind : CallKind) (fs : List Field) → call_row call ≡ Some (kind, fs) → call_with kind fs ≡ Some call
 read-again call kind fs e = subst (IsReadBack call) e (read-back call)
 
--- a call with a number that has a row, and with its fields
+-- A call that is neither unknown nor of a bad layout has a row.
 pub has-row : (call : Call) → ((n : ℕ) → call ≡ calls.Unknown n → ⊥) → ((n : ℕ) → call ≡ calls.BadLayout n → ⊥) → is_some (call_row call) ≡ true
 unfolding call_row
 has-row (calls.Unknown n) known laid_out = absurd (known n refl)
@@ -185,10 +192,12 @@ made-in Framebuffers kind fs = framebuffer-made kind fs
 made-in Leases kind fs = lease-made kind fs
 made-in Device kind fs = device-made kind fs
 
+-- A call made from a kind and fields has this kind and these fields.
 pub fields-of : (kind : CallKind) (fs : List Field) → AreFieldsOf kind fs (call_with kind fs)
 unfolding call_with
 fields-of kind fs = made kind fs (call_with kind fs) (made-in (kind_family kind) kind fs)
 
+-- The fields of a call of a row have the widths of its kind.
 pub has-widths : (call : Call) → HasWidths (call_row call)
 unfolding call_row kind_row
 has-widths (calls.Unknown n) = tt

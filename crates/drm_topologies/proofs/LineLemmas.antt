@@ -25,6 +25,7 @@ first-append (x ∷ xs) ys = refl
 behind-append : (name : LineWord) (xs ys : List Words) → behind name (xs ++ ys) ≡ behind name xs ++ behind name ys
 behind-append name xs ys = ap (map others) (filter-append (begins_with name) xs ys) ∙ map-append others (filter (begins_with name) xs) (filter (begins_with name) ys)
 
+-- The parts of two lists of lines are those of the first, joined with those of the second.
 pub told-append : (xs ys : List Words) → told (xs ++ ys) ≡ joined (told xs) (told ys)
 unfolding told
 told-append xs ys =
@@ -40,6 +41,7 @@ told-append xs ys =
     let connectors = ap (map encoder_place) (behind-append words.Connector xs ys) ∙ map-append encoder_place (behind words.Connector xs) (behind words.Connector ys) in
     λ i. record { crtcs = crtcs i; planes = planes i; kinds = kinds i; encoders = encoders i; connectors = connectors i }
 
+-- No lines define no parts.
 pub told-nil : told [] ≡ nothing_told
 unfolding told
 told-nil = refl
@@ -50,7 +52,7 @@ or-none : (o : Option ℕ) → option_or o None ≡ o
 or-none None = refl
 or-none (Some n) = refl
 
--- a line that defines nothing
+-- Parts joined with no parts are unchanged.
 pub joined-nothing : (t : Told) → joined t nothing_told ≡ t
 joined-nothing t = λ i. record {
   crtcs = or-none t.crtcs i;
@@ -60,10 +62,12 @@ joined-nothing t = λ i. record {
   connectors = append-nil t.connectors i;
 }
 
+-- A blank line adds no part.
 pub blank_tells_nothing : (t : Told) → t ≡ joined t (told ([] ∷ []))
 unfolding told
 blank_tells_nothing t = sym (joined-nothing t)
 
+-- A comment adds no part.
 pub comment_tells_nothing : (t : Told) (w : List ℕ) (ws : Words) → is_comment w ≡ true → t ≡ joined t (told ((w ∷ ws) ∷ []))
 unfolding told
 comment_tells_nothing t [] ws is = absurd (false≢true is)
@@ -85,7 +89,7 @@ module _ (t : Told) (w : List ℕ) (ws : Words) where
   abbrev told_with : List ℕ → Told
   told_with w = joined t (told ((w ∷ ws) ∷ []))
 
-  -- none of the lines above sets the number of CRTCs
+  -- If no line above sets the number of CRTCs, a `crtcs` line sets it.
   pub crtcs_told : line_word_of w ≡ Some words.Crtcs → t.crtcs ≡ None → record t { crtcs = only_number ws } ≡ told_with w
   unfolding told
   crtcs_told is none =
@@ -99,6 +103,7 @@ module _ (t : Told) (w : List ℕ) (ws : Words) where
         connectors = append-nil t.connectors i;
       }))
 
+  -- A `plane` line adds an overlay plane with its CRTCs.
   pub overlay_told : line_word_of w ≡ Some words.Plane → record t { planes = t.planes ++ mask_of ws ∷ []; kinds = t.kinds ++ plane_kinds.Overlay ∷ [] } ≡ told_with w
   unfolding told
   overlay_told is =
@@ -110,6 +115,7 @@ module _ (t : Told) (w : List ℕ) (ws : Words) where
         connectors = append-nil t.connectors i;
       }))
 
+  -- A `primary` line adds a primary plane with its CRTCs.
   pub primary_told : line_word_of w ≡ Some words.Primary → record t { planes = t.planes ++ mask_of ws ∷ []; kinds = t.kinds ++ plane_kinds.Primary (own_crtc ws) ∷ [] } ≡ told_with w
   unfolding told
   primary_told is =
@@ -121,6 +127,7 @@ module _ (t : Told) (w : List ℕ) (ws : Words) where
         connectors = append-nil t.connectors i;
       }))
 
+  -- A `cursor` line adds a cursor plane with its CRTCs.
   pub cursor_told : line_word_of w ≡ Some words.Cursor → record t { planes = t.planes ++ mask_of ws ∷ []; kinds = t.kinds ++ plane_kinds.Cursor (own_crtc ws) ∷ [] } ≡ told_with w
   unfolding told
   cursor_told is =
@@ -132,6 +139,7 @@ module _ (t : Told) (w : List ℕ) (ws : Words) where
         connectors = append-nil t.connectors i;
       }))
 
+  -- An `encoder` line adds an encoder with its CRTCs.
   pub encoder_told : line_word_of w ≡ Some words.Encoder → record t { encoders = t.encoders ++ mask_of ws ∷ [] } ≡ told_with w
   unfolding told
   encoder_told is =
@@ -143,6 +151,7 @@ module _ (t : Told) (w : List ℕ) (ws : Words) where
         connectors = append-nil t.connectors i;
       }))
 
+  -- A `connector` line adds a connector with its encoder.
   pub connector_told : line_word_of w ≡ Some words.Connector → record t { connectors = t.connectors ++ encoder_place ws ∷ [] } ≡ told_with w
   unfolding told
   connector_told is =

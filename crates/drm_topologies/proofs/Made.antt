@@ -7,11 +7,12 @@ use Rattle.drm_modes.specs.Topology.{Topology, is_topology}
 use Rattle.drm_modes.specs.Topologies.{topology_with}
 use Rattle.drm_topologies.specs.Told.{Told, crtc_count, encoder_id, topology_told}
 
+-- If a topology passes the test, the attempt to create it returns it.
 pub made : (o : Option Topology) (t : Topology) → (IsSome o ↔ IsTrue (is_topology t)) → IfSome o (λ u. u ≡ t) → is_topology t ≡ true → o ≡ Some t
 made None t some value is = absurd (false≢true (some.1 is))
 made (Some u) t some value is = ap Some value
 
--- its parts are those that the lines define
+-- The topology made of the parts of lines is the one that the lines define.
 pub topology_given : (t : Told) (crtcs before : ℕ) (planes : List ℕ) (kinds : List PlaneKind) (encoders ids : List ℕ)
     → t.crtcs ≡ Some crtcs → planes ≡ t.planes → kinds ≡ t.kinds → encoders ≡ t.encoders → before ≡ crtcs + length t.planes → ids ≡ map (λ place. before + place) t.connectors
     → topology_with crtcs planes kinds encoders ids ≡ topology_told t

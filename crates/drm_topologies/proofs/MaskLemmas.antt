@@ -19,9 +19,11 @@ use Rattle.drm_topologies.specs.Lines.{number_in, of_crtcs, crtc_in, first_numbe
 
 -- ---- either of two masks
 
+-- The union with the mask 0 changes nothing.
 pub or-none : (m : ℕ) → bit_or m 0 ≡ m
 or-none m = same_from_bits (bit_or m 0) m (λ i. omega (arith, bit_at_or m 0 i, bit_at-zero i))
 
+-- The union of masks is associative.
 pub or-or : (a b c : ℕ) → bit_or (bit_or a b) c ≡ bit_or a (bit_or b c)
 or-or a b c = same_from_bits (bit_or (bit_or a b) c) (bit_or a (bit_or b c)) (λ i.
     omega (arith, bit_at_or (bit_or a b) c i, bit_at_or a b i, bit_at_or a (bit_or b c) i, bit_at_or b c i))
@@ -81,7 +83,7 @@ same_place n i low = grind (arith, nat_tests)
 within_all : (n i : ℕ) → n ≤ 8 → 1 ≤ n → (n - 1 == i) ≡ true → nat_lt i 8 ≡ true
 within_all n i high low is = let same = eqb-true (n - 1) i is in lt-ltb i 8 (omega (arith, same, high, low))
 
--- one more CRTC is one more bit
+-- One more CRTC is one more bit of the mask.
 pub set_bit : (p : ℕ → Bool) (n : ℕ) → 1 ≤ n → n ≤ 8 → bits_of (λ x. (n == x) || p x) (numbers_from 1 8) ≡ bit_or (2 ^ (n - 1)) (bits_of p (numbers_from 1 8))
 set_bit p n low high = same_from_bits _ _ (λ i.
     let with_it : ℕ → Bool = λ x. (n == x) || p x in
@@ -111,15 +113,18 @@ crtc_some_at : (count n : ℕ) (o : Option ℕ) → option_and_then (of_crtcs co
 crtc_some_at count n None is = absurd (cc)
 crtc_some_at count n (Some m) is = let found = of_crtcs_some count m n (nat_le 1 m && nat_le m count) refl is in (ap Some found.0, found.1, found.2)
 
+-- A word that names a CRTC is its number, from 1 up to the number of CRTCs.
 pub crtc_some : (count n : ℕ) (w : List ℕ) → crtc_in count w ≡ Some n → (number_in w ≡ Some n) × (1 ≤ n) × (n ≤ count)
 crtc_some count n w is = crtc_some_at count n (number_in w) is
 
 -- ---- the masks of words
 
+-- The mask of no words is 0.
 pub mask-nil : mask_of [] ≡ 0
 unfolding mask_of
 mask-nil = no_bit 1 8
 
+-- The mask of a CRTC's number and more words is its bit and the mask of these words.
 pub mask-cons : (w : List ℕ) (ws : Words) (n : ℕ) → number_in w ≡ Some n → 1 ≤ n → n ≤ 8 → mask_of (w ∷ ws) ≡ bit_or (2 ^ (n - 1)) (mask_of ws)
 unfolding mask_of
 mask-cons w ws n is low high =
@@ -132,6 +137,7 @@ double : (b : Bool) (r m : ℕ) → r < 2 ^ m → cond b 1 0 + 2 * r < 2 ^ suc m
 double true r m less = omega (arith, less, pow-suc 2 m)
 double false r m less = omega (arith, less, pow-suc 2 m)
 
+-- If no number from `first + n` on passes, the bits of a run are below 2^n.
 pub bits_below : (p : ℕ → Bool) (first count n : ℕ) → ((x : ℕ) → first + n ≤ x → p x ≡ false) → bits_of p (numbers_from first count) < 2 ^ n
 unfolding numbers_from
 bits_below p first zero n none = pow_pos n
@@ -167,6 +173,7 @@ none_above count (w ∷ ws) all x less =
     let n = named_at count (number_in w) each.0 in
     named_more (number_in w) (filter_map number_in ws) n.0 x n.1 (omega (arith, n.3, less)) (none_above count ws each.1 x less)
 
+-- If all words name CRTCs, their mask is below 2 to the number of CRTCs.
 pub mask_below : (count : ℕ) (ws : Words) → name_crtcs count ws ≡ true → mask_of ws < 2 ^ count
 unfolding mask_of
 mask_below count ws all = bits_below (is_among (filter_map number_in ws)) 1 8 count (λ x le. none_above count ws all x (omega (arith, le)))
@@ -177,7 +184,7 @@ first_bit n rest low high =
     let same : (n == 1 + (n - 1)) ≡ true = eq-eqb n (1 + (n - 1)) (omega (arith, low)) in
     and_from (nat_lt (n - 1) 8) (is_among (n ∷ rest) (1 + (n - 1))) within (or_left (n == 1 + (n - 1)) (is_among rest (1 + (n - 1))) same)
 
--- the first CRTC that is named is one of the mask
+-- The first CRTC that the words name is one of their mask.
 pub own_possible : (count : ℕ) (ws : Words) (n : ℕ) → count ≤ 8 → name_crtcs count ws ≡ true → first_number ws ≡ Some n → is_possible count (mask_of ws) n ≡ true
 unfolding mask_of
 own_possible count [] n few all first = absurd (cc)
@@ -195,7 +202,7 @@ own_possible count (w ∷ ws) n few all first =
 
 -- ---- the loop over the words
 
--- one more word is read
+-- After one more word, the mask with its CRTC and the rest are still the whole mask.
 pub mask_more : (mask n whole : ℕ) (w : List ℕ) (ws rest : Words) (count : ℕ) → count ≤ 8 → rest ≡ w ∷ ws → crtc_in count w ≡ Some n → bit_or mask (mask_of rest) ≡ whole → bit_or (bit_or mask (2 ^ (n - 1))) (mask_of ws) ≡ whole
 mask_more mask n whole w ws rest count few is named so_far =
     let crtc = crtc_some count n w named in
@@ -203,11 +210,14 @@ mask_more mask n whole w ws rest count few is named so_far =
     ∙ ap (bit_or mask) (sym (mask-cons w ws n crtc.0 crtc.1 (omega (arith, crtc.2, few))) ∙ sym (ap mask_of is))
     ∙ so_far
 
+-- If the first word names a CRTC, all words do if and only if the others do.
 pub named_more_words : (w : List ℕ) (ws rest : Words) (count n : ℕ) (all : Bool) → rest ≡ w ∷ ws → crtc_in count w ≡ Some n → name_crtcs count rest ≡ all → name_crtcs count ws ≡ all
 named_more_words w ws rest count n all is named so_far = sym (ap (λ o. is_some o && name_crtcs count ws) named) ∙ sym (ap (name_crtcs count) is) ∙ so_far
 
+-- If the first word names no CRTC, not all words do.
 pub not_named : (w : List ℕ) (ws rest : Words) (count : ℕ) (all : Bool) → rest ≡ w ∷ ws → crtc_in count w ≡ None → name_crtcs count rest ≡ all → all ≡ false
 not_named w ws rest count all is none so_far = sym so_far ∙ ap (name_crtcs count) is ∙ ap (λ o. is_some o && name_crtcs count ws) none
 
+-- If no words are left, the mask so far is the whole mask.
 pub whole_mask : (mask whole : ℕ) (rest : Words) → rest ≡ [] → bit_or mask (mask_of rest) ≡ whole → mask ≡ whole
 whole_mask mask whole rest none so_far = sym (or-none mask) ∙ ap (bit_or mask) (sym (ap mask_of none ∙ mask-nil)) ∙ so_far

@@ -25,6 +25,7 @@ pub record SoFar (lines rest : List Words) (above : ℕ) (t : Told) : Type 0 whe
   pub fit : (i : ℕ) → i < above → cause_below lines i ≡ None
   pub told_is : t ≡ told (take above lines)
 
+-- Before the first line, no part is defined and all lines are left.
 pub none_so_far : (lines : List Words) (t : Told) → t ≡ nothing_told → SoFar lines lines 0 t
 none_so_far lines t none = record {
   rest_is = refl;
@@ -55,13 +56,14 @@ module _ (lines rest : List Words) (line : Words) (above : ℕ) (t : Told) (so_f
   rest_next : drop (above + 1) lines ≡ rest
   rest_next = let e = split in cc
 
+  -- The cause at the next line is that of the line with the parts so far.
   pub next_cause_is : cause_below lines above ≡ cause_of t line
   next_cause_is =
       ap (next_cause (told (take above lines))) (slice_get-get_or lines above [] there)
       ∙ ap (λ l. cause_of (told (take above lines)) l) is_next
       ∙ ap (λ u. cause_of u line) (sym so_far.told_is)
 
-  -- it fits
+  -- If the next line fits, its parts are joined to the parts so far.
   pub line_read : (t' : Told) → cause_of t line ≡ None → t' ≡ joined t (told (line ∷ [])) → SoFar lines rest (above + 1) t'
   line_read t' none tells =
       let lt = there in record {
@@ -81,7 +83,7 @@ module _ (lines rest : List Words) (line : Words) (above : ℕ) (t : Told) (so_f
           let same : i ≡ above = omega (arith, less, here) in
           ap (cause_below lines) same ∙ next_cause_is ∙ none
 
-  -- it doesn't
+  -- If the next line does not fit, it is the first unfit line.
   pub line_unfit : (unfit : UnfitLine) → unfit.number ≡ above + 1 → cause_of t line ≡ Some unfit.cause → IsFirstUnfit lines unfit
   line_unfit unfit number cause = record { above = above; number = number; fit = so_far.fit; cause = next_cause_is ∙ cause }
 
@@ -95,6 +97,7 @@ module _ (lines : List Words) (above : ℕ) (t : Told) (so_far : SoFar lines [] 
         | inr past ↦ past
       ]
 
+  -- If no lines are left, the parts so far are those of all lines.
   pub told_all : t ≡ told lines
   told_all = so_far.told_is ∙ ap told (take_all above lines all_read)
 
@@ -103,7 +106,7 @@ module _ (lines : List Words) (above : ℕ) (t : Told) (so_far : SoFar lines [] 
       ap (λ u. next_cause u (slice_get lines i)) (ap told (take_all i lines past) ∙ sym told_all)
       ∙ ap (next_cause t) (slice_get_past lines i past)
 
-  -- the number of CRTCs is set
+  -- If no lines are left and the number of CRTCs is set, all lines fit.
   pub all_fit : is_some t.crtcs ≡ true → AllFit lines
   all_fit some i = fits_at i (cases_lt i above)
     where
@@ -111,7 +114,7 @@ module _ (lines : List Words) (above : ℕ) (t : Told) (so_far : SoFar lines [] 
       fits_at i (inl before) = so_far.fit i before
       fits_at i (inr past) = let read = all_read in end_cause i (omega (arith, read, past)) ∙ rw some refl
 
-  -- they are not
+  -- If no lines are left and the number of CRTCs is not set, the end is the first unfit line.
   pub end_unfit : (unfit : UnfitLine) → unfit.number ≡ above + 1 → unfit.cause ≡ causes.NoCrtcs → t.crtcs ≡ None → IsFirstUnfit lines unfit
   end_unfit unfit number cause none = record {
     above = above;
@@ -120,45 +123,55 @@ module _ (lines : List Words) (above : ℕ) (t : Told) (so_far : SoFar lines [] 
     cause = end_cause above all_read ∙ rw none (ap Some (sym cause));
   }
 
+  -- If no lines are left, the parts are sound.
   pub all_sound : IsSound t
   all_sound = subst IsSound (sym so_far.told_is) (sound_above lines above so_far.within so_far.fit)
 
+  -- If no lines are left, the place of each connector's encoder is at most 64.
   pub few_places : AllByRecursion (λ place. place ≤ 64) t.connectors
   few_places =
       let sound = all_sound in
       all_weaker (IsPlace (length t.encoders)) (λ place. place ≤ 64) (λ place is. omega (arith, is.1, sound.few)) t.connectors sound.places
 
+  -- If no lines are left and the number of CRTCs is set, the parts are a topology.
   pub topology_sound : is_some t.crtcs ≡ true → is_topology (topology_told t) ≡ true
   topology_sound some = topology_is t all_sound some
 
 -- ---- the parts of the whole text
 
+-- If all lines fit, no line is the first unfit one.
 pub unfit_is_unfit : (lines : List Words) (unfit : UnfitLine) → IsFirstUnfit lines unfit → AllFit lines → ⊥
 unfit_is_unfit lines unfit first all = none-some unfit.cause (sym (all first.above) ∙ first.cause)
 
 -- ---- a text and the text after its first line
 
+-- A text that does not test as empty is not empty.
 pub nonempty : (text : List ℕ) (empty : Bool) → empty ≡ (length text == 0) → empty ≡ false → text ≢ []
 nonempty text empty is not_empty none = eqb-false (length text) 0 (sym is ∙ not_empty) (ap length none)
 
+-- If a text is not empty, its first line and the lines of the text after it are left.
 pub at_line : (lines : List Words) (text line behind : List ℕ) (above : ℕ) (t : Told) → SoFar lines (lines_in text) above t → text ≢ [] → (text ≢ [] → lines_of text ≡ line ∷ lines_of behind)
     → SoFar lines (words_of line ∷ lines_in behind) above t
 at_line lines text line behind above t so_far some first =
     let P : List Words → Type 0 = λ rest. SoFar lines rest above t in subst P (ap (map words_of) (first some)) so_far
 
+-- If the text is empty, no lines are left.
 pub at_end : (lines : List Words) (text : List ℕ) (above : ℕ) (t : Told) (empty : Bool) → SoFar lines (lines_in text) above t → empty ≡ (length text == 0) → empty ≡ true → SoFar lines [] above t
 at_end lines text above t empty so_far is end =
     let none : text ≡ [] = nil_from_length text (eqb-true (length text) 0 (sym is ∙ end)) in
     let P : List Words → Type 0 = λ rest. SoFar lines rest above t in subst P (ap lines_in none) so_far
 
+-- If an option mapped to x returns a value, the option has one, and the value is x.
 pub some_made : {X : Type 0} (o : Option ℕ) (x y : X) → Some y ≡ option_map (λ _. x) o → (is_some o ≡ true) × (y ≡ x)
 some_made None x y is = absurd (cc)
 some_made (Some n) x y is = (refl, same_Some y x is)
 
+-- If the mapped option has no value, the option has none.
 pub none_made : {X : Type 0} (o : Option ℕ) (x : X) → None ≡ option_map (λ _. x) o → o ≡ None
 none_made None x is = refl
 none_made (Some n) x is = absurd (none-some x is)
 
+-- The text after the first line is shorter than the text.
 pub shorter : (text : List ℕ) (place : Option ℕ) → text ≢ [] → length (text_behind place text) < length text
 shorter [] place some = absurd (some refl)
 shorter (b ∷ bs) None some = omega arith

@@ -59,6 +59,7 @@ crtcs_pass t ws none =
       passes causes.CrtcCount in_range each.2,
     )
 
+-- A `crtcs` line that fits sets the number of CRTCs.
 pub crtcs_line_told : {X : Type 0} (r : Result X Unfit) (t new : Told) (w : List ℕ) (ws : Words) → line_word_of w ≡ Some words.Crtcs → result_err r ≡ crtcs_cause t ws
     → OnOk r (new ≡ record t { crtcs = only_number ws }) → OnOk r (new ≡ joined t (told ((w ∷ ws) ∷ [])))
 crtcs_line_told (Ok x) t new w ws is cause tells = tells ∙ crtcs_told t w ws is (crtcs_pass t ws (sym cause)).1
@@ -265,6 +266,7 @@ module _ (t : Told) (sound : IsSound t) where
       plane_sound (mask_of ws) (kind (own_crtc ws)) names.0 (mask_below (crtc_count t) ws names.1)
       (same ∙ own_fits ws names.1 (passes causes.NoCrtcOfItsOwn (is_some (first_number ws)) each.1)) each.2
 
+  -- A line without a cause, by its first word, leaves the parts sound.
   pub line_sound_by : (w : List ℕ) (ws : Words) (o : Option LineWord) → line_word_of w ≡ o → cause_by o t ws ≡ None → IsSound (joined t (told ((w ∷ ws) ∷ [])))
   line_sound_by w ws None is none = absurd (cc)
   line_sound_by w ws (Some words.Crtcs) is none =
@@ -291,6 +293,7 @@ module _ (t : Told) (sound : IsSound t) where
   line_sound_at w ws true is none = subst IsSound (comment_tells_nothing t w ws is) sound
   line_sound_at w ws false is none = line_sound_by w ws (line_word_of w) refl none
 
+  -- A line without a cause leaves the parts sound.
   pub line_sound : (line : Words) → cause_of t line ≡ None → IsSound (joined t (told (line ∷ [])))
   unfolding cause_of
   line_sound [] none = subst IsSound (blank_tells_nothing t) sound
@@ -303,6 +306,7 @@ module _ (t : Told) (sound : IsSound t) where
   placed first before count is (place ∷ places) all =
       and_from _ _ (and_from _ _ (le-leb first (before + place) (omega (arith, is, all.0.0))) (lt-ltb (before + place) (first + count) (omega (arith, is, all.0.1)))) (placed first before count is places all.1)
 
+  -- Sound parts with a number of CRTCs are a topology.
   pub topology_is : is_some t.crtcs ≡ true → is_topology (topology_told t) ≡ true
   unfolding are_objects are_kinds
   topology_is some =
@@ -323,7 +327,7 @@ module _ (t : Told) (sound : IsSound t) where
 
 -- ---- the lines of a text
 
--- the parts of the lines above a line that is reached are sound
+-- The parts of lines that fit are sound.
 pub sound_above : (lines : List Words) (n : ℕ) → n ≤ length lines → ((i : ℕ) → i < n → cause_below lines i ≡ None) → IsSound (told (take n lines))
 sound_above lines zero le fit = subst IsSound (sym told-nil) nothing_sound
 sound_above lines (suc n) le fit =

@@ -39,6 +39,7 @@ told_by_gift (Some (Transfer key)) taken past older rest e = refl
 told_by_gift None true past older rest e = refl
 told_by_gift None false past older rest e = e
 
+-- The object of a handle is that of the last step that assigned it.
 pub told-last_gift : (history : List AnsweredEvent) (c h : ℕ) → told history (Held c h) ≡ told_from_gift (last_gift history c h)
 unfolding told last_gift gift
 told-last_gift [] c h = refl
@@ -57,6 +58,7 @@ told_by_sharing : (key : Key) (p : Option Publishing) (past : List AnsweredEvent
 told_by_sharing key None past older rest e = e
 told_by_sharing key (Some p) past older rest e = told_if_key (is_key p.key key) p past older rest e
 
+-- The object under a key is that of the last step that published there.
 pub told-last_sharing : (history : List AnsweredEvent) (key : Key) → told history (Published key) ≡ told_from_sharing (last_sharing history key)
 unfolding told last_sharing holder_under
 told-last_sharing [] key = refl
@@ -71,6 +73,7 @@ gift_by step past c h (Some source) taken older g its_gift its_take before e =
 gift_by step past c h None true older g its_gift its_take before e = none_some g e
 gift_by step past c h None false older g its_gift its_take before e = given_before step past g.past c h g.source its_take (before e)
 
+-- The last step that assigned a handle did so from this source, and no later one took it.
 pub last_gift_was : (history : List AnsweredEvent) (c h : ℕ) (g : Gift) → last_gift history c h ≡ Some g → WasGiven history c h g.source g.past
 unfolding last_gift gift
 last_gift_was [] c h g e = none_some g e
@@ -88,6 +91,7 @@ sharing_by : (step : AnsweredEvent) (past : List AnsweredEvent) (key : Key) (p :
 sharing_by step past key None older s its_holder before e = published_before step past s.past key s.client s.handle its_holder (before e)
 sharing_by step past key (Some p) older s its_holder before e = sharing_if_key step past key p (is_key p.key key) older s its_holder before e
 
+-- The last step that published under a key published this handle's object.
 pub last_sharing_was : (history : List AnsweredEvent) (key : Key) (s : Sharing) → last_sharing history key ≡ Some s → WasPublished history key s.client s.handle s.past
 unfolding last_sharing holder_under
 last_sharing_was [] key s e = none_some s e
@@ -101,10 +105,12 @@ explained_is_chain history o [] k = k
 explained_is_chain history o (link ∷ []) k = (k.0, k.1, k.2, k.3)
 explained_is_chain history o (link ∷ before ∷ links) k = (k.0, k.1, key_of k.2, k.3, k.4, k.5, k.6, explained_is_chain k.1 o (before ∷ links) k.8)
 
+-- The links that explain a handle are a chain that leads to it.
 pub leads_to : (history : List AnsweredEvent) (c h o : ℕ) (links : List Link) → Explains history c h o links → LeadsTo history c h o (links_of links)
 leads_to history c h o [] k = k
 leads_to history c h o (link ∷ links) k = (k.0, k.1, explained_is_chain history o (link ∷ links) k.2)
 
+-- The links that explain a handle explain the object that it is of.
 pub is_explained : (history : List AnsweredEvent) (c h o : ℕ) (links : List Link) → Explains history c h o links → IsExplained history o links
 unfolding IsExplained
 is_explained history c h o [] k = k
@@ -134,7 +140,7 @@ transfer_is_explained history past older key c h d k o step sharing rest link it
       chain,
     )
 
--- the step of this number gives the handle, and made its object
+-- A chain that reaches the step that created the object explains the handle.
 pub leads_to_made : (history earlier past : List AnsweredEvent) (c h d k step : ℕ) (links items : List Link) → EndsChain history earlier c h d k links →
     last_gift earlier d k ≡ Some (record { source = Creation; past = past }) → next_number past ≡ step → items ≡ links ++ record { step = step; client = d; handle = k; origin = Made } ∷ [] →
     (o : ℕ) × Explains history c h o items
@@ -142,7 +148,8 @@ leads_to_made history earlier past c h d k step links items leads its_gift numbe
     let made : Link = record { step = step; client = d; handle = k; origin = Made } in
     (next_number past, subst (Explains history c h (next_number past)) (sym same) (leads (next_number past) made [] refl refl (made_is_explained earlier past d k step its_gift number)))
 
--- the step of this number gives the handle, for which the client of the next link published it
+-- A chain that leads to a transferred handle leads on to the handle that was published for it, in the history
+-- before.
 pub leads_to_transfer : (history earlier past older : List AnsweredEvent) (key : HandleKey) (c h d k e j step sharing : ℕ) (links items : List Link) → EndsChain history earlier c h d k links →
     last_gift earlier d k ≡ Some (record { source = Transfer (key_of key); past = past }) → last_sharing past (key_of key) ≡ Some (record { client = e; handle = j; past = older }) →
     next_number past ≡ step → next_number older ≡ sharing → items ≡ links ++ record { step = step; client = d; handle = k; origin = Published key sharing } ∷ [] → EndsChain history older c h e j items
@@ -151,7 +158,7 @@ leads_to_transfer history earlier past older key c h d k e j step sharing links 
     let all : links ++ given ∷ next ∷ rest ≡ items ++ next ∷ rest = sym (append_assoc links (given ∷ []) (next ∷ rest)) ∙ ap (λ xs. xs ++ next ∷ rest) (sym same) in
     subst (Explains history c h o) all (leads o given (next ∷ rest) refl refl (transfer_is_explained earlier past older key d k e j o step sharing rest next its_gift its_sharing number older_number client handle chain))
 
--- a device gives no handle of which nothing is told
+-- If nothing is reported of a handle in a device's history, the client does not have it.
 pub has_none : (history : List AnsweredEvent) (c h : ℕ) → told history (Held c h) ≡ None → IsOfDevice history → HasNone history c h
 has_none history c h none of_device = λ o has.
     let kept : Kept history = subst Kept (sym of_device.1) (agrees of_device.0).facts.held.kept in
@@ -162,6 +169,7 @@ none_left : {A : Type 0} {P : Type 0} (left : Option A) → IfNone left P → is
 none_left None h none = h
 none_left (Some x) h none = absurd (false≢true none)
 
+-- What holds of a chain's end that leaves nothing out holds of the end that was found.
 pub nothing_left : (P : ChainEnd → Type 0) (found : Option ChainEnd) (end : ChainEnd) → found ≡ Some end → IfSome found (λ (e : ChainEnd). IfNone e.left (P e)) → IfSome found (λ (e : ChainEnd). is_none e.left ≡ true) → P end
 nothing_left P None end is whole all = none_some end is
 nothing_left P (Some found) end is whole all = subst P (same_Some found end is) (none_left found.left whole all)

@@ -27,6 +27,7 @@ use Rattle.drm_trails.specs.declared.handles.Held.{Held}
 use Rattle.drm_trails.specs.declared.steps.Step.{Step}
 use Rattle.drm_trails.proofs.HistoryLemmas.{followed_by-append, next_number-take}
 
+-- A second test that passes leaves the result of the first.
 pub and_true : (b : Bool) → b ≡ (b && true)
 and_true true = refl
 and_true false = refl
@@ -38,6 +39,7 @@ gift_since (Some source) taken past older = refl
 gift_since None true past older = refl
 gift_since None false past older = refl
 
+-- After one more step, a handle's step is the one that the step says, or the older one.
 pub handles_more : (steps : List Step) (n number c h : ℕ) (step : Step) (before after : Option ℕ) → n < length steps → step ≡ get_or steps n step → number ≡ n + 1 → before ≡ step_of_gift (last_gift (history_of (take n steps)) c h) →
     after ≡ since_after (entry_of step) number c h before → after ≡ step_of_gift (last_gift (history_of (take (n + 1) steps)) c h)
 unfolding last_gift
@@ -51,10 +53,12 @@ handles_more steps n number c h step before after within is its_number its_befor
     ∙ sym (gift_since (source_for c h (given (entry_of step))) (takes (entry_of step) c h) past (last_gift past c h))
     ∙ ap (λ history. step_of_gift (last_gift history c h)) (sym all)
 
+-- Before the first step no handle has a step.
 pub handles_none : (c h : ℕ) → step_of_gift (last_gift (history_of []) c h) ≡ None
 unfolding last_gift followed_by
 handles_none c h = refl
 
+-- The step of an assignment is a step's number exactly if the assignment was that step's.
 pub is_step_of : (gift : Option Gift) (s : ℕ) → is_option s (step_of_gift gift) ≡ is_given_at gift s
 is_step_of None s = refl
 is_step_of (Some g) s = refl
@@ -70,7 +74,7 @@ later_none (e ∷ es) h s less =
     let other : (e.0 == h) ≡ false = sym (is_same h e.0) ∙ ap is_eq less.0 in
     ap (λ b. (b && (e.1 == s)) || is_held_since (map held_of es) h s) other ∙ later_none es h s less.1
 
--- each entry of a map is a handle with its step
+-- The handles of a map that is in order have the steps of its entries.
 pub listed-held : (es : List (ℕ × ℕ)) → IsStrictlySortedBy nat_cmp (keys_of es) → (h s : ℕ) → is_held_since (map held_of es) h s ≡ is_option s (lookup (is_at (nat_cmp h)) es)
 listed-held [] sorted h s = refl
 listed-held (e ∷ es) sorted h s =
@@ -85,7 +89,7 @@ listed-held (e ∷ es) sorted h s =
 its_handle : (es : List (ℕ × ℕ)) (i : ℕ) (d : Held) → (get_or (map held_of es) i d).handle ≡ get_or (keys_of es) i d.handle
 its_handle es i d = sym (get_or-map (λ (one : Held). one.handle) (map held_of es) i d) ∙ ap (λ l. get_or l i d.handle) (map-map (λ (one : Held). one.handle) held_of es)
 
--- in rising order
+-- The handles of a map that is in order rise.
 pub listed-rising : (es : List (ℕ × ℕ)) → IsStrictlySortedBy nat_cmp (keys_of es) → AllPairs (λ (one other : Held). one.handle < other.handle) (map held_of es)
 listed-rising es sorted = λ i j d before within.
     let below = below_from_sorted (keys_of es) i j d.handle sorted before (let size = length-map es held_of in let keys = length-keys_of es in omega (arith, within, size, keys)) in

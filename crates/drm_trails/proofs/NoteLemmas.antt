@@ -5,6 +5,7 @@ use Rattle.std.proofs.lemmas.Bool.{eqb-true}
 use Rattle.std.proofs.lemmas.List.{reverse-append}
 use Rattle.drm_lists.specs.Numbers.{is_among}
 
+-- A search of the newest note that passes finds the last note if it passes, and else searches those before it.
 pub find-newest : {X : Type 0} (p : X → Bool) (notes : List X) (note : X) → find p (reverse (notes ++ note ∷ [])) ≡ cond (p note) (Some note) (find p (reverse notes))
 find-newest p notes note = ap (find p) (reverse-append notes (note ∷ []))
 
@@ -22,15 +23,18 @@ list_any-append : {X : Type 0} (p : X → Bool) (xs ys : List X) → list_any p 
 list_any-append p [] ys = refl
 list_any-append p (x ∷ xs) ys = ap (λ b. p x || b) (list_any-append p xs ys) ∙ sym (or_assoc (p x) (list_any p xs) (list_any p ys))
 
+-- A note passes if the last one does or any before it.
 pub any-newest : {X : Type 0} (p : X → Bool) (notes : List X) (note : X) → list_any p (notes ++ note ∷ []) ≡ (p note || list_any p notes)
 any-newest p notes note = list_any-append p notes (note ∷ []) ∙ or_last (list_any p notes) (p note)
 
+-- A list with no notes appended is unchanged.
 pub append-none : {X : Type 0} (notes : List X) → notes ++ [] ≡ notes
 append-none [] = refl
 append-none (x ∷ xs) = ap (λ l. x ∷ l) (append-none xs)
 
 -- ---- lists of numbers
 
+-- A number is among those that pass exactly if it is in the list and passes.
 pub among-filter : (p : ℕ → Bool) (xs : List ℕ) (n : ℕ) → is_among (filter p xs) n ≡ (is_among xs n && p n)
 among-filter p [] n = refl
 among-filter p (x ∷ xs) n = of (p x) refl (among-filter p xs n)

@@ -32,9 +32,11 @@ gift_object g = of g.source
     of Creation = refl
     of (Transfer key) = refl
 
+-- The object of a handle is that of its last assignment.
 pub held_by_gift : (history : List AnsweredEvent) (c h : ℕ) (g : Gift) → last_gift history c h ≡ Some g → object_held history c h ≡ object_given g.past g.source
 held_by_gift history c h g e = told-last_gift history c h ∙ ap told_from_gift e ∙ gift_object g
 
+-- A handle that no step assigned has no object.
 pub held_by_none : (history : List AnsweredEvent) (c h : ℕ) → last_gift history c h ≡ None → object_held history c h ≡ None
 held_by_none history c h e = told-last_gift history c h ∙ ap told_from_gift e
 
@@ -44,18 +46,22 @@ module _ (steps : List Step) (notes : List Publication) (noted : AreNoted steps 
   shared : last_sharing (history_of steps) key ≡ option_map (sharing_by steps) (publication_in notes (length steps) key)
   shared = ap (λ xs. last_sharing (history_of xs) key) (sym (take_all (length steps) steps (omega arith))) ∙ sym (noted.told (length steps) key)
 
+  -- Without a note of it, a key has no object.
   pub under_none : None ≡ publication_in notes (length steps) key → object_under (history_of steps) key ≡ None
   under_none none = told-last_sharing (history_of steps) key ∙ ap told_from_sharing (shared ∙ ap (option_map (sharing_by steps)) (sym none))
 
+  -- The object under a key is that of the handle in the newest note of it.
   pub under_found : (p : Publication) → Some p ≡ publication_in notes (length steps) key → object_under (history_of steps) key ≡ object_held (history_of (take p.past steps)) p.client p.handle
   under_found p found = told-last_sharing (history_of steps) key ∙ ap told_from_sharing (shared ∙ ap (option_map (sharing_by steps)) (sym found))
 
 -- ---- what it means
 
+-- The object that was found for a handle is the one that the history grants.
 pub held_is_had : (history : List AnsweredEvent) (c h : ℕ) (found : Option ℕ) → found ≡ object_held history c h → IfSome found (Has history c h)
 held_is_had history c h None e = tt
 held_is_had history c h (Some o) e = told_is_so history (Held c h) o (sym e)
 
+-- If no object was found for a handle, a device's history grants none.
 pub held_is_none : (history : List AnsweredEvent) (c h : ℕ) (found : Option ℕ) → found ≡ object_held history c h → IfNone found (IsOfDevice history → HasNone history c h)
 held_is_none history c h None e = has_none history c h (sym e)
 held_is_none history c h (Some o) e = tt
@@ -63,11 +69,11 @@ held_is_none history c h (Some o) e = tt
 kept : (history : List AnsweredEvent) → IsOfDevice history → Kept history
 kept history of_device = subst Kept (sym of_device.1) (agrees of_device.0).facts.held.kept
 
--- a handle is of one object
+-- In a device's history a handle has one object.
 pub had_once : (history : List AnsweredEvent) (c h o p : ℕ) → IsOfDevice history → Has history c h o → Has history c h p → o ≡ p
 had_once history c h o p of_device one other = same_Some o p (sym (has_is_told o history c h (kept history of_device) one) ∙ has_is_told p history c h (kept history of_device) other)
 
--- some step gave it, and no later one took it
+-- In a device's history a handle that a client has was assigned by a step.
 pub had_is_given : (history : List AnsweredEvent) (c h o : ℕ) → IsOfDevice history → Has history c h o → (s : ℕ) × (is_given_at (last_gift history c h) s ≡ true)
 had_is_given history c h o of_device has = of (last_gift history c h) (sym (told-last_gift history c h) ∙ has_is_told o history c h (kept history of_device) has)
   where
@@ -77,6 +83,7 @@ had_is_given history c h o of_device has = of (last_gift history c h) (sym (told
 
 -- ---- one step more
 
+-- Without steps no objects are known.
 pub none_known : AreObjects [] []
 unfolding last_gift followed_by
 none_known = record {
@@ -132,6 +139,7 @@ source_object c h (Some g) past object its s e = of ((g.client == c) && (g.handl
     of true e = its ∙ ap (object_given past) (same_Some g.source s e)
     of false e = none_some s e
 
+-- With one more step, the object that the step assigned is known, as those before.
 pub known_more : (steps : List Step) (step : Step) (objects : List (Option ℕ)) (object : Option ℕ) → AreObjects steps objects → IfSome (given (entry_of step)) (λ (giving : Giving). object ≡ object_given (history_of steps) giving.source) →
     AreObjects (steps ++ step ∷ []) (objects ++ object ∷ [])
 known_more steps step objects object known its = record {
@@ -139,10 +147,11 @@ known_more steps step objects object known its = record {
   count = length-append objects (object ∷ []) ∙ ap (λ n. n + 1) known.count ∙ sym (length-append steps (step ∷ []));
 }
 
+-- What is known of the objects of handles carries over to equal lists.
 pub known_along : (steps same : List Step) (objects also : List (Option ℕ)) → same ≡ steps → also ≡ objects → AreObjects steps objects → AreObjects same also
 known_along steps same objects also is are known = subst (λ (x : List Step × List (Option ℕ)). AreObjects x.0 x.1) (λ i. (sym is i, sym are i)) known
 
--- of what the code found of a step
+-- If the object of the handle that was found in a step is known, so is that of the step's assignment.
 pub given_known : (found : Option GivenHandle) (g : Option Giving) (object : Option ℕ) (past : List AnsweredEvent) → givings_of found ≡ g → IfSome found (λ (giving : GivenHandle). object ≡ object_given past (source_of giving.source)) →
     IfSome g (λ (giving : Giving). object ≡ object_given past giving.source)
 given_known found g object past is its = subst (λ o. IfSome o (λ (giving : Giving). object ≡ object_given past giving.source)) is (of found its)

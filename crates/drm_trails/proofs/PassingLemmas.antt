@@ -10,7 +10,7 @@ use Rattle.drm_trails.specs.Steps.{entry_of, followed_by, history_of}
 use Rattle.drm_trails.specs.declared.steps.Step.{Step}
 use Rattle.drm_trails.proofs.HistoryLemmas.{followed_by-append, next_number-take}
 
--- one step more
+-- The first steps of a list with one more are the history with that step as the newest.
 pub history-more : (steps : List Step) (n : ℕ) (step : Step) → n < length steps → step ≡ get_or steps n step → history_of (take (n + 1) steps) ≡ entry_of step ∷ history_of (take n steps)
 history-more steps n step within is = ap history_of (take_more steps n step within) ∙ followed_by-append [] (take n steps) (get_or steps n step) ∙ ap (λ x. entry_of x ∷ history_of (take n steps)) (sym is)
 
@@ -22,10 +22,12 @@ followed_by-both past (x ∷ front) back = followed_by-both (entry_of x ∷ past
 module _ (passes : AnsweredEvent → Bool) where
   -- ---- the last
 
+  -- Without steps, no step passes.
   pub last_step-none : last_step passes (history_of []) ≡ None
   unfolding last_step followed_by
   last_step-none = refl
 
+  -- The last step that passes is the newest one if it passes, and else the one before.
   pub last_step-more : (steps : List Step) (n : ℕ) (step : Step) → n < length steps → step ≡ get_or steps n step →
       last_step passes (history_of (take (n + 1) steps)) ≡ cond (passes (entry_of step)) (Some (n + 1)) (last_step passes (history_of (take n steps)))
   unfolding last_step
@@ -39,6 +41,7 @@ module _ (passes : AnsweredEvent → Bool) where
     abbrev here : ℕ → Bool → Option ℕ
     here n b = cond (nat_lt number n && b) (Some n) None
 
+    -- The first step that passes after a number is the one before, or else the newest one.
     pub first_step-more : (steps : List Step) (n : ℕ) (step : Step) → n < length steps → step ≡ get_or steps n step →
         first_step_after number passes (history_of (take (n + 1) steps)) ≡ option_or (first_step_after number passes (history_of (take n steps))) (here (n + 1) (passes (entry_of step)))
     unfolding first_step_after
@@ -54,7 +57,7 @@ module _ (passes : AnsweredEvent → Bool) where
         let not_after : nat_lt number (length past + 1) ≡ false = (let le : length past + 1 ≤ number = omega (arith, h) in grind (arith, nat_tests)) in
         (λ i. option_or (older i) (cond (not_after i && passes step) (Some (next_number past)) None))
 
-    -- none among the first steps, up to that number
+    -- No step passes among the first steps up to that number.
     pub first_step-early : (steps : List Step) (n : ℕ) → n ≤ number → n ≤ length steps → first_step_after number passes (history_of (take n steps)) ≡ None
     first_step-early steps n le within = early (history_of (take n steps)) (let next = next_number-take steps n within in omega (arith, next, le))
 
@@ -63,7 +66,7 @@ module _ (passes : AnsweredEvent → Bool) where
     stays past [] k e = e
     stays past (x ∷ xs) k e = stays (entry_of x ∷ past) xs k (ap (λ o. option_or o (here (next_number past) (passes (entry_of x)))) e)
 
-    -- one that passes is the first, if none before it does
+    -- A step that passes is the first one, if none before it passes.
     pub first_step-found : (steps : List Step) (n : ℕ) (step : Step) → n < length steps → step ≡ get_or steps n step → number ≤ n → passes (entry_of step) ≡ true → first_step_after number passes (history_of (take n steps)) ≡ None →
         first_step_after number passes (history_of steps) ≡ Some (n + 1)
     first_step-found steps n step within is le h none =
@@ -77,7 +80,7 @@ module _ (passes : AnsweredEvent → Bool) where
         now : first_step_after number passes (history_of (take (n + 1) steps)) ≡ Some (n + 1)
         now = first_step-more steps n step within is ∙ (λ i. option_or (none i) (cond (later i && h i) (Some (n + 1)) None))
 
-    -- one that does not pass is not the first
+    -- A step that does not pass is not the first one.
     pub first_step-passed : (steps : List Step) (n : ℕ) (step : Step) → n < length steps → step ≡ get_or steps n step → passes (entry_of step) ≡ false → first_step_after number passes (history_of (take n steps)) ≡ None →
         first_step_after number passes (history_of (take (n + 1) steps)) ≡ None
     first_step-passed steps n step within is h none =

@@ -7,6 +7,8 @@ use Rattle.drm_table.specs.declared.events.Event.TheVariants.{Ask}
 use Rattle.drm_history.specs.Steps.{Creation, Transfer, Name, Token, Framebuffer, Source, giving, given_by}
 use Rattle.drm_trails.specs.Answers.{buffer_in, dumb_in, framebuffer_in, given_from}
 
+-- ---- the same for each call that assigns handles: the handle is that of its answer
+
 pub buffer_given : (c size : ℕ) (answer : Answer) → given_by (Ask c (BufCreate size)) answer ≡ given_from c (buffer_in answer) Creation
 buffer_given c size (Buffer handle bytes) = refl
 buffer_given c size _ = refl

@@ -23,6 +23,7 @@ use Rattle.drm_trails.proofs.NoteLemmas.{append-none, find-newest}
 use Rattle.drm_trails.proofs.TrailLemmas.{found_before, lt_of, no_steps}
 use Rattle.drm_trails.proofs.HandleLemmas.{and_true}
 
+-- A note that was found up to a moment is of an earlier step.
 pub touch_before : (notes : List Touch) (moment c h : ℕ) → IfSome (touch_in notes moment c h) (λ (t : Touch). t.past < moment)
 touch_before notes moment c h = found_before (λ (t : Touch). t.past) moment (concerns c h) (reverse notes)
 
@@ -70,6 +71,7 @@ its_past past g (Close c) = refl
 
 -- ---- one step more
 
+-- Without steps no handle was assigned or taken.
 pub none_touched : AreTouched [] []
 unfolding last_gift followed_by
 none_touched = record { rise = tt; among = tt; within = λ moment c h. tt; told = λ moment c h. ap (λ (steps : List Step). last_gift (history_of steps) c h) (no_steps moment) }
@@ -160,17 +162,20 @@ module _ (steps : List Step) (step : Step) where
     touched_by_note None is newest = subst (AreTouched longer) (sym (append-none notes)) (touched_none is)
     touched_by_note (Some t) is newest = touched_one t is newest
 
+    -- With one more step, its note is the newest of those that assigned or took a handle.
     pub touched_more : AreTouched longer (notes ++ option_to_list (touch_in_step (length steps) (entry_of step)))
     touched_more = touched_by_note (touch_in_step (length steps) (entry_of step)) refl (its_past (length steps) (given (entry_of step)) step.event)
 
+-- What the notes say of handles carries over to equal lists.
 pub touched_along : (steps same : List Step) (notes also : List Touch) → same ≡ steps → also ≡ notes → AreTouched steps notes → AreTouched same also
 touched_along steps same notes also is are noted = subst (λ (x : List Step × List Touch). AreTouched x.0 x.1) (λ i. (sym is i, sym are i)) noted
 
 module _ (steps : List Step) (notes : List Touch) (noted : AreTouched steps notes) (moment c h : ℕ) (t : Touch) (found : Some t ≡ touch_in notes moment c h) where
+  -- A note that was found is of a step of the list.
   pub touch_within : t.past < length steps
   touch_within = subst (λ (o : Option Touch). IfSome o (λ u. u.past < length steps)) (sym found) (noted.within moment c h)
 
-  -- what is told up to a moment, by what the newest step says that touched the handle
+  -- The last assignment of a handle up to a moment follows from the newest step that assigned or took the handle.
   pub gift_at_touch : (step : Step) (source : Option Source) (taken : Bool) → step ≡ get_or steps t.past step → source_for c h (given (entry_of step)) ≡ source → takes (entry_of step) c h ≡ taken →
       last_gift (history_of (take moment steps)) c h ≡ gift_or source taken (history_of (take t.past steps)) (last_gift (history_of (take t.past steps)) c h)
   gift_at_touch step source taken is its_source its_take =

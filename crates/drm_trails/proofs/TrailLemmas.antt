@@ -20,6 +20,7 @@ first_of : (a b : Bool) → (a && b) ≡ true → a ≡ true
 first_of true b both = refl
 first_of false b both = absurd (false≢true both)
 
+-- A test of less passes only if the number is less.
 pub lt_of : (a b : ℕ) → nat_lt a b ≡ true → a < b
 lt_of a b is = grind (arith, nat_tests)
 
@@ -28,19 +29,23 @@ found_if : {X : Type 0} (moment_of : X → ℕ) (moment : ℕ) (q : X → Bool) 
 found_if moment_of moment q note older true is rest = lt_of (moment_of note) moment (first_of (nat_lt (moment_of note) moment) (q note) is)
 found_if moment_of moment q note older false is rest = rest
 
+-- A note that was found up to a moment is of an earlier step.
 pub found_before : {X : Type 0} (moment_of : X → ℕ) (moment : ℕ) (q : X → Bool) (notes : List X) → IfSome (find (λ x. nat_lt (moment_of x) moment && q x) notes) (λ x. moment_of x < moment)
 found_before moment_of moment q [] = tt
 found_before moment_of moment q (note ∷ notes) =
     found_if moment_of moment q note (find (λ x. nat_lt (moment_of x) moment && q x) notes) (nat_lt (moment_of note) moment && q note) refl (found_before moment_of moment q notes)
 
+-- A published key that was found up to a moment was published by an earlier step.
 pub publication_before : (notes : List Publication) (moment : ℕ) (key : Key) → IfSome (publication_in notes moment key) (λ (p : Publication). p.past < moment)
 publication_before notes moment key = found_before (λ (p : Publication). p.past) moment (λ (p : Publication). is_key (key_of p.key) key) (reverse notes)
 
 -- ---- one step more
 
+-- The first steps of an empty list are none.
 pub no_steps : (moment : ℕ) → ◌≡◌ {A = List Step} (take moment []) []
 no_steps moment = take_all moment [] (omega arith)
 
+-- Without steps no publishing is recorded.
 pub none_noted : AreNoted [] []
 unfolding last_sharing followed_by
 none_noted = record { rise = tt; among = tt; within = λ moment key. tt; told = λ moment key. sym (ap (λ (steps : List Step). last_sharing (history_of steps) key) (no_steps moment)) }
@@ -127,10 +132,11 @@ module _ (steps : List Step) (step : Step) where
         told = λ moment key. ap (option_map (sharing_by longer)) (find-newest (is_before moment key) notes note) ∙ told_if moment key (nat_lt (length steps) moment) refl;
       }
 
-    -- the notes with that of the step, if it published
+    -- With one more step, its publication, if any, is the newest note.
     pub noted_more : (p : Option PublishedHandle) → publishings_of p ≡ published (entry_of step) → AreNoted longer (notes ++ option_to_list (publications_of p (length steps)))
     noted_more None is = subst (AreNoted longer) (sym (append-none notes)) (noted_none (sym is))
     noted_more (Some p) is = journaled_one p (sym is)
 
+-- What the notes say of publications carries over to equal lists.
 pub noted_along : (steps same : List Step) (notes also : List Publication) → same ≡ steps → also ≡ notes → AreNoted steps notes → AreNoted same also
 noted_along steps same notes also is are noted = subst (λ (x : List Step × List Publication). AreNoted x.0 x.1) (λ i. (sym is i, sym are i)) noted

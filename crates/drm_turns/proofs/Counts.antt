@@ -8,7 +8,7 @@ use Rattle.drm_turns.specs.Rule.{Table, Knows, Orderly}
 use Rattle.drm_turns.proofs.Lent.{others_spent}
 use Rattle.drm_turns.proofs.Totals.{total_first}
 
--- where none is out of the first participant, what it counts is all
+-- If the first participant is idle and has all back, it has drawn all tickets and journaled all entries.
 pub first_counts : (s : Table) (r : Orderly s) (v : View) → get_elem? s.views 0 ≡ some v → v.stage ≡ Idle → v.outstanding ≡ 0 → (r.world.next ≡ v.drawn) × (length r.world.log ≡ length r.world.origin.journal + v.journaled)
 first_counts s r v at idle none_outstanding =
     let spent : (c : ℕ) (u : View) → get_elem? s.views (suc c) ≡ some u → (u.drawn ≡ 0) × (u.journaled ≡ 0) =

@@ -56,6 +56,7 @@ know_lending x id v idle fits = subst (Knows x id (lending v)) (sym idle) (recor
 own_number : (origin : DeviceValue) (log : List Entry) (id : ℕ) (v : View) → Fits origin log id v → v.number ≢ 0 → v.number ≡ suc id
 own_number origin log id v fits some_number = ⊎_elim (λ (z : v.number ≡ 0). absurd (some_number z)) (λ (z : v.number ≡ suc id). z) fits.number
 
+-- To split off a participant or a note keeps the rule.
 pub splits_moves : (id : ℕ) (v : View) → v.stage ≡ Idle → v.number ≢ 0 → Splits Orderly id v (lending v) (child v)
 splits_moves id v idle some_number s r at =
     let x = r.world in
@@ -91,6 +92,7 @@ splits_moves id v idle some_number s r at =
       journaled = (let l = total_snoc (λ u. u.journaled) views' c in let h = total_kept (λ u. u.journaled) s.views id v lent at refl in let d = r.journaled in omega (arith, l, h, d));
     }
 
+-- To set the number of a new participant keeps the rule.
 pub settles_moves : (slots id : ℕ) (me : Sat) → me.0.stage ≡ Idle → Allows Orderly slots id me 0 (λ n. n) (settles (step slots 0 0 0 none) me)
 settles_moves slots id me idle s r wide at small =
     let x = r.world in
@@ -105,6 +107,7 @@ settles_moves slots id me idle s r wide at small =
       (suc id, refl, (λ z. absurd (omega arith)), (λ z. fits.parent (sym z)), λ none. none_before (suc id) x.log me.0.seen fits.seen (fits.mine ∙ none)),
     )
 
+-- To read the history keeps the rule.
 pub learns_moves : (slots id : ℕ) (me : Sat) → me.0.stage ≡ Idle → Allows Orderly slots id me 0 (λ n. n) (learns (step slots 0 0 0 none) me)
 learns_moves slots id me idle s r wide at small =
     let x = r.world in
@@ -132,6 +135,7 @@ module _ (id : ℕ) (v : View) (other : ℕ) (w : View) (kept : List ℕ) (idle 
       (set_else views id other with_told apart ∙ at_other) (λ e. absurd (cc)) (λ live. absurd (live refl)))
       (out_cases v.number v.outstanding w.parent w.outstanding)
 
+  -- Two idle participants may be joined if the numbers that the new one keeps were kept and differ.
   pub joins_with : ((s : Table) (r : Orderly s) → get_elem? s.views id ≡ some v → ¬ (other ≡ id) → get_elem? s.views other ≡ some w → ((k : ℕ) → Has k kept → (Has k v.kept) ⊎ ((k ≡ suc other) ⊎ Has k w.kept)) × AllDiffer kept)
       → Joins Orderly id v other w with_told spent_view
   joins_with keeps_right s r at apart there =
@@ -160,6 +164,7 @@ module _ (id : ℕ) (v : View) (other : ℕ) (w : View) (kept : List ℕ) (idle 
         journaled = (let a = total_set (λ u. u.journaled) s.views id v both at in let b = total_set (λ u. u.journaled) views' other w spent_view there in let d = r.journaled in omega (arith, a, b, d));
       }
 
+-- To join two participants keeps the rule.
 pub joins_moves : (id : ℕ) (v : View) (other : ℕ) (w : View) → v.stage ≡ Idle → w.stage ≡ Idle → v.number ≢ 0 → w.number ≢ 0 → Joins Orderly id v other w (told_of v w) spent_view
 joins_moves id v other w idle idle' some_own some_number = joins_with id v other w (v.kept ++ w.number ∷ w.kept) idle idle' some_own (λ s r at apart at_other.
     let x = r.world in
@@ -174,6 +179,7 @@ joins_moves id v other w idle idle' some_own some_number = joins_with id v other
           has'),
     ))
 
+-- To take back a note keeps the rule.
 pub meets_moves : (id : ℕ) (v : View) (other : ℕ) (w : View) → v.stage ≡ Idle → w.stage ≡ Idle → v.number ≢ 0 → Joins Orderly id v other w (met_of v w) spent_view
 meets_moves id v other w idle idle' some_own = joins_with id v other w v.kept idle idle' some_own (λ s r at apart at_other. ((λ k has. inl has), r.taken_in.apart id v at))
 
@@ -181,6 +187,7 @@ replayed-length : (w : Rows) (es : List Event) → length (replayed w es) ≡ le
 replayed-length w [] = refl
 replayed-length w (e ∷ es) = ap suc (replayed-length (after w e) es)
 
+-- A device that is shared anew keeps the rule: no ticket was drawn, and the device is in its slot.
 pub opens : (d : DeviceValue) (n : ℕ) → n ≡ length d.journal → FoundRoom (start_of d) d.journal → Orderly (opening (n ∷ 0 ∷ 0 ∷ []) (Some d ∷ []) (opening_view d))
 opens d n is room =
     let w : Rows = start_of d in
@@ -217,7 +224,7 @@ quiet_home : (b : Bool) (x : World) (homes : List (maybe Slot)) (views : List Vi
 quiet_home false x homes views quiet know p = p
 quiet_home true x homes views quiet know p = let k : Knows x p.0 p.1 Serving = subst (Knows x p.0 p.1) p.3 (know p.0 p.1 p.2) in let b = k.2 in absurd (omega arith)
 
--- what is found in the slot in the end, where all tickets were served
+-- If all tickets were served at the end, the slot has the device with the history that the participant read.
 pub closes : (id : ℕ) (v : View) (words : List ℕ) (xs : List Slot) (next serving : ℕ) (slot : Slot) → v.stage ≡ Idle → Final (Seen Orderly id v) words xs
     → get_elem? words 1 ≡ some next → get_elem? words 2 ≡ some serving → next ≡ serving → get_elem? xs 0 ≡ some slot
     → (log : List Entry) × (slot ≡ Some (device_at v.origin log)) × Reads v log
@@ -233,7 +240,7 @@ closes id v words xs next serving slot idle final at_next at_serving quiet at =
     let found = final.4 0 (Some (device_at x.origin x.log)) home in
     (x.log, some-injective slot (Some (device_at x.origin x.log)) (sym at ∙ found) ∙ ap (λ (d : DeviceValue). Some (device_at d x.log)) (sym fits.origin_is), reads x id v fits r.legal)
 
--- where not all tickets were served, a participant has the one that is served
+-- If not all tickets were served, a participant has the ticket that is served.
 pub turn_is_out : (id : ℕ) (v : View) (words : List ℕ) (xs : List Slot) (next serving : ℕ) → Final (Seen Orderly id v) words xs
     → get_elem? words 1 ≡ some next → get_elem? words 2 ≡ some serving → next ≢ serving
     → (s : Table) × Orderly s × (get_elem? s.views id ≡ some v) × IsHeld s.views (slice_index s.words 2)
@@ -248,7 +255,7 @@ turn_is_out id v words xs next serving final at_next at_serving ne =
     let out : x.next ≢ x.serving = λ e. ne (sym next_is ∙ (e ∙ serving_is)) in
     (s, r, final.1.1, subst (IsHeld s.views) (sym (word_is s r).2) (r.held x.serving (omega arith) (omega arith)))
 
--- Where all that was split off the first participant is returned, all tickets were served, and the device is there.
+-- If all that was split off the first participant is returned, all tickets were served and the slot has the device.
 pub comes_home : (id : ℕ) (v : View) (words : List ℕ) (xs : List Slot) (next serving : ℕ) (slot : Slot) → v.stage ≡ Idle → v.number ≡ 1 → v.outstanding ≡ 0 → Final (Seen Orderly id v) words xs
     → get_elem? words 1 ≡ some next → get_elem? words 2 ≡ some serving → get_elem? xs 0 ≡ some slot
     → (next ≡ serving) × (d : DeviceValue) × (slot ≡ Some d)
@@ -270,8 +277,8 @@ comes_home id v words xs next serving slot idle first none_outstanding final at_
       some-injective slot (Some (device_at x.origin x.log)) (sym at ∙ found),
     )
 
--- where all that was split off the first participant is returned, the history has what was recorded before and what the
--- participant counts
+-- If all that was split off the first participant is returned, the history has what was recorded before and what it
+-- counts.
 pub closes_counted : (id : ℕ) (v : View) (words : List ℕ) (xs : List Slot) (next serving : ℕ) (slot : Slot) → v.stage ≡ Idle → Final (Seen Orderly id v) words xs
     → get_elem? words 1 ≡ some next → get_elem? words 2 ≡ some serving → next ≡ serving → get_elem? xs 0 ≡ some slot → v.number ≡ 1 → v.outstanding ≡ 0
     → (log : List Entry) × (slot ≡ Some (device_at v.origin log)) × (length log ≡ length v.origin.journal + v.journaled)
@@ -287,6 +294,6 @@ closes_counted id v words xs next serving slot idle final at_next at_serving qui
     let found = closes id v words xs next serving slot idle final at_next at_serving quiet at in
     (x.log, found.1, all ∙ ap (λ (d : DeviceValue). length d.journal + v.journaled) (sym fits.origin_is))
 
--- the first participant
+-- The view of the first participant has a legal history, with no entry that it made.
 pub opening_own : (d : DeviceValue) → FoundRoom (start_of d) d.journal → IsOwn (opening_view d)
 opening_own d room = (replayed-legal (start_of d) d.journal room, replayed-calls 0 (start_of d) d.journal)

@@ -10,13 +10,14 @@ use Rattle.drm_turns.specs.Rule.{IsSpent, TakenIn}
 use Rattle.drm_turns.specs.Views.{spent_view}
 use Rattle.drm_turns.proofs.Rule.{at_below, spent_stays}
 
+-- An item of a list with one more item is one of the old ones, or the new one at the end.
 pub at_end : {A : Type 0} (l : List A) (a b : A) (j : ℕ) → get_elem? (l ++ a ∷ []) j ≡ some b → (get_elem? l j ≡ some b) ⊎ ((j ≡ length l) × (a ≡ b))
 at_end [] a b zero e = inr (refl, some-injective a b e)
 at_end [] a b (suc j) e = absurd (some-ne-none b (sym e))
 at_end (x ∷ xs) a b zero e = inl e
 at_end (x ∷ xs) a b (suc j) e = ⊎_elim (λ t. inl t) (λ t. inr (ap suc t.0, t.1)) (at_end xs a b j e)
 
--- a new view keeps none
+-- The rule of kept numbers holds with one more participant that keeps none.
 pub taken_snoc : (views : List View) (c : View) → TakenIn views → c.kept ≡ [] → TakenIn (views ++ c ∷ [])
 taken_snoc views c t empty =
     let old : (i : ℕ) (u : View) (k : ℕ) → get_elem? (views ++ c ∷ []) i ≡ some u → Has k u.kept → get_elem? views i ≡ some u = λ i u k at has. ⊎_elim
@@ -31,26 +32,30 @@ taken_snoc views c t empty =
       once = λ i j a b k at_i at_j has_i has_j. t.once i j a b k (old i a k at_i has_i) (old j b k at_j has_j) has_i has_j;
     }
 
+-- A single participant that keeps no numbers meets the rule of kept numbers.
 pub taken_one : (v : View) → v.kept ≡ [] → TakenIn (v ∷ [])
 taken_one v empty = taken_snoc [] v (record { spent = λ i u k at has. absurd (some-ne-none u (sym at)); apart = λ i u at. absurd (some-ne-none u (sym at)); once = λ i j a b k at_i at_j has_i has_j. absurd (some-ne-none a (sym at_i)) }) empty
 
--- a participant that is not spent is kept by none
+-- No participant keeps the number of one that is not spent.
 pub not_kept : (views : List View) (id : ℕ) (v : View) (j : ℕ) (u : View) → TakenIn views → get_elem? views id ≡ some v → (v.stage ≡ Spent → ⊥) → get_elem? views j ≡ some u → Has (suc id) u.kept → ⊥
 not_kept views id v j u t at unspent at_j has =
     let s = t.spent j u (suc id) at_j has in
     let same : id ≡ s.0 = (let e = s.2 in omega arith) in
     unspent (ap (λ (z : View). z.stage) (some-injective v s.1 (sym at ∙ (ap (get_elem? views) same ∙ s.3))) ∙ s.4)
 
+-- A participant's number differs from those that it keeps, and these differ from each other.
 pub kept_apart : (views : List View) (id : ℕ) (v : View) → TakenIn views → get_elem? views id ≡ some v → (v.stage ≡ Spent → ⊥) → (v.number ≡ 0) ⊎ (v.number ≡ suc id) → v.number ≢ 0 → AllDiffer (v.number ∷ v.kept)
 kept_apart views id v t at unspent number some_number = ⊎_elim
     (λ (z : v.number ≡ 0). absurd (some_number z))
     (λ (z : v.number ≡ suc id). ((λ has. not_kept views id v id v t at unspent at (subst (λ (k : ℕ). Has k v.kept) z has)), t.apart id v at))
     number
 
+-- A number of two lists together is in the first or in the second.
 pub has_append : (k : ℕ) (xs ys : List ℕ) → Has k (xs ++ ys) → Has k xs ⊎ Has k ys
 has_append k [] ys has = inr has
 has_append k (x ∷ xs) ys has = ⊎_elim (λ (e : k ≡ x). inl (inl e)) (λ (h : Has k (xs ++ ys)). ⊎_elim (λ (a : Has k xs). inl (inr a)) (λ (b : Has k ys). inr b) (has_append k xs ys h)) has
 
+-- The numbers of two lists differ if those of each do and no number is in both.
 pub differ_append : (xs ys : List ℕ) → AllDiffer xs → AllDiffer ys → ((k : ℕ) → Has k xs → Has k ys → ⊥) → AllDiffer (xs ++ ys)
 differ_append [] ys a b apart = b
 differ_append (x ∷ xs) ys a b apart = (
@@ -89,6 +94,7 @@ module _ (views : List View) (id : ℕ) (v : View) (other : ℕ) (w both : View)
   now_spent : IsSpent (set (set views id both) other spent_view) (suc other)
   now_spent = (other, spent_view, refl, set_here (set views id both) other spent_view (at_below (set views id both) other w there), refl)
 
+  -- The rule of kept numbers holds after a participant was joined with another.
   pub taken_join : TakenIn (set (set views id both) other spent_view)
   taken_join = record {
     spent = λ j u k at_j has. ⊎_elim

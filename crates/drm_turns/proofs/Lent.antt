@@ -27,6 +27,7 @@ empty_of : (xs : List ℕ) → length xs ≤ 0 → xs ≡ []
 empty_of [] le = refl
 empty_of (x ∷ xs) le = absurd (omega arith)
 
+-- A list has an item at each index below its length.
 pub at_some : {A : Type 0} (l : List A) (i : ℕ) → i < length l → (a : A) × (get_elem? l i ≡ some a)
 at_some [] i h = absurd (omega arith)
 at_some (x ∷ xs) zero h = (x, refl)
@@ -74,7 +75,7 @@ put_else id xs away p ne = ap (λ (b : Bool). cond b xs (away p)) (ne_eqb p id n
 
 -- ---- the count of those that are out
 
--- one that is returned counts, or it doesn't
+-- When a participant is returned, one fewer is out, or as many are out as before.
 pub out_cases : (number outstanding parent theirs : ℕ) → ((parent ≡ number) × (theirs ≡ 0) × (outstanding_after number outstanding parent theirs ≡ outstanding - 1)) ⊎ (outstanding_after number outstanding parent theirs ≡ outstanding)
 out_cases number outstanding parent theirs = dite (ℕ_discrete parent number)
     (λ p. dite (ℕ_discrete theirs 0)
@@ -82,6 +83,7 @@ out_cases number outstanding parent theirs = dite (ℕ_discrete parent number)
     (λ t. inr (λ i. cond (eq-eqb parent number p i && ne_eqb theirs 0 t i) (outstanding - 1) outstanding)))
     (λ p. inr (ap (λ (b : Bool). cond (b && (theirs == 0)) (outstanding - 1) outstanding) (ne_eqb parent number p)))
 
+-- The count of those that are out is right for a single participant with none out.
 pub lent_one : (v : View) → v.parent ≡ 0 → v.outstanding ≡ 0 → Lent (v ∷ [])
 lent_one v parent none = record {
   away = λ p. [];
@@ -199,6 +201,7 @@ module _ (views : List View) (id : ℕ) (v : View) (t : Lent views) (at : get_el
       r)
       (whence j u at_j)
 
+  -- The count of those that are out stays right when one is split off.
   pub lent_split : Lent split
   lent_split = record {
     away = away_then;
@@ -296,6 +299,7 @@ module _ (views : List View) (id : ℕ) (v : View) (other : ℕ) (w both : View)
   all_back_then : away_less other ≡ []
   all_back_then = none_still other (empty_of (t.away other) (let m = t.count other w at_other live_w in let o = whole in omega arith))
 
+  -- The count of those that are out stays right when one is returned.
   pub lent_join : Lent merged
   lent_join = record {
     away = away_less;
@@ -357,9 +361,11 @@ module _ (views : List View) (t : Lent views) (v : View) (at : get_elem? views 0
       absurd (none_in (suc c) (t.away b.0) (none_with c b.0 w.0 w.1 (λ q z lq at_q. all_back fuel q z (omega arith) at_q)) b.1))
       (t.back c u at_c)
 
+  -- If the first participant has all back, each other is spent.
   pub others_spent : (c : ℕ) (u : View) → get_elem? views (suc c) ≡ some u → u.stage ≡ Spent
   others_spent c u at_c = is_spent views (suc c) u at_c (all_back (suc c) c u (omega arith) at_c).0
 
+  -- If the first participant has all back and is idle, no participant has a ticket.
   pub no_ticket_out : (j : ℕ) (u : View) → v.stage ≡ Idle → get_elem? views j ≡ some u → has_ticket u.stage ≡ true → ⊥
   no_ticket_out zero u idle at_j has = let e : v.stage ≡ u.stage = ap (λ (z : View). z.stage) (some-injective v u (sym at ∙ at_j)) in ticketless v.stage idle (ap has_ticket e ∙ has)
   no_ticket_out (suc c) u idle at_j has =

@@ -31,6 +31,7 @@ found_all s r id v at idle first none_outstanding =
     let is_first : id ≡ 0 = ⊎_elim (λ (z : v.number ≡ 0). absurd (omega arith)) (λ (z : v.number ≡ suc id). omega arith) fits.number in
     (word_is s r).1 ∙ (first_counts s r v (ap (get_elem? s.views) (sym is_first) ∙ at) idle none_outstanding).0
 
+-- To look for the next ticket keeps the rule.
 pub finds_moves : (slots id : ℕ) (me : Sat) → me.0.stage ≡ Idle → Allows Orderly slots id me 1 (λ n. n) (finds (step slots 1 0 0 none) me)
 finds_moves slots id me idle s r wide at small =
     let fits : Fits r.world.origin r.world.log id me.0 = subst (Knows r.world id me.0) idle (r.know id me.0 at) in
@@ -67,6 +68,7 @@ held_drawn x views id v old at idle is held t from to = let below : t < old + 1 
     (λ e. (id, waiting v old, set_here views id (waiting v old) (at_below views id v at), refl, e))
     (λ ne. held_set views id v (waiting v old) t at (λ has. absurd (ticketless v.stage idle has)) (held t from (omega arith)))
 
+-- To draw a ticket keeps the rule.
 pub draws_moves : (slots id : ℕ) (me : Sat) (old : ℕ) → me.0.stage ≡ Idle → old < 2 ^ 64 - 1
     → Allows Orderly slots id me 1 (λ n. either (n == old) (old + 1) n) (draws (step slots 1 old (old + 1) none) me)
 draws_moves slots id me old idle room s r wide at small =
@@ -126,6 +128,7 @@ taken x j u Spent k = k
 own_calls : (origin : DeviceValue) (log : List Entry) (id : ℕ) (v : View) → Fits origin log id v → v.number ≢ 0 → calls_by v.number log ≡ v.mine
 own_calls origin log id v f some_number = ⊎_elim (λ (z : v.number ≡ 0). absurd (some_number z)) (λ (z : v.number ≡ suc id). ap (λ (n : ℕ). calls_by n log) z ∙ f.mine) f.number
 
+-- A participant's own entries in the history are those that it made.
 pub reads : (x : World) (id : ℕ) (v : View) → Fits x.origin x.log id v → IsLegal x.origin x.log → Reads v x.log
 reads x id v f legal = (f.seen, f.told, subst (λ (d : DeviceValue). IsLegal d x.log) (sym f.origin_is) legal, own_calls x.origin x.log id v f)
 
@@ -133,6 +136,7 @@ reads x id v f legal = (f.seen, f.told, subst (λ (d : DeviceValue). IsLegal d x
 sees : (origin : DeviceValue) (log : List Entry) (id : ℕ) (v : View) (stage : Stage) → Fits origin log id v → Fits origin log id (record v { seen = log; stage = stage })
 sees origin log id v stage f = record { origin_is = f.origin_is; number = f.number; parent = f.parent; seen = starts_whole log; told = f.told; mine = f.mine }
 
+-- To look for the ticket that is served keeps the rule.
 pub looks_moves : (slots id : ℕ) (me : Sat) → me.0.stage ≡ Waiting → Allows Orderly slots id me 2 (λ n. n) (looks (step slots 2 0 0 none) me)
 looks_moves slots id me waits s r wide at small =
     let x = r.world in
@@ -194,6 +198,7 @@ alone x views id j v u differ at is ticket ne at_j k serves =
 placed_here : (b : Bool) (y : World) (homes : List (maybe Slot)) (views : List View) (id : ℕ) (w : View) → b ≡ true → get_elem? views id ≡ some w → w.stage ≡ Serving → Placed b y homes views
 placed_here b y homes views id w outstanding at is = subst (λ (z : Bool). Placed z y homes views) (sym outstanding) (id, w, at, is)
 
+-- To add an entry to the history keeps the rule.
 pub counts_moves : (slots id : ℕ) (me : Sat) (e : Entry) → me.0.stage ≡ Serving → e.by ≡ me.0.number → me.0.number ≢ 0 → length me.0.seen < 2 ^ 64 - 1
     → no_room (rows_after me.0.origin me.0.seen) e.event ≡ false → e.answer ≡ reply (rows_after me.0.origin me.0.seen) e.event
     → Allows Orderly slots id me 0 (λ n. (n + 1) % 2 ^ 64) (counts e (step slots 0 1 0 none) me)
@@ -251,6 +256,7 @@ others_pass x j u Waiting idles other k = let ne = other refl in (k.0, (let h = 
 others_pass x j u Serving idles other k = absurd (idles refl)
 others_pass x j u Spent idles other k = k
 
+-- To pass on the ticket that was served keeps the rule.
 pub passes_moves : (slots id : ℕ) (me : Sat) (more : List (ℕ × Slot)) → 0 < slots → me.0.stage ≡ Serving → me.1 ≡ (0, Some (device_at me.0.origin me.0.seen)) ∷ more
     → Allows Orderly slots id me 2 (λ n. (n + 1) % 2 ^ 64) (passes (step slots 2 1 0 none) me)
 passes_moves slots id me more some_slot serves holds s r wide at small =
