@@ -1,4 +1,4 @@
--- What a ledger has noted of leases and of what ended them, and what a history says of that.
+-- The entries of a ledger for leases and their ends, and their values by a history (drm-uapi, leases).
 use Rattle.std.specs.Prelude.{ℕ, ◌<◌, ◌==◌, Bool, false, not, ◌&&◌, ◌||◌, nat_lt, List, [], ◌∷◌, ◌++◌, Option, None, Some, find, reverse, option_and_then, option_map, option_to_list, if◌then◌else◌}
 use Rattle.std.specs.Option.{is_some, option_map_or, option_or}
 use Rattle.drm_lists.specs.Numbers.{is_among}
@@ -14,12 +14,13 @@ use Rattle.drm_authority.specs.Shown.{is_universal_in}
 use Rattle.drm_rights.specs.declared.notes.Lease.{Lease}
 use Rattle.drm_rights.specs.declared.notes.End.{End}
 
--- ---- look-ups in notes
+-- ---- look-ups in entries
 
 -- each is of a later step than those before it
 abbrev pub LeasesRise : List Lease → Type 0
 LeasesRise notes = InOrder (λ (x y : Lease). x.master < y.master) notes
 
+-- each is of a later step than those before it
 abbrev pub EndsRise : List End → Type 0
 EndsRise notes = InOrder (λ (x y : End). x.step < y.step) notes
 
@@ -27,12 +28,15 @@ EndsRise notes = InOrder (λ (x y : End). x.step < y.step) notes
 abbrev pub lease_at : List Lease → ℕ → Option Lease
 lease_at notes m = find (λ (l : Lease). m == l.master) (reverse notes)
 
+-- the last lease with this token
 abbrev pub lease_of_token : List Lease → ℕ → Option Lease
 lease_of_token notes token = find (λ (l : Lease). l.token == token) (reverse notes)
 
+-- the last lease with this id under this owner
 abbrev pub lease_of_id : List Lease → ℕ → ℕ → Option Lease
 lease_of_id notes owner id = find (λ (l : Lease). (l.id == id) && (l.owner == owner)) (reverse notes)
 
+-- a lessor, if it is older than the master
 abbrev pub if_older : ℕ → Option ℕ → Option ℕ
 if_older m None = None
 if_older m (Some lessor) = if nat_lt lessor m then Some lessor else None
@@ -41,16 +45,17 @@ if_older m (Some lessor) = if nat_lt lessor m then Some lessor else None
 abbrev pub lessor_noted : List Lease → ℕ → Option ℕ
 lessor_noted notes m = option_and_then (λ (l : Lease). if_older m l.lessor) (lease_at notes m)
 
+-- the lessee of a lease
 abbrev pub master_of_lease : Option Lease → Option ℕ
 master_of_lease found = option_map (λ (l : Lease). l.master) found
 
--- whether a master was made before an end, and is the one that ended or below it
+-- whether a master was created before an end, and is the one that ended or below it
 abbrev pub is_ended_by : List Lease → ℕ → End → Bool
 is_ended_by notes m e = nat_lt m e.step && is_under (lessor_noted notes) e.master m
 
--- ---- the notes of a history
+-- ---- the entries of a history
 
--- the lease that a step makes
+-- the lease that a step creates
 abbrev pub new_lease : told.Effect → List AnsweredEvent → Option Lease
 new_lease (told.Leases c ids lessee token) past =
     Some (record { master = next_number past; client = c; lessor = master_in past c; owner = top_in past (caller_master_in past c); id = lessee; token = token; universal = is_universal_in past c })
@@ -61,6 +66,7 @@ unfoldable pub leases_in : List AnsweredEvent → List Lease
 leases_in [] = []
 leases_in (step ∷ past) = leases_in past ++ option_to_list (new_lease (effect step) past)
 
+-- the end of a master, if a step ends one
 abbrev pub end_with : List AnsweredEvent → Option ℕ → Option End
 end_with past master = option_map (λ m. record { step = next_number past; master = m }) master
 
@@ -69,13 +75,14 @@ unfoldable pub ends_in : List AnsweredEvent → List End
 ends_in [] = []
 ends_in (step ∷ past) = ends_in past ++ option_to_list (end_with past (ended_by (effect step) past))
 
--- ---- what a history says
+-- ---- values by a history
 
 -- the first step that ended the master
 unfoldable pub ended_at : List AnsweredEvent → ℕ → Option ℕ
 ended_at [] m = None
 ended_at (step ∷ past) m = option_or (ended_at past m) (if ends step past m then Some (next_number past) else None)
 
+-- the mode objects that a CREATE_LEASE lists
 abbrev pub listed_by : told.Effect → List ℕ
 listed_by (told.Leases c ids lessee token) = ids
 listed_by _ = []
@@ -94,16 +101,16 @@ lent_in t (step ∷ past) m x = if m == next_number past then is_lent t (effect 
 abbrev pub is_ended_before : List AnsweredEvent → ℕ → ℕ → Bool
 is_ended_before history m step = option_map_or (λ ended. nat_lt ended step) (ended_at history m) false
 
--- whether the lessor of a lease, made by the step of this number, had the mode object to lend
+-- whether the lessor of a lease, created by the step of this number, had the mode object to lend
 abbrev pub had_to_lend : Topology → List AnsweredEvent → ℕ → ℕ → Option ℕ → Bool
 had_to_lend t history step x None = false
 had_to_lend t history step x (Some m) = not (is_some (lessor_in history m)) || (lent_in t history m x && not (is_ended_before history m step))
 
--- whether the mode object comes along with a lease of these, by a client with universal planes on or off
+-- whether a lease of these also has the mode object, with universal planes on or off
 abbrev pub comes_along : Topology → Bool → List ℕ → ℕ → Bool
 comes_along t universal ids x = not universal && is_plane_of t ids x
 
--- what a lease lends, by what is noted of it
+-- what a lease lends, by its entry
 abbrev pub lent_by : Topology → List AnsweredEvent → ℕ → ℕ → Option Lease → Bool
 lent_by t history m x None = false
 lent_by t history m x (Some l) = is_among (listed_in history m) x || (comes_along t l.universal (listed_in history m) x && had_to_lend t history m x l.lessor)

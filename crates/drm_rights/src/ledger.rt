@@ -1,4 +1,4 @@
-//! A history of which each step is noted as it comes.
+//! A history with an index of what each step did.
 
 ghost use Rattle.std.specs.Prelude.{◌≡◌, ◌&&◌, ◌∷◌, ◌++◌, ℕ, not, List, [], IfOk, option_and_then};
 ghost use Rattle.std.specs.List.Sorted.{IsNonDecreasing};
@@ -21,12 +21,13 @@ use drm_trails::{Effect, Step, Trail, with_item};
 use std::alloc::{AllocError, Global};
 use std::marker::Model;
 
-/// The steps of a history, with what they did for masters, leases, authentication and capabilities. Nothing that was noted is taken
-/// out. Contracts see the history.
+/// The steps of a history, with their effects on masters, leases, authentication and capabilities (own).
+///
+/// Entries are never removed. Contracts see only the history.
 #[derive(Drop)]
 pub struct Ledger {
     trail: Trail,
-    /// The device's master, and the step since which it is that.
+    /// The device's master, and the step since which it has been that.
     owner: Option<u64>,
     owner_since: u64,
     standings: Vec<MasterState>,
@@ -63,7 +64,7 @@ impl Ledger {
     ghost use Rattle.drm_rights.specs.Ledgers.{new_authentication, new_magic, new_master_state};
     ghost use Rattle.drm_trails.specs.Steps.{entry_of, history_of};
 
-    /// No step yet.
+    /// Returns a ledger without steps. Does not allocate.
     pub fn new(alloc: Global) -> Ledger
         ensures { result ≡ [] }
     {
@@ -81,7 +82,11 @@ impl Ledger {
         }
     }
 
-    /// The ledger with one step more.
+    /// Returns the ledger with one more step at the end. Allocates entries of the index.
+    ///
+    /// # Errors
+    ///
+    /// `AllocError` if memory is refused. The ledger is then dropped.
     pub fn note(self, step: Step) -> Result<Ledger, AllocError>
         ensures { IfOk result (λ ledger. ledger ≡ entry_of step ∷ self) }
     {
@@ -108,7 +113,7 @@ impl Ledger {
         })
     }
 
-    /// The device's master after a step. A primary client founds it where there is none; it goes with its client.
+    /// Returns the device's master after a step. A primary client founds it if there is none. It ends with its client.
     fn owner_after(&self, effect: Effect, number: u64) -> Option<u64>
         ensures { (ids : List ℕ) → result ≡ (transition (effect_of ids effect) number (lease_in self.now) (master_state self.now)).owner }
     {
@@ -128,7 +133,7 @@ impl Ledger {
         }
     }
 
-    /// The step since which the device's master is what it is, after a step that leaves this one.
+    /// Returns the step since which the device's master has been the same, after the next step.
     fn owner_since_after(&self, owner: Option<u64>) -> u64
         ensures { result ≡ (if is_same_master (owner_in self.now) owner then owner_since_in self.now else past.next_number self.now) }
     {
@@ -139,7 +144,7 @@ impl Ledger {
         }
     }
 
-    /// The master that a client sets: its own, or that of this step where it has none.
+    /// Returns the master that a client sets: its own, or a new one named by this step.
     fn set_by(&self, client: u64, number: u64) -> Option<u64>
         ensures { result ≡ (if is_master_in self.now client then master_in self.now client else Some number) }
     {
@@ -150,7 +155,7 @@ impl Ledger {
         }
     }
 
-    /// How a client stands to masters from the step on, where that changes.
+    /// Returns the client's master state from the step on, if the step changes it.
     fn master_state_by(&self, effect: Effect, number: u64) -> Option<MasterState>
         ensures { (ids : List ℕ) → result ≡ new_master_state (effect_of ids effect) number (lease_in self.now) (master_state self.now) }
     {
@@ -174,7 +179,7 @@ impl Ledger {
         }
     }
 
-    /// The lessee of the last lease that was answered this token.
+    /// Returns the lessee of the last lease with this token.
     fn lessee_of(&self, token: u64) -> Option<u64>
         ensures { result ≡ lease_in self.now token }
     {
@@ -184,7 +189,7 @@ impl Ledger {
         }
     }
 
-    /// The client that was last told this magic of a master.
+    /// Returns the client that last received this magic under a master, or `None`. Does not allocate.
     pub fn client_of(&self, master: u64, magic: u64) -> Option<u64>
         ensures { result ≡ magic_in self.now master magic }
     {
@@ -215,7 +220,7 @@ impl Ledger {
         }
     }
 
-    /// The master that a step ends: the lessee that is revoked, and the master of a closed client that is one.
+    /// Returns the master that a step ends: the revoked lessee, or the own master of a closed client.
     fn ended_by(&self, effect: Effect) -> Option<u64>
         ensures { (ids : List ℕ) → result ≡ lessees.ended_by (effect_of ids effect) self.now }
     {
@@ -241,7 +246,7 @@ impl Ledger {
         }
     }
 
-    /// The lessee of the last lease that was answered this id, by a client with this owner.
+    /// Returns the lessee of the last lease with this id under this owner.
     fn lessee_of_id(&self, owner: u64, id: u64) -> Option<u64>
         ensures { result ≡ lessee_in self.now owner id }
     {
@@ -284,14 +289,14 @@ impl Ledger {
         }
     }
 
-    /// The client's master; 0 where it has none.
+    /// Returns the client's master, or 0 if it has none.
     fn master_or_none(&self, client: u64) -> u64
         ensures { result ≡ caller_master_in self.now client }
     {
         self.master_of(client).unwrap_or(0)
     }
 
-    /// The client's master, where it is one of its own.
+    /// Returns the client's own master, or `None`.
     fn own_master(&self, client: u64) -> Option<u64>
         ensures { result ≡ (if is_master_in self.now client then master_in self.now client else None) }
     {
@@ -302,42 +307,43 @@ impl Ledger {
         }
     }
 
-    /// The number of the step that comes next.
+    /// Returns the number of the next step.
     fn next_number(&self) -> u64
         ensures { result ≡ past.next_number self.now }
     {
         self.steps().len() as u64 + 1
     }
 
-    /// The steps, the oldest first.
+    /// Returns the steps, the oldest first. Does not allocate.
     pub fn steps(&self) -> &[Step]
         ensures { history_of result.now ≡ self.now }
     {
         self.trail.steps()
     }
 
-    /// The steps with an index of what they published, by which chains are found.
+    /// Returns the steps with the index by which chains are found. Does not allocate.
     pub fn trail(&self) -> &Trail
         ensures { history_of result.now ≡ self.now }
     {
         &self.trail
     }
 
-    /// The device's master.
+    /// Returns the device's master, or `None`. Does not allocate.
     pub fn owner(&self) -> Option<u64>
         ensures { result ≡ owner_in self.now }
     {
         self.owner
     }
 
-    /// The step since which it is so; 0 where it was never otherwise.
+    /// Returns the step since which the device's master has been the same, or 0 if it never changed. Does not allocate.
     pub fn owner_since(&self) -> u64
         ensures { result ≡ owner_since_in self.now }
     {
         self.owner_since
     }
 
-    /// How the client stands to masters, and since which step; none where it was never opened.
+    /// Returns the client's master state and the step since which it has it, or `None` if the client was never opened.
+    /// Does not allocate.
     pub fn master_state(&self, client: u64) -> Option<MasterState>
         ensures note { result ≡ master_state_of (standings_in self.now) client }
         ensures is_master { option_map_or (λ master_state. master_state.is_master) result false ≡ is_master_in self.now client }
@@ -346,7 +352,7 @@ impl Ledger {
         last_master_state(&self.standings, client)
     }
 
-    /// Whether the client is a master of its own.
+    /// Returns whether the client has an own master. Does not allocate.
     pub fn is_master(&self, client: u64) -> bool
         ensures { result ≡ is_master_in self.now client }
     {
@@ -356,7 +362,7 @@ impl Ledger {
         }
     }
 
-    /// The client's master, its own or the one that it joined.
+    /// Returns the client's master, its own or the one that it joined. Does not allocate.
     pub fn master_of(&self, client: u64) -> Option<u64>
         ensures { result ≡ master_in self.now client }
     {
@@ -366,21 +372,21 @@ impl Ledger {
         }
     }
 
-    /// The lessor of a master; none of one that nobody lent.
+    /// Returns the lessor of a master, or `None` if the master is no lessee. Does not allocate.
     pub fn lessor_of(&self, master: u64) -> Option<u64>
         ensures { result ≡ lessor_in self.now master }
     {
         lessor_of(&self.leases, master)
     }
 
-    /// The top of a master's chain of lessors.
+    /// Returns the top of a master's chain of lessors. Does not allocate.
     pub fn owner_of(&self, master: u64) -> u64
         ensures { result ≡ top_in self.now master }
     {
         top_of(&self.leases, master)
     }
 
-    /// Whether the client is current: it is a master, whose owner is the device's master.
+    /// Returns whether the client is current: it is a master whose owner is the device's master. Does not allocate.
     pub fn is_current(&self, client: u64) -> bool
         ensures { result ≡ is_current_in self.now client }
     {
@@ -390,21 +396,21 @@ impl Ledger {
         }
     }
 
-    /// The leases in the order in which they were made, those that ended too.
+    /// Returns the leases in the order of their creation, with those that ended. Does not allocate.
     pub fn leases(&self) -> &[Lease]
         ensures { result.now ≡ leases_in self.now }
     {
         &self.leases
     }
 
-    /// The lease of a lessee; none of a master that nobody lent.
+    /// Returns the lease of a lessee, or `None` if the master is no lessee. Does not allocate.
     pub fn lease_of(&self, master: u64) -> Option<Lease>
         ensures { result ≡ lending.lease_at (leases_in self.now) master }
     {
         lease_at(&self.leases, master)
     }
 
-    /// The first step that ended a master, or one above it.
+    /// Returns the first step that ended a master or one above it, or `None`. Does not allocate.
     pub fn ended(&self, master: u64) -> Option<u64>
         ensures step { result ≡ ended_at self.now master }
         ensures ended { is_some result ≡ has_ended self.now master }
@@ -415,7 +421,7 @@ impl Ledger {
         }
     }
 
-    /// Whether a step before this one ended a master.
+    /// Returns whether a step before this one ended a master.
     fn is_ended_before(&self, master: u64, step: u64) -> bool
         ensures { result ≡ lending.is_ended_before self.now master step }
     {
@@ -425,15 +431,17 @@ impl Ledger {
         }
     }
 
-    /// The mode objects that the step of a number listed for a lease; none where it made no lease.
+    /// Returns the mode objects that a step listed for a lease. Empty if it created no lease.
     fn listed(&self, master: u64) -> &[u32]
         ensures { result.now ≡ listed_in self.now master }
     {
         listed_at(self.trail.steps(), master)
     }
 
-    /// Whether the step of a number lent a mode object: it listed it, or listed the CRTC of which it is the primary or the cursor
-    /// plane, for a client with universal planes off whose master controlled it.
+    /// Returns whether the step with the number `lessee` lent a mode object (drm-uapi, leases). Does not allocate.
+    ///
+    /// The step lends what it listed, if the lessor's master controlled it. For a client with universal planes off, it
+    /// also lends the primary and the cursor plane of a listed CRTC.
     pub fn lends(&self, topology: &Topology, lessee: u64, mode_object: u32) -> bool
         ensures { result ≡ lent_in topology.now self.now lessee mode_object }
     {
@@ -462,14 +470,19 @@ impl Ledger {
         }
     }
 
-    /// Whether the step of a number lent a plane that it did not list.
+    /// Returns whether a step lent a plane that it did not list.
     fn is_brought(&self, topology: &Topology, master: u64, plane: u32) -> bool
         ensures { result ≡ (not (numbers.is_among (listed_in self.now master) plane) && lent_in topology.now self.now master plane) }
     {
         !is_among(self.listed(master), plane) && self.lends(topology, master, plane)
     }
 
-    /// Returns the mode objects that the step with this number lent, in rising order; none if it made no lease.
+    /// Returns the mode objects that the step with this number lent, in rising order. Empty if it created no lease.
+    /// Allocates the list.
+    ///
+    /// # Errors
+    ///
+    /// `AllocError` if memory is refused.
     pub fn leased(
         &self,
         alloc: Global,
@@ -492,14 +505,17 @@ impl Ledger {
         Ok(ids)
     }
 
-    /// Whether a lease has a mode object: its step lent it, and no later one ended the lease.
+    /// Returns whether a lease has a mode object: its step lent it, and no later one ended the lease. Does not
+    /// allocate.
     pub fn is_granted(&self, topology: &Topology, master: u64, mode_object: u32) -> bool
         ensures { result ≡ granted topology.now self.now master mode_object }
     {
         self.ended(master).is_none() && self.lends(topology, master, mode_object)
     }
 
-    /// Whether the client's master controls a mode object: one without a lessor all, a lessee what its lease has.
+    /// Returns whether the client's master controls a mode object (drm-uapi, leases). Does not allocate.
+    ///
+    /// A master without a lessor controls all. A lessee controls what its lease has.
     pub fn controls(&self, topology: &Topology, client: u64, mode_object: u32) -> bool
         ensures { result ≡ controls_in topology.now self.now client mode_object }
     {
@@ -511,7 +527,8 @@ impl Ledger {
         }
     }
 
-    /// Since which step a client has universal planes on or off; none where it was never opened.
+    /// Returns whether a client has universal planes on, and the step since which it does, or `None` if it was never
+    /// opened. Does not allocate.
     pub fn capability(&self, client: u64) -> Option<Capability>
         ensures note { result ≡ capability_of (capabilities_in self.now) client }
         ensures universal { option_map_or (λ capability. capability.universal) result false ≡ is_universal_in self.now client }
@@ -519,7 +536,7 @@ impl Ledger {
         last_capability(&self.capabilities, client)
     }
 
-    /// Whether a client has universal planes on.
+    /// Returns whether a client has universal planes on. Does not allocate.
     pub fn has_universal(&self, client: u64) -> bool
         ensures { result ≡ is_universal_in self.now client }
     {
@@ -529,7 +546,8 @@ impl Ledger {
         }
     }
 
-    /// The client that redeemed the lease of a lessee: it has been of this master since the step that opened it.
+    /// Returns the client that redeemed the lease of a lessee, or `None`. It has had this master since the step that
+    /// opened it. Does not allocate.
     pub fn lease_client(&self, lessee: u64) -> Option<u64>
         ensures { result ≡ lease_client_in self.now lessee }
     {
@@ -539,28 +557,29 @@ impl Ledger {
         }
     }
 
-    /// Whether the client opened as root.
+    /// Returns whether the client opened as root. Does not allocate.
     pub fn is_root(&self, client: u64) -> bool
         ensures { result ≡ is_root_in self.now client }
     {
         is_root(&self.roots, client)
     }
 
-    /// Whether some AUTH_MAGIC named the client's magic.
+    /// Returns whether an AUTH_MAGIC named the client's magic. Does not allocate.
     pub fn is_named(&self, client: u64) -> bool
         ensures { result ≡ is_named_in self.now client }
     {
         is_named(&self.authentications, client)
     }
 
-    /// The first AUTH_MAGIC that named the client's magic.
+    /// Returns the first AUTH_MAGIC that named the client's magic, or `None`. Does not allocate.
     pub fn authentication(&self, client: u64) -> Option<Authentication>
         ensures { result ≡ authentication_of (authentications_in self.now) client }
     {
         first_authentication(&self.authentications, client)
     }
 
-    /// Whether the client is authenticated: it opened as root, is a master, or AUTH_MAGIC named its magic.
+    /// Returns whether the client is authenticated: it opened as root, is a master, or AUTH_MAGIC named its magic
+    /// (drm(7)). Does not allocate.
     pub fn is_known(&self, client: u64) -> bool
         ensures { result ≡ known self.now client }
     {
@@ -568,7 +587,7 @@ impl Ledger {
     }
 }
 
-/// The mode objects that the step of a number listed for a lease; none where it made no lease.
+/// Returns the mode objects that a step listed for a lease. Empty if it created no lease.
 fn listed_at(steps: &[Step], number: u64) -> &[u32]
     ensures { result.now ≡ listed_in (history_of steps.now) number }
 {
@@ -585,8 +604,8 @@ fn is_among(ids: &[u32], id: u32) -> bool
     ids.contains(&id)
 }
 
-/// Whether a mode object comes along with a lease of these by a client with universal planes on or off: with them off, the primary
-/// and the cursor plane of each CRTC do.
+/// Returns whether a lease of these also has a mode object that it does not list. With universal planes off, it has the
+/// primary and the cursor plane of each CRTC.
 fn comes_along(topology: &Topology, universal: bool, listed: &[u32], mode_object: u32) -> bool
     ensures { result ≡ lending.comes_along topology.now universal listed.now mode_object }
 {
@@ -599,7 +618,7 @@ fn comes_along(topology: &Topology, universal: bool, listed: &[u32], mode_object
     }
 }
 
-/// Whether the device's master is the same.
+/// Returns whether the device's master is the same.
 fn is_same_master(one: Option<u64>, other: Option<u64>) -> bool
     ensures { result ≡ ledgers.is_same_master one other }
 {
@@ -610,7 +629,7 @@ fn is_same_master(one: Option<u64>, other: Option<u64>) -> bool
     }
 }
 
-/// How a client stands to masters from a step on.
+/// Returns the master state of a client from a step on.
 fn noted(number: u64, client: u64, is_master: bool, master: Option<u64>) -> MasterState
     ensures { result ≡ ledgers.noted number client is_master master }
 {
@@ -622,7 +641,8 @@ fn noted(number: u64, client: u64, is_master: bool, master: Option<u64>) -> Mast
     }
 }
 
-/// How a primary client stands that opens where the device has this master: it founds one where there is none, and else joins it.
+/// Returns the master state of a newly opened primary client. It founds a master if the device has none, and else joins
+/// it.
 fn opened(number: u64, owner: Option<u64>) -> MasterState
     ensures { result ≡ ledgers.opened number owner }
 {
@@ -632,7 +652,7 @@ fn opened(number: u64, owner: Option<u64>) -> MasterState
     }
 }
 
-/// The client of an opening as root: an opening is a step of the client that it opens.
+/// Returns the client that a step opens as root. Its number is that of the step.
 fn root_by(effect: Effect, number: u64) -> Option<u64>
     ensures { (ids : List ℕ) → result ≡ new_root (effect_of ids effect) number }
 {
@@ -644,7 +664,7 @@ fn root_by(effect: Effect, number: u64) -> Option<u64>
     if root { Some(number) } else { None }
 }
 
-/// A client has universal planes on or off from a step on.
+/// Returns the capability of a client from a step on.
 fn capable(number: u64, client: u64, universal: bool) -> Capability
     ensures { result ≡ ledgers.capable number client universal }
 {
@@ -655,7 +675,7 @@ fn capable(number: u64, client: u64, universal: bool) -> Capability
     }
 }
 
-/// What a step says of a client's universal planes: its opening, and SET_CLIENT_CAP, which sets no other capability.
+/// Returns the capability that a step sets, by an opening or by SET_CLIENT_CAP, which sets no other.
 fn capability_by(effect: Effect, number: u64) -> Option<Capability>
     ensures { (ids : List ℕ) → result ≡ new_capability (effect_of ids effect) number }
 {

@@ -1,7 +1,10 @@
-//! Which rights a history gives, and by which of its steps: who is a master, authenticated, or has a lease. Which handle a client has, and how
-//! it came there, is in `drm_trails`, whose names are also here.
+//! The rights that a history grants, and the steps that granted them: masters, authentication and leases.
 //!
-//! A history is a slice of steps, the oldest first; step 1 is its first. What is told of a moment is told of the steps up to it.
+//! The handles of a client, and the chains by which it obtained them, are in `drm_trails`. This crate exports its names
+//! too.
+//!
+//! A history is a slice of steps, the oldest first. Step 1 is the first. A result as of a moment depends only on the
+//! steps up to it.
 #![tactic(auto)]
 
 mod ledger;

@@ -1,5 +1,5 @@
-//! What is noted of the steps of a history, and look-ups in it. Nothing that was noted is taken out: where there are several of
-//! one kind, the last counts.
+//! The entries of a ledger, and look-ups in them. Entries are never removed: of several for the same item, the last one
+//! counts.
 
 ghost use Rattle.std.specs.Prelude.{◌≡◌, ◌<◌, ◌≤◌, find, length, IfSome};
 ghost use Rattle.std.specs.List.{AllWithin};
@@ -9,67 +9,85 @@ ghost use Rattle.drm_rights.specs.Ledgers.{authentication_of, capability_of, is_
 ghost use Rattle.drm_rights.specs.Leases as lending;
 ghost use Rattle.drm_rights.specs.Leases.{is_ended_by, lessor_noted};
 
-/// How a client stands to masters from a step on: whether it is one of its own, and which is its master, its own or one that it
-/// joined.
+/// The master state of a client from a step on: whether it has an own master, and which master it has (drm(7)).
 #[derive(Clone, Copy, PartialEq, Eq, Debug)]
 pub struct MasterState {
+    /// The number of the step, from 1.
     pub step: u64,
+    /// The client.
     pub client: u64,
+    /// Whether the client has an own master.
     pub is_master: bool,
+    /// The client's master, its own or one that it joined.
     pub master: Option<u64>,
 }
 
-/// A lease. Its lessee is a master, which is named by the step that made it.
+/// A lease (drm-uapi, leases). Its lessee is a master, named by the step that created it.
 #[derive(Clone, Copy, PartialEq, Eq, Debug)]
 pub struct Lease {
+    /// The lessee, by the number of the step.
     pub master: u64,
-    /// Who leased.
+    /// The client that leased.
     pub client: u64,
-    /// The master of who leased.
+    /// The master of the client that leased.
     pub lessor: Option<u64>,
-    /// The top of that master's chain of lessors, under which the id is given.
+    /// The top of that master's chain of lessors. The id is unique under it.
     pub owner: u64,
+    /// The id of the lessee, from 1.
     pub id: u64,
+    /// The token of the lease.
     pub token: u64,
-    /// Whether who leased had universal planes on.
+    /// Whether the client that leased had universal planes on.
     pub universal: bool,
 }
 
-/// A master ended, and all below it that were there.
+/// The end of a master and of all masters below it.
 #[derive(Clone, Copy, PartialEq, Eq, Debug)]
 pub struct End {
+    /// The number of the step.
     pub step: u64,
+    /// The master.
     pub master: u64,
 }
 
-/// A magic that a client of a master was told.
+/// A magic that a client of a master received (drm(7)).
 #[derive(Clone, Copy, PartialEq, Eq, Debug)]
 pub struct Magic {
+    /// The number of the step.
     pub step: u64,
+    /// The master.
     pub master: u64,
+    /// The magic.
     pub number: u64,
+    /// The client.
     pub client: u64,
 }
 
-/// AUTH_MAGIC named the magic of a client.
+/// An AUTH_MAGIC that named the magic of a client (drm(7)).
 #[derive(Clone, Copy, PartialEq, Eq, Debug)]
 pub struct Authentication {
+    /// The number of the step.
     pub step: u64,
+    /// The authenticated client.
     pub client: u64,
-    /// Who named it.
+    /// The client that named the magic.
     pub by: u64,
+    /// The magic.
     pub magic: u64,
 }
 
-/// A client has universal planes on or off from a step on.
+/// The universal-planes capability of a client from a step on (drm-uapi).
 #[derive(Clone, Copy, PartialEq, Eq, Debug)]
 pub struct Capability {
+    /// The number of the step.
     pub step: u64,
+    /// The client.
     pub client: u64,
+    /// Whether universal planes are on.
     pub universal: bool,
 }
 
-/// The last step that said whether a client has universal planes on.
+/// Returns the client's last capability.
 pub(crate) fn last_capability(capabilities: &[Capability], client: u64) -> Option<Capability>
     ensures { result ≡ capability_of capabilities.now client }
 {
@@ -80,7 +98,7 @@ pub(crate) fn last_capability(capabilities: &[Capability], client: u64) -> Optio
         .find(|capability| capability.client == client)
 }
 
-/// How a client stands to masters.
+/// Returns the client's last master state.
 pub(crate) fn last_master_state(standings: &[MasterState], client: u64) -> Option<MasterState>
     ensures { result ≡ master_state_of standings.now client }
 {
@@ -91,7 +109,7 @@ pub(crate) fn last_master_state(standings: &[MasterState], client: u64) -> Optio
         .find(|master_state| client == master_state.client)
 }
 
-/// Whether a master state is that of a client that opened by the token of a lessee, and not of one that founded a master.
+/// Returns whether a master state is that of a client opened by the token of the lessee.
 fn is_redemption(master_state: MasterState, lessee: u64) -> bool
     ensures { result ≡ ledgers.is_redemption lessee master_state }
 {
@@ -105,7 +123,7 @@ fn is_redemption(master_state: MasterState, lessee: u64) -> bool
         && master_state.client != lessee
 }
 
-/// The first master state of a client that opened by the token of a lessee.
+/// Returns the first master state of a client opened by the token of the lessee.
 pub(crate) fn first_redemption(standings: &[MasterState], lessee: u64) -> Option<MasterState>
     ensures { result ≡ find (ledgers.is_redemption lessee) standings.now }
 {
@@ -117,7 +135,7 @@ pub(crate) fn first_redemption(standings: &[MasterState], lessee: u64) -> Option
     None
 }
 
-/// How many leases were made before the step of this number.
+/// Returns the number of leases that were created before this step.
 fn older_leases(leases: &[Lease], master: u64) -> usize
     requires { lending.LeasesRise leases.now }
     ensures bound { result ≤ length leases.now }
@@ -127,7 +145,7 @@ fn older_leases(leases: &[Lease], master: u64) -> usize
     leases.partition_point(|lease| lease.master < master)
 }
 
-/// The lease that the step of this number made. It looks at few of many.
+/// Returns the lease that this step created. It uses a binary search.
 pub(crate) fn lease_at(leases: &[Lease], master: u64) -> Option<Lease>
     requires { lending.LeasesRise leases.now }
     ensures { result ≡ lending.lease_at leases.now master }
@@ -143,7 +161,7 @@ pub(crate) fn lease_at(leases: &[Lease], master: u64) -> Option<Lease>
     None
 }
 
-/// The last lease that was answered this token.
+/// Returns the last lease with this token.
 pub(crate) fn lease_of_token(leases: &[Lease], token: u64) -> Option<Lease>
     ensures { result ≡ lending.lease_of_token leases.now token }
 {
@@ -154,7 +172,7 @@ pub(crate) fn lease_of_token(leases: &[Lease], token: u64) -> Option<Lease>
         .find(|lease| lease.token == token)
 }
 
-/// The last lease that was answered this id, by a client with this owner.
+/// Returns the last lease with this id under this owner.
 pub(crate) fn lease_of_id(leases: &[Lease], owner: u64, id: u64) -> Option<Lease>
     ensures { result ≡ lending.lease_of_id leases.now owner id }
 {
@@ -165,7 +183,7 @@ pub(crate) fn lease_of_id(leases: &[Lease], owner: u64, id: u64) -> Option<Lease
         .find(|lease| lease.id == id && lease.owner == owner)
 }
 
-/// The last telling of this magic of a master.
+/// Returns the last entry of this magic under a master.
 pub(crate) fn last_magic(magics: &[Magic], master: u64, number: u64) -> Option<Magic>
     ensures { result ≡ magic_of magics.now master number }
 {
@@ -176,14 +194,14 @@ pub(crate) fn last_magic(magics: &[Magic], master: u64, number: u64) -> Option<M
         .find(|magic| magic.number == number && magic.master == master)
 }
 
-/// Whether the client opened as root.
+/// Returns whether the client opened as root.
 pub(crate) fn is_root(roots: &[u64], client: u64) -> bool
     ensures { result ≡ is_root_noted roots.now client }
 {
     roots.iter().any(|root| *root == client)
 }
 
-/// Whether AUTH_MAGIC named the client's magic.
+/// Returns whether AUTH_MAGIC named the client's magic.
 pub(crate) fn is_named(authentications: &[Authentication], client: u64) -> bool
     ensures { result ≡ is_named_noted authentications.now client }
 {
@@ -192,7 +210,7 @@ pub(crate) fn is_named(authentications: &[Authentication], client: u64) -> bool
         .any(|authentication| authentication.client == client)
 }
 
-/// The first AUTH_MAGIC that named the client's magic.
+/// Returns the first AUTH_MAGIC that named the client's magic.
 pub(crate) fn first_authentication(
     authentications: &[Authentication],
     client: u64,
@@ -205,7 +223,7 @@ pub(crate) fn first_authentication(
         .find(|authentication| authentication.client == client)
 }
 
-/// The lessor of a master. It was there when the lease was made, so that it is older.
+/// Returns the lessor of a master. The lessor is older, since it existed when the lease was created.
 pub(crate) fn lessor_of(leases: &[Lease], master: u64) -> Option<u64>
     requires { lending.LeasesRise leases.now }
     ensures lessor { result ≡ lessor_noted leases.now master }
@@ -217,7 +235,7 @@ pub(crate) fn lessor_of(leases: &[Lease], master: u64) -> Option<u64>
     }
 }
 
-/// A number that is less than another.
+/// Returns the lessor if it is less than the master.
 fn if_older(lessor: Option<u64>, master: u64) -> Option<u64>
     ensures lessor { result ≡ lending.if_older master lessor }
     ensures older { IfSome result (λ lessor. lessor < master) }
@@ -228,7 +246,7 @@ fn if_older(lessor: Option<u64>, master: u64) -> Option<u64>
     }
 }
 
-/// The top of a master's chain of lessors.
+/// Returns the top of a master's chain of lessors.
 pub(crate) fn top_of(leases: &[Lease], master: u64) -> u64
     requires { lending.LeasesRise leases.now }
     ensures { result ≡ chains.top_of (lessor_noted leases.now) master }
@@ -240,7 +258,7 @@ pub(crate) fn top_of(leases: &[Lease], master: u64) -> u64
     top
 }
 
-/// Whether a master is the one named top, or below it.
+/// Returns whether a master is `top` or below it.
 pub(crate) fn is_under(leases: &[Lease], top: u64, master: u64) -> bool
     requires { lending.LeasesRise leases.now }
     ensures { result ≡ chains.is_under (lessor_noted leases.now) top master }
@@ -257,7 +275,7 @@ pub(crate) fn is_under(leases: &[Lease], top: u64, master: u64) -> bool
     }
 }
 
-/// Whether an end is that of a master, which was made before.
+/// Returns whether an end is that of a master that was created before.
 fn is_end_of(leases: &[Lease], end: End, master: u64) -> bool
     requires { lending.LeasesRise leases.now }
     ensures { result ≡ is_ended_by leases.now master end }
@@ -265,7 +283,7 @@ fn is_end_of(leases: &[Lease], end: End, master: u64) -> bool
     master < end.step && is_under(leases, end.master, master)
 }
 
-/// How many ends were at the step of this number or before it.
+/// Returns the number of ends up to this step.
 fn older_ends(ends: &[End], step: u64) -> usize
     requires { lending.EndsRise ends.now }
     ensures bound { result ≤ length ends.now }
@@ -274,7 +292,7 @@ fn older_ends(ends: &[End], step: u64) -> usize
     ends.partition_point(|end| end.step <= step)
 }
 
-/// The first end of a master, or of one above it, since it was made. It looks at none before that.
+/// Returns the first end of a master, or of one above it, since its creation. It does not look at earlier ends.
 pub(crate) fn first_end(leases: &[Lease], ends: &[End], master: u64) -> Option<End>
     requires leases { lending.LeasesRise leases.now }
     requires ends { lending.EndsRise ends.now }

@@ -1,4 +1,4 @@
--- The links that code finds, and that they are a chain.
+-- The chains of links that code finds (own).
 use Rattle.std.specs.Prelude.{◌≡◌, ℕ, ◌<◌, List, [], ◌∷◌, ◌++◌, map}
 use Rattle.drm_model.specs.Run.{DeviceValue}
 use Rattle.drm_history.specs.History.{AnsweredEvent, next_number}
@@ -12,9 +12,11 @@ use Rattle.drm_trails.specs.declared.steps.Key.{Key}
 use Rattle.drm_trails.specs.declared.chains.Link.{Link}
 use Rattle.drm_trails.specs.declared.chains.Origin.TheVariants.{Made, Published}
 
+-- the link of the definitions
 abbrev pub link_of : Link → chains.Link
 link_of link = record { step = link.step; client = link.client; handle = link.handle }
 
+-- the links of the definitions
 abbrev pub links_of : List Link → List chains.Link
 links_of links = map link_of links
 
@@ -23,8 +25,8 @@ abbrev pub LeadsTo : List AnsweredEvent → ℕ → ℕ → ℕ → List chains.
 LeadsTo history c h o [] = ⊥
 LeadsTo history c h o (link ∷ links) = (link.client ≡ c) × (link.handle ≡ h) × IsChain history o (link ∷ links)
 
--- The links are a chain, and each tells rightly where its object comes from: the first of all, which stands last, that its step made
--- it; any other under which key, and by the step of which number, it was published.
+-- The links are a chain, and each has the source of its object. The source of the last link is that its step created
+-- the object. The source of any other is the key under which the object was published, and the number of that step.
 unfoldable pub IsExplained : List AnsweredEvent → ℕ → List Link → Type 0
 IsExplained history o [] = ⊥
 IsExplained history o (link ∷ []) = (past : List AnsweredEvent) × WasGiven history link.client link.handle Creation past × (link.step ≡ next_number past) × (link.step ≡ o) × (link.origin ≡ Made)
@@ -37,7 +39,8 @@ abbrev pub Explains : List AnsweredEvent → ℕ → ℕ → ℕ → List Link �
 Explains history c h o [] = ⊥
 Explains history c h o (link ∷ links) = (link.client ≡ c) × (link.handle ≡ h) × IsExplained history o (link ∷ links)
 
--- whatever chain leads to the handle `k` of `d` up to an earlier moment, it is the rest of one to the client's handle, behind these links
+-- a chain up to an earlier moment that leads to the handle `k` of `d` is the rest of one that leads to the client's
+-- handle, after these links
 abbrev pub EndsChain : List AnsweredEvent → List AnsweredEvent → ℕ → ℕ → ℕ → ℕ → List Link → Type 0
 EndsChain history earlier c h d k links =
     (o : ℕ) (link : Link) (rest : List Link) → link.client ≡ d → link.handle ≡ k → IsExplained earlier o (link ∷ rest) → Explains history c h o (links ++ link ∷ rest)
@@ -46,6 +49,6 @@ EndsChain history earlier c h d k links =
 abbrev pub IsOfDevice : List AnsweredEvent → Type 0
 IsOfDevice history = (h : DeviceValue) × (history ≡ told.history_of h)
 
--- the client has the handle of no object
+-- the client has no handle `h`
 abbrev pub HasNone : List AnsweredEvent → ℕ → ℕ → Type 0
 HasNone history c h = (o : ℕ) → Has history c h o → ⊥

@@ -1,4 +1,5 @@
--- What a step did, as code tells it: without the mode objects of a lease, which stand in the step.
+-- The effect of a step, as code has it (own). The ids of a lease's mode objects are not part of it: they are in the
+-- step.
 use Rattle.std.specs.Prelude.{ℕ, Bool, true, false, List, []}
 use Rattle.drm_table.specs.declared.answers.Answer.{Answer}
 use Rattle.drm_table.specs.declared.answers.Answer.TheVariants.{Done, Opened, Lease}
@@ -9,6 +10,7 @@ use Rattle.drm_authority.specs.Effects as told
 use Rattle.drm_trails.specs.declared.effects.Effect.{Effect}
 use Rattle.drm_trails.specs.declared.effects.Effect.TheVariants as effects
 
+-- the effect of the definitions, with these ids in a lease
 abbrev pub effect_of : List ℕ → Effect → told.Effect
 effect_of ids effects.Nothing = told.Nothing
 effect_of ids (effects.OpensPrimary root universal) = told.OpensPrimary root universal
@@ -28,11 +30,12 @@ abbrev pub leased_by : Event → Answer → List ℕ
 leased_by (Ask client (CreateLease ids)) (Lease lessee token) = ids
 leased_by event answer = []
 
--- what was done, if the call is done
+-- the effect if the call is done, else none
 abbrev pub if_done : Answer → told.Effect → told.Effect
 if_done Done effect = effect
 if_done _ effect = told.Nothing
 
+-- whether a client was opened
 abbrev pub is_opened : Answer → Bool
 is_opened (Opened client) = true
 is_opened _ = false

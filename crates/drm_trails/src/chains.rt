@@ -1,4 +1,4 @@
-//! How an object came to a client.
+//! How a client obtained the handle of an object.
 
 ghost use Rattle.std.specs.Prelude.{◌≡◌, ℕ, [], true, is_none, take, IfOk, IfSome, IfNone};
 ghost use Rattle.drm_trails.specs.Steps.{history_of};
@@ -9,45 +9,56 @@ use crate::searches::{Publication, Touch, last_giving, publication_before};
 use crate::steps::{Key, Source, Step};
 use std::alloc::{AllocError, Global};
 
-/// Where the object of a link comes from.
+/// The source of a link's object (own).
 #[derive(Clone, Copy, PartialEq, Eq, Debug)]
 pub enum Origin {
-    /// The link's step made it.
+    /// The link's step created the object.
     Made,
-    /// The step of this number published it under the key, for the client of the link before, with the handle that it had there.
+    /// Step `step` published the object under `key`. The client and the handle of the next link published it.
     Published { key: Key, step: u64 },
 }
 
-/// A step that gave a client a handle.
+/// A step that assigned a handle to a client (own).
 #[derive(Clone, Copy, PartialEq, Eq, Debug)]
 pub struct Link {
+    /// The number of the step, from 1.
     pub step: u64,
+    /// The client that received the handle.
     pub client: u64,
+    /// The handle.
     pub handle: u64,
+    /// The source of the handle's object.
     pub origin: Origin,
 }
 
-/// A handle of a client after the first steps, so many, and the number of the step that gave it.
+/// A client's handle after the first `count` steps (own).
 #[derive(Clone, Copy, PartialEq, Eq, Debug)]
 pub struct HandleThen {
+    /// The number of steps.
     pub count: usize,
+    /// The client.
     pub client: u64,
+    /// The handle.
     pub handle: u64,
+    /// The number of the step that assigned the handle.
     pub step: u64,
 }
 
-/// The last links of a chain, the one that leads to the handle first, and to which handle those before them lead; nothing where there are
-/// none before them.
+/// The last links of a chain (own).
 #[derive(PartialEq, Eq, Debug, Drop)]
 pub struct ChainEnd {
+    /// The links. The one that leads to the handle is first.
     pub links: Vec<Link>,
+    /// The handle that the links before these lead to, or `None` if these links are the whole chain.
     pub left: Option<HandleThen>,
 }
 
-/// Which links of a chain are left out: those of steps that are marked, and those before these. So many of the last links are never left out.
+/// The links to leave out of a chain: those of marked steps, and all links before them (own).
 #[derive(Clone, Copy, Debug)]
 pub struct Marks<'a> {
+    /// Whether each step is marked, the oldest first. A step past the end is not marked.
     pub steps: &'a [bool],
+    /// The number of last links that are never left out.
     pub kept: usize,
 }
 
@@ -64,8 +75,8 @@ impl Marks<'_> {
     }
 }
 
-/// By which steps a client came to have a handle after the first steps, so many, as `chain_in` tells, but for the links that are left
-/// out. None where the client has no such handle then.
+/// Returns what `chain_in` returns, without the links that the marks leave out. It returns `None` if the client has no
+/// such handle.
 pub(crate) fn chain_end_in(
     alloc: Global,
     steps: &[Step],
@@ -135,8 +146,9 @@ pub(crate) fn chain_end_in(
     }
 }
 
-/// By which steps a client came to have a handle after the first steps, so many: the step that gave it, then the one that gave it to
-/// who published it for that step, and so on, down to the step that made the object. None where the client has no such handle then.
+/// Returns the steps by which a client obtained a handle, as of the first `count` steps. The first link is the step
+/// that assigned the handle. Each further link is the step that assigned it to the client that published it. The last
+/// link is the step that created the object. It returns `None` if the client has no such handle.
 pub(crate) fn chain_in(
     alloc: Global,
     steps: &[Step],

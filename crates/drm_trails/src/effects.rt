@@ -11,7 +11,8 @@ ghost use Rattle.drm_trails.specs.Effects.{effect_of, leased_by};
 use crate::steps::{Step, is_closed};
 use drm_table::{Answer, Call, Event, Opening};
 
-/// What a step did. A denial, and each call that is not told here, is nothing.
+/// The effect of a step on masters, leases, authentication and capabilities (drm(7), masters and magics; drm-uapi,
+/// leases). A denied event, and each call without a variant here, has the effect `Nothing`.
 #[derive(Clone, Copy, PartialEq, Eq, Debug)]
 pub enum Effect {
     Nothing,
@@ -73,7 +74,7 @@ fn opening_effect(opening: Opening) -> Effect
     }
 }
 
-/// The magic that a call was told.
+/// Returns the effect of a GET_MAGIC.
 fn magic_effect(client: u64, answer: &Answer) -> Effect
     ensures { (ids : List ℕ) → effect_of ids result ≡ told.call_effect client GetMagic answer.now }
 {
@@ -86,7 +87,7 @@ fn magic_effect(client: u64, answer: &Answer) -> Effect
     }
 }
 
-/// A lease that was made.
+/// Returns the effect of a CREATE_LEASE.
 fn lease_effect(client: u64, answer: &Answer) -> Effect
     ensures { (ids : List ℕ) → effect_of ids result ≡ told.call_effect client (CreateLease ids) answer.now }
 {
@@ -100,7 +101,7 @@ fn lease_effect(client: u64, answer: &Answer) -> Effect
     }
 }
 
-/// What was done, if the call is done.
+/// Returns the effect if the call is done, else `Nothing`.
 fn if_done(answer: &Answer, effect: Effect) -> Effect
     ensures { (ids : List ℕ) → effect_of ids result ≡ effects.if_done answer.now (effect_of ids effect) }
 {
@@ -110,7 +111,7 @@ fn if_done(answer: &Answer, effect: Effect) -> Effect
     }
 }
 
-/// What a call did by its answer.
+/// Returns the effect of a call, by its answer.
 fn call_effect(client: u64, call: &Call, answer: &Answer) -> Effect
     ensures { effect_of (leased_by (Ask client call.now) answer.now) result ≡ told.call_effect client call.now answer.now }
 {
@@ -147,7 +148,7 @@ impl Step {
     ghost use Rattle.drm_trails.specs.Effects.{effect_of, leased_by};
     ghost use Rattle.drm_trails.specs.Steps.{entry_of};
 
-    /// What the step did.
+    /// Returns the effect of the step. Does not allocate.
     #[tactic(auto, unfolding(drm_authority::specs::Effects::effect))]
     pub fn effect(&self) -> Effect
         ensures { effect_of (leased_by self.now.event self.now.answer) result ≡ effect (entry_of self.now) }
@@ -171,7 +172,8 @@ impl Step {
         }
     }
 
-    /// The mode objects that the step leases by name; none where it makes no lease.
+    /// Returns the ids of the mode objects that the step leases by name. Empty if it creates no lease. Does not
+    /// allocate.
     pub fn listed(&self) -> &[u32]
         ensures { result.now ≡ leased_by self.now.event self.now.answer }
     {

@@ -1,4 +1,4 @@
-//! Which handles a client has, and which steps gave them.
+//! The handles of a client, each with the step that assigned it.
 
 ghost use Rattle.std.specs.Prelude.{◌≡◌, ◌<◌, ℕ, None, AllPairs, IfOk, OnOk, map, if◌then◌else◌};
 ghost use Rattle.std.specs.BTreeMap.{IsOrdered, get};
@@ -13,14 +13,16 @@ use crate::steps::{Giving, Step, Taken};
 use std::alloc::{AllocError, Global};
 use std::collections::BTreeMap;
 
-/// A handle, and the number of the step that gave it.
+/// A handle, and the number of the step that assigned it (own).
 #[derive(Clone, Copy, PartialEq, Eq, Debug)]
 pub struct Held {
+    /// The handle.
     pub handle: u64,
+    /// The number of the step, from 1.
     pub step: u64,
 }
 
-/// The handle, if one is given and is this client's.
+/// Returns the handle that is assigned to this client, or `None`.
 fn handle_of(given: Option<Giving>, client: u64) -> Option<u64>
     ensures { (h : ℕ) → is_option h result ≡ is_some (source_for client h (givings_of given)) }
 {
@@ -31,7 +33,7 @@ fn handle_of(given: Option<Giving>, client: u64) -> Option<u64>
     None
 }
 
-/// Takes from a client's handles those that a step takes.
+/// Removes the handles that a step takes from a client.
 fn take_back(held: &mut BTreeMap<u64, u64>, taken: Taken)
     ensures { (h : ℕ) → get nat_cmp held.new h ≡ (if is_taken h taken then None else get nat_cmp held.old h) }
 {
@@ -44,7 +46,7 @@ fn take_back(held: &mut BTreeMap<u64, u64>, taken: Taken)
     }
 }
 
-/// Notes what a step with this number does to a client's handles.
+/// Applies a step with this number to a client's handles.
 fn note_step(
     held: &mut BTreeMap<u64, u64>,
     step: &Step,
@@ -60,7 +62,7 @@ fn note_step(
     Ok(())
 }
 
-/// The handles in rising order.
+/// Returns the handles in rising order.
 fn listed(alloc: Global, held: &BTreeMap<u64, u64>) -> Result<Vec<Held>, AllocError>
     ensures entries { IfOk result (λ list. list.items ≡ map held_of held.now.entries) }
     ensures ordered { IsOrdered nat_cmp held.now }
@@ -73,8 +75,14 @@ fn listed(alloc: Global, held: &BTreeMap<u64, u64>) -> Result<Vec<Held>, AllocEr
         .collect(alloc)
 }
 
-/// Returns the client's handles after these steps, in rising order, each once and with the last step that assigned it: those that
-/// some step assigned and no later one took. If memory is refused, it returns no handle.
+/// Returns the client's handles after these steps, in rising order.
+///
+/// Each handle occurs once, with the last step that assigned it. A handle that a later step took is not among them.
+/// Allocates the list.
+///
+/// # Errors
+///
+/// `AllocError` if memory is refused.
 pub fn handles_of(alloc: Global, steps: &[Step], client: u64) -> Result<Vec<Held>, AllocError>
     ensures held { IfOk result (λ held. (h s : ℕ) → is_held_since held.items h s ≡ is_given_at (last_gift (history_of steps.now) client h) s) }
     ensures rising { IfOk result (λ held. AllPairs (λ one other. one.handle < other.handle) held.items) }

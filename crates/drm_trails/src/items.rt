@@ -1,10 +1,10 @@
-//! Lists that take one item more.
+//! Lists with an item added.
 
 ghost use Rattle.std.specs.Prelude.{◌≡◌, ◌++◌, option_to_list, IfOk};
 
 use std::alloc::AllocError;
 
-/// Returns the list with one item more, if there is one. If memory is refused, the list is lost.
+/// Returns the list with the item appended, or unchanged if there is none. If memory is refused, the list is dropped.
 pub fn with_item<T: Drop>(list: Vec<T>, item: Option<T>) -> Result<Vec<T>, AllocError>
     ensures { IfOk result (λ longer. longer.items ≡ list.items ++ option_to_list item) }
 {

@@ -1,6 +1,8 @@
-//! The steps of a history: what each did, which handles a client has after them, and by which steps a handle came to it.
+//! The steps of a history: the effect of each, the handles that a client has after them, and the chains of steps by
+//! which it obtained them.
 //!
-//! A history is a slice of steps, the oldest first; step 1 is its first. What is told of a moment is told of the steps up to it.
+//! A history is a slice of steps, the oldest first. Step 1 is the first. A result as of a moment depends only on the
+//! steps up to it.
 #![tactic(auto)]
 
 mod chains;

@@ -1,4 +1,4 @@
-//! Of which object a handle is.
+//! The object of a handle.
 
 ghost use Rattle.std.specs.Prelude.{◌≡◌, take};
 ghost use Rattle.drm_trails.specs.Objects.{AreObjects};
@@ -9,8 +9,8 @@ ghost use Rattle.drm_trails.specs.Steps.{history_of, source_of};
 use crate::searches::{Publication, Touch, last_giving, publication_before};
 use crate::steps::{Source, Step};
 
-/// The object of a client's handle after the first steps, so many, by the step that made it. None where the client has no such handle
-/// then.
+/// Returns the object of a client's handle after the first `count` steps, by the number of the step that created it. It
+/// returns `None` if the client has no such handle.
 pub(crate) fn object_held(
     steps: &[Step],
     touches: &[Touch],
@@ -28,7 +28,7 @@ pub(crate) fn object_held(
     *object
 }
 
-/// The object of the handle that the step after these gives, by where it comes from.
+/// Returns the object of the handle that the step after these assigns, by its source.
 pub(crate) fn object_given(
     steps: &[Step],
     publications: &[Publication],

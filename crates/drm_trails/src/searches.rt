@@ -1,4 +1,4 @@
-//! The last step of a history that gave a handle, or that published under a key.
+//! The last step of a history that assigned a handle, or that published under a key.
 
 ghost use Rattle.std.specs.Prelude.{◌≡◌, ◌<◌, ◌≤◌, length, take, IfSome};
 ghost use Rattle.std.specs.List.{AllWithin};
@@ -12,22 +12,25 @@ ghost use Rattle.drm_trails.specs.Searches.{AreTouched, PublicationsRise, Touche
 use crate::steps::{self, Giving, Key, Publishing, Source, Step};
 use drm_table::{Call, Event};
 
-/// The last step that gave a handle: how many steps came before it, and where the object came from.
+/// The last step that assigned a handle: the number of steps before it, and the source of the object.
 #[derive(Clone, Copy, PartialEq, Eq, Debug)]
 pub(crate) struct LastGiving {
     pub(crate) past: usize,
     pub(crate) source: Source,
 }
 
-/// The last step that published under a key: how many steps came before it, and whose handle it was of.
+/// The last step that published under a key (own).
 #[derive(Clone, Copy, PartialEq, Eq, Debug)]
 pub struct LastPublishing {
+    /// The number of steps before it.
     pub past: usize,
+    /// The client that published.
     pub client: u64,
+    /// The client's handle of the object.
     pub handle: u64,
 }
 
-/// A step that published: how many steps came before it, under which key, and whose handle it was of.
+/// A step that published: the number of steps before it, the key, the client and its handle.
 #[derive(Clone, Copy, PartialEq, Eq, Debug)]
 pub(crate) struct Publication {
     pub(crate) past: usize,
@@ -36,7 +39,7 @@ pub(crate) struct Publication {
     pub(crate) handle: u64,
 }
 
-/// What a step publishes, if it does, behind so many others.
+/// Returns the entry of what a step publishes, if it publishes, after `past` steps.
 pub(crate) fn publication_of(published: Option<Publishing>, past: usize) -> Option<Publication>
     ensures { result ≡ publications_of published past }
 {
@@ -51,7 +54,7 @@ pub(crate) fn publication_of(published: Option<Publishing>, past: usize) -> Opti
     }
 }
 
-/// How many of these have fewer steps before them than this moment has.
+/// Returns the number of these with fewer than `moment` steps before them.
 fn older_publications(publications: &[Publication], moment: usize) -> usize
     requires { PublicationsRise publications.now }
     ensures bound { result ≤ length publications.now }
@@ -60,7 +63,7 @@ fn older_publications(publications: &[Publication], moment: usize) -> usize
     publications.partition_point(|publication| publication.past < moment)
 }
 
-/// The last of these that published under the key before a moment.
+/// Returns the last of these that published under the key before a moment.
 fn newest_publication(publications: &[Publication], moment: usize, key: Key) -> Option<Publication>
     ensures last { result ≡ publication_in publications.now moment (key_of key) }
     ensures before { IfSome result (λ publication. publication.past < moment) }
@@ -69,7 +72,8 @@ fn newest_publication(publications: &[Publication], moment: usize, key: Key) -> 
         && is_key(publication.key, key))
 }
 
-/// The last of these that published under the key, with fewer steps before it than this moment has. It looks at none of a later step.
+/// Returns the last of these that published under the key, with fewer than `moment` steps before it. It does not look
+/// at later steps.
 pub(crate) fn publication_before(
     publications: &[Publication],
     moment: usize,
@@ -84,7 +88,8 @@ pub(crate) fn publication_before(
     newest_publication(older, moment, key)
 }
 
-/// A step that gives or takes handles of a client: how many steps came before it, and which handle, or all where none is told.
+/// A step that assigns or takes handles of a client: the number of steps before it, and the handle, or `None` for all
+/// handles.
 #[derive(Clone, Copy, PartialEq, Eq, Debug)]
 pub(crate) struct Touch {
     pub(crate) past: usize,
@@ -92,7 +97,7 @@ pub(crate) struct Touch {
     pub(crate) handle: Option<u64>,
 }
 
-/// Which handles a call gives or takes.
+/// Returns the handle that a call assigns or takes.
 fn handle_touched(given: Option<Giving>, client: u64, call: &Call, past: usize) -> Option<Touch>
     ensures { result ≡ touched_by past (givings_of given) client (closed_by call.now) }
 {
@@ -113,7 +118,7 @@ fn handle_touched(given: Option<Giving>, client: u64, call: &Call, past: usize) 
     }
 }
 
-/// Which handles a step gives or takes, behind so many others.
+/// Returns the handles that a step assigns or takes, after `past` steps.
 pub(crate) fn touch_of(step: &Step, past: usize) -> Option<Touch>
     ensures { result ≡ touch_in_step past (entry_of step.now) }
 {
@@ -128,7 +133,7 @@ pub(crate) fn touch_of(step: &Step, past: usize) -> Option<Touch>
     }
 }
 
-/// Whether a step touched the client's handle.
+/// Returns whether a step touched the client's handle.
 fn concerns(touch: Touch, client: u64, handle: u64) -> bool
     ensures { result ≡ searches.concerns client handle touch }
 {
@@ -139,7 +144,7 @@ fn concerns(touch: Touch, client: u64, handle: u64) -> bool
     touch.client == client && is_handle
 }
 
-/// How many of these have fewer steps before them than this moment has.
+/// Returns the number of these with fewer than `moment` steps before them.
 fn older_touches(touches: &[Touch], moment: usize) -> usize
     requires { TouchesRise touches.now }
     ensures bound { result ≤ length touches.now }
@@ -148,7 +153,7 @@ fn older_touches(touches: &[Touch], moment: usize) -> usize
     touches.partition_point(|touch| touch.past < moment)
 }
 
-/// The last of these that touched the client's handle before a moment.
+/// Returns the last of these that touched the client's handle before a moment.
 fn newest_touch(touches: &[Touch], moment: usize, client: u64, handle: u64) -> Option<Touch>
     ensures last { result ≡ touch_in touches.now moment client handle }
     ensures before { IfSome result (λ touch. touch.past < moment) }
@@ -157,8 +162,8 @@ fn newest_touch(touches: &[Touch], moment: usize, client: u64, handle: u64) -> O
         && concerns(*touch, client, handle))
 }
 
-/// The last of these that touched the client's handle, with fewer steps before it than this moment has. It looks at none of a later
-/// step.
+/// Returns the last of these that touched the client's handle, with fewer than `moment` steps before it. It does not
+/// look at later steps.
 fn touch_before(touches: &[Touch], moment: usize, client: u64, handle: u64) -> Option<Touch>
     requires { TouchesRise touches.now }
     ensures last { result ≡ touch_in touches.now moment client handle }
@@ -169,7 +174,7 @@ fn touch_before(touches: &[Touch], moment: usize, client: u64, handle: u64) -> O
     newest_touch(older, moment, client, handle)
 }
 
-/// Where the object comes from, if a handle is given and is this one.
+/// Returns the source of the object if the assigned handle is this one, or `None`.
 fn source_for(given: Option<Giving>, client: u64, handle: u64) -> Option<Source>
     ensures { option_map source_of result ≡ searches.source_for client handle (givings_of given) }
 {
@@ -180,7 +185,7 @@ fn source_for(given: Option<Giving>, client: u64, handle: u64) -> Option<Source>
     None
 }
 
-/// Whether two keys are the same.
+/// Returns whether two keys are the same.
 fn is_key(one: Key, other: Key) -> bool
     ensures { result ≡ is_key (key_of one) (key_of other) }
 {
@@ -192,7 +197,7 @@ fn is_key(one: Key, other: Key) -> bool
     }
 }
 
-/// The last of the first steps, so many, that gave the client the handle, if no later one of them took it.
+/// Returns the last of the first `count` steps that assigned the handle to the client, if no later one of them took it.
 pub(crate) fn last_giving(
     steps: &[Step],
     touches: &[Touch],
@@ -220,7 +225,7 @@ pub(crate) fn last_giving(
     None
 }
 
-/// The last step that published under the key.
+/// Returns the last step that published under the key, or `None`. Does not allocate.
 pub fn last_publishing(steps: &[Step], key: Key) -> Option<LastPublishing>
     ensures last { sharings_at steps.now result ≡ last_sharing (history_of steps.now) (key_of key) }
     ensures within { IfSome result (λ publishing. publishing.past < length steps.now) }

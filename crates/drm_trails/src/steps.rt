@@ -1,4 +1,4 @@
-//! The steps of a history, and what one says of handles.
+//! The steps of a history, and the effect of one on handles.
 
 ghost use Rattle.std.specs.Prelude.{◌≡◌, ℕ, ◌-◌, ◌&&◌, nat_le, length, slice_get, IfSome, Some};
 ghost use Rattle.std.specs.Option.{is_some, option_map};
@@ -11,14 +11,16 @@ ghost use Rattle.drm_trails.specs.Steps.{givings_of, key_of, publishings_of, sou
 
 use drm_table::{Answer, Call, Event};
 
-/// A step: what it was of, and what it was answered.
+/// A step: an event and its answer (own).
 #[derive(PartialEq, Eq, Debug, Drop)]
 pub struct Step {
+    /// The event.
     pub event: Event,
+    /// The answer.
     pub answer: Answer,
 }
 
-/// The step of a number, from 1.
+/// Returns the step with this number, from 1, or `None`. Does not allocate.
 pub fn step_at(steps: &[Step], number: u64) -> Option<&Step>
     ensures step { IfSome result (λ step. slice_get steps.now (number - 1) ≡ Some step.now) }
     ensures numbers { is_some result ≡ (nat_le 1 number && nat_le number (length steps.now)) }
@@ -27,8 +29,8 @@ pub fn step_at(steps: &[Step], number: u64) -> Option<&Step>
     steps.get(place)
 }
 
-/// Under what an object is published: a global name (drm-gem(7)), a PRIME token (drm-mm; tokens are own), a framebuffer
-/// (drm-uapi).
+/// A key under which an object is published: a global name (drm-gem(7)), a PRIME token (drm-mm; tokens are own), or a
+/// framebuffer (drm-uapi).
 #[derive(Clone, Copy, PartialEq, Eq, Debug)]
 pub enum Key {
     Name(u64),
@@ -36,30 +38,36 @@ pub enum Key {
     Framebuffer(u64),
 }
 
-/// Where the object of a handle comes from: the step makes it, or it was published under a key.
+/// The source of a handle's object: the step creates it, or it was published under a key (own).
 #[derive(Clone, Copy, PartialEq, Eq, Debug)]
 pub enum Source {
     Creation,
     Transfer(Key),
 }
 
-/// A client is given a handle.
+/// A handle that a step assigns to a client (own).
 #[derive(Clone, Copy, PartialEq, Eq, Debug)]
 pub struct Giving {
+    /// The client.
     pub client: u64,
+    /// The handle.
     pub handle: u64,
+    /// The source of the handle's object.
     pub source: Source,
 }
 
-/// A client publishes the object of its handle.
+/// An object that a client publishes by its handle (own).
 #[derive(Clone, Copy, PartialEq, Eq, Debug)]
 pub struct Publishing {
+    /// The key under which it is published.
     pub key: Key,
+    /// The client.
     pub client: u64,
+    /// The client's handle of the object.
     pub handle: u64,
 }
 
-/// Which of a client's handles a step takes.
+/// The handles that a step takes from a client.
 #[derive(Clone, Copy, PartialEq, Eq, Debug)]
 pub(crate) enum Taken {
     Nothing,
@@ -67,7 +75,7 @@ pub(crate) enum Taken {
     All,
 }
 
-/// The handle that a buffer's answer tells.
+/// Returns the handle in the answer for a buffer.
 fn buffer_in(answer: &Answer) -> Option<u64>
     ensures { result ≡ answers.buffer_in answer.now }
 {
@@ -77,7 +85,7 @@ fn buffer_in(answer: &Answer) -> Option<u64>
     }
 }
 
-/// The handle that a dumb buffer's answer tells.
+/// Returns the handle in the answer for a dumb buffer.
 fn dumb_in(answer: &Answer) -> Option<u64>
     ensures { result ≡ answers.dumb_in answer.now }
 {
@@ -87,7 +95,7 @@ fn dumb_in(answer: &Answer) -> Option<u64>
     }
 }
 
-/// The handle that a framebuffer's answer tells; MODE_GETFB answers 0 where it gives none.
+/// Returns the handle in the answer for a framebuffer, or `None` if MODE_GETFB answers 0.
 fn framebuffer_in(answer: &Answer) -> Option<u64>
     ensures { result ≡ answers.framebuffer_in answer.now }
 {
@@ -103,7 +111,7 @@ fn framebuffer_in(answer: &Answer) -> Option<u64>
     }
 }
 
-/// The number that an answer tells.
+/// Returns the number in an answer.
 fn number_in(answer: &Answer) -> Option<u64>
     ensures { result ≡ answers.number_in answer.now }
 {
@@ -125,7 +133,7 @@ pub(crate) fn is_closed(answer: &Answer) -> bool
     matches!(answer, Answer::Closed)
 }
 
-/// A client is given the handle, if there is one.
+/// Returns the assignment of the handle to a client, if there is a handle.
 fn given_from(client: u64, handle: Option<u64>, source: Source) -> Option<Giving>
     ensures { givings_of result ≡ answers.given_from client handle (source_of source) }
 {
@@ -139,7 +147,7 @@ fn given_from(client: u64, handle: Option<u64>, source: Source) -> Option<Giving
     }
 }
 
-/// A client publishes the object of its handle under a key, if there is one.
+/// Returns the publication of a client's handle under a key, if there is a key.
 fn published_under(key: Option<Key>, client: u64, handle: u64) -> Option<Publishing>
     ensures { publishings_of result ≡ answers.published_under (option_map key_of key) client handle }
 {
@@ -153,7 +161,7 @@ fn published_under(key: Option<Key>, client: u64, handle: u64) -> Option<Publish
     }
 }
 
-/// The handle that a call gives by its answer.
+/// Returns the handle that a call assigns, by its answer.
 #[tactic(auto, using(crate::proofs::StepLemmas::buffer_given, crate::proofs::StepLemmas::dumb_given, crate::proofs::StepLemmas::name_given, crate::proofs::StepLemmas::token_given, crate::proofs::StepLemmas::framebuffer_given))]
 fn given_by(client: u64, call: &Call, answer: &Answer) -> Option<Giving>
     ensures { givings_of result ≡ told.given_by (Ask client call.now) answer.now }
@@ -177,7 +185,7 @@ fn given_by(client: u64, call: &Call, answer: &Answer) -> Option<Giving>
     }
 }
 
-/// What a call publishes by its answer.
+/// Returns what a call publishes, by its answer.
 fn published_by(client: u64, call: &Call, answer: &Answer) -> Option<Publishing>
     ensures { publishings_of result ≡ told.published_by (Ask client call.now) answer.now }
 {
@@ -198,7 +206,7 @@ fn published_by(client: u64, call: &Call, answer: &Answer) -> Option<Publishing>
     }
 }
 
-/// The handle that a call gives back where it is done.
+/// Returns the handle that a call closes if it is done.
 pub(crate) fn closed_by(call: &Call) -> Option<u64>
     ensures { result ≡ answers.closed_by call.now }
 {
@@ -209,7 +217,7 @@ pub(crate) fn closed_by(call: &Call) -> Option<u64>
     }
 }
 
-/// Which handles a call takes that is done.
+/// Returns the handles that a call takes if it is done.
 fn taken_by(call: &Call) -> Taken
     ensures { (h : ℕ) → is_taken h result ≡ is_option h (answers.closed_by call.now) }
 {
@@ -225,7 +233,7 @@ impl Step {
     ghost use Rattle.drm_trails.specs.Handles.{is_taken};
     ghost use Rattle.drm_trails.specs.Steps.{entry_of, givings_of, publishings_of};
 
-    /// The handle that the step gives.
+    /// Returns the handle that the step assigns, or `None`. Does not allocate.
     #[tactic(auto, unfolding(drm_history::specs::Steps::given))]
     pub fn given(&self) -> Option<Giving>
         ensures { givings_of result ≡ given (entry_of self.now) }
@@ -237,7 +245,7 @@ impl Step {
         }
     }
 
-    /// What the step publishes.
+    /// Returns what the step publishes, or `None`. Does not allocate.
     #[tactic(auto, unfolding(drm_history::specs::Steps::published))]
     pub fn published(&self) -> Option<Publishing>
         ensures { publishings_of result ≡ published (entry_of self.now) }
@@ -249,7 +257,7 @@ impl Step {
         }
     }
 
-    /// Which handles of the client the step takes.
+    /// Returns the handles that the step takes from the client.
     #[tactic(auto, unfolding(drm_history::specs::Steps::takes))]
     pub(crate) fn taken_from(&self, client: u64) -> Taken
         ensures { (h : ℕ) → is_taken h result ≡ takes (entry_of self.now) client h }
@@ -273,7 +281,7 @@ impl Step {
         }
     }
 
-    /// Whether the step takes the client's handle.
+    /// Returns whether the step takes the handle from the client. Does not allocate.
     pub fn takes(&self, client: u64, handle: u64) -> bool
         ensures { result ≡ takes (entry_of self.now) client handle }
     {

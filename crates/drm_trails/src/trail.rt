@@ -14,14 +14,16 @@ use crate::steps::{Giving, Step};
 use std::alloc::{AllocError, Global};
 use std::marker::Model;
 
-/// The steps of a history, the oldest first, and which of them published, gave or took a handle, so that a chain is found without the
-/// steps between; and the object of each handle that one gave. Contracts see the steps.
+/// The steps of a history, the oldest first, with an index (own).
+///
+/// The index lists the steps that published, assigned or took a handle, and the object of each assigned handle. A chain
+/// is found without a look at the steps between. Contracts see only the steps.
 #[derive(Drop)]
 pub struct Trail {
     steps: Vec<Step>,
     publications: Vec<Publication>,
     touches: Vec<Touch>,
-    /// For each step, the object of the handle that it gave.
+    /// For each step, the object of the handle that it assigned.
     objects: Vec<Option<u64>>,
 }
 
@@ -39,7 +41,7 @@ impl Model for Trail {
 }
 
 impl Trail {
-    /// No step yet.
+    /// Returns a trail without steps. Does not allocate.
     pub fn new(alloc: Global) -> Trail
         ensures { result ≡ [] }
     {
@@ -51,7 +53,11 @@ impl Trail {
         }
     }
 
-    /// The steps with one more behind them. Where memory is refused there is no trail any more.
+    /// Returns the trail with one more step at the end. Allocates entries of the index.
+    ///
+    /// # Errors
+    ///
+    /// `AllocError` if memory is refused. The trail is then dropped.
     pub fn push(self, step: Step) -> Result<Trail, AllocError>
         ensures { IfOk result (λ trail. trail ≡ self ++ step ∷ []) }
     {
@@ -67,7 +73,7 @@ impl Trail {
         })
     }
 
-    /// The object of the handle that the next step gives, if it does.
+    /// Returns the object of the handle that the next step assigns, or `None`.
     fn object_by(&self, given: Option<Giving>) -> Option<u64>
         ensures { IfSome given (λ giving. result ≡ objects.object_given (history_of self.now) (source_of giving.source)) }
     {
@@ -80,8 +86,10 @@ impl Trail {
         )
     }
 
-    /// Returns the object of a client's handle after the first `count` steps, by the number of the step that created it. It returns
-    /// `None` if the client has no such handle then. Does not allocate.
+    /// Returns the object of a client's handle after the first `count` steps, or `None` if the client has no such
+    /// handle.
+    ///
+    /// An object is the number of the step that created it. Does not allocate.
     pub fn object_of(&self, count: usize, client: u64, handle: u64) -> Option<u64>
         ensures object { IfSome result (Has (history_of (take count self.now)) client handle) }
         ensures none { IfNone result (IsOfDevice (history_of (take count self.now)) → HasNone (history_of (take count self.now)) client handle) }
@@ -96,16 +104,22 @@ impl Trail {
         )
     }
 
-    /// The steps, the oldest first.
+    /// Returns the steps, the oldest first. Does not allocate.
     pub fn steps(&self) -> &[Step]
         ensures { result.now ≡ self.now }
     {
         &self.steps
     }
 
-    /// By which steps a client came to have a handle after the first steps, so many, or after all where there are fewer: the step that
-    /// gave it, then the one that gave it to who published it for that step, and so on, down to the step that made the object. None
-    /// where the client has no such handle then.
+    /// Returns the chain of steps by which a client obtained a handle, or `None` if the client has no such handle.
+    ///
+    /// The chain is as of the first `count` steps, or of all if there are fewer. The first link is the step that
+    /// assigned the handle. Each further link is the step that assigned the object's handle to the client that
+    /// published it. The last link is the step that created the object. Allocates the links.
+    ///
+    /// # Errors
+    ///
+    /// `AllocError` if memory is refused.
     pub fn chain_of(
         &self,
         alloc: Global,
@@ -128,8 +142,14 @@ impl Trail {
         )
     }
 
-    /// Returns what `chain_of` does, without the links that the marks leave out. A chain without its first links is still found in time
-    /// that only grows with the others, so that the chains of all handles of a history are found in the time of its steps.
+    /// Returns what `chain_of` returns, without the links that the marks leave out.
+    ///
+    /// Its time grows only with the links that it returns. The chains of all handles of a history take time in
+    /// proportion to its steps. Allocates the links.
+    ///
+    /// # Errors
+    ///
+    /// `AllocError` if memory is refused.
     pub fn chain_end_of(
         &self,
         alloc: Global,
