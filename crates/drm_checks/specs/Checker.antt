@@ -1,4 +1,4 @@
--- One line of a file, checked.
+-- The check of one line of a file (own).
 use Rattle.std.specs.Prelude.{◌≡◌, ℕ, ◌+◌, List, [], ◌∷◌, length, Option, None, Some, Result}
 use Rattle.drm_table.specs.declared.answers.Answer.{Answer}
 use Rattle.drm_table.specs.declared.apart.Apart.{Apart}
@@ -15,15 +15,16 @@ use Rattle.drm_checks.specs.Expectations.{script_part, expected_part}
 use Rattle.drm_checks.specs.Differences.{File, differences_text, met, unmet}
 use Rattle.drm_checks.specs.declared.checker.Checker.{Checker}
 
+-- a checker before the first line
 abbrev pub first_checker : Setting → ℕ → Checker
 first_checker setting turns = record { interpreter = at_start setting; passed = 0; failed = 0; turns = turns }
 
--- the results of a line, which has one answer at most
+-- the results of a line, which has at most one answer
 abbrev pub results_of : Option (Result Answer Apart) → List (Result Answer Apart)
 results_of None = []
 results_of (Some answer) = answer ∷ []
 
--- what a line expects was counted, and a difference told
+-- the expectation of a line was counted, and a difference written
 pub record Notes (old new : Checker) (file : File) (number : ℕ) (expected : Option (List ℕ)) (came : Option (Result Answer Apart)) (sink sink' : SinkTrace) (end : Option ScriptEnd) : Type 0 where
   pub written : Written
   pub writes : WritesOut written sink sink' (differences_text file (unmet number expected came)) old.turns new.turns
@@ -32,7 +33,7 @@ pub record Notes (old new : Checker) (file : File) (number : ℕ) (expected : Op
   pub failed : new.failed ≡ old.failed + length (unmet number expected came)
   pub interpreter : new.interpreter ≡ old.interpreter
 
--- A line was used, what it expects counted, and a difference told.
+-- A line was used, its expectation counted, and a difference written.
 pub record UsedLine (old new : Checker) (file : File) (lines : LinesState) (sink sink' : SinkTrace) (end : Option ScriptEnd) : Type 0 where
   pub came : Option (Result Answer Apart)
   pub uses : Uses old.interpreter.device old.interpreter.labels (script_part lines.held) (results_of came) new.interpreter.device new.interpreter.labels
@@ -49,7 +50,7 @@ pub record Stands (old new : Checker) (sink sink' : SinkTrace) : Type 0 where
   pub passed : new.passed ≡ old.passed
   pub failed : new.failed ≡ old.failed
 
--- what came of a line
+-- the result of the check of one line
 pub data ChecksLine (old new : Checker) (file : File) (lines : LinesState) (sink sink' : SinkTrace) : Option ScriptEnd → Type 0 where
   used : {end : Option ScriptEnd} → UsedLine old new file lines sink sink' end → ChecksLine old new file lines sink sink' end
   bad : IsMisplaced old.interpreter.device (script_part lines.held) → Stands old new sink sink' → ChecksLine old new file lines sink sink' (Some (ends.Malformed lines.number))

@@ -16,16 +16,16 @@ use Rattle.drm_checks.specs.Differences.{Difference, File, differences_text, met
 use Rattle.drm_checks.specs.Checker.{results_of}
 use Rattle.drm_checks.specs.declared.check.Report.{Report}
 
--- The lines of a file, one after another, each used as a line of a script: how many expectations were met, those that were not,
--- and the device and the labels.
+-- The lines of a file, one after the other, each used as a line of a script. The indices are the number of met
+-- expectations, the others, and the device and the labels.
 pub data Checked (setting : Setting) : List (List ℕ) → ℕ → List Difference → Place → List ℕ → Type 0 where
   start : Checked setting [] 0 [] (Planned setting) unbound
   line : {lines : List (List ℕ)} {passed : ℕ} {differences : List Difference} {device device' : Place} {labels labels' : List ℕ} (next : List ℕ) (came : Option (Result Answer Apart))
       → Checked setting lines passed differences device labels → IsBare next → Uses device labels (script_part next) (results_of came) device' labels'
       → Checked setting (lines ++ next ∷ []) (passed + met (expected_part next) came) (differences ++ unmet (length lines + 1) (expected_part next) came) device' labels'
 
--- A line that can't be used: the input or the line ended behind it and its script part can't be used, or it is too long, which
--- its first 256 bytes tell. No more was read behind it than one read gives.
+-- A line that can't be used. Either the input or the line ended after it and its script part can't be used, or its
+-- first 256 bytes show that it is too long. At most the bytes of one read were read after it.
 pub record IsUnusable (ended : Type 0) (device : Place) (rest : List ℕ) : Type 0 where
   pub bad : List ℕ
   pub behind : List ℕ
@@ -34,7 +34,7 @@ pub record IsUnusable (ended : Type 0) (device : Place) (rest : List ℕ) : Type
   pub end_condition : (IsMisplaced device (script_part bad) × EndsLine ended behind) ⊎ (length bad ≡ 256)
   pub short : length behind ≤ 256
 
--- A line that wants a device, for which there was no memory.
+-- A line needs a device, and memory for it was refused.
 pub record IsUnmade (ended : Type 0) (device : Place) (rest : List ℕ) : Type 0 where
   pub next : List ℕ
   pub behind : List ℕ
@@ -45,8 +45,8 @@ pub record IsUnmade (ended : Type 0) (device : Place) (rest : List ℕ) : Type 0
   pub wants : WantsDevice (script_part next)
   pub short : length behind ≤ 256
 
--- Telling stopped in the difference of the last line that was used: those before it were told, and of it a front that lacks a
--- byte at least. So no line is used after a failed write.
+-- Writing stopped in the difference of the last line that was used. All differences before it were written, and of it a
+-- front without at least one byte. So no line is used after a failed write.
 pub record IsCutInLast (file : File) (n : ℕ) (differences : List Difference) (written : List ℕ) : Type 0 where
   pub before : List Difference
   pub last : Difference
@@ -58,7 +58,8 @@ pub record IsCutInLast (file : File) (n : ℕ) (differences : List Difference) (
   pub more : 0 < length unsent
   pub text : written ≡ differences_text file before ++ sent
 
--- Each end with its cause, where n lines were checked, this stands behind them in what was read, and these differences were found.
+-- Each end with its cause. The arguments include the number of lines that were checked, the text read after them, and
+-- the differences.
 abbrev pub Ends : ScriptEnd → Type 0 → SourceTrace → SourceTrace → SinkTrace → SinkTrace → ℕ → ℕ → Place → List ℕ → List ℕ → File → List Difference → Type 0
 Ends ends.Done ended source source' sink sink' turns n device rest written file differences = (rest ≡ []) × ended × (written ≡ differences_text file differences)
 Ends (ends.Malformed number) ended source source' sink sink' turns n device rest written file differences =
@@ -72,7 +73,8 @@ Ends ends.TurnsUsed ended source source' sink sink' turns n device rest written 
     × ((IsPart rest × (written ≡ differences_text file differences)) ⊎ (IsCutInLast file n differences written × (length rest ≤ 256)))
 Ends ends.NoMemory ended source source' sink sink' turns n device rest written file differences = IsUnmade ended device rest × (written ≡ differences_text file differences)
 
--- A check on a device that begins so: what it read and wrote, at what cost, which lines it used, what they expect, and why it ended.
+-- A check on a device that begins so: what it read and wrote, its cost, the lines that it used with their expectations,
+-- and the cause of its end.
 pub record ChecksOn (setting : Setting) (file : File) (source source' : SourceTrace) (sink sink' : SinkTrace) (turns : ℕ) (report : Report) : Type 0 where
   pub read : List ℕ
   pub written : List ℕ
@@ -89,11 +91,11 @@ pub record ChecksOn (setting : Setting) (file : File) (source source' : SourceTr
   pub covers : Covers (source.counts.ends < source'.counts.ends) read lines rest
   pub ends : Ends report.end (source.counts.ends < source'.counts.ends) source source' sink sink' turns (length lines) device rest written file differences
 
--- a check on a device of the test topology, with the program's limits where the file sets none, which names no command
+-- a check on a device of the test topology, with the program's limits by default, that names no command
 abbrev pub Checks : List ℕ → SourceTrace → SourceTrace → SinkTrace → SinkTrace → ℕ → Report → Type 0
 Checks name source source' sink sink' turns report = ChecksOn usual (record { name = name; command = [] }) source source' sink sink' turns report
 
--- What the lines get as answers is what the script of their parts without expectations gets.
+-- A checked file gets the answers that the script of its lines without expectations gets.
 abbrev pub CheckedFilesAreScripts : Type 0
 CheckedFilesAreScripts = (setting : Setting) (lines : List (List ℕ)) (passed : ℕ) (differences : List Difference) (device : Place) (labels : List ℕ)
     → Checked setting lines passed differences device labels → (results : List (Result Answer Apart)) × Script setting (map script_part lines) results device labels

@@ -1,4 +1,4 @@
--- A check that goes on, line by line.
+-- A check line by line (own).
 use Rattle.std.specs.Prelude.{◌≡◌, ℕ, ◌+◌, ◌<◌, ◌≤◌, ◌^◌, List, Option, None, Some, length}
 use Rattle.drm_streams.specs.Streams.{SourceTrace, SinkTrace}
 use Rattle.drm_streams.specs.Turns.{Took}
@@ -11,6 +11,7 @@ use Rattle.drm_checks.specs.Checks.{Checked, ChecksOn}
 use Rattle.drm_checks.specs.declared.check.Check.{Check}
 use Rattle.drm_checks.specs.declared.check.Report.{Report}
 
+-- a check before the first line
 abbrev pub first_check : Setting → ℕ → Check
 first_check setting turns = record { lines = no_lines; checker = first_checker setting turns }
 
@@ -25,7 +26,7 @@ pub record SoFar (setting : Setting) (file : File) (source source' : SourceTrace
   pub checked : Checked setting lines check.checker.passed differences check.checker.interpreter.device check.checker.interpreter.labels
   pub counted : check.checker.failed ≡ length differences
 
--- no count leaves its type
+-- no count exceeds its type
 pub record IsCountable (check : Check) (source : SourceTrace) (sink : SinkTrace) : Type 0 where
   pub number : check.lines.number + fuel_of check.lines check.checker.turns < 2 ^ 63
   pub passed : check.checker.passed ≤ check.lines.number
@@ -33,7 +34,7 @@ pub record IsCountable (check : Check) (source : SourceTrace) (sink : SinkTrace)
   pub source_calls : source.counts.calls + check.checker.turns < 2 ^ 48
   pub sink_calls : sink.counts.calls + check.checker.turns < 2 ^ 48
 
--- One line more was checked.
+-- One more line was checked.
 pub record GoesOn (file : File) (old new : Check) (source source' : SourceTrace) (sink sink' : SinkTrace) : Type 0 where
   pub so_far : (setting : Setting) (start : SourceTrace) (first : SinkTrace) (turns : ℕ) → SoFar setting file start source first sink turns old → SoFar setting file start source' first sink' turns new
   pub number : new.lines.number ≡ old.lines.number + 1
@@ -47,7 +48,7 @@ pub record GoesOn (file : File) (old new : Check) (source source' : SourceTrace)
 abbrev pub report_of : Check → ScriptEnd → Report
 report_of check end = record { end = end; passed = check.checker.passed; failed = check.checker.failed }
 
--- Whichever check was under way goes on, or has ended.
+-- A check that had not ended continues, or has ended.
 abbrev pub Advances : Check → Check → File → SourceTrace → SourceTrace → SinkTrace → SinkTrace → Option ScriptEnd → Type 0
 Advances old new file source source' sink sink' None = GoesOn file old new source source' sink sink'
 Advances old new file source source' sink sink' (Some end) =

@@ -1,14 +1,15 @@
--- What the checks of several files came to (own).
+-- The results of the checks of several files (own).
 use Rattle.std.specs.Prelude.{ℕ, ◌+◌, ◌-◌, ◌^◌, ◌==◌, ◌&&◌, Bool, true, false, if◌then◌else◌, min, List, [], ◌∷◌, ◌++◌, codes, decimal}
 use Rattle.drm_runs.specs.declared.stops.ScriptEnd.{ScriptEnd}
 use Rattle.drm_runs.specs.declared.stops.ScriptEnd.TheVariants as ends
 use Rattle.drm_checks.specs.declared.check.Report.{Report}
 use Rattle.drm_checks.specs.declared.totals.Totals.{Totals}
 
+-- the totals of no files
 abbrev pub no_files : Totals
 no_files = record { passed = 0; failed = 0; malformed = 0 }
 
--- 1 where the file was malformed
+-- 1 if the file was malformed
 abbrev pub malformed_by : ScriptEnd → ℕ
 malformed_by (ends.Malformed number) = 1
 malformed_by ends.Done = 0
@@ -17,7 +18,7 @@ malformed_by ends.WriteFault = 0
 malformed_by ends.TurnsUsed = 0
 malformed_by ends.NoMemory = 0
 
--- Whether the input ended behind the last line.
+-- Whether the input ended after the last line.
 abbrev pub is_done : ScriptEnd → Bool
 is_done ends.Done = true
 is_done (ends.Malformed number) = false
@@ -38,7 +39,7 @@ failures_of report = if expects_nothing report then 1 else report.failed
 abbrev pub sum_within : ℕ → ℕ → ℕ
 sum_within a b = min (a + b) (2 ^ 64 - 1)
 
--- the totals with a file more
+-- the totals with one more file
 abbrev pub added : Totals → Report → Totals
 added totals report = record {
   passed = sum_within totals.passed report.passed;
@@ -46,6 +47,7 @@ added totals report = record {
   malformed = sum_within totals.malformed (malformed_by report.end);
 }
 
+-- the number of expectations that passed, and of failures
 abbrev pub totals_text : Totals → List ℕ
 totals_text totals = decimal totals.passed ++ (codes " passed, " ++ (decimal totals.failed ++ (codes " failed" ++ 10 ∷ [])))
 

@@ -1,4 +1,5 @@
--- What comes of a text whose expectations are updated: which of its lines stay, and what stands in place of the others (own).
+-- The text of a file whose expectations are updated: the lines that are unchanged, and the text in place of the others
+-- (own).
 use Rattle.std.specs.Prelude.{◌≡◌, ℕ, ◌+◌, ◌<◌, ◌≤◌, List, [], ◌∷◌, ◌++◌, ◌⊎◌, Bool, true, nat_le, if◌then◌else◌, Option, None, Some, Result, Ok, Err, codes, length, All}
 use Rattle.drm_table.specs.declared.answers.Answer.{Answer}
 use Rattle.drm_table.specs.declared.apart.Apart.{Apart}
@@ -17,29 +18,29 @@ use Rattle.drm_checks.specs.declared.update.UpdateFault.TheVariants as faults
 abbrev pub answered_line : List ℕ → Result Answer Apart → List ℕ
 answered_line script answer = script ++ (codes " -> " ++ answer_words answer)
 
--- the line of a script with the answer that came, where one came and both fit into 255 bytes; else without
+-- the line of a script with the answer, if there is one and both fit into 255 bytes; else without it
 abbrev pub with_answer : List ℕ → Option (Result Answer Apart) → List ℕ
 with_answer script None = script
 with_answer script (Some answer) = if nat_le (length (answered_line script answer)) 255 then answered_line script answer else script
 
--- a line stays where it expects nothing, or what it expects is met
+-- a line is unchanged if it expects nothing, or its expectation is met
 abbrev pub stays : Option (List ℕ) → Option (Result Answer Apart) → Bool
 stays None came = true
 stays (Some expected) came = is_met expected came
 
--- what a line becomes, where this came
+-- the line in place of a line with this answer
 abbrev pub updated_line : List ℕ → Option (Result Answer Apart) → List ℕ
 updated_line line came = if stays (expected_part line) came then line else with_answer (script_part line) came
 
--- The lines of a text, one after another, none of them too long and each used as a line of a script: the text that they become, each with
--- its end, and the device and the labels.
+-- The lines of a text, one after the other, none too long and each used as a line of a script. The indices are the new
+-- text, in which each line has its end, and the device and the labels.
 pub data Updated (setting : Setting) : List (List ℕ) → List ℕ → Place → List ℕ → Type 0 where
   start : Updated setting [] [] (Planned setting) unbound
   line : {lines : List (List ℕ)} {updated : List ℕ} {device device' : Place} {labels labels' : List ℕ} (next : List ℕ) (came : Option (Result Answer Apart))
       → Updated setting lines updated device labels → IsBare next → length next ≤ 255 → Uses device labels (script_part next) (results_of came) device' labels'
       → Updated setting (lines ++ next ∷ []) (updated ++ ended (updated_line next came)) device' labels'
 
--- All lines of the text were used, and became this.
+-- All lines of the text were used, and this is the new text.
 abbrev pub Updates : Setting → List ℕ → List ℕ → Type 0
 Updates setting text updated = (device : Place) × (labels : List ℕ) × Updated setting (lines_of text) updated device labels
 
@@ -47,7 +48,7 @@ Updates setting text updated = (device : Place) × (labels : List ℕ) × Update
 abbrev pub IsUnfit : Place → List ℕ → Type 0
 IsUnfit device next = (255 < length next) ⊎ IsMisplaced device (script_part next)
 
--- The line of this number, from 1, can't be used where those before it were.
+-- The line with this number, from 1, can't be used. Those before it were used.
 pub record HasUnfitLine (setting : Setting) (text : List ℕ) (number : ℕ) : Type 0 where
   pub before : List (List ℕ)
   pub unfit : List ℕ
@@ -60,19 +61,19 @@ pub record HasUnfitLine (setting : Setting) (text : List ℕ) (number : ℕ) : T
   pub used : Updated setting before updated device labels
   pub cause : IsUnfit device unfit
 
--- why a text can't be updated; want of memory, of which no more is said, may come at any line
+-- the reason a text can't be updated; memory may be refused at any line
 abbrev pub HasFault : Setting → List ℕ → UpdateFault → Type 0
 HasFault setting text (faults.Malformed number cause) = HasUnfitLine setting text number
 HasFault setting text faults.NoMemory = Unit {0}
 
--- what came of one line, the one of this number
+-- the result of the line with this number
 abbrev pub UsesLine : InterpreterState → InterpreterState → ℕ → List ℕ → Result (Option (Result Answer Apart)) UpdateFault → Type 0
 UsesLine old new number next (Ok came) = (length next ≤ 255) × Uses old.device old.labels (script_part next) (results_of came) new.device new.labels
 UsesLine old new number next (Err (faults.Malformed told cause)) = (told ≡ number) × IsUnfit old.device next
 UsesLine old new number next (Err faults.NoMemory) = Unit {0}
 
--- What was updated passes its check: none of its lines is too long, all can be used, up to the same device and labels, and what any of
--- them expects is met.
+-- An updated text passes its check. None of its lines is too long, and all can be used, up to the same device and
+-- labels. All expectations are met.
 abbrev pub UpdatedFilesPass : Type 0
 UpdatedFilesPass = (setting : Setting) (lines : List (List ℕ)) (updated : List ℕ) (device : Place) (labels : List ℕ)
     → Updated setting lines updated device labels

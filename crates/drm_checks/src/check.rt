@@ -11,14 +11,14 @@ use drm_script::Malformed;
 use drm_streams::{Sink, Source};
 use std::alloc::Global;
 
-/// What the check of a file came to (own).
+/// The result of the check of a file (own).
 #[derive(Clone, Copy, Debug, PartialEq, Eq)]
 pub struct Report {
-    /// How the run of its script ended.
+    /// The end of the run of its script.
     pub end: ScriptEnd,
-    /// How many expectations were met.
+    /// The number of expectations that were met.
     pub passed: u64,
-    /// How many expectations were not.
+    /// The number of expectations that were not met.
     pub failed: u64,
 }
 
@@ -26,7 +26,7 @@ impl Report {
     ghost use Rattle.std.specs.Prelude.{◌≡◌};
     ghost use Rattle.drm_checks.specs.Totals as totals;
 
-    /// Returns whether the whole file was checked and none of its lines expects an answer.
+    /// Returns whether the whole file was checked and none of its lines expects an answer. Does not allocate.
     pub fn expects_nothing(&self) -> bool
         ensures { result ≡ totals.expects_nothing self.now }
     {
@@ -36,7 +36,8 @@ impl Report {
         }
     }
 
-    /// Returns the number of failures: of expectations that were not met, or 1 for a file without an expectation.
+    /// Returns the number of failures: of expectations that were not met, or 1 for a file without an expectation. Does
+    /// not allocate.
     pub fn failures(&self) -> u64
         ensures { result ≡ totals.failures_of self.now }
     {
@@ -48,7 +49,7 @@ impl Report {
     }
 }
 
-/// A check that goes on.
+/// A check that has not ended.
 #[derive(Drop)]
 struct Check {
     lines: ScriptLines,
@@ -69,7 +70,7 @@ impl Check {
         }
     }
 
-    /// Reads a line and checks it. Gives how the check ends, where it doesn't go on.
+    /// Reads a line and checks it. It returns the end of the check, or `None` if the check continues.
     fn check_next<S: Source, K: Sink>(
         &mut self,
         alloc: Global,
@@ -89,11 +90,15 @@ impl Check {
     }
 }
 
-/// Runs the script of the source on a device of its own, looks whether each answer is the one that its line expects, and
-/// tells the sink of each that differs, under the file's name, in at most so many calls of both.
+/// Checks a file: runs its script on a new device, and compares each answer with the one that its line expects (own).
 ///
-/// What stands in a line before its first ` -> ` is a line of a script, and what stands behind it the line that is expected to
-/// be answered; `denied N` and `apart N` stand for the whole line. A line without ` -> ` and a comment expect nothing.
+/// It writes a line to the sink for each answer that differs: `NAME:N: expected EXPECTED, came ANSWER`. It makes at
+/// most `turns` calls of the source and the sink.
+///
+/// The text of a line before its first ` -> ` is a line of a script. The text after it is the expected line of the
+/// answer. `denied N` and `apart N` are short for the whole line. A line without ` -> ` and a comment expect nothing.
+///
+/// The device has the test topology, and the program's limits by default. The function allocates only the device.
 pub fn check_script<S: Source, K: Sink>(
     alloc: Global,
     name: &str,
@@ -108,8 +113,10 @@ pub fn check_script<S: Source, K: Sink>(
     check_with_cause(alloc, name, source, sink, turns).0
 }
 
-/// Checks a file as `check_script` does, and tells beside the report why a line can't be used and where in it, where one can't: why
-/// what stands before its first ` -> ` is no line of a script, or that the whole is too long.
+/// Checks a file as `check_script` does, and also returns the cause if a line can't be used.
+///
+/// The cause says why the text before the first ` -> ` is no line of a script, and at which place. It may also be that
+/// the whole line is too long.
 pub fn check_with_cause<S: Source, K: Sink>(
     alloc: Global,
     name: &str,
@@ -125,10 +132,10 @@ pub fn check_with_cause<S: Source, K: Sink>(
     check_on(alloc, Setup::usual(), name, "", source, sink, turns)
 }
 
-/// Checks a file as `check_with_cause` does, on a device that begins with this topology and, where the file sets none, with
-/// these limits.
+/// Checks a file as `check_with_cause` does, on a device that begins with this topology and these default limits.
 ///
-/// Behind each answer that differs stands a line with four spaces, the command and the line's number, unless the command is empty.
+/// After each answer that differs it writes a line with four spaces, the command and the line's number. If the command
+/// is empty, it does not.
 pub fn check_on<S: Source, K: Sink>(
     alloc: Global,
     setup: Setup,

@@ -1,4 +1,4 @@
-//! The lines of a file, checked one by one.
+//! The check of one line of a file after the other.
 
 ghost use Rattle.std.specs.Prelude.{◌≡◌, ◌<◌, ◌+◌, ◌^◌};
 ghost use Rattle.drm_streams.specs.Texts.{WritesOut};
@@ -11,7 +11,8 @@ use drm_streams::{Sink, Written, put_each};
 use drm_table::{Answer, Apart};
 use std::alloc::Global;
 
-/// What is expected as it is told: what stands before its last byte, and that byte, a carriage return or a space by a word for it.
+/// Returns an expected text as it is shown: the text before its last byte, and that byte. A carriage return or a space
+/// at the end is shown by an escape.
 fn shown(expected: &[u8]) -> (&[u8], &[u8])
     ensures front { result.0.now ≡ front_of expected.now }
     ensures last { result.1.now ≡ end_of_expected expected.now }
@@ -31,7 +32,7 @@ fn shown(expected: &[u8]) -> (&[u8], &[u8])
     }
 }
 
-/// Tells of a difference: the file's name, the line's number, what was expected and what came.
+/// Writes the line of a difference: the file's name, the line's number, the expected text and the answer.
 fn tell_line<K: Sink>(
     name: &[u8],
     number: u64,
@@ -76,7 +77,7 @@ fn tell_line<K: Sink>(
     }
 }
 
-/// Tells which command explains a line, if there is one.
+/// Writes the command that explains a line, if there is one.
 fn tell_command<K: Sink>(command: &[u8], number: u64, sink: &mut K, turns: &mut u64) -> Written
     requires { (K.trace sink.old).counts.calls + turns.old < 2 ^ 48 }
     ensures { WritesOut result (K.trace sink.old) (K.trace sink.new) (command_text command.now number) turns.old turns.new }
@@ -91,7 +92,7 @@ fn tell_command<K: Sink>(command: &[u8], number: u64, sink: &mut K, turns: &mut 
     }
 }
 
-/// Tells which command explains the answer that came; none where nothing came.
+/// Writes the command that explains the answer, if there is an answer.
 fn tell_why<K: Sink>(
     command: &[u8],
     number: u64,
@@ -108,7 +109,7 @@ fn tell_why<K: Sink>(
     }
 }
 
-/// Tells of a difference, and in a line of its own of the command that explains it.
+/// Writes a difference, and a line with the command that explains it.
 fn tell<K: Sink>(
     name: &[u8],
     command: &[u8],
@@ -127,15 +128,15 @@ fn tell<K: Sink>(
     }
 }
 
-/// What the lines of a file came to so far.
+/// The counts of the lines that were checked.
 #[derive(Drop)]
 pub(crate) struct Checker {
     interpreter: Interpreter,
-    /// How many expectations were met.
+    /// The number of expectations that were met.
     pub(crate) passed: u64,
-    /// How many expectations were not.
+    /// The number of expectations that were not met.
     pub(crate) failed: u64,
-    /// How many calls of the source and the sink may still be made.
+    /// The number of calls of the source and the sink that are left.
     pub(crate) turns: u64,
 }
 
@@ -156,7 +157,8 @@ impl Checker {
         }
     }
 
-    /// Counts whether what is expected came, and tells of it where it didn't. Gives how the check ends, where it doesn't go on.
+    /// Counts whether the expectation was met, and writes the difference if it was not. It returns the end of the
+    /// check, or `None` if the check continues.
     fn note<K: Sink>(
         &mut self,
         name: &[u8],
@@ -182,7 +184,8 @@ impl Checker {
         Stop::of_writing(tell(name, command, number, expected, came, sink, &mut self.turns))
     }
 
-    /// Asks what the line that is held says, and looks whether what it expects came. Gives how the check ends, where it doesn't go on.
+    /// Uses the line that is held, and compares its answer with the expected one. It returns the end of the check, or
+    /// `None` if the check continues.
     pub(crate) fn check_line<K: Sink>(
         &mut self,
         alloc: Global,

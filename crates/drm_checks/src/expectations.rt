@@ -1,4 +1,4 @@
-//! What a line expects, and whether an answer is that.
+//! The answer that a line expects, and the answers that meet it.
 
 ghost use Rattle.std.specs.Prelude.{◌≡◌, ◌+◌, ◌≤◌, true, length, IfSome};
 ghost use Rattle.std.specs.Option.{option_map};
@@ -8,7 +8,7 @@ use arrayvec::ArrayString;
 use drm_script::{line_of, push_number};
 use drm_table::{Answer, Apart};
 
-/// What stands between a line of the script and the answer that it expects.
+/// The text between a line of the script and the answer that it expects.
 pub(crate) const ARROW: &[u8] = b" -> ";
 
 fn begins_with_arrow(text: &[u8]) -> bool
@@ -18,7 +18,7 @@ fn begins_with_arrow(text: &[u8]) -> bool
     text.starts_with(ARROW)
 }
 
-/// Where ` -> ` begins for the first time.
+/// Returns the place of the first ` -> `.
 fn first_arrow(line: &[u8]) -> Option<usize>
     ensures place { result ≡ arrow_from 0 line.now }
     ensures within { IfSome result (λ at. at + 4 ≤ length line.now) }
@@ -32,7 +32,7 @@ fn first_arrow(line: &[u8]) -> Option<usize>
     None
 }
 
-/// Where the line of the script ends, if an answer is expected. A comment expects none.
+/// Returns the end of the script part, if an answer is expected. A comment expects none.
 fn arrow_place(line: &[u8]) -> Option<usize>
     ensures place { result ≡ arrow_place line.now }
     ensures within { IfSome result (λ at. at + 4 ≤ length line.now) }
@@ -43,7 +43,7 @@ fn arrow_place(line: &[u8]) -> Option<usize>
     }
 }
 
-/// The line of the script, and the answer that it expects behind ` -> `.
+/// Returns the script part of a line, and the answer that it expects after ` -> ` (own). Does not allocate.
 pub fn parts_of(line: &[u8]) -> (&[u8], Option<&[u8]>)
     ensures script { result.0.now ≡ script_part line.now }
     ensures expected { option_map (λ e. e.now) result.1 ≡ expected_part line.now }
@@ -58,14 +58,15 @@ pub fn parts_of(line: &[u8]) -> (&[u8], Option<&[u8]>)
     }
 }
 
-/// What of a line is the script's: all that stands before its first ` -> `; of a comment the whole.
+/// Returns the script part of a line: the text before its first ` -> `, or the whole of a comment (own). Does not
+/// allocate.
 pub fn script_of(line: &[u8]) -> &[u8]
     ensures { result.now ≡ script_part line.now }
 {
     parts_of(line).0
 }
 
-/// A word and a number.
+/// Returns a word and a number.
 fn numbered(word: &str, number: u64) -> ArrayString<32>
     requires { length word.now ≤ 8 }
     ensures { result.bytes ≡ numbered word.now number }
@@ -76,7 +77,7 @@ fn numbered(word: &str, number: u64) -> ArrayString<32>
     text
 }
 
-/// Whether these are the words of the answer's line.
+/// Returns whether these are the words of the answer's line.
 fn is_whole(expected: &[u8], answer: &Result<Answer, Apart>) -> bool
     ensures { result ≡ is_whole expected.now answer.now }
 {
@@ -86,7 +87,7 @@ fn is_whole(expected: &[u8], answer: &Result<Answer, Apart>) -> bool
     words == expected
 }
 
-/// Whether these are the first two words of a denial, or of what stands apart.
+/// Returns whether these are the first two words of a denial or a fault.
 fn is_short(expected: &[u8], answer: &Result<Answer, Apart>) -> bool
     ensures { result ≡ is_short expected.now answer.now }
 {
@@ -105,7 +106,7 @@ fn is_short(expected: &[u8], answer: &Result<Answer, Apart>) -> bool
     }
 }
 
-/// Whether an answer is what is expected; where nothing is answered, it isn't.
+/// Returns whether the answer is the expected one (own). Without an answer it is not. Does not allocate.
 pub fn is_met(expected: &[u8], came: &Option<Result<Answer, Apart>>) -> bool
     ensures { result ≡ is_met expected.now came.now }
 {

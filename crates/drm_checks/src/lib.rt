@@ -1,4 +1,6 @@
-//! Scripts that check themselves: each line may tell behind ` -> ` which answer it expects.
+//! Scripts that check themselves: the text of a line after ` -> ` is the answer that it expects.
+//!
+//! An example is the body of a function that has the runtime `rt`. If memory is refused, it returns.
 #![tactic(auto)]
 
 mod check;

@@ -1,4 +1,4 @@
-//! What the checks of several files came to.
+//! The results of the checks of several files.
 
 ghost use Rattle.std.specs.Prelude.{◌≡◌, ◌<◌, ◌+◌, ◌^◌};
 ghost use Rattle.drm_streams.specs.Texts.{WritesOut};
@@ -8,14 +8,16 @@ use crate::check::Report;
 use drm_runs::ScriptEnd;
 use drm_streams::{Sink, Written, put_each};
 
-/// The expectations and the files of several checks (own). A file without an expectation counts as one failure.
+/// The expectations and the files of several checks (own).
+///
+/// A file without an expectation counts as one failure.
 #[derive(Clone, Copy, Debug, PartialEq, Eq)]
 pub struct Totals {
-    /// How many expectations were met.
+    /// The number of expectations that were met.
     pub passed: u64,
     /// The number of expectations that were not met, and of files that have none.
     pub failed: u64,
-    /// How many files were malformed.
+    /// The number of files that were malformed.
     pub malformed: u64,
 }
 
@@ -23,7 +25,7 @@ impl Totals {
     ghost use Rattle.std.specs.Prelude.{◌≡◌};
     ghost use Rattle.drm_checks.specs.Totals.{added, no_files};
 
-    /// No file was checked yet.
+    /// Returns the totals of no files. Does not allocate.
     pub fn new() -> Totals
         ensures { result ≡ no_files }
     {
@@ -34,7 +36,7 @@ impl Totals {
         }
     }
 
-    /// The totals with one file more. No count goes beyond 2^64 - 1.
+    /// Returns the totals with one more file. No count exceeds 2^64 - 1. Does not allocate.
     pub fn add(self, report: &Report) -> Totals
         ensures { result ≡ added self report.now }
     {
@@ -50,7 +52,9 @@ impl Totals {
     }
 }
 
-/// Writes how many expectations passed, and how many expectations and files failed.
+/// Writes `N passed, M failed`. Each expectation, and each file without an expectation, counts once. Does not allocate.
+///
+/// It makes at most `turns` calls of the sink and subtracts them.
 pub fn write_totals<K: Sink>(totals: &Totals, sink: &mut K, turns: &mut u64) -> Written
     requires { (K.trace sink.old).counts.calls + turns.old < 2 ^ 48 }
     ensures { WritesOut result (K.trace sink.old) (K.trace sink.new) (totals_text totals.now) turns.old turns.new }
@@ -62,7 +66,9 @@ pub fn write_totals<K: Sink>(totals: &Totals, sink: &mut K, turns: &mut u64) -> 
     put_each(sink, &[passed, b" passed, ", failed, b" failed\n"], turns)
 }
 
-/// Writes that a file has no expectation: `NAME: no expected answers`.
+/// Writes `NAME: no expected answers`. Does not allocate.
+///
+/// It makes at most `turns` calls of the sink and subtracts them.
 pub fn write_silent<K: Sink>(name: &str, sink: &mut K, turns: &mut u64) -> Written
     requires { (K.trace sink.old).counts.calls + turns.old < 2 ^ 48 }
     ensures { WritesOut result (K.trace sink.old) (K.trace sink.new) (silent_text name.now) turns.old turns.new }
@@ -70,7 +76,9 @@ pub fn write_silent<K: Sink>(name: &str, sink: &mut K, turns: &mut u64) -> Writt
     put_each(sink, &[name.as_bytes(), b": no expected answers\n"], turns)
 }
 
-/// Writes that a line of a file is malformed: the file's name and the line's number.
+/// Writes `NAME:N: malformed` for line `number`, from 1. Does not allocate.
+///
+/// It makes at most `turns` calls of the sink and subtracts them.
 pub fn write_malformed<K: Sink>(name: &str, number: u64, sink: &mut K, turns: &mut u64) -> Written
     requires { (K.trace sink.old).counts.calls + turns.old < 2 ^ 48 }
     ensures { WritesOut result (K.trace sink.old) (K.trace sink.new) (malformed_text name.now number) turns.old turns.new }

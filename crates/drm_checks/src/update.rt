@@ -1,4 +1,4 @@
-//! A script with the answers that came in place of those that it expected.
+//! A script with the received answers in place of the expected ones.
 
 ghost use Rattle.std.specs.Prelude.{◌≡◌, ◌++◌, Some, OnOk, IfOk, IfErr};
 ghost use Rattle.std.specs.Option.{option_map};
@@ -12,18 +12,18 @@ use drm_script::{Malformed, first_line, line_of};
 use drm_table::{Answer, Apart};
 use std::alloc::{AllocError, Global};
 
-/// How many bytes a line has at most.
+/// The most bytes of a line.
 const LONGEST: usize = 255;
 
 const LINE_END: &[u8] = b"\n";
 
-/// Why a script can't be updated (own).
+/// The reason a script was not updated (own).
 #[derive(Clone, Copy, Debug, PartialEq, Eq)]
 pub enum UpdateFault {
-    /// The line of this number, from 1, can't be used: why what stands before its first ` -> ` is no line of a script, or that the whole is
-    /// too long.
+    /// The line with this number, from 1, can't be used. The cause says why the text before its first ` -> ` is no line
+    /// of a script, or that the whole line is too long.
     Malformed(u64, Malformed),
-    /// No memory for the device, or for the text.
+    /// Memory for the device or for the text was refused.
     NoMemory,
 }
 
@@ -35,7 +35,7 @@ impl From<AllocError> for UpdateFault {
     }
 }
 
-/// Uses what stands in a line before its first ` -> `. Gives the answer, if one came.
+/// Uses the script part of a line. It returns the answer, or `None` if the line has none.
 fn use_line(
     interpreter: &mut Interpreter,
     alloc: Global,
@@ -56,7 +56,7 @@ fn use_line(
     }
 }
 
-/// Whether a line that expects this, if anything, stays as it is.
+/// Returns whether a line with this expectation, or with none, is unchanged.
 fn stays(expected: Option<&[u8]>, came: &Option<Result<Answer, Apart>>) -> bool
     ensures { result ≡ stays (option_map (λ e. e.now) expected.entry) came.now }
 {
@@ -66,7 +66,7 @@ fn stays(expected: Option<&[u8]>, came: &Option<Result<Answer, Apart>>) -> bool
     }
 }
 
-/// Puts a line with its end.
+/// Appends a line with its end.
 fn put_line(updated: &mut Vec<u8>, line: &[u8]) -> Result<(), AllocError>
     ensures { OnOk result (updated.new.items ≡ updated.old.items ++ ended line.now) }
 {
@@ -74,12 +74,12 @@ fn put_line(updated: &mut Vec<u8>, line: &[u8]) -> Result<(), AllocError>
     updated.extend_from_slice(LINE_END)
 }
 
-/// Appends the line of a script, ` -> ` and the answer to `updated`. If these have more than 255 bytes together, it appends the line
-/// alone (own).
+/// Appends the line of a script, ` -> ` and the answer to `updated`. If these have more than 255 bytes together, it
+/// appends the line alone (own).
 ///
 /// # Errors
 ///
-/// If memory is refused, `updated` may end with a part of the line.
+/// `AllocError` if memory is refused. `updated` may then end with a part of the line.
 pub fn put_answered(
     updated: &mut Vec<u8>,
     script: &[u8],
@@ -88,7 +88,7 @@ pub fn put_answered(
     ensures { OnOk result (updated.new.items ≡ updated.old.items ++ ended (with_answer script.now (Some answer.now))) }
 {
     let line = line_of(answer);
-    // the answer has its line end
+    // the answer includes its line end
     if script.len() + ARROW.len() + line.as_bytes().len() > LONGEST + 1 {
         return put_line(updated, script);
     }
@@ -97,7 +97,7 @@ pub fn put_answered(
     updated.extend_from_slice(line.as_bytes())
 }
 
-/// Puts a line, or what stands in its place where it expects something else than what came.
+/// Appends a line, or the updated line if its expectation is not met.
 fn put_updated(
     updated: &mut Vec<u8>,
     line: &[u8],
@@ -115,12 +115,18 @@ fn put_updated(
     }
 }
 
-/// The text of a script in which each answer that isn't the expected one stands in its place, on a device that begins with this topology
-/// and, where the text sets none, with these limits (own).
+/// Returns the text of a script with each answer that differs from the expected one in its place (own).
 ///
-/// A line that expects nothing stays so, and an expectation that is met stays as it is written. Where nothing is answered, or the
-/// line would have more than 255 bytes with its answer, what it expected goes. Each line has its end then, the last one too. An error
-/// leaves no text: what was asked before it went with the device.
+/// The device begins with this topology and these default limits. A line that expects nothing is unchanged, and so is
+/// an expectation that is met. The expectation is removed if there is no answer, or if the line would have more than
+/// 255 bytes with it. Each line of the text has an end, the last one too. Allocates the device and the text.
+///
+/// # Errors
+///
+/// - `Malformed` if a line can't be used, with its number and the cause.
+/// - `NoMemory` if memory is refused.
+///
+/// There is no text then, and the device is dropped.
 pub fn update_script(alloc: Global, setup: Setup, text: &[u8]) -> Result<Vec<u8>, UpdateFault>
     ensures updated { IfOk result (λ updated. Updates setup text.now updated.items) }
     ensures fault { IfErr result (λ fault. HasFault setup text.now fault) }

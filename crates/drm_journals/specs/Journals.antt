@@ -11,19 +11,20 @@ use Rattle.drm_runs.specs.Script.{StepsOn, bound, event_of, label_bound, unbound
 use Rattle.drm_checks.specs.Updates.{with_answer}
 use Rattle.drm_journals.specs.Lines.{brief_event, command_at, command_text, comment_text, limits_text, written_event}
 
--- The line of limits, and then a line for each event, in order: of a command that asks for it by a label, with the answer
--- that the device gives there, where both fit into 255 bytes. A label names the client of the last accepted opening by it. The last
--- two are the device and the labels behind the lines.
+-- The line of limits, and then a line for each event, in order. The line has a command that makes the event by a label,
+-- and the device's answer, if both fit into 255 bytes. A label names the client of the last accepted opening by it. The
+-- last two indices are the device and the labels after the lines.
 pub data Lines (limits : Limits) (first : DeviceValue) : List Event → List ℕ → DeviceValue → List ℕ → Type 0 where
   limited : Lines limits first [] (ended (limits_text limits)) first unbound
   answered : {events : List Event} {text : List ℕ} {device after : DeviceValue} {labels : List ℕ} (next : Event) (place : ℕ) (result : Result Answer Apart)
       → Lines limits first events text device labels → place < 26 → event_of labels (command_at place next) ≡ next → StepsOn device next result after
       → Lines limits first (events ++ next ∷ []) (text ++ ended (with_answer (command_text (command_at place next)) (Some result))) after (bound labels (label_bound (command_at place next)) result)
 
+-- whether a label names the client
 abbrev pub finds : ℕ → ℕ → Bool
 finds client label = label == client
 
--- No label is left for an event: none was never bound, or none names the client.
+-- No label is left for an event. All labels have been bound, and none names the client.
 abbrev pub HasNoLabel : List ℕ → Event → Type 0
 HasNoLabel labels (events.Open opening) = position (finds 0) labels ≡ None
 HasNoLabel labels (events.Close client) = position (finds client) labels ≡ None
@@ -33,8 +34,8 @@ HasNoLabel labels (events.Ask client call) = position (finds client) labels ≡ 
 abbrev pub labels_used : List ℕ
 labels_used = codes "# more clients are open here than there are labels: each further step is a comment"
 
--- A comment for each event, in order, behind this text: with the answer that the device gives there, if both fit into 255 bytes. The last is
--- the device behind the comments.
+-- A comment for each event, in order, after this text. It has the device's answer, if both fit into 255 bytes. The last
+-- index is the device after the comments.
 pub data Comments (front : List ℕ) (first : DeviceValue) : List Event → List ℕ → DeviceValue → Type 0 where
   none : Comments front first [] front first
   commented : {events : List Event} {text : List ℕ} {device after : DeviceValue} (next : Event) (result : Result Answer Apart)
@@ -47,7 +48,7 @@ pub record IsWhole (limits : Limits) (first : DeviceValue) (events : List Event)
   pub labels : List ℕ
   pub lines : Lines limits first (map written_event events) text device labels
 
--- The events up to one for which there is no label have their lines, and each of the others has a comment.
+-- The events before one without a label have lines. That event and each later one has a comment.
 pub record IsCut (limits : Limits) (first : DeviceValue) (events : List Event) (text : List ℕ) : Type 0 where
   pub front : List Event
   pub next : Event
@@ -66,18 +67,18 @@ abbrev pub IsScriptOf : Limits → DeviceValue → List Event → List ℕ → B
 IsScriptOf limits first events text true = IsWhole limits first events text
 IsScriptOf limits first events text false = IsCut limits first events text
 
--- Whichever lines there were, one more stands behind them.
+-- Adds one more line, after any lines before it.
 abbrev pub AddsLine : Event → List ℕ → DeviceValue → List ℕ → List ℕ → DeviceValue → List ℕ → Type 0
 AddsLine event text device labels text' device' labels' =
     (limits : Limits) (first : DeviceValue) (events : List Event) → Lines limits first events text device labels
     → Lines limits first (events ++ event ∷ []) text' device' labels'
 
--- Whichever comments there were, one more stands behind them.
+-- Adds one more comment, after any comments before it.
 abbrev pub AddsComment : Event → List ℕ → DeviceValue → List ℕ → DeviceValue → Type 0
 AddsComment event text device text' device' =
     (front : List ℕ) (first : DeviceValue) (events : List Event) → Comments front first events text device → Comments front first (events ++ event ∷ []) text' device'
 
--- One more line, if there is a label for the event; else the comment before the first event without a line.
+-- One more line, if there is a label for the event, or else the comment before the first event without a line.
 abbrev pub Advances : Event → List ℕ → DeviceValue → List ℕ → List ℕ → DeviceValue → List ℕ → Bool → Type 0
 Advances event text device labels text' device' labels' true = AddsLine (written_event event) text device labels text' device' labels'
 Advances event text device labels text' device' labels' false = HasNoLabel labels event × (text' ≡ text ++ ended labels_used) × (device' ≡ device)

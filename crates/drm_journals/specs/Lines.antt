@@ -1,4 +1,4 @@
--- How the events of a journal are spelled as lines of a script (own).
+-- The spelling of a journal's events as lines of a script (own).
 use Rattle.std.specs.Prelude.{ℕ, ◌+◌, Bool, true, false, nat_lt, if◌then◌else◌, List, [], ◌∷◌, ◌++◌, Option, Some, None, codes, decimal, length}
 use Rattle.std.specs.List.{flat_map}
 use Rattle.drm_table.specs.declared.calls.Call.{Call}
@@ -15,7 +15,7 @@ use Rattle.drm_script.specs.declared.commands.Command.{Command}
 use Rattle.drm_script.specs.declared.commands.Command.TheVariants as commands
 use Rattle.drm_script.specs.Lines.{number_behind}
 
--- a number behind a word, or behind another number
+-- a space and a number
 abbrev pub spaced : ℕ → List ℕ
 spaced n = codes " " ++ decimal n
 
@@ -31,7 +31,7 @@ open_text openings.Render = codes "open "
 open_text (openings.Lease token root true) = codes "open "
 open_text (openings.Lease token root false) = codes "open2 "
 
--- an opening, behind its label
+-- an opening, after its label
 abbrev pub opening_text : Opening → List ℕ
 opening_text (openings.Primary false universal) = codes " card"
 opening_text (openings.Primary true universal) = codes " root"
@@ -39,11 +39,12 @@ opening_text openings.Render = codes " render"
 opening_text (openings.Lease token false universal) = codes " lease" ++ spaced token
 opening_text (openings.Lease token true universal) = codes " rootlease" ++ spaced token
 
--- the word of a row and its fields, or a bare number, behind a label
+-- the word of a row and its fields, or a bare number, after a label
 abbrev pub row_text : Option (CallKind × List Field) → ℕ → List ℕ
 row_text (Some row) number = codes " " ++ (kind_word row.0 ++ flat_map number_behind row.1)
 row_text None number = codes " raw" ++ spaced number
 
+-- the text of a call, after a label
 abbrev pub call_text : Call → List ℕ
 call_text call = row_text (call_row call) (call_number call)
 
@@ -63,11 +64,12 @@ limits_text limits =
 abbrev pub written_call : Call → Call
 written_call call = if nat_lt 255 (length (command_text (commands.Ask 0 call))) then BadLayout (call_number call) else call
 
+-- the event, with its call as a line writes it
 abbrev pub written_event : Event → Event
 written_event (events.Ask client call) = events.Ask client (written_call call)
 written_event event = event
 
--- the command that asks for an event by a label
+-- the command that makes an event by a label
 abbrev pub command_at : ℕ → Event → Command
 command_at place (events.Open opening) = commands.Open place opening
 command_at place (events.Close client) = commands.Close place
@@ -75,7 +77,7 @@ command_at place (events.Ask client call) = commands.Ask place call
 
 -- ---- comments
 
--- the comment in place of an event's line, where `?` is the label of a client that has none
+-- the comment in place of an event's line; `?` is the label of a client without one
 abbrev pub comment_text : Event → List ℕ
 comment_text (events.Open opening) = codes "# " ++ (open_text opening ++ (codes "?" ++ opening_text opening))
 comment_text (events.Close client) = codes "# close client" ++ spaced client
@@ -85,6 +87,7 @@ comment_text (events.Ask client call) = codes "# client" ++ (spaced client ++ ca
 abbrev pub brief_call : ℕ → Call → Call
 brief_call client call = if nat_lt 255 (length (comment_text (events.Ask client call))) then BadLayout (call_number call) else call
 
+-- the event, with its call as a comment writes it
 abbrev pub brief_event : Event → Event
 brief_event (events.Ask client call) = events.Ask client (brief_call client call)
 brief_event event = event

@@ -14,17 +14,17 @@ use drm_script::Label;
 use drm_table::{Call, Event, Limits};
 use std::alloc::{AllocError, Global};
 
-/// How many bytes a line of a script has at most.
+/// The most bytes of a line of a script.
 const LONGEST: usize = 255;
 
-/// The comment before the first event for which there is no label.
+/// The comment before the first event without a label.
 const LABELS_USED: &[u8] =
     b"# more clients are open here than there are labels: each further step is a comment\n";
 
 /// The script of a journal (own).
 #[derive(Drop)]
 pub struct Journal {
-    /// Its bytes.
+    /// The bytes of the script.
     pub text: Vec<u8>,
     /// Whether each event has a line. If more clients were open at once than there are labels, the other events have comments.
     pub is_whole: bool,
@@ -40,8 +40,9 @@ fn copy_of(call: &Call) -> Call
     }
 }
 
-/// Returns the call, or one that a line of a script can hold. A call that is too long for it names ids of no mode object: it is denied,
-/// and so is the same call with fields that aren't its row's. The call is written into `line` to measure it.
+/// Returns the call, or a call that a line of a script can hold. A call that is too long for it names ids of no mode
+/// object, so that it is denied. The same call with wrong fields is denied too. The call is written into `line` to
+/// measure it.
 fn written_call(line: &mut Vec<u8>, call: &Call) -> Result<Call, AllocError>
     ensures { IfOk result (λ written. written ≡ written_call call.now) }
 {
@@ -54,7 +55,7 @@ fn written_call(line: &mut Vec<u8>, call: &Call) -> Result<Call, AllocError>
     Ok(copy_of(call))
 }
 
-/// Returns the event, or one that a line of a script can hold.
+/// Returns the event, or an event that a line of a script can hold.
 fn written_event(line: &mut Vec<u8>, event: &Event) -> Result<Event, AllocError>
     ensures { IfOk result (λ written. written ≡ written_event event.now) }
 {
@@ -79,7 +80,7 @@ fn copy_of_event(event: &Event) -> Event
     }
 }
 
-/// Returns the call, or one that a comment can hold. The call is written into `line` to measure it.
+/// Returns the call, or a call that a comment can hold. The call is written into `line` to measure it.
 fn brief_call(line: &mut Vec<u8>, client: u32, call: &Call) -> Result<Call, AllocError>
     ensures { IfOk result (λ brief. brief ≡ brief_call client call.now) }
 {
@@ -91,7 +92,7 @@ fn brief_call(line: &mut Vec<u8>, client: u32, call: &Call) -> Result<Call, Allo
     Ok(copy_of(call))
 }
 
-/// Returns the event, or one that a comment can hold.
+/// Returns the event, or an event that a comment can hold.
 fn brief_event(line: &mut Vec<u8>, event: &Event) -> Result<Event, AllocError>
     ensures { IfOk result (λ brief. brief ≡ brief_event event.now) }
 {
@@ -130,7 +131,7 @@ fn binds(place: usize, event: &Event) -> Option<usize>
     }
 }
 
-/// Lets the label of a client that is closed be bound anew.
+/// Allows the label of a closed client to be bound again.
 fn note_closing(namings: &mut Namings, event: &Event)
     ensures { namings.new ≡ namings.old }
 {
@@ -139,7 +140,7 @@ fn note_closing(namings: &mut Namings, event: &Event)
     }
 }
 
-/// Writes the line of an event, by the label of this place, with the answer of the device.
+/// Writes the line of an event, with the label of this place and the answer of the device.
 fn write_line(
     text: &mut Vec<u8>,
     line: &mut Vec<u8>,
@@ -161,7 +162,7 @@ fn write_line(
     put_answered(text, line.as_slice(), &outcome)
 }
 
-/// Writes an event, and its answer. Returns whether there was a label for it.
+/// Writes an event and its answer. Returns whether there was a label for it.
 fn write_event(
     text: &mut Vec<u8>,
     line: &mut Vec<u8>,
@@ -196,7 +197,7 @@ fn write_comment(
     put_answered(text, line.as_slice(), &outcome)
 }
 
-/// Writes a comment for each event behind the text.
+/// Appends a comment for each event to the text.
 fn with_comments(
     text: Vec<u8>,
     line: Vec<u8>,
@@ -216,18 +217,19 @@ fn with_comments(
 
 /// Returns the events of a journal as a script (own).
 ///
-/// Its first line sets the limits. Each event has a line, and behind it ` -> ` with the answer that an empty device, which is passed with
-/// those limits, returns in its turn. A client has a label while it is open, and after that until another one takes it.
+/// Its first line sets the limits. Each event has a line, which expects the answer of a device that begins empty with
+/// those limits. A client has a label while it is open. A later client may take the label of a closed one.
 ///
-/// If more clients are open at once than there are labels, a comment says so. It and each event from there on are comments, also with
-/// the device's answers: a script's device would not have the steps of a client without a label, and so other answers.
+/// If more clients are open at once than there are labels, a comment says so. From there on, each event is a comment
+/// with the device's answer. A script's device would not make the steps of a client without a label, so its answers
+/// would differ.
 ///
-/// An answer with which the line would be longer than 255 bytes is left out. A call that is by itself too long for a line, which is one of
-/// a lease of ids that no device has, is written by its bare number, and is denied as well.
+/// An answer is left out if the line would be longer than 255 bytes with it. Only a lease of ids that no device has is
+/// too long by itself. It is written by its bare number, which is denied as well. Allocates the text.
 ///
 /// # Errors
 ///
-/// If memory is refused, there is no text. The device is dropped in any case.
+/// `AllocError` if memory is refused. There is then no text. The device is dropped in any case.
 pub fn journal_of(
     alloc: Global,
     events: &[Event],

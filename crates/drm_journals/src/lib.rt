@@ -1,4 +1,6 @@
-//! The journal of a device, written as a script that expects the answers which its events were given.
+//! The journal of a device, written as a script that expects the answers of its events.
+//!
+//! An example is the body of a function that has the runtime `rt`. If memory is refused, it returns.
 #![tactic(auto)]
 
 mod journal;

@@ -10,7 +10,7 @@ use drm_script::Label;
 use drm_table::{Call, Event, Field, Limits, Opening};
 use std::alloc::AllocError;
 
-/// Writes a number behind a word, or behind another number.
+/// Writes a space and a number.
 fn put_number(text: &mut Vec<u8>, number: u64) -> Result<(), AllocError>
     ensures { OnOk result (text.new.items ≡ text.old.items ++ spaced number) }
 {
@@ -19,7 +19,7 @@ fn put_number(text: &mut Vec<u8>, number: u64) -> Result<(), AllocError>
     text.extend_from_slice(buffer.format(number).as_bytes())
 }
 
-/// Writes each number, behind the one before.
+/// Writes each number after a space.
 fn put_numbers(text: &mut Vec<u8>, numbers: &[u32]) -> Result<(), AllocError>
     ensures { OnOk result (text.new.items ≡ text.old.items ++ flat_map spaced numbers.now) }
 {
@@ -29,14 +29,14 @@ fn put_numbers(text: &mut Vec<u8>, numbers: &[u32]) -> Result<(), AllocError>
     Ok(())
 }
 
-/// Writes a field behind a word, or behind another field.
+/// Writes a field after a word or another field.
 fn put_field(text: &mut Vec<u8>, field: Field) -> Result<(), AllocError>
     ensures { OnOk result (text.new.items ≡ text.old.items ++ number_behind field) }
 {
     put_number(text, field.number())
 }
 
-/// Writes each field, behind the one before.
+/// Writes each field after the one before.
 fn put_fields(text: &mut Vec<u8>, fields: &[Field]) -> Result<(), AllocError>
     ensures { OnOk result (text.new.items ≡ text.old.items ++ flat_map number_behind fields.now) }
 {
@@ -54,7 +54,7 @@ fn put_label(text: &mut Vec<u8>, place: usize) -> Result<(), AllocError>
     text.extend_from_slice(&[b'a' + place as u8])
 }
 
-/// Writes the line that gives a device its limits.
+/// Writes the line that sets the limits of a device.
 pub(crate) fn put_limits(text: &mut Vec<u8>, limits: Limits) -> Result<(), AllocError>
     ensures { OnOk result (text.new.items ≡ text.old.items ++ limits_text limits) }
 {
@@ -89,7 +89,7 @@ fn open_word(opening: Opening) -> &'static [u8]
     }
 }
 
-/// Writes an opening behind its label.
+/// Writes an opening after its label.
 fn put_opening(text: &mut Vec<u8>, opening: Opening) -> Result<(), AllocError>
     ensures { OnOk result (text.new.items ≡ text.old.items ++ opening_text opening) }
 {
@@ -116,7 +116,7 @@ fn put_opening(text: &mut Vec<u8>, opening: Opening) -> Result<(), AllocError>
     }
 }
 
-/// Writes a call behind its label; one without a row by its bare number.
+/// Writes a call after its label. A call without a row is written by its bare number.
 pub(crate) fn put_call(text: &mut Vec<u8>, call: &Call) -> Result<(), AllocError>
     ensures { OnOk result (text.new.items ≡ text.old.items ++ call_text call.now) }
 {
@@ -133,7 +133,7 @@ pub(crate) fn put_call(text: &mut Vec<u8>, call: &Call) -> Result<(), AllocError
     }
 }
 
-/// Writes the line of an event, by the label of this place.
+/// Writes the line of an event, with the label of this place.
 pub(crate) fn put_event(text: &mut Vec<u8>, place: usize, event: &Event) -> Result<(), AllocError>
     requires { place < Label.COUNT }
     ensures { OnOk result (text.new.items ≡ text.old.items ++ command_text (command_at place event.now)) }
@@ -155,7 +155,7 @@ pub(crate) fn put_event(text: &mut Vec<u8>, place: usize, event: &Event) -> Resu
     }
 }
 
-/// Writes the comment of a call by a client.
+/// Writes the comment for a call of a client.
 pub(crate) fn put_asked(text: &mut Vec<u8>, client: u32, call: &Call) -> Result<(), AllocError>
     ensures { OnOk result (text.new.items ≡ text.old.items ++ comment_text (Ask client call.now)) }
 {
@@ -164,7 +164,7 @@ pub(crate) fn put_asked(text: &mut Vec<u8>, client: u32, call: &Call) -> Result<
     put_call(text, call)
 }
 
-/// Writes the comment of a closing.
+/// Writes the comment for the closing of a client.
 fn put_closed(text: &mut Vec<u8>, client: u32) -> Result<(), AllocError>
     ensures { OnOk result (text.new.items ≡ text.old.items ++ comment_text (Close client)) }
 {
@@ -172,7 +172,7 @@ fn put_closed(text: &mut Vec<u8>, client: u32) -> Result<(), AllocError>
     put_number(text, u64::from(client))
 }
 
-/// Writes the comment of an event.
+/// Writes the comment for an event.
 pub(crate) fn put_comment(text: &mut Vec<u8>, event: &Event) -> Result<(), AllocError>
     ensures { OnOk result (text.new.items ≡ text.old.items ++ comment_text event.now) }
 {

@@ -1,10 +1,11 @@
-//! Which label stands for which client.
+//! The client that each label names.
 
 use drm_script::Label;
 use drm_table::{Answer, Apart};
 use std::marker::Model;
 
-/// The clients that the labels name, the first by `a`; 0 of a label that was never bound. Contracts see these.
+/// The clients that the labels name, the first by `a`. A label that was never bound names client 0. Contracts see
+/// these.
 #[derive(Drop)]
 pub(crate) struct Namings {
     clients: [u32; Label::COUNT],
@@ -24,7 +25,7 @@ impl Namings {
     ghost use Rattle.std.specs.Prelude.{◌≡◌, ◌<◌, ◌==◌, IfSome, IfNone, None, position};
     ghost use Rattle.drm_runs.specs.Script.{bound, unbound};
 
-    /// No label is bound.
+    /// Returns the namings in which no label is bound.
     pub(crate) fn new() -> Namings
         ensures { result ≡ unbound }
     {
@@ -34,7 +35,7 @@ impl Namings {
         }
     }
 
-    /// Returns the place of the label that names a client; of client 0, of the first label that was never bound.
+    /// Returns the place of the label that names a client. For client 0, it is the first label that was never bound.
     pub(crate) fn place_of(&self, client: u32) -> Option<usize>
         ensures place { result ≡ position (λ label. label == client) self.now }
         ensures within { IfSome result (λ place. place < Label.COUNT) }
@@ -49,7 +50,7 @@ impl Namings {
         self.open.iter().position(|open| !*open)
     }
 
-    /// Returns the place of a label for a further client: of one that was never bound, else of one whose client is closed.
+    /// Returns the place of a label for a new client: of one that was never bound, else of one whose client is closed.
     pub(crate) fn free_place(&self) -> Option<usize>
         ensures within { IfSome result (λ place. place < Label.COUNT) }
         ensures none { IfNone result (position (λ label. label == 0) self.now ≡ None) }
@@ -60,7 +61,7 @@ impl Namings {
         }
     }
 
-    /// Lets a label name the client of an accepted opening.
+    /// Binds a label to the client of an accepted opening.
     pub(crate) fn bind(&mut self, place: Option<usize>, outcome: &Result<Answer, Apart>)
         requires { IfSome place (λ place. place < Label.COUNT) }
         ensures { self.new ≡ bound self.old place outcome.now }
@@ -74,7 +75,7 @@ impl Namings {
         }
     }
 
-    /// Lets the label of a closed client be bound anew. Until it is, it goes on naming that client.
+    /// Allows the label of a closed client to be bound again. Until then it still names that client.
     pub(crate) fn close(&mut self, client: u32)
         ensures { self.new ≡ self.old }
     {

@@ -1,4 +1,4 @@
--- The lines of a script, read one after the other, and how reading them ends.
+-- The lines of a script, read one after the other, and the ends of reading them (own).
 use Rattle.std.specs.Prelude.{◌≡◌, ℕ, ◌+◌, ◌*◌, ◌<◌, ◌≤◌, List, [], ◌∷◌, ◌++◌, Bool, true, false, Option, None, Some, if◌then◌else◌, length}
 use Rattle.drm_streams.specs.Streams.{SourceTrace}
 use Rattle.drm_streams.specs.Turns.{Gave}
@@ -8,7 +8,8 @@ use Rattle.drm_runs.specs.Runs.{Covers, EndsLine}
 use Rattle.drm_runs.specs.declared.stops.ScriptEnd.{ScriptEnd}
 use Rattle.drm_runs.specs.declared.stops.ScriptEnd.TheVariants as ends
 
--- the line that is held, what was taken after it, how many lines were read, and whether the input has ended after the last one
+-- the line that is held, the bytes taken after it, the number of lines that were read, and whether the input has ended
+-- after the last one
 pub record LinesState : Type 0 where
   pub held : List ℕ
   pub pending : List ℕ
@@ -19,10 +20,11 @@ pub record LinesState : Type 0 where
 abbrev pub lines_state : Buffered → ℕ → Bool → LinesState
 lines_state reader number is_last = record { held = reader.held; pending = reader.pending; number = number; is_last = is_last }
 
+-- the state before the first line
 abbrev pub no_lines : LinesState
 no_lines = record { held = []; pending = []; number = 0; is_last = false }
 
--- what is left to be read, at most
+-- a bound on what is left to be read
 abbrev pub fuel_of : LinesState → ℕ → ℕ
 fuel_of state turns = 256 * turns + length state.pending + (if state.is_last then 0 else 1)
 
@@ -31,7 +33,8 @@ pub record IsGiven (source source' : SourceTrace) (read : List ℕ) : Type 0 whe
   pub gave : Gave source source' read
   pub chunks : length read + 256 * source.counts.calls ≤ 256 * source'.counts.calls
 
--- The lines are the front of what was read, each with its end; or the input has ended after the last one, which has none.
+-- The lines are the front of what was read, each with its end. If the input has ended after the last one, that one has
+-- no end.
 abbrev pub AreLines : (is_last : Bool) (ended : Type 0) (read : List ℕ) (lines : List (List ℕ)) (rest : List ℕ) → Type 0
 AreLines false ended read lines rest = read ≡ joined lines ++ rest
 AreLines true ended read lines rest = (front : List (List ℕ)) × (last : List ℕ) × (lines ≡ front ++ last ∷ []) × (read ≡ joined front ++ last) × (rest ≡ []) × ended
@@ -42,7 +45,7 @@ pub record LinesRead (source source' : SourceTrace) (state : LinesState) (read :
   pub are_lines : AreLines state.is_last (source.counts.ends < source'.counts.ends) read lines state.pending
   pub number : state.number ≡ length lines
 
--- One line more was read and is held. Its end was read, or the input has ended after it.
+-- One more line was read and is held. Its end was read, or the input has ended after it.
 pub record HoldsNext (source source' : SourceTrace) (state : LinesState) (read : List ℕ) (lines : List (List ℕ)) : Type 0 where
   pub so_far : LinesRead source source' state read (lines ++ state.held ∷ [])
   pub behind : List ℕ
@@ -57,7 +60,7 @@ pub record HoldsNext (source source' : SourceTrace) (state : LinesState) (read :
 abbrev pub IsPart : List ℕ → Type 0
 IsPart rest = IsBare rest × (length rest ≤ 255)
 
--- why no line is after these
+-- the reason no line follows these
 abbrev pub IsEndOfLines : ScriptEnd → SourceTrace → SourceTrace → (turns : ℕ) (read : List ℕ) (lines : List (List ℕ)) → Type 0
 IsEndOfLines ends.Done source source' turns read lines = Covers (source.counts.ends < source'.counts.ends) read lines [] × (source.counts.ends < source'.counts.ends)
 IsEndOfLines (ends.Malformed number) source source' turns read lines =
@@ -67,7 +70,7 @@ IsEndOfLines ends.TurnsUsed source source' turns read lines = (rest : List ℕ) 
 IsEndOfLines ends.WriteFault source source' turns read lines = ⊥
 IsEndOfLines ends.NoMemory source source' turns read lines = ⊥
 
--- No line is after these.
+-- No line follows these.
 pub record EndsLines (end : ScriptEnd) (source source' : SourceTrace) (turns : ℕ) (read : List ℕ) (lines : List (List ℕ)) : Type 0 where
   pub given : IsGiven source source' read
   pub why : IsEndOfLines end source source' turns read lines
@@ -77,14 +80,14 @@ abbrev pub Reaches : Option ScriptEnd → SourceTrace → SourceTrace → LinesS
 Reaches None source source' state turns read lines = HoldsNext source source' state read lines
 Reaches (Some end) source source' state turns read lines = EndsLines end source source' turns read lines
 
--- The next line was read, whichever were read before it, or there is none.
+-- The next line was read, after any lines before it, or there is none.
 pub record ReadsNext (old new : LinesState) (source source' : SourceTrace) (had has : ℕ) (end : Option ScriptEnd) : Type 0 where
   pub cost : source'.counts.calls + has ≡ source.counts.calls + had
   pub at_most : has ≤ had
   pub onward : end ≡ None → (new.number ≡ old.number + 1) × (fuel_of new has < fuel_of old had)
   pub reaches : (start : SourceTrace) (read : List ℕ) (lines : List (List ℕ)) → LinesRead start source old read lines → (all : List ℕ) × Reaches end start source' new has all lines
 
--- what is after the last line end: nothing, or a line
+-- the text after the last line end: nothing, or a line
 abbrev pub HoldsLast : LinesState → LinesState → Option ScriptEnd → Type 0
 HoldsLast old new None = new ≡ record old { number = old.number + 1; is_last = true }
 HoldsLast old new (Some end) = (end ≡ ends.Done) × (old.held ≡ []) × (new ≡ old)

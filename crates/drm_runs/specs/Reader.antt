@@ -1,4 +1,4 @@
--- What a reader of lines has read.
+-- The bytes and lines that a reader has read (own).
 use Rattle.std.specs.Prelude.{◌≡◌, ℕ, ◌+◌, ◌*◌, ◌<◌, ◌≤◌, List, [], ◌∷◌, ◌++◌, length, Option, None, Some}
 use Rattle.drm_streams.specs.Streams.{SourceTrace}
 use Rattle.drm_streams.specs.Turns.{ReadCost}
@@ -15,14 +15,14 @@ pub record Buffered : Type 0 where
   pub held : List ℕ
   pub pending : List ℕ
 
--- the first 256 bytes of a line that is too long, and fewer that were read behind them
+-- the first 256 bytes of a line that is too long, and fewer that were read after them
 pub record IsTooLong (bytes front rest : List ℕ) : Type 0 where
   pub whole : bytes ≡ front ++ rest
   pub bare : IsBare front
   pub long : length front ≡ 256
   pub behind : length rest ≤ 255
 
--- What a scan of the pending bytes moved to the line, which has 255 at most.
+-- The bytes that a scan moved to the line, which has at most 255.
 abbrev pub Scans : Buffered → Buffered → Scan → Type 0
 Scans old new scan.Line =
     (old.held ++ old.pending ≡ new.held ++ 10 ∷ new.pending) × (IsBare old.held → IsBare new.held) × (length new.held ≤ 255) × (length new.pending ≤ 255)
@@ -30,7 +30,7 @@ Scans old new scan.Wanting =
     (old.held ++ old.pending ≡ new.held) × (new.pending ≡ []) × (IsBare old.held → IsBare new.held) × (length new.held ≤ 255)
 Scans old new scan.TooLong = IsBare old.held → (front rest : List ℕ) × IsTooLong (old.held ++ old.pending) front rest
 
--- What came of taking more bytes, at most 256. The line stays as it is.
+-- The result of taking more bytes, at most 256. The line is unchanged.
 abbrev pub Refilled : Refill → Buffered → Buffered → SourceTrace → SourceTrace → ℕ → ℕ → Type 0
 Refilled (refill.Got n) old new before after had has =
     ReadCost before after new.pending had has × (new.held ≡ old.held) × (length new.pending ≤ 256) × (has < had)
@@ -38,7 +38,7 @@ Refilled refill.End old new before after had has = ReadCost before after [] had 
 Refilled refill.Fault old new before after had has = ReadCost before after [] had has × (new ≡ old) × (before.counts.faults < after.counts.faults)
 Refilled refill.TurnsUsed old new before after had has = ReadCost before after [] had has × (new ≡ old) × (has ≡ 0)
 
--- What one line takes of the pending bytes and the bytes given.
+-- The parts that one line takes of the pending bytes and the bytes read.
 abbrev pub Splits : List ℕ → Buffered → SourceTrace → SourceTrace → ℕ → ℕ → NextLine → Type 0
 Splits bytes new before after had has next_line.Line =
     (bytes ≡ new.held ++ 10 ∷ new.pending) × IsBare new.held × (length new.held ≤ 255) × (length new.pending ≤ 255)
@@ -47,14 +47,14 @@ Splits bytes new before after had has next_line.TooLong = (front rest : List ℕ
 Splits bytes new before after had has next_line.ReadFault = (bytes ≡ new.held) × (new.pending ≡ []) × IsBare new.held × (length new.held ≤ 255) × (before.counts.faults < after.counts.faults)
 Splits bytes new before after had has next_line.TurnsUsed = (bytes ≡ new.held) × (new.pending ≡ []) × IsBare new.held × (length new.held ≤ 255) × (has ≡ 0)
 
--- One line was read, and these bytes were given for it, at most 256 by each take.
+-- One line was read. These bytes were read for it, at most 256 by each take.
 pub record Reads (old new : Buffered) (before after : SourceTrace) (had has : ℕ) (answer : NextLine) (given : List ℕ) : Type 0 where
   pub spent : ReadCost before after given had has
   pub splits : Splits (old.pending ++ given) new before after had has answer
   pub chunks : length given + 256 * before.counts.calls ≤ 256 * after.counts.calls
   pub fuel : answer ≡ next_line.Line → 256 * has + length new.pending < 256 * had + length old.pending
 
--- A line is being read, and these bytes were given for it so far.
+-- A line is being read. These bytes were read for it so far.
 pub record ReadsSoFar (old new : Buffered) (before after : SourceTrace) (had has : ℕ) (given : List ℕ) : Type 0 where
   pub spent : ReadCost before after given had has
   pub whole : old.pending ++ given ≡ new.held ++ new.pending
@@ -62,7 +62,7 @@ pub record ReadsSoFar (old new : Buffered) (before after : SourceTrace) (had has
   pub chunks : length given + 256 * before.counts.calls ≤ 256 * after.counts.calls
   pub fuel : 256 * has + length new.held + length new.pending ≤ 256 * had + length old.pending
 
--- A piece more: whichever line is being read goes on, with fewer turns left, or it was read.
+-- One more piece: a line that is being read is continued with fewer turns left, or it was read.
 abbrev pub ReadsOn : Buffered → Buffered → SourceTrace → SourceTrace → ℕ → ℕ → Option NextLine → Type 0
 ReadsOn mid new between after left has None =
     ((old : Buffered) (before : SourceTrace) (had : ℕ) (given : List ℕ) → ReadsSoFar old mid before between had left given

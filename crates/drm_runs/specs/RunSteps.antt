@@ -1,4 +1,4 @@
--- A run that goes on, line by line.
+-- A run line by line (own).
 use Rattle.std.specs.Prelude.{◌≡◌, ℕ, ◌+◌, ◌<◌, ◌≤◌, ◌^◌, List, Option, None, Some}
 use Rattle.drm_streams.specs.Streams.{SourceTrace, SinkTrace}
 use Rattle.drm_streams.specs.Turns.{Took}
@@ -23,13 +23,13 @@ pub record SoFar (setting : Setting) (source source' : SourceTrace) (sink sink' 
   pub cost : source'.counts.calls + sink'.counts.calls + run.turns ≡ source.counts.calls + sink.counts.calls + turns
   pub script : Script setting lines results run.interpreter.device run.interpreter.labels
 
--- no count leaves its type
+-- no count exceeds its type
 pub record IsCountable (run : Run) (source : SourceTrace) (sink : SinkTrace) : Type 0 where
   pub number : run.lines.number + fuel_of run.lines run.turns < 2 ^ 63
   pub source_calls : source.counts.calls + run.turns < 2 ^ 48
   pub sink_calls : sink.counts.calls + run.turns < 2 ^ 48
 
--- One line more was used.
+-- One more line was used.
 pub record GoesOn (old new : Run) (source source' : SourceTrace) (sink sink' : SinkTrace) : Type 0 where
   pub so_far : (setting : Setting) (start : SourceTrace) (first : SinkTrace) (turns : ℕ) → SoFar setting start source first sink turns old → SoFar setting start source' first sink' turns new
   pub number : new.lines.number ≡ old.lines.number + 1
@@ -37,7 +37,7 @@ pub record GoesOn (old new : Run) (source source' : SourceTrace) (sink sink' : S
   pub sink_calls : sink'.counts.calls + new.turns ≤ sink.counts.calls + old.turns
   pub fuel : fuel_of new.lines new.turns < fuel_of old.lines old.turns
 
--- Whichever run was under way goes on, or has ended.
+-- A run that had not ended continues, or has ended.
 abbrev pub Advances : Run → Run → SourceTrace → SourceTrace → SinkTrace → SinkTrace → Option ScriptEnd → Type 0
 Advances old new source source' sink sink' None = GoesOn old new source source' sink sink'
 Advances old new source source' sink sink' (Some end) =

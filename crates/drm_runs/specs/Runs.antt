@@ -1,4 +1,4 @@
--- How a run of a script ends, and what was then read and written (own).
+-- The end of a run of a script, and what was then read and written (own).
 use Rattle.std.specs.Prelude.{◌≡◌, ℕ, ◌+◌, ◌*◌, ◌<◌, ◌≤◌, List, [], ◌∷◌, ◌++◌, ◌⊎◌, Bool, true, false, Result, length}
 use Rattle.drm_table.specs.declared.answers.Answer.{Answer}
 use Rattle.drm_table.specs.declared.apart.Apart.{Apart}
@@ -11,15 +11,16 @@ use Rattle.drm_runs.specs.Script.Place.{Planned}
 use Rattle.drm_runs.specs.declared.stops.ScriptEnd.{ScriptEnd}
 use Rattle.drm_runs.specs.declared.stops.ScriptEnd.TheVariants as ends
 
+-- the results of a script
 abbrev pub Results : Type 0
 Results = List (Result Answer Apart)
 
--- The lines stand at the front of what was read, the last one perhaps without an end where the input has ended.
+-- The lines are the front of what was read. If the input has ended, the last one may have no end.
 abbrev pub Covers : Type 0 → List ℕ → List (List ℕ) → List ℕ → Type 0
 Covers ended read lines rest =
     (read ≡ joined lines ++ rest) ⊎ ((front : List (List ℕ)) × (last : List ℕ) × (lines ≡ front ++ last ∷ []) × (read ≡ joined front ++ last) × (rest ≡ []) × ended)
 
--- Every line that was read was used, and what the results write was written.
+-- Every line that was read was used, and the lines of all results were written.
 pub record IsDone (setting : Setting) (ended : Type 0) (read written : List ℕ) (device : Place) (labels : List ℕ) : Type 0 where
   pub lines : List (List ℕ)
   pub results : Results
@@ -27,12 +28,12 @@ pub record IsDone (setting : Setting) (ended : Type 0) (read written : List ℕ)
   pub covers : Covers ended read lines []
   pub text : written ≡ script_text results
 
--- behind a line stands its end, or nothing where the input has ended
+-- a line is followed by its end, or by nothing if the input has ended
 abbrev pub EndsLine : Type 0 → List ℕ → Type 0
 EndsLine ended rest = ((rest ≡ []) × ended) ⊎ ((more : List ℕ) × (rest ≡ 10 ∷ more))
 
--- The lines before the bad one were used. The bad one can't be used: its end was read, or the input ended, or it is too long,
--- which its first 256 bytes tell. No more was read behind it than one read gives.
+-- The lines before the bad one were used. The bad one can't be used: its end was read, or the input ended, or its first
+-- 256 bytes show that it is too long. At most the bytes of one read were read after it.
 pub record IsMalformed (setting : Setting) (ended : Type 0) (number : ℕ) (read written : List ℕ) (device : Place) (labels : List ℕ) : Type 0 where
   pub lines : List (List ℕ)
   pub results : Results
@@ -48,7 +49,7 @@ pub record IsMalformed (setting : Setting) (ended : Type 0) (number : ℕ) (read
   pub counted : number ≡ length lines + 1
   pub text : written ≡ script_text results
 
--- Every whole line that was read was used, and what is left is shorter than a line that is too long.
+-- Every whole line that was read was used. The rest is shorter than a line that is too long.
 pub record IsCutShort (setting : Setting) (read written : List ℕ) (device : Place) (labels : List ℕ) : Type 0 where
   pub lines : List (List ℕ)
   pub results : Results
@@ -59,7 +60,8 @@ pub record IsCutShort (setting : Setting) (read written : List ℕ) (device : Pl
   pub short : length rest ≤ 255
   pub text : written ≡ script_text results
 
--- Writing stopped in the last answer's line: those before it were written, and of it a front that lacks a byte at least.
+-- Writing stopped in the line of the last answer. All lines before it were written, and of it a front without at least
+-- one byte.
 pub record IsCutInLast (results : Results) (written : List ℕ) : Type 0 where
   pub before : Results
   pub last : Result Answer Apart
@@ -70,8 +72,8 @@ pub record IsCutInLast (results : Results) (written : List ℕ) : Type 0 where
   pub more : 0 < length unsent
   pub text : written ≡ script_text before ++ sent
 
--- Some lines were used, and writing stopped in the answer of the last one; so no line is used after a failed write, and no
--- more was read behind it than one read gives.
+-- Some lines were used, and writing stopped in the answer of the last one. So no line is used after a failed write. At
+-- most the bytes of one read were read after it.
 pub record IsStopped (setting : Setting) (ended : Type 0) (read written : List ℕ) (device : Place) (labels : List ℕ) : Type 0 where
   pub lines : List (List ℕ)
   pub results : Results
@@ -81,8 +83,8 @@ pub record IsStopped (setting : Setting) (ended : Type 0) (read written : List �
   pub behind : length rest ≤ 256
   pub cut : IsCutInLast results written
 
--- The lines before were all skipped; the next one wants a device, for which there was no memory. Nothing was written, and no
--- more was read behind that line than one read gives.
+-- The lines before were all skipped. The next one needs a device, and memory for it was refused. Nothing was written.
+-- At most the bytes of one read were read after that line.
 pub record IsUnmade (setting : Setting) (ended : Type 0) (read written : List ℕ) (device : Place) (labels : List ℕ) : Type 0 where
   pub lines : List (List ℕ)
   pub next : List ℕ
@@ -121,8 +123,8 @@ Ends setting ends.TurnsUsed source source' sink sink' turns read written device 
 Ends setting ends.NoMemory source source' sink sink' turns read written device labels =
     IsUnmade setting (source.counts.ends < source'.counts.ends) read written device labels
 
--- A run on a device that begins so: what it read and wrote, at what cost, why it ended, and the device and the labels then. Each take asks
--- for 256 bytes at most.
+-- A run on a device that begins so: what it read and wrote, its cost, the cause of its end, and the device and the
+-- labels then. Each take requests at most 256 bytes.
 pub record RunsOn (setting : Setting) (source source' : SourceTrace) (sink sink' : SinkTrace) (turns : ℕ) (end : ScriptEnd) (device : Place) (labels : List ℕ) : Type 0 where
   pub read : List ℕ
   pub written : List ℕ
@@ -132,6 +134,6 @@ pub record RunsOn (setting : Setting) (source source' : SourceTrace) (sink sink'
   pub turns_at_most : source'.counts.calls + sink'.counts.calls ≤ source.counts.calls + sink.counts.calls + turns
   pub ends : Ends setting end source source' sink sink' turns read written device labels
 
--- a run on a device of the test topology, with the program's limits where the script sets none
+-- a run on a device of the test topology, with the program's limits by default
 abbrev pub Runs : SourceTrace → SourceTrace → SinkTrace → SinkTrace → ℕ → ScriptEnd → Type 0
 Runs source source' sink sink' turns end = (device : Place) × (labels : List ℕ) × RunsOn usual source source' sink sink' turns end device labels

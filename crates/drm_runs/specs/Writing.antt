@@ -1,4 +1,4 @@
--- One line of a run: what it asks is answered, and the answer is written.
+-- One line of a run: its answer, and the text that is written for it (own).
 use Rattle.std.specs.Prelude.{◌≡◌, ℕ, ◌<◌, List, [], ◌∷◌, Option, None, Some, Result}
 use Rattle.drm_table.specs.declared.answers.Answer.{Answer}
 use Rattle.drm_table.specs.declared.apart.Apart.{Apart}
@@ -13,13 +13,14 @@ use Rattle.drm_runs.specs.LineSteps.{LinesState}
 use Rattle.drm_runs.specs.declared.stops.ScriptEnd.{ScriptEnd}
 use Rattle.drm_runs.specs.declared.stops.ScriptEnd.TheVariants as ends
 
--- how a script ends where a text could not be put whole
+-- the end of a script if a text was not written whole
 abbrev pub end_of_writing : Written → Option ScriptEnd
 end_of_writing written.Whole = None
 end_of_writing written.Fault = Some ends.WriteFault
 end_of_writing written.TurnsUsed = Some ends.TurnsUsed
 
--- what came of the line that is held: it was used and its results written, or a front of its answer, or it changed nothing
+-- the result of the line that is held: it was used and its results written, or a front of its answer, or the state is
+-- unchanged
 abbrev pub UsesLine : InterpreterState → InterpreterState → LinesState → SinkTrace → SinkTrace → ℕ → ℕ → Option ScriptEnd → Type 0
 UsesLine old new lines before after had has None =
     (results : List (Result Answer Apart)) × Uses old.device old.labels lines.held results new.device new.labels × WriteCost before after (script_text results) had has

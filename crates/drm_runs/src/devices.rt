@@ -1,4 +1,4 @@
-//! The devices that scripts and servers begin with.
+//! The initial devices of scripts and servers.
 
 ghost use Rattle.std.specs.Prelude.{◌≡◌, true, [], IfSome};
 ghost use Rattle.drm_table.specs.Limits as ranges;
@@ -8,7 +8,7 @@ use drm_device::{Device, Limits, NewFault, PlaneKind, Topology};
 use std::alloc::Global;
 use std::marker::Model;
 
-/// What the device of a script begins with: its topology, and its limits where the script sets none (own).
+/// The topology of a script's device, and its default limits (own).
 #[derive(Drop)]
 pub struct Setup {
     topology: Topology,
@@ -32,7 +32,7 @@ impl Setup {
     ghost use Rattle.drm_table.specs.Limits.{are_in_range};
     ghost use Rattle.drm_runs.specs.Script.{limited_to, usual};
 
-    /// A device of this topology, with these limits where the script sets none.
+    /// Returns the setup of a device with this topology and these default limits. Does not allocate.
     pub fn new(topology: Topology, limits: Limits) -> Setup
         requires in_range { are_in_range limits ≡ true }
         ensures { result ≡ record { topology = topology; limits = limits } }
@@ -40,14 +40,14 @@ impl Setup {
         Setup { topology, limits }
     }
 
-    /// The test topology and the program's limits.
+    /// Returns the setup with the test topology and the program's limits. Does not allocate.
     pub fn usual() -> Setup
         ensures { result ≡ usual }
     {
         Setup::new(test_topology(), Limits::PROGRAM)
     }
 
-    /// The limits where the script sets none.
+    /// Returns the default limits.
     pub(crate) fn limits(&self) -> Limits
         ensures limits { result ≡ self.now.limits }
         ensures in_range { are_in_range result ≡ true }
@@ -55,7 +55,7 @@ impl Setup {
         self.limits
     }
 
-    /// The same topology with these limits.
+    /// Returns the same topology with these limits.
     pub(crate) fn limited_to(self, limits: Limits) -> Setup
         requires in_range { are_in_range limits ≡ true }
         ensures { result ≡ limited_to self limits }
@@ -66,7 +66,7 @@ impl Setup {
         }
     }
 
-    /// An empty device, if there is memory for it.
+    /// Returns an empty device, or `None` if memory is refused.
     pub fn make(self, alloc: Global) -> Option<Device>
         ensures { IfSome result (λ device. device ≡ record { topology = self.topology; limits = self.limits; journal = [] }) }
     {
@@ -78,8 +78,8 @@ impl Setup {
     }
 }
 
-/// The topology of each device where no other is asked for: two CRTCs, two planes, of which the first is the first CRTC's primary
-/// plane, two encoders and two connectors.
+/// Returns the default topology (own): two CRTCs, two planes, two encoders and two connectors. The first plane is the
+/// primary plane of the first CRTC. Does not allocate.
 pub fn test_topology() -> Topology
     ensures { result ≡ script.test_topology }
 {
@@ -90,7 +90,7 @@ pub fn test_topology() -> Topology
     }
 }
 
-/// An empty device of the test topology, if there is memory for it.
+/// Returns an empty device of the test topology, or `None` if memory is refused.
 pub fn make_device(alloc: Global, limits: Limits) -> Option<Device>
     requires { ranges.are_in_range limits ≡ true }
     ensures { IfSome result (λ device. device ≡ record { topology = script.test_topology; limits = limits; journal = [] }) }

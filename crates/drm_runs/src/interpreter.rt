@@ -1,4 +1,4 @@
-//! The device of a script and the clients that its labels stand for, asked line by line.
+//! The device of a script, the clients that its labels name, and the use of a line.
 
 use crate::devices::Setup;
 use drm_device::{Device, Limits};
@@ -7,30 +7,30 @@ use drm_table::{Answer, Apart, Event};
 use std::alloc::Global;
 use std::marker::Model;
 
-/// What a line came to (own).
+/// The result of a line (own).
 #[derive(Clone, Copy, Debug, PartialEq, Eq)]
 pub enum LineResult {
-    /// No answer: it says nothing, or made the device with its limits.
+    /// There is no answer. The line is empty or a comment, or it created the device with its limits.
     Unanswered,
-    /// The device answered. The answer is in the place that was lent for it.
+    /// The device answered. The answer is in the place that the caller lent.
     Answered,
-    /// It can't be used here: it is malformed, or sets limits where the device is made already. Nothing has changed.
+    /// The line can't be used here. It is malformed, or it sets limits after the device exists. The state is unchanged.
     Malformed(Malformed),
-    /// It wants a device where none is made yet, and there was no memory for it. No later line makes one.
+    /// The line needs a device, and memory for it was refused. No later line creates one.
     NoMemory,
 }
 
-/// The device of a script, once it is made, and the clients that its labels stand for.
+/// The device of a script, once it exists, and the clients that the labels name (own).
 pub struct Interpreter {
     device: Option<Device>,
-    /// What the device begins with, until it is made or there was no memory for it.
+    /// The setup of the device, until it is created or memory for it is refused.
     planned: Option<Setup>,
-    /// The limits of the device, or those that are planned.
+    /// The limits of the device, or those of its setup.
     limits: Limits,
     labels: [u32; 26],
 }
 
-// Written out, so that it is proved once: a derived one is proved again in each crate that lets such a value go.
+// Not derived, so that it is proved once. A derived one is proved again in each crate that drops such a value.
 impl Drop for Interpreter {
     fn drop(self) {
         let Interpreter {
@@ -65,7 +65,7 @@ impl Interpreter {
     ghost use Rattle.drm_runs.specs.Script.Place.{Made};
     ghost use Rattle.drm_runs.specs.Interpreter.{Asks, HasLimits, Interprets, SetsLimits, at_start, device_made};
 
-    /// No device yet, which will begin as it is set up, and no label bound.
+    /// Returns an interpreter without a device, and with no label bound. Does not allocate.
     pub fn new(setup: Setup) -> Interpreter
         ensures { result ≡ at_start setup }
     {
@@ -77,14 +77,14 @@ impl Interpreter {
         }
     }
 
-    /// The device, once a line has made it.
+    /// Returns the device, or `None` if no line has created it. Does not allocate.
     pub fn device(&self) -> Option<&Device>
         ensures { option_map (λ device. device.now) result ≡ device_made self.now.device }
     {
         self.device.as_ref()
     }
 
-    /// The limits of the device, or those that it begins with where no line sets others.
+    /// Returns the limits of the device, or those of its setup if it does not exist yet. Does not allocate.
     pub fn limits(&self) -> Limits
         ensures limits { HasLimits self.now.device result }
         ensures in_range { ranges.are_in_range result ≡ true }
@@ -92,21 +92,22 @@ impl Interpreter {
         self.limits
     }
 
-    /// The clients that the labels stand for, the first for `a`; 0 where a label was never bound.
+    /// Returns the clients that the labels name, the first for `a`. A label that was never bound names client 0. Does
+    /// not allocate.
     pub fn labels(&self) -> &[u32; Label::COUNT]
         ensures { result.now ≡ self.now.labels }
     {
         &self.labels
     }
 
-    /// The client that a label stands for; 0 where it was never bound.
+    /// Returns the client that a label names, or 0 if it was never bound.
     fn client(&self, label: Label) -> u32
         ensures { result ≡ slice_index self.now.labels label }
     {
         self.labels[label.place()]
     }
 
-    /// Lets the label stand for the client of an accepted opening.
+    /// Binds the label to the client of an accepted opening.
     fn bind(&mut self, label: Option<Label>, outcome: &Result<Answer, Apart>)
         ensures { self.new ≡ record { device = self.old.device; labels = bound self.old.labels label outcome.now } }
     {
@@ -117,8 +118,8 @@ impl Interpreter {
         }
     }
 
-    /// Makes the device, which isn't there, and its first step; none if there is no memory to make it. It is a function of its own, so
-    /// that later steps need not clear its places.
+    /// Creates the device and makes its first step. It returns `None` if memory is refused. Since it is an own
+    /// function, later steps need not clear its places.
     fn first_step(
         &mut self,
         alloc: Global,
@@ -137,7 +138,7 @@ impl Interpreter {
         Some(())
     }
 
-    /// One step of the device, which is made if it isn't there; none if there is no memory to make it.
+    /// Makes one step, and creates the device first if there is none. It returns `None` if memory for it is refused.
     fn step(
         &mut self,
         alloc: Global,
@@ -157,7 +158,7 @@ impl Interpreter {
         }
     }
 
-    /// Asks the device, and binds the label of an opening; none if there is no memory for the device.
+    /// Makes a step, and binds the label of an opening. It returns `None` if memory for the device is refused.
     fn ask(
         &mut self,
         alloc: Global,
@@ -172,7 +173,7 @@ impl Interpreter {
         Some(())
     }
 
-    /// Asks what a command says; none if there is no memory for the device.
+    /// Executes a command. It returns `None` if memory for the device is refused.
     fn perform(
         &mut self,
         alloc: Global,
@@ -196,7 +197,7 @@ impl Interpreter {
         }
     }
 
-    /// Makes a device with these limits, where there is none; the line that sets them is given.
+    /// Creates a device with these limits, if there is none. `line` is the line that sets them.
     fn limit(&mut self, alloc: Global, limits: Limits, line: &[u8]) -> LineResult
         requires { ranges.are_in_range limits ≡ true }
         ensures { SetsLimits self.old self.new limits result }
@@ -215,8 +216,10 @@ impl Interpreter {
         LineResult::Unanswered
     }
 
-    /// Reads a line, which is given without its end, and asks what it says. The answer is written to a place of the caller's, so that it
-    /// is moved less.
+    /// Uses a line without its end, and writes its answer to `outcome` (own).
+    ///
+    /// The caller lends the place of the answer, so that it is moved less. Allocates the device, and the rows of a
+    /// step.
     pub fn interpret(
         &mut self,
         alloc: Global,

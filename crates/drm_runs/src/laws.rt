@@ -2,8 +2,8 @@
 
 ghost use Rattle.drm_runs.specs.Script.{ScriptsAreAnswered};
 
-/// The results of a script are its device's answers to the events that its lines ask for, one for each command, in order, from an empty
-/// device of its topology on. Which limits that has is left open here.
+/// Proves that a script's results are its device's answers to the events of its lines. There is one event for each
+/// command, in order. The device is empty at first and has the script's topology. The limits are not stated here.
 pub fn scripts_are_answered()
     ensures { ScriptsAreAnswered }
 {}

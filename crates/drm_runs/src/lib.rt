@@ -1,4 +1,6 @@
-//! Scripts: lines are read from a source, a device is asked, and its answers are written to a sink.
+//! Scripts: reads lines from a source, makes each step on a device, and writes its answers to a sink.
+//!
+//! An example is the body of a function that has the runtime `rt`. If memory is refused, it returns.
 #![tactic(auto)]
 
 mod devices;

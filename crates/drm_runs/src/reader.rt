@@ -1,4 +1,4 @@
-//! Reading lines from a source, one at a time.
+//! Lines of a source, one at a time.
 
 ghost use Rattle.std.specs.Prelude.{◌≡◌, ◌≤◌, ◌<◌, ◌+◌, ◌++◌, true, false, length, position};
 ghost use Rattle.drm_runs.specs.Lines.{is_end};
@@ -7,13 +7,13 @@ use arrayvec::ArrayVec;
 use drm_streams::{Refill, Source, take_some};
 use std::marker::Model;
 
-/// How many bytes one `take` may give.
+/// The most bytes that one `take` returns.
 const CHUNK: usize = 256;
 
-/// How long a line may be.
+/// The most bytes of a line.
 const LINE: usize = 255;
 
-/// What a scan of the bytes at hand found.
+/// The result of a scan of the pending bytes.
 #[derive(Clone, Copy, Debug, PartialEq, Eq)]
 enum Scan {
     Line,
@@ -21,22 +21,22 @@ enum Scan {
     TooLong,
 }
 
-/// How the next line was read.
+/// The result of reading the next line.
 #[derive(Clone, Copy, Debug, PartialEq, Eq)]
 pub(crate) enum NextLine {
-    /// The line is held, and its end was read.
+    /// The reader holds the line, and its end was read.
     Line,
-    /// The source has ended; what stood behind the last line end is held.
+    /// The source has ended. The reader holds the text after the last line end.
     End,
     /// The line has more than 255 bytes.
     TooLong,
     /// The source failed.
     ReadFault,
-    /// A call of the source was wanted, and no turn was left for it.
+    /// A call of the source was needed, and no turn was left for it.
     TurnsUsed,
 }
 
-/// Reads lines of at most 255 bytes, of which it holds one at a time. Each call of the source asks for 256 bytes at most.
+/// Reads lines of at most 255 bytes and holds one at a time. Each call of the source requests at most 256 bytes.
 #[derive(Drop)]
 pub(crate) struct LineReader {
     chunk: [u8; CHUNK],
@@ -62,7 +62,7 @@ fn end_of_line(bytes: &[u8]) -> Option<usize>
     bytes.iter().position(|b| *b == b'\n')
 }
 
-/// Puts bytes behind a line, if it has room for all of them.
+/// Appends bytes to a line, if it has room for all of them.
 fn extend_line(line: &mut ArrayVec<u8, LINE>, bytes: &[u8]) -> bool
     ensures room { result ≡ true → (line.new.items ≡ line.old.items ++ bytes.now) × (length line.new.items ≤ 255) }
     ensures none { result ≡ false → 255 < length line.old.items + length bytes.now }
@@ -78,7 +78,7 @@ impl LineReader {
     ghost use Rattle.std.specs.Prelude.{◌≡◌, ◌<◌, ◌^◌, ◌+◌, ℕ, List, []};
     ghost use Rattle.drm_runs.specs.Reader.{Refilled, ReadsOn, Reads, Scans};
 
-    /// Nothing was read yet.
+    /// Returns a reader that has read nothing.
     pub(crate) fn new() -> LineReader
         ensures { result ≡ record { held = []; pending = [] } }
     {
@@ -90,14 +90,14 @@ impl LineReader {
         }
     }
 
-    /// The line without its end.
+    /// Returns the line without its end.
     pub(crate) fn line(&self) -> &[u8]
         ensures { result.now ≡ self.now.held }
     {
         self.line.as_slice()
     }
 
-    /// Moves bytes at hand to the line, up to its end.
+    /// Moves pending bytes to the line, up to its end.
     fn scan(&mut self) -> Scan
         ensures { Scans self.old self.new result }
     {
@@ -123,7 +123,7 @@ impl LineReader {
         }
     }
 
-    /// Takes bytes from the source, once all at hand are used.
+    /// Takes bytes from the source if none are pending.
     fn refill<S: Source>(&mut self, source: &mut S, turns: &mut u64) -> Refill
         requires empty { self.old.pending ≡ [] }
         requires countable { (S.trace source.old).counts.calls + turns.old < 2 ^ 48 }
@@ -137,7 +137,7 @@ impl LineReader {
         refill
     }
 
-    /// Looks for the line's end, and takes more bytes where there is none. Gives how the line was read, once it was.
+    /// Looks for the line's end, and takes more bytes if there is none. It returns the result, once the line was read.
     fn read_on<S: Source>(&mut self, source: &mut S, turns: &mut u64) -> Option<NextLine>
         requires countable { (S.trace source.old).counts.calls + turns.old < 2 ^ 48 }
         ensures { ReadsOn self.old self.new (S.trace source.old) (S.trace source.new) turns.old turns.new result }
@@ -154,7 +154,7 @@ impl LineReader {
         }
     }
 
-    /// Lets go of the line that is held.
+    /// Clears the line that is held.
     fn clear(&mut self)
         ensures { self.new ≡ record { held = []; pending = self.old.pending } }
     {

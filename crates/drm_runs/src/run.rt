@@ -1,4 +1,4 @@
-//! Running a script.
+//! The run of a script.
 
 ghost use Rattle.std.specs.Prelude.{◌≡◌, ◌<◌, ◌+◌, ◌^◌, is_some};
 ghost use Rattle.drm_runs.specs.Runs.{Runs, RunsOn, is_malformed};
@@ -12,12 +12,12 @@ use drm_script::Malformed;
 use drm_streams::{Sink, Source};
 use std::alloc::Global;
 
-/// A run that goes on.
+/// A run that has not ended.
 #[derive(Drop)]
 struct Run {
     lines: ScriptLines,
     interpreter: Interpreter,
-    /// How many calls of the source and the sink may still be made.
+    /// The number of calls of the source and the sink that are left.
     turns: u64,
 }
 
@@ -35,7 +35,8 @@ impl Run {
         }
     }
 
-    /// Reads a line and uses it; its answer is made on the desk. Gives how the run ends, where it doesn't go on.
+    /// Reads a line and uses it. Its answer is built on the desk. It returns the end of the run, or `None` if the run
+    /// continues.
     fn use_next<S: Source, K: Sink>(
         &mut self,
         alloc: Global,
@@ -60,11 +61,12 @@ impl Run {
     }
 }
 
-/// Runs a script over the source, and writes its answers to the sink, a line each, in at most so many calls of both.
+/// Runs a script from the source, and writes each answer as a line to the sink (own).
 ///
-/// The device has the test topology, and the limits that the script's first line sets, or the program's. It is made once
-/// the first line that isn't skipped was found well formed. Want of memory in a step is an answer like others. Clients that
-/// are open at the end stay so: the device goes with the run.
+/// It makes at most `turns` calls of the source and the sink. The device has the test topology. Its limits are those of
+/// the script's first line, or the program's. It is created at the first well-formed line that is not skipped. A step
+/// for which memory is refused is answered by a fault. Clients that are open at the end are not closed: the device is
+/// dropped.
 pub fn run_script<S: Source, K: Sink>(
     alloc: Global,
     source: &mut S,
@@ -78,7 +80,7 @@ pub fn run_script<S: Source, K: Sink>(
     run_with_cause(alloc, source, sink, turns).0
 }
 
-/// Runs a script as `run_script` does, and tells beside its end why a line can't be used, where one can't.
+/// Runs a script as `run_script` does, and also returns the cause if a line can't be used.
 pub fn run_with_cause<S: Source, K: Sink>(
     alloc: Global,
     source: &mut S,
@@ -94,19 +96,19 @@ pub fn run_with_cause<S: Source, K: Sink>(
     (ran.end, ran.cause)
 }
 
-/// What a run came to.
+/// The result of a run (own).
 #[derive(Drop)]
 pub struct Ran {
-    /// How it ended.
+    /// The end of the run.
     pub end: ScriptEnd,
-    /// Why a line can't be used and where in it, where one can't.
+    /// If a line can't be used, the cause and the place in the line.
     pub cause: Option<Malformed>,
-    /// The device at the end, and the clients that the labels stand for.
+    /// The device at the end, and the clients that the labels name.
     pub interpreter: Interpreter,
 }
 
-/// Runs a script as `run_script` does, on a device that begins with this topology and, where the script sets none, with these
-/// limits. What is left of it is given back.
+/// Runs a script as `run_script` does, on a device that begins with this topology and these default limits. It also
+/// returns the device.
 pub fn run_on<S: Source, K: Sink>(
     alloc: Global,
     setup: Setup,

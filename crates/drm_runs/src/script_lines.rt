@@ -6,11 +6,13 @@ use drm_script::Malformed;
 use drm_streams::Source;
 use std::marker::Model;
 
-/// The lines of a script. It reads them from a source, holds one at a time, and counts them. A line has at most 255 bytes.
+/// The lines of a script, read from a source (own).
+///
+/// It holds one line at a time and counts them. A line has at most 255 bytes.
 #[derive(Drop)]
 pub struct ScriptLines {
     reader: LineReader,
-    /// How many lines were read.
+    /// The number of lines that were read.
     number: u64,
     /// Whether the input has ended after the line that is held.
     is_last: bool,
@@ -28,7 +30,7 @@ impl ScriptLines {
     ghost use Rattle.std.specs.Prelude.{◌≡◌, ◌<◌, ◌+◌, ◌^◌};
     ghost use Rattle.drm_runs.specs.LineSteps.{HoldsLast, ReadsNext, no_lines};
 
-    /// Returns the lines of a source from which nothing was read. Does not allocate.
+    /// Returns the lines of a source that has not been read. Does not allocate.
     pub fn new() -> ScriptLines
         ensures { result ≡ no_lines }
     {
@@ -39,21 +41,21 @@ impl ScriptLines {
         }
     }
 
-    /// Returns the line that is held, without its end.
+    /// Returns the line that is held, without its end. Does not allocate.
     pub fn line(&self) -> &[u8]
         ensures { result.now ≡ self.now.held }
     {
         self.reader.line()
     }
 
-    /// Returns the number of lines that were read, which is that of the line that is held.
+    /// Returns the number of lines that were read, which is that of the line that is held. Does not allocate.
     pub fn number(&self) -> u64
         ensures { result ≡ self.now.number }
     {
         self.number
     }
 
-    /// Counts what is after the last line end as a line, if there is anything.
+    /// Counts the text after the last line end as a line, if there is any.
     fn hold_last(&mut self) -> Option<Stop>
         requires number { self.old.number + 1 < 2 ^ 64 }
         ensures { HoldsLast self.old self.new result }
@@ -66,8 +68,14 @@ impl ScriptLines {
         None
     }
 
-    /// Reads the next line in place of the one that is held. Returns how the script ends if there is none: its input has ended
-    /// (`Done`), the line has more than 255 bytes (`Malformed`), or it can't be read (`ReadFault`, `TurnsUsed`). Does not allocate.
+    /// Reads the next line in place of the one that is held, or returns how the script ends. Does not allocate.
+    ///
+    /// The end is one of:
+    ///
+    /// - `Done`: the input has ended.
+    /// - `Malformed`: the line has more than 255 bytes.
+    /// - `ReadFault`: the source failed.
+    /// - `TurnsUsed`: no turn is left.
     pub fn read_next<S: Source>(&mut self, source: &mut S, turns: &mut u64) -> Option<Stop>
         requires number { self.old.number + 1 < 2 ^ 64 }
         requires countable { (S.trace source.old).counts.calls + turns.old < 2 ^ 48 }

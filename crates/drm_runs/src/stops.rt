@@ -1,27 +1,27 @@
-//! How a script ends.
+//! The ends of a script.
 
 use drm_script::Malformed;
 use drm_streams::Written;
 use std::marker::Model;
 
-/// How the run of a script ends (own).
+/// The end of the run of a script (own).
 #[derive(Clone, Copy, Debug, PartialEq, Eq)]
 pub enum ScriptEnd {
     /// The input ended, and every line was used.
     Done,
-    /// The line of this number, from 1, can't be used; those before it were, and their answers are written.
+    /// The line with this number, from 1, can't be used. Those before it were used, and their answers are written.
     Malformed(u64),
-    /// The source failed; every whole line that it gave was used, and the answers are written.
+    /// The source failed. Every whole line that it returned was used, and the answers are written.
     ReadFault,
-    /// The sink failed; a front of the answers is written.
+    /// The sink failed. A front of the answers is written.
     WriteFault,
-    /// A call of the source or the sink was wanted, and no turn was left for it; a front of the answers is written.
+    /// A call of the source or the sink was needed, and no turn was left for it. A front of the answers is written.
     TurnsUsed,
-    /// No memory for the device; nothing is written.
+    /// Memory for the device was refused. Nothing is written.
     NoMemory,
 }
 
-/// How a script ended, and why a line can't be used, where one can't. Contracts see the end.
+/// The end of a script, and the cause if a line can't be used (own). Contracts see the end.
 #[derive(Drop)]
 pub struct Stop {
     end: ScriptEnd,
@@ -45,7 +45,7 @@ impl Stop {
     ghost use Rattle.drm_runs.specs.Runs.{is_malformed};
     ghost use Rattle.drm_runs.specs.Writing.{end_of_writing};
 
-    /// An end at which no line is malformed.
+    /// Returns an end at which no line is malformed. Does not allocate.
     pub fn of(end: ScriptEnd) -> Stop
         requires { is_malformed end ≡ false }
         ensures { result ≡ end }
@@ -53,7 +53,7 @@ impl Stop {
         Stop { end, cause: None }
     }
 
-    /// The line of this number, from 1, can't be used, for this cause.
+    /// Returns the end at the line with this number, from 1, for this cause. Does not allocate.
     pub fn malformed(number: u64, cause: Malformed) -> Stop
         ensures { result ≡ ScriptEnd.Malformed number }
     {
@@ -63,7 +63,7 @@ impl Stop {
         }
     }
 
-    /// Returns how a script ends after a text was written: not at all if it was written whole.
+    /// Returns the end of a script after a text was written, or `None` if it was written whole. Does not allocate.
     pub fn of_writing(written: Written) -> Option<Stop>
         ensures { result ≡ end_of_writing written }
     {
@@ -74,14 +74,14 @@ impl Stop {
         }
     }
 
-    /// How the script ended.
+    /// Returns the end. Does not allocate.
     pub fn end(&self) -> ScriptEnd
         ensures { result ≡ self.now }
     {
         self.end
     }
 
-    /// Why a line can't be used and where in it, where one can't.
+    /// Returns the cause and the place in the line, or `None` if no line is malformed. Does not allocate.
     pub fn cause(&self) -> Option<Malformed>
         ensures { is_some result ≡ is_malformed self.now }
     {

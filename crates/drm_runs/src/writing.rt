@@ -1,4 +1,4 @@
-//! Using a line of a script: the device is asked, and its answer is written.
+//! The use of a line of a script: a step of the device, and the line of its answer.
 
 ghost use Rattle.std.specs.Prelude.{◌≡◌, ◌<◌, ◌+◌, ◌^◌};
 ghost use Rattle.drm_streams.specs.Turns.{Writes};
@@ -13,7 +13,7 @@ use drm_streams::{Sink, Written, put_all};
 use drm_table::{Answer, Apart};
 use std::alloc::Global;
 
-/// Where the answers of a run are made, and their lines, one after the other.
+/// The place where the answers of a run and their lines are built, one after the other.
 #[derive(Drop)]
 pub(crate) struct Desk {
     outcome: Result<Answer, Apart>,
@@ -38,7 +38,8 @@ fn write_line<K: Sink>(desk: &mut Desk, sink: &mut K, turns: &mut u64) -> Writte
     put_all(sink, desk.text.as_bytes(), turns)
 }
 
-/// Uses the line that is held, and writes what is answered, which is made on the desk. Gives how the run ends, where it doesn't go on.
+/// Uses the line that is held, and writes its answer, which is built on the desk. It returns the end of the run, or
+/// `None` if the run continues.
 pub(crate) fn use_line<K: Sink>(
     interpreter: &mut Interpreter,
     alloc: Global,
