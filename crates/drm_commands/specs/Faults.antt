@@ -1,4 +1,4 @@
--- How the program tells of a fault (own): a line on standard error, and its exit status.
+-- The line on standard error and the exit status of each fault (own).
 use Rattle.std.specs.Prelude.{ℕ, List, ◌++◌, codes, decimal}
 use Rattle.drm_connections.specs.Classes.{class_word}
 use Rattle.drm_commands.specs.declared.faults.Fault.{Fault}
@@ -6,7 +6,7 @@ use Rattle.drm_commands.specs.declared.faults.Fault.TheVariants.{ScriptLine, Rea
 use Rattle.drm_listeners.specs.declared.serve_faults.ServeFault.{ServeFault}
 use Rattle.drm_listeners.specs.declared.serve_faults.ServeFault.TheVariants as serving
 
--- 1 is a fault outside, 2 a malformed script, 3 a refused command line
+-- 1 for a fault outside, 2 for a malformed script, 3 for a refused command line
 abbrev pub fault_status : Fault → ℕ
 fault_status (ScriptLine number) = 2
 fault_status Read = 1
@@ -19,6 +19,7 @@ fault_status CommandLine = 3
 fault_status (Listen class) = 1
 fault_status (Accept class) = 1
 
+-- the words of a fault
 abbrev pub fault_words : Fault → List ℕ
 fault_words (ScriptLine number) = codes "script line " ++ decimal number
 fault_words Read = codes "read"
@@ -31,10 +32,11 @@ fault_words CommandLine = codes "command line"
 fault_words (Listen class) = codes "listen " ++ class_word class
 fault_words (Accept class) = codes "accept " ++ class_word class
 
+-- the line of a fault
 abbrev pub fault_line : Fault → List ℕ
 fault_line fault = codes "fault: " ++ fault_words fault
 
--- the fault that the program tells of where not all connections were served
+-- the fault of the program if not all connections were served
 abbrev pub fault_of_serving : ServeFault → Fault
 fault_of_serving (serving.Accept class) = Accept class
 fault_of_serving serving.NoThread = Thread

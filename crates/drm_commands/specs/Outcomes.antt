@@ -1,4 +1,4 @@
--- What the program ends with, by how the script's run ended (own).
+-- The outcome of the program, by the end of its script (own).
 use Rattle.std.specs.Prelude.{ℕ, List, [], Option, None, Some, Result, Ok, Err, nat_lt, if◌then◌else◌}
 use Rattle.std.specs.Option.{option_map_or}
 use Rattle.drm_runs.specs.declared.stops.ScriptEnd.{ScriptEnd}
@@ -17,18 +17,19 @@ fault_of ends.WriteFault = Some faults.Write
 fault_of ends.TurnsUsed = Some faults.Turns
 fault_of ends.NoMemory = Some faults.Memory
 
--- nothing but a fault where there is one
+-- a fault, or else nothing
 abbrev pub unless_fault : Option Fault → Result (Unit {0}) Fault
 unless_fault None = Ok tt
 unless_fault (Some fault) = Err fault
 
--- status 0 and no line where there is no fault
+-- status 0 if there is no fault
 abbrev pub status_by : Option Fault → ℕ
 status_by fault = option_map_or fault_status fault 0
 
+-- the line of a fault; empty if there is none
 abbrev pub line_by : Option Fault → List ℕ
 line_by fault = option_map_or fault_line fault []
 
--- 2 where a file is malformed, 4 where an expectation isn't met or a file has none, and else 0
+-- 2 if a file is malformed, else 4 if an expectation is not met or a file has none, else 0
 abbrev pub checks_status : Totals → ℕ
 checks_status totals = if nat_lt 0 totals.malformed then 2 else (if nat_lt 0 totals.failed then 4 else 0)

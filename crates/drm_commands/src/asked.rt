@@ -1,39 +1,45 @@
-//! What the command line asks of scripts.
+//! The arguments of the commands.
 
-/// A device as the command line describes it (own).
+/// The device that the command line describes (own).
 #[derive(Clone, Copy, Debug, PartialEq, Eq)]
 pub struct AskedDevice<'a> {
-    /// The file of its topology.
+    /// The file of its topology. By default it has the test topology.
     pub topology: Option<&'a str>,
-    /// Its limits, as eight numbers; of a script those that it doesn't set itself.
+    /// Its limits, as eight numbers. A script may set others.
     pub limits: Option<&'a str>,
 }
 
-/// How to run a script (own).
+/// The arguments of `drm_server run` (own).
 #[derive(Clone, Copy, Debug, PartialEq, Eq)]
 pub struct Running<'a> {
-    /// The file of the script, if it is not on standard input.
+    /// The file of the script, or `None` for standard input.
     pub path: Option<&'a str>,
+    /// The device.
     pub device: AskedDevice<'a>,
     /// The file to which the journal is written at the end.
     pub journal: Option<&'a str>,
 }
 
-/// Which files to check or to update (own).
+/// The arguments of `drm_server check` and `drm_server update` (own).
 #[derive(Debug, PartialEq, Eq, Drop)]
 pub struct Checking<'a> {
+    /// The files.
     pub files: Vec<&'a str>,
+    /// The device of each file.
     pub device: AskedDevice<'a>,
 }
 
-/// Which script to explain, of which client or line, and in which form (own).
+/// The arguments of `drm_server explain` (own).
 #[derive(Clone, Copy, Debug, PartialEq, Eq)]
 pub struct Explaining<'a> {
+    /// The file of the script.
     pub path: &'a str,
+    /// The device.
     pub device: AskedDevice<'a>,
-    /// The only client that is explained: a label or a number.
+    /// The only client to explain, by its label or its number.
     pub client: Option<&'a str>,
-    /// The only line whose answer is explained.
+    /// The only line to explain, from 1.
     pub line: Option<u64>,
+    /// Whether the explanation is printed as JSON.
     pub is_json: bool,
 }

@@ -1,4 +1,4 @@
-//! Checking files.
+//! The command `drm_server check`.
 
 ghost use Rattle.std.specs.Prelude.{◌≡◌, false, IfOk};
 ghost use Rattle.drm_streams.specs.Streams.{no_calls};
@@ -23,10 +23,10 @@ use std::alloc::Global;
 use std::rt::Files;
 use std::{fs, io};
 
-/// How many reads and writes the check of a file makes at most.
+/// The most reads and writes of the check of a file.
 const MOST_TURNS: u64 = 1_000_000;
 
-/// Nothing where a text was written whole, else the fault.
+/// Returns the fault of writing a text, or nothing if it was written whole.
 pub(crate) fn fault_of(written: Written) -> Result<(), Fault> {
     match written {
         Written::Whole => Ok(()),
@@ -35,13 +35,13 @@ pub(crate) fn fault_of(written: Written) -> Result<(), Fault> {
     }
 }
 
-/// The path that stands for standard input.
+/// The path that means standard input.
 pub(crate) const INPUT: &str = "-";
 
-/// The bytes of a file, or of standard input. If they can't be read, the cause is logged.
+/// The bytes of a file or of standard input. If they can't be read, the cause is logged.
 pub(crate) type FileBytes<'a, R, F> = FromRead<LoggedRead<'a, R, F>>;
 
-/// A file's bytes. Where it can't be opened, the cause is logged.
+/// Opens a file. If it can't be opened, the cause is logged.
 pub(crate) fn open<'a, R: Files + Log>(
     rt: &'a R,
     path: &'a str,
@@ -57,7 +57,7 @@ pub(crate) fn open<'a, R: Files + Log>(
     }
 }
 
-/// Checks a file, and tells on standard output of the answers that it doesn't expect, and of the commands that explain them.
+/// Checks a file. Prints each answer that differs from the expected one, and the command that explains it.
 fn check_file<R: Input + Files + Print + AllocGlobal + Log>(
     rt: &R,
     alloc: Global,
@@ -87,7 +87,7 @@ fn check_file<R: Input + Files + Print + AllocGlobal + Log>(
     ))
 }
 
-/// Tells on standard output of a line that can't be used, and logs the cause. What else ended a run early is its fault.
+/// Prints that a line can't be used, and logs the cause. Any other early end is returned as a fault.
 pub(crate) fn tell_end<R: Print + Log>(
     rt: &R,
     path: &str,
@@ -122,7 +122,7 @@ fn tell_silent<R: Print>(rt: &R, path: &str, report: &Report) -> Result<(), Faul
     fault_of(write_silent(path, &mut sink, &mut turns))
 }
 
-/// Checks each file, and prints how many expectations are met, and how many are not or are missing.
+/// Checks each file, and prints the number of expectations that are met, and of those that are not met or are missing.
 fn check_files<R: Input + Files + Print + AllocGlobal + Log>(
     rt: &R,
     alloc: Global,
@@ -142,7 +142,8 @@ fn check_files<R: Input + Files + Print + AllocGlobal + Log>(
     Ok(totals)
 }
 
-/// Checks files, each on a device of its own, and prints the differences and the totals (own). Returns what the program ends with.
+/// Checks each file on a new device, prints the differences and the totals, and returns the outcome of the program
+/// (own). Allocates the devices.
 pub fn check<R: Input + Files + Print + AllocGlobal + Log>(
     rt: &R,
     alloc: Global,

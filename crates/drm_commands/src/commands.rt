@@ -1,14 +1,14 @@
-//! Commands as one types them.
+//! Commands as a user types them.
 
 use crate::asked::AskedDevice;
 use std::alloc::{AllocError, Global};
 
-/// Whether a shell takes the byte as it is, wherever it stands in a word.
+/// Returns whether a shell takes the byte literally at any place of a word.
 fn is_plain(byte: u8) -> bool {
     byte.is_ascii_alphanumeric() || b"/._-+=:,@%".contains(&byte)
 }
 
-/// Puts a word behind a command, in quotes where a shell would read it otherwise.
+/// Appends a word to a command, in quotes if a shell would read it otherwise.
 fn push_word(command: &mut String, word: &str) -> Result<(), AllocError> {
     if word.bytes().all(is_plain) {
         return command.push_str(word);
@@ -24,7 +24,7 @@ fn push_word(command: &mut String, word: &str) -> Result<(), AllocError> {
     command.push('\'')
 }
 
-/// Puts an option behind a command, where it has a value.
+/// Appends an option to a command, if it has a value.
 fn push_option(command: &mut String, name: &str, value: Option<&str>) -> Result<(), AllocError> {
     match value {
         Some(value) => {
@@ -35,7 +35,7 @@ fn push_option(command: &mut String, name: &str, value: Option<&str>) -> Result<
     }
 }
 
-/// The command that explains a line of a file, but for the line's number.
+/// Returns the command that explains a line of a file, without the line's number.
 pub(crate) fn explain_command(
     alloc: Global,
     path: &str,
@@ -43,7 +43,7 @@ pub(crate) fn explain_command(
 ) -> Result<String, AllocError> {
     let mut command = String::from_str(alloc, "drm_server explain ")?;
     if path.starts_with("-") {
-        // it is no option
+        // it is not an option
         command.push_str("./")?;
     }
     push_word(&mut command, path)?;

@@ -1,4 +1,4 @@
-//! The device that the command line asks for.
+//! The device that the command line describes.
 
 ghost use Rattle.std.specs.Prelude.{◌≡◌, true, IfOk};
 ghost use Rattle.drm_table.specs.Limits.{are_in_range};
@@ -33,18 +33,22 @@ pub fn asked_limits<R: Log>(rt: &R, numbers: Option<&str>) -> Result<Limits, Fau
     Ok(limits)
 }
 
-/// The text of a topology's file. It is read once, so that it can be a pipe.
+/// The text of a topology's file (own). It is read once, so that it can be a pipe.
 #[derive(Drop)]
 pub struct TopologyText<'a> {
     pub(crate) path: &'a str,
     text: Vec<u8>,
 }
 
-/// Reads the file of the topology, if there is one (own). Limits that can't be used are refused before.
+/// Reads the file of the topology, if there is one (own). Limits that can't be used are refused before. Allocates the
+/// text.
 ///
 /// # Errors
 ///
-/// `Fault::CommandLine` for the limits, `Fault::Read` if the file can't be read. Both are logged.
+/// - `Fault::CommandLine` for the limits.
+/// - `Fault::Read` if the file can't be read.
+///
+/// Both are logged.
 pub fn read_asked<'a, R: Files + AllocGlobal + Log>(
     rt: &R,
     asked: AskedDevice<'a>,
@@ -77,7 +81,7 @@ pub(crate) fn asked_topology<R: Log>(
     }
 }
 
-/// What a device of a script begins with.
+/// Returns the setup of a script's device.
 pub(crate) fn asked_setup<R: Log>(
     rt: &R,
     limits: Option<&str>,
@@ -92,7 +96,8 @@ pub(crate) fn asked_setup<R: Log>(
 ///
 /// # Errors
 ///
-/// `Fault::ScriptLine`, which is logged, if a line of the topology can't be used; `Fault::Memory` if memory is refused.
+/// - `Fault::ScriptLine`, which is logged, if a line of the topology can't be used.
+/// - `Fault::Memory` if memory is refused.
 pub fn asked_device<R: Log>(
     rt: &R,
     alloc: Global,

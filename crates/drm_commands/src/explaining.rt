@@ -1,4 +1,4 @@
-//! Explaining a script.
+//! The command `drm_server explain`.
 
 use crate::asked::Explaining;
 use crate::checking::{INPUT, fault_of, open, tell_end};
@@ -18,10 +18,10 @@ use std::alloc::Global;
 use std::io;
 use std::rt::Files;
 
-/// How many reads and how many writes are made at most.
+/// The most reads, and the most writes.
 const MOST_TURNS: u64 = 1_000_000;
 
-/// The client of a word: of a label, or of a number.
+/// Returns the client with this label or this number.
 fn client_of(labels: &Labels, word: &str) -> Option<u64> {
     match word.as_bytes() {
         [letter] if Label::from_letter(*letter).is_some() => {
@@ -32,13 +32,13 @@ fn client_of(labels: &Labels, word: &str) -> Option<u64> {
     }
 }
 
-/// A word that names no client of the script is refused.
+/// Logs that a word names no client of the script.
 fn no_client<R: Log>(rt: &R, path: &str, word: &str) -> Fault {
     error!(rt; target: PROGRAM, "{path}: no client was opened as {word}");
     Fault::CommandLine
 }
 
-/// The client of which alone is told, if one is named.
+/// Returns the only client to explain, if one is named.
 fn only_of<R: Log>(
     rt: &R,
     explaining: &Explaining<'_>,
@@ -53,7 +53,7 @@ fn only_of<R: Log>(
     }
 }
 
-/// The explanation as JSON, with a line end.
+/// Returns the explanation as JSON, with a line end.
 fn json_of(alloc: Global, explanation: Explanation, only: Option<u64>) -> Result<String, Fault> {
     let mut explanation = explanation;
     if let Some(client) = only {
@@ -66,7 +66,7 @@ fn json_of(alloc: Global, explanation: Explanation, only: Option<u64>) -> Result
     Ok(text)
 }
 
-/// What is told of a recording.
+/// Returns the text of an explanation.
 fn text_of<R: Log>(
     rt: &R,
     alloc: Global,
@@ -91,7 +91,7 @@ fn text_of<R: Log>(
     lines_of(alloc, &explanation, &topology, labels, only).map_err(|_| Fault::Memory)
 }
 
-/// A line that can't be explained is refused.
+/// Logs that a line can't be explained.
 fn no_answer<R: Log>(rt: &R, path: &str, number: u64, lines: u64) -> Fault {
     if number == 0 || number > lines {
         error!(rt; target: PROGRAM, "{path}: no line {number}: the script has {lines} lines");
@@ -110,7 +110,7 @@ fn json_of_answer(alloc: Global, answer: &WrittenAnswer) -> Result<String, Fault
     Ok(text)
 }
 
-/// What is told of the answer of one line.
+/// Returns the text that explains the answer of one line.
 fn text_of_answer<R: Log>(
     rt: &R,
     alloc: Global,
@@ -144,7 +144,7 @@ fn text_of_answer<R: Log>(
     lines_of_answer(alloc, &answer, &labels).map_err(|_| Fault::Memory)
 }
 
-/// The outcome of a script that could not be recorded: a malformed one is told of as a check tells it.
+/// Returns the outcome of a script that was not recorded. If a line is malformed, it is printed as by a check.
 fn outcome_of_stop<R: Print + Log>(rt: &R, path: &str, stop: Stop) -> Outcome {
     match tell_end(rt, path, &stop.end(), stop.cause()) {
         Ok(()) => Outcome {
@@ -161,7 +161,7 @@ fn write_text<R: Print>(rt: &R, text: &str) -> Result<(), Fault> {
     fault_of(put_all(&mut sink, text.as_bytes(), &mut turns))
 }
 
-/// What there is to tell of a script.
+/// Returns the text for a script.
 fn told_of<R: Log>(
     rt: &R,
     alloc: Global,
@@ -192,7 +192,7 @@ fn record_asked<R: Input + Files + AllocGlobal + Log>(
     Ok(record(alloc, setup, &mut source, MOST_TURNS, line))
 }
 
-/// Records a script, and tells of it on standard output.
+/// Records a script, and prints its explanation.
 fn record_and_tell<R: Input + Files + Print + AllocGlobal + Log>(
     rt: &R,
     alloc: Global,
@@ -209,8 +209,8 @@ fn record_and_tell<R: Input + Files + Print + AllocGlobal + Log>(
     Ok(outcome_by(None))
 }
 
-/// Explains what the clients of a script have, or the answer of one of its lines, on standard output (own). Returns what the program ends
-/// with.
+/// Explains the rights of a script's clients, or the answer of one of its lines, on standard output (own). Returns the
+/// outcome of the program. Allocates the device and the explanation.
 pub fn explain_script<R: Input + Files + Print + AllocGlobal + Log>(
     rt: &R,
     alloc: Global,

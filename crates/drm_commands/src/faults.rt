@@ -1,4 +1,4 @@
-//! What the program tells of a fault.
+//! The faults of the program, each with its line and its exit status.
 
 ghost use Rattle.std.specs.Prelude.{◌≡◌, ◌+◌, ◌≤◌, ◌++◌, length, decimal};
 ghost use Rattle.arrayvec.specs.ArrayString.{array_string_len};
@@ -12,13 +12,13 @@ use drm_script::push_number;
 use drm_sessions::Class;
 use std::marker::Model;
 
-/// How many bytes a fault line has at most.
+/// The most bytes of a fault line.
 const LINE: usize = 64;
 
-/// Why the program ends with a status other than 0 (own).
+/// The reason the program ends with a status other than 0 (own).
 #[derive(Clone, Copy, Debug, PartialEq, Eq)]
 pub enum Fault {
-    /// The script's line of this number, from 1, is malformed.
+    /// The line with this number, from 1, is malformed.
     ScriptLine(u64),
     /// Standard input could not be read.
     Read,
@@ -26,11 +26,11 @@ pub enum Fault {
     Write,
     /// No turn was left.
     Turns,
-    /// No memory for the device, for the threads and their sessions, or for what the command line says.
+    /// Memory was refused for the device, for the threads and their sessions, or for the command line.
     Memory,
     /// A thread could not be started.
     Thread,
-    /// The shared device was not there at the end.
+    /// The shared device could not be taken back at the end.
     Turn,
     /// The command line was refused.
     CommandLine,
@@ -40,7 +40,7 @@ pub enum Fault {
     Accept(Class),
 }
 
-/// The line that tells of a fault, without a line end; empty where there is none.
+/// The line of a fault, without a line end (own). Empty if there is no fault.
 #[derive(Drop)]
 pub struct FaultLine {
     text: ArrayString<LINE>,
@@ -57,7 +57,7 @@ impl Model for FaultLine {
 impl FaultLine {
     ghost use Rattle.std.specs.Prelude.{◌≡◌, []};
 
-    /// The line of no fault.
+    /// Returns the line of no fault. Does not allocate.
     pub fn empty() -> FaultLine
         ensures { result ≡ [] }
     {
@@ -66,7 +66,7 @@ impl FaultLine {
         }
     }
 
-    /// The text of the line.
+    /// Returns the text of the line. Does not allocate.
     pub fn as_str(&self) -> &str
         ensures { result.now ≡ self.now }
     {
@@ -105,7 +105,8 @@ fn push_words(text: &mut ArrayString<LINE>, fault: Fault)
 }
 
 impl Fault {
-    /// The exit status: 1 a fault outside, 2 a malformed script, 3 a refused command line.
+    /// Returns the exit status: 1 for a fault outside, 2 for a malformed script, 3 for a refused command line. Does not
+    /// allocate.
     pub fn status(self) -> u8
         ensures { result ≡ faults.fault_status self }
     {
@@ -117,7 +118,7 @@ impl Fault {
         }
     }
 
-    /// The line that tells of the fault: `fault: ` and what it is.
+    /// Returns the line of the fault: `fault: ` and its words. Does not allocate.
     pub fn line(self) -> FaultLine
         ensures { result ≡ faults.fault_line self }
     {

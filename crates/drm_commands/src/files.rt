@@ -10,25 +10,25 @@ use std::path::AsPath;
 use std::rt::Files;
 use std::{fs, io};
 
-/// The most bytes of a file that is read whole: more than the longest journal has, which is 100,001 lines of 256 bytes.
+/// The most bytes of a file that is read whole. The longest journal has fewer: 100,001 lines of 256 bytes.
 const MOST_BYTES: usize = 32 * 1024 * 1024;
 
-/// The number of names that are tried for a temporary file.
+/// The most names that are tried for a temporary file.
 const MOST_NAMES: u32 = 1_000;
 
-/// Logs why a file can't be read.
+/// Logs the reason a file can't be read.
 fn read_fault<R: Log>(rt: &R, path: &str, reason: &io::Error) -> Fault {
     error!(rt; target: PROGRAM, "{path}: {reason}");
     Fault::Read
 }
 
-/// Logs why a file can't be written.
+/// Logs the reason a file can't be written.
 pub(crate) fn write_fault<R: Log>(rt: &R, path: &str, reason: &io::Error) -> Fault {
     error!(rt; target: PROGRAM, "{path}: {reason}");
     Fault::Write
 }
 
-/// A reader that logs why it can't be read.
+/// A reader that logs the reason if a read fails.
 #[derive(Drop)]
 pub(crate) struct LoggedRead<'a, R: Log, F: Read + Drop> {
     rt: &'a R,
@@ -79,7 +79,7 @@ pub(crate) fn read_whole<R: Files + Log>(
     }
 }
 
-/// A file that is removed as this is let go, unless it has taken the place of another.
+/// A file that is removed on drop, unless it has replaced another.
 struct Temporary<'a, R: Files> {
     rt: &'a R,
     path: String,
@@ -95,7 +95,7 @@ impl<R: Files> Drop for Temporary<'_, R> {
     }
 }
 
-/// Creates a file beside the one at `target`, which only its owner may read, under a name that no file has.
+/// Creates a file in the folder of `target`, which only its owner may read. No other file has its name.
 fn create_beside<'a, R: Files>(
     rt: &'a R,
     alloc: Global,
@@ -119,7 +119,7 @@ fn create_beside<'a, R: Files>(
     Err(io::Error::from(ErrorKind::AlreadyExists))
 }
 
-/// Writes a text into a new file, to the disk, with the permissions of the file that it replaces.
+/// Writes a text to a new file and to the disk, with the permissions of the file that it replaces.
 fn fill<F: Write + OpenFile>(
     file: &mut F,
     permissions: Permissions,
@@ -130,9 +130,11 @@ fn fill<F: Write + OpenFile>(
     file.sync_all()
 }
 
-/// Replaces the text of a regular file by another, also through symbolic links. The file is replaced as a whole, or not at all: the text is
-/// first written to the disk in a file beside it, which then takes its place. The permissions stay. The owner is the user who runs
-/// this, and other hard links to the file keep the old text.
+/// Replaces the text of a regular file, also through symbolic links.
+///
+/// The file is replaced as a whole or not at all. The text is first written to the disk as a new file in the same
+/// folder, which then takes its place. The permissions are unchanged. The owner is the user who runs this, and other
+/// hard links to the file keep the old text.
 pub(crate) fn replace_text<R: Files + AllocGlobal>(
     rt: &R,
     alloc: Global,

@@ -17,33 +17,35 @@ use std::io::Write;
 use std::os::unix::fs::MetadataExt;
 use std::rt::Files;
 
-/// Which file a path names, also through symbolic links.
+/// Returns the identity of the file at a path, also through symbolic links.
 fn id_of<R: Files>(rt: &R, path: &str) -> Option<(u64, u64)> {
     let metadata = fs::metadata(rt, path).ok()?;
     Some((metadata.dev(), metadata.ino()))
 }
 
-/// Whether both paths name one file.
+/// Returns whether both paths name the same file.
 fn is_same_file<R: Files>(rt: &R, path: &str, other: &str) -> bool {
     let id = id_of(rt, path);
     id.is_some() && id == id_of(rt, other)
 }
 
-/// The open file of a journal.
+/// The open file of a journal (own).
 #[derive(Drop)]
 pub struct JournalFile<'a, F: Drop> {
     path: &'a str,
     file: F,
 }
 
-/// The files that a journal must not replace.
+/// The files that a journal must not replace (own).
 #[derive(Clone, Copy, Debug, PartialEq, Eq)]
 pub struct FilesRead<'a> {
+    /// The file of the topology.
     pub topology: Option<&'a str>,
+    /// The file of the script.
     pub script: Option<&'a str>,
 }
 
-/// Refuses a journal in the place of a file that is read, which is a `kind`.
+/// Refuses a journal that would replace a file that is read. `kind` names that file.
 fn refuse_same<R: Files + Log>(
     rt: &R,
     path: &str,
@@ -59,8 +61,8 @@ fn refuse_same<R: Files + Log>(
     }
 }
 
-/// Creates the file of a journal, or empties it, so that nothing is asked if that can't be done. It is opened this once. The files
-/// that are read are refused, since the journal would empty them.
+/// Creates the file of a journal, or empties it, before the first step. If that fails, no step is made. It is opened
+/// only here. A file that is read is refused, since the journal would empty it.
 pub(crate) fn create_journal<'a, R: Files + Log>(
     rt: &R,
     path: &'a str,
@@ -74,11 +76,14 @@ pub(crate) fn create_journal<'a, R: Files + Log>(
     }
 }
 
-/// Creates the file of a journal, or empties it, if there is to be one (own).
+/// Creates the file of a journal or empties it, if there is to be one (own). Does not allocate.
 ///
 /// # Errors
 ///
-/// `Fault::CommandLine` if it would replace a file that is read, `Fault::Write` if it can't be created. Both are logged.
+/// - `Fault::CommandLine` if it would replace a file that is read.
+/// - `Fault::Write` if it can't be created.
+///
+/// Both are logged.
 pub fn create_asked<'a, R: Files + Log>(
     rt: &R,
     path: Option<&'a str>,
@@ -90,7 +95,7 @@ pub fn create_asked<'a, R: Files + Log>(
     }
 }
 
-/// Writes the events of a journal into its file, with the answers of an empty device of the same topology and limits.
+/// Writes the events of a journal to its file, with the answers of an empty device of the same topology and limits.
 fn write_journal<R: Log, F: Write + Drop>(
     rt: &R,
     alloc: Global,
@@ -113,12 +118,14 @@ fn write_journal<R: Log, F: Write + Drop>(
     Ok(())
 }
 
-/// Writes the events of a journal into its file, if there is one, with the answers of an empty device of the same topology and limits
-/// (own).
+/// Writes the events of a journal to its file, if there is one (own). The answers are those of an empty device of the
+/// same topology and limits. Allocates that device and the text.
 ///
 /// # Errors
 ///
-/// `Fault::Write`, which is logged, if the file can't be written; `Fault::Memory` if memory is refused; those of `asked_device`.
+/// - `Fault::Write`, which is logged, if the file can't be written.
+/// - `Fault::Memory` if memory is refused.
+/// - The faults of `asked_device`.
 pub fn write_noted<R: Files + AllocGlobal + Log>(
     rt: &R,
     alloc: Global,

@@ -1,4 +1,4 @@
-//! The commands of the program that run, check, update and explain scripts, and what the program ends with.
+//! The commands of the program that run, check, update and explain scripts, and the outcomes of the program.
 #![tactic(auto)]
 
 mod asked;

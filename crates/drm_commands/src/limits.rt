@@ -10,7 +10,7 @@ use drm_script::{Reading, read_line};
 /// The longest line of a script.
 const LINE: usize = 255;
 
-/// The limits that eight numbers set, which stand behind the word `limits` of a script.
+/// Returns the limits that eight numbers set, as after the word `limits` of a script.
 pub(crate) fn limits_of(numbers: &str) -> Option<Limits>
     ensures { IfSome result (λ limits. are_in_range limits ≡ true) }
 {

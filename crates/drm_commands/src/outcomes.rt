@@ -1,4 +1,4 @@
-//! What the program ends with.
+//! The outcomes of the program.
 
 ghost use Rattle.std.specs.Prelude.{◌≡◌, []};
 ghost use Rattle.drm_commands.specs.Outcomes.{checks_status, fault_of, line_by, status_by};
@@ -8,10 +8,12 @@ use crate::faults::{Fault, FaultLine};
 use drm_checks::Totals;
 use drm_runs::ScriptEnd;
 
-/// An exit status, and the line that tells of the fault on standard error; empty where there is none.
+/// The outcome of the program (own).
 #[derive(Drop)]
 pub struct Outcome {
+    /// The exit status.
     pub status: u8,
+    /// The line of the fault on standard error. Empty if there is none.
     pub line: FaultLine,
 }
 
@@ -28,7 +30,7 @@ pub(crate) fn script_fault(end: &ScriptEnd) -> Option<Fault>
     }
 }
 
-/// What the program ends with where it has this fault (own).
+/// Returns the outcome for this fault (own). Does not allocate.
 pub fn outcome_of_fault(fault: Fault) -> Outcome
     ensures status { result.status ≡ fault_status fault }
     ensures line { result.line ≡ fault_line fault }
@@ -39,7 +41,7 @@ pub fn outcome_of_fault(fault: Fault) -> Outcome
     }
 }
 
-/// Returns what the program ends with by its fault, if it has one: else status 0 and no line (own). Does not allocate.
+/// Returns the outcome for this fault, or status 0 and no line if there is none (own). Does not allocate.
 pub fn outcome_by(fault: Option<Fault>) -> Outcome
     ensures status { result.status ≡ status_by fault }
     ensures line { result.line ≡ line_by fault }
@@ -53,7 +55,8 @@ pub fn outcome_by(fault: Option<Fault>) -> Outcome
     }
 }
 
-/// What `drm_server run` ends with, by how the run of its script ended: status 0 and no line where it is done (own).
+/// Returns the outcome of `drm_server run` by the end of its script: status 0 and no line if it is done (own). Does not
+/// allocate.
 pub fn outcome_of(end: &ScriptEnd) -> Outcome
     ensures status { result.status ≡ status_by (fault_of end.now) }
     ensures line { result.line ≡ line_by (fault_of end.now) }
@@ -61,8 +64,9 @@ pub fn outcome_of(end: &ScriptEnd) -> Outcome
     outcome_by(script_fault(end))
 }
 
-/// What `drm_server check` ends with, by what its files came to: status 0 if all expectations are met and each file has
-/// one, 4 if not, and 2 if a file is malformed (own).
+/// Returns the outcome of `drm_server check` by the results of its files (own). Does not allocate.
+///
+/// The status is 2 if a file is malformed, else 4 if an expectation is not met or a file has none, else 0.
 pub fn outcome_of_checks(totals: &Totals) -> Outcome
     ensures status { result.status ≡ checks_status totals.now }
     ensures line { result.line ≡ [] }

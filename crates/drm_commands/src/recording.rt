@@ -13,8 +13,8 @@ use drm_table::{Answer, Apart, Limits};
 use std::alloc::{AllocError, Global};
 use std::mem;
 
-/// What the lines of a script were noted as, and whom its labels stand for at the end; the limits of its device, how many lines were
-/// used, and what the last of these was answered, where that is asked for and it asked anything.
+/// The recorded steps of a script, and the clients of its labels at the end. It also has the limits of its device, the
+/// number of lines that were used, and the answer of the last one, if requested.
 #[derive(Drop)]
 pub(crate) struct Recording {
     pub(crate) ledger: Ledger,
@@ -29,14 +29,14 @@ pub(crate) struct Recording {
 struct Recorder {
     lines: ScriptLines,
     interpreter: Interpreter,
-    /// What was noted so far.
+    /// The steps so far.
     ledger: Ledger,
-    /// The line that is the last to be used, and what it was answered.
+    /// The last line to use, and its answer.
     until: Option<u64>,
     last: Option<Line>,
 }
 
-/// The line of an answer, without its end.
+/// Returns the line of an answer, without its end.
 fn text_of(alloc: Global, answer: &Result<Answer, Apart>) -> Result<String, AllocError> {
     let line = line_of(answer);
     let text = str::from_utf8(line.as_bytes()).unwrap_or("");
@@ -59,7 +59,8 @@ impl Recorder {
         }
     }
 
-    /// Notes the last event of the device's journal with its answer. Where memory is refused, what was noted before is gone.
+    /// Records the last event of the device's journal with its answer. If memory is refused, all earlier steps are
+    /// dropped.
     fn note(&mut self, alloc: Global, answer: Answer) -> Result<(), AllocError>
         ensures { self.new.lines ≡ self.old.lines }
     {
@@ -75,12 +76,12 @@ impl Recorder {
         Ok(())
     }
 
-    /// Returns whether the line that is held is the last to be used.
+    /// Returns whether the line that is held is the last to use.
     fn is_at_last(&self) -> bool {
         self.until == Some(self.lines.number())
     }
 
-    /// Keeps what the line was answered, where that is the last one, and notes it, where it is a step.
+    /// Keeps the answer of the last line, and records it if it is a step.
     fn keep(&mut self, alloc: Global, answer: Result<Answer, Apart>) -> Result<(), AllocError>
         ensures { self.new.lines ≡ self.old.lines }
     {
@@ -101,7 +102,7 @@ impl Recorder {
         }
     }
 
-    /// Uses the line that is held. Gives how the script ends, where it doesn't go on.
+    /// Uses the line that is held. It returns the end of the script, or `None` if the script continues.
     fn use_held(&mut self, alloc: Global) -> Option<Stop>
         ensures { self.new.lines ≡ self.old.lines }
     {
@@ -118,7 +119,7 @@ impl Recorder {
         }
     }
 
-    /// Reads a line and uses it. Gives how the script ends, where it doesn't go on.
+    /// Reads a line and uses it. It returns the end of the script, or `None` if the script continues.
     fn use_next<S: Source>(
         &mut self,
         alloc: Global,
@@ -136,7 +137,7 @@ impl Recorder {
         self.use_held(alloc)
     }
 
-    /// What was recorded.
+    /// Returns the recording.
     fn finish(self) -> Recording {
         let Recorder {
             interpreter,
@@ -155,8 +156,8 @@ impl Recorder {
     }
 }
 
-/// Runs a script on a device of its own, which begins with this topology and these limits, up to the line of a number, or to its end, and
-/// notes its steps. Answers that lines expect are passed over.
+/// Runs a script on a new device with this topology and these default limits, and records its steps. It ends at the
+/// line of a number, or at the end of the script. Expected answers are ignored.
 pub(crate) fn record<S: Source>(
     alloc: Global,
     setup: Setup,

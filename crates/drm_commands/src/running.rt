@@ -1,4 +1,4 @@
-//! Running a script.
+//! The command `drm_server run`.
 
 ghost use Rattle.std.specs.Prelude.{◌≡◌};
 ghost use Rattle.drm_streams.specs.Streams.{no_calls};
@@ -17,10 +17,10 @@ use std::alloc::Global;
 use std::io;
 use std::rt::Files;
 
-/// How many reads and writes a run makes at most.
+/// The most reads and writes of a run.
 const MOST_TURNS: u64 = 1_000_000;
 
-/// Writes what the device of a script has noted, if there is a file for it.
+/// Writes the journal of a script's device, if there is a file for it.
 fn write_asked<R: Files + AllocGlobal + Log>(
     rt: &R,
     alloc: Global,
@@ -36,8 +36,8 @@ fn write_asked<R: Files + AllocGlobal + Log>(
     write_noted(rt, alloc, journal, topology, limits, events)
 }
 
-/// Runs the script of a source, and writes what its device noted where that is asked for. Where a line can't be used, the
-/// cause is logged, and what was asked before is written.
+/// Runs the script of a source, and writes its device's journal if requested. If a line can't be used, the cause is
+/// logged, and the steps before it are written.
 fn run_and_write<R: Print + Files + AllocGlobal + Log, S: Source>(
     rt: &R,
     alloc: Global,
@@ -57,7 +57,7 @@ fn run_and_write<R: Print + Files + AllocGlobal + Log, S: Source>(
     (ran.end, written)
 }
 
-/// Runs a script on a device as it is asked for, after the file of its journal was created.
+/// Runs a script on the described device, after the file of its journal was created.
 fn run_source<R: Print + Files + AllocGlobal + Log, S: Source>(
     rt: &R,
     alloc: Global,
@@ -91,7 +91,8 @@ fn run_asked<R: Input + Print + Files + AllocGlobal + Log>(
     }
 }
 
-/// Runs the script of a file, or of standard input, and prints its answers (own). Returns what the program ends with.
+/// Runs the script of a file or of standard input, prints its answers, and returns the outcome of the program (own).
+/// Allocates the device.
 pub fn run<R: Input + Print + Files + AllocGlobal + Log>(
     rt: &R,
     alloc: Global,

@@ -1,4 +1,4 @@
-//! Writing into files what is answered.
+//! The command `drm_server update`.
 
 use crate::asked::{AskedDevice, Checking};
 use crate::devices::{TopologyText, asked_setup, read_asked};
@@ -38,7 +38,7 @@ fn update_file<R: Files + AllocGlobal + Log>(
     }
 }
 
-/// Updates each file, up to the first that can't be.
+/// Updates each file, up to the first that can't be updated.
 fn update_files<R: Files + AllocGlobal + Log>(
     rt: &R,
     alloc: Global,
@@ -51,8 +51,8 @@ fn update_files<R: Files + AllocGlobal + Log>(
     Ok(())
 }
 
-/// Updates each file, up to the first that can't be updated (own). Returns what the program ends with. The files from that one on are
-/// unchanged.
+/// Updates each file, up to the first that can't be updated, and returns the outcome of the program (own). That file
+/// and the later ones are unchanged. Allocates the devices and the texts.
 pub fn update<R: Files + AllocGlobal + Log>(
     rt: &R,
     alloc: Global,

@@ -5,8 +5,8 @@ ghost use Rattle.std.specs.Prelude.{◌≤◌, length};
 use std::io;
 use std::io::Write;
 
-/// A writer of lines, which writes each control byte other than a line end as `\x` and two digits, so that no text of a file reaches
-/// the terminal as a command.
+/// A writer of lines that writes a control byte other than a line end as `\x` and two digits. So the text of a file
+/// can't control the terminal.
 #[derive(Drop)]
 pub(crate) struct Visible<W: Write + Drop> {
     writer: W,
@@ -22,7 +22,7 @@ fn is_control(byte: u8) -> bool {
     byte.is_ascii_control() && byte != b'\n'
 }
 
-/// Returns what stands before the first control byte.
+/// Returns the text before the first control byte.
 fn plain_front(text: &[u8]) -> &[u8]
     ensures { length result.now ≤ length text.now }
 {

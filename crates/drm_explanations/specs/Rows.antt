@@ -1,4 +1,4 @@
--- Rows of an explanation.
+-- The rows of an explanation (own).
 use Rattle.std.specs.Prelude.{◌≡◌, ℕ, ◌<◌, ◌==◌, Bool, true, not, ◌&&◌, ◌||◌, nat_le, length, List, [], ◌∷◌, ◌++◌, filter, Option, None, Some, IfSome, MatchOption, if◌then◌else◌}
 use Rattle.std.specs.List.{AllByRecursion, list_any}
 use Rattle.std.specs.List.Sorted.{IsNonDecreasing}
@@ -35,23 +35,24 @@ use Rattle.drm_explanations.specs.declared.rows.HandleRow.{HandleRow}
 use Rattle.drm_explanations.specs.declared.rows.LeaseRow.{LeaseRow}
 use Rattle.drm_explanations.specs.declared.rows.StandingRow.{StandingRow}
 
--- whether a lease is a client's: it made it or redeemed it
+-- whether the client created or redeemed a lease
 abbrev pub is_lease_of : ℕ → LeaseRow → Bool
 is_lease_of c row = (row.leased.client == c) || is_option c row.redeemed_by
 
--- whether a client may set a CRTC or a plane: it is current and controls it, and with universal planes off no primary or cursor plane
+-- whether a client may set a CRTC or a plane: it is current and controls it, and with universal planes off it is no
+-- primary or cursor plane
 abbrev pub may_set : Topology → List AnsweredEvent → ℕ → ℕ → Bool
 may_set t history c x = is_current_in history c && controls_in t history c x && (is_universal_in history c || not (is_primary_or_cursor t x))
 
--- the CRTCs and planes that it may set, rising
+-- the CRTCs and planes that it may set, in rising order
 abbrev pub settable : Topology → List AnsweredEvent → ℕ → List ℕ
 settable t history c = filter (may_set t history c) (crtc_ids t ++ plane_ids t)
 
--- by what a client is authenticated: by its opening as root, else by being a master, else by an AUTH_MAGIC
+-- the reason a client is authenticated: its opening as root, else a master, else an AUTH_MAGIC
 abbrev pub authenticated_by : List AnsweredEvent → ℕ → AuthenticatedBy
 authenticated_by history c = if is_root_in history c then Root else (if is_master_in history c then Master else AuthMagic)
 
--- the step since which it is: its opening, the step that made it a master, the first AUTH_MAGIC that named its magic
+-- the step since which it is: its opening, the step that made it a master, or the first AUTH_MAGIC that named its magic
 abbrev pub authenticated_since : List AnsweredEvent → ℕ → AuthenticatedBy → Option ℕ
 authenticated_since history c Root = Some c
 authenticated_since history c Master = option_map (λ (state : MasterState). state.step) (master_state_of (standings_in history) c)
@@ -62,14 +63,14 @@ abbrev pub named_magic : List AnsweredEvent → ℕ → AuthenticatedBy → Opti
 named_magic history c AuthMagic = option_map (λ (named : Authentication). named.magic) (authentication_of (authentications_in history) c)
 named_magic history c _ = None
 
--- why a client is authenticated, as the history says it
+-- the reason a client is authenticated, by the history
 pub record TellsAuthenticated (history : List AnsweredEvent) (c : ℕ) (row : Authenticated) : Type 0 where
   pub is_known : known history c ≡ true
   pub by : row.by ≡ authenticated_by history c
   pub since : Some row.since.step ≡ authenticated_since history c row.by
   pub magic : row.magic ≡ named_magic history c row.by
 
--- how a client stands to masters, as the history says it
+-- the master state of a client, by the history
 pub record TellsStanding (history : List AnsweredEvent) (c : ℕ) (row : StandingRow) : Type 0 where
   pub is_master : row.is_master ≡ is_master_in history c
   pub master : row.master ≡ master_in history c
@@ -80,16 +81,15 @@ pub record TellsStanding (history : List AnsweredEvent) (c : ℕ) (row : Standin
 abbrev pub is_shown : List HandleRow → ℕ → ℕ → Bool
 is_shown rows h o = list_any (λ (row : HandleRow). (row.handle == h) && (row.object == o)) rows
 
--- The rows of a client's handles: in rising order, each of a handle that the client has, with its object; and if the history is that
--- of a device, each handle that the client has is shown.
+-- The rows of a client's handles, in rising order. Each is of a handle that the client has, with its object. If the
+-- history is that of a device, each handle of the client has a row.
 pub record TellsHolds (history : List AnsweredEvent) (c : ℕ) (rows : List HandleRow) : Type 0 where
   pub rising : InOrder (λ (x y : HandleRow). x.handle < y.handle) rows
   pub had : AllByRecursion (λ (row : HandleRow). Has history c row.handle row.object) rows
   pub each : IsOfDevice history → (h o : ℕ) → Has history c h o → is_shown rows h o ≡ true
 
--- The row of an open client reports what the history says. It is reported to be authenticated exactly if it is, with the reason and
--- the step, to have universal planes on or off and a standing exactly if a step has said so, to be able to set what it may set, and to
--- hold what it holds.
+-- The row of an open client, by the history. It has an authentication exactly if the client is authenticated. It has universal
+-- planes and a standing exactly if a step has set them. It has what the client may set, and the handles that it holds.
 pub record TellsOpen (t : Topology) (history : List AnsweredEvent) (row : ClientRow) : Type 0 where
   pub is_authenticated : is_some row.authenticated ≡ known history row.client
   pub has_universal_planes : is_some row.universal_planes ≡ is_some (capability_of (capabilities_in history) row.client)
@@ -100,7 +100,7 @@ pub record TellsOpen (t : Topology) (history : List AnsweredEvent) (row : Client
   pub may_set : row.may_set.items ≡ settable t history row.client
   pub holds : TellsHolds history row.client row.holds.items
 
--- nothing but who the client was
+-- only how the client was opened
 pub record TellsNothing (row : ClientRow) : Type 0 where
   pub authenticated : row.authenticated ≡ None
   pub universal_planes : row.universal_planes ≡ None
@@ -112,8 +112,9 @@ pub record TellsNothing (row : ClientRow) : Type 0 where
 abbrev pub closed_step : List AnsweredEvent → ℕ → Option ℕ
 closed_step history c = first_step_after c (λ step. closes (effect step) c) history
 
--- ---- which clients have rows
+-- ---- the clients that have rows
 
+-- the client that an event opened, by its answer
 abbrev pub opens_by : Event → Answer → Option ℕ
 opens_by (Open opening) (Opened client) = Some client
 opens_by event answer = None
@@ -133,7 +134,7 @@ unfoldable pub clients_in : Option ℕ → List AnsweredEvent → List ℕ
 clients_in only [] = []
 clients_in only (step ∷ past) = clients_in only past ++ with_row only (opens step)
 
--- a client is reported as closed by the step that closed it, and has nothing then
+-- the row of a closed client has the step that closed it, and no rights or handles
 pub record TellsClient (t : Topology) (history : List AnsweredEvent) (row : ClientRow) : Type 0 where
   pub closed : row.closed ≡ closed_step history row.client
   pub rest : MatchOption row.closed (TellsOpen t history row) (λ step. (has_closed history row.client ≡ true) × TellsNothing row)
@@ -142,15 +143,16 @@ pub record TellsClient (t : Topology) (history : List AnsweredEvent) (row : Clie
 abbrev pub is_step : List AnsweredEvent → ℕ → Bool
 is_step history n = nat_le 1 n && nat_le n (length history)
 
--- a lease's lessee, which is named by the step that made it, the lessee's id, and the token
+-- the lessee of a lease, named by the step that created it, its id, and the token
 abbrev pub names_of : Lease → ℕ × ℕ × ℕ
 names_of lease = (lease.master, lease.id, lease.token)
 
+-- the same of a row
 abbrev pub names_of_row : LeaseRow → ℕ × ℕ × ℕ
 names_of_row row = (row.master, row.lessee_id, row.token)
 
--- The row of a lease reports what the history says: which step made it, whose lessee it is, what its step lent it, in rising order,
--- which client redeemed it, and the step that ended it if it has ended.
+-- The row of a lease, by the history. It has the step that created it, the lessor, and what its step lent, in rising
+-- order. It also has the client that redeemed it, and the step that ended it if it has ended.
 pub record TellsLease (t : Topology) (history : List AnsweredEvent) (row : LeaseRow) : Type 0 where
   pub lessor : row.lessor ≡ lessor_in history row.master
   pub mode_objects : (x : ℕ) → is_among row.mode_objects.items x ≡ lent_in t history row.master x

@@ -15,7 +15,7 @@ use drm_rights::{Ledger, Step};
 use drm_table::{Answer, Event, Opening};
 use std::alloc::{AllocError, Global};
 
-/// All CRTCs and planes, rising.
+/// Returns all CRTCs and planes in rising order.
 fn screens(alloc: Global, topology: &Topology) -> Result<Vec<u32>, AllocError>
     ensures { IfOk result (λ ids. ids.items ≡ fixed.crtc_ids topology.now ++ fixed.plane_ids topology.now) }
 {
@@ -27,8 +27,8 @@ fn screens(alloc: Global, topology: &Topology) -> Result<Vec<u32>, AllocError>
     Ok(screens)
 }
 
-/// Whether a client may set a CRTC or a plane: it is current and controls it, and with universal planes off it is an overlay plane or
-/// a CRTC.
+/// Returns whether a client may set a CRTC or a plane. It must be current and control it. With universal planes off,
+/// the plane must be an overlay plane.
 fn may_set(ledger: &Ledger, topology: &Topology, client: u64, id: u32) -> bool
     ensures { result ≡ rows.may_set topology.now ledger.now client id }
 {
@@ -37,7 +37,7 @@ fn may_set(ledger: &Ledger, topology: &Topology, client: u64, id: u32) -> bool
         && (ledger.has_universal(client) || topology.crtc_of_plane(id).is_none())
 }
 
-/// The CRTCs and planes that a client may set, rising.
+/// Returns the CRTCs and planes that a client may set, in rising order.
 fn settable(
     alloc: Global,
     ledger: &Ledger,
@@ -59,7 +59,7 @@ fn node_of(opening: &Opening) -> (Node, bool) {
     }
 }
 
-/// The row of a client that was opened so, as a closed one.
+/// Returns the row of a closed client that was opened like this.
 fn closed_row(
     alloc: Global,
     labels: &Labels,
@@ -86,7 +86,7 @@ fn closed_row(
     }
 }
 
-/// The row of a client that was opened so.
+/// Returns the row of a client that was opened like this.
 fn client_row(
     alloc: Global,
     ledger: &Ledger,
@@ -124,7 +124,7 @@ fn opened_by(step: &Step) -> Option<(u64, &Opening)>
     }
 }
 
-/// Returns whether a client has a row: each has, or the one that is named.
+/// Returns whether a client has a row. If a client is named, only that one has.
 fn has_row(only: Option<u64>, client: u64) -> bool
     ensures { rows.with_row only (Some client) ≡ (if result then client ∷ [] else []) }
 {
@@ -134,7 +134,7 @@ fn has_row(only: Option<u64>, client: u64) -> bool
     }
 }
 
-/// The row of the client that a step opened; none where it opened none, or another is named.
+/// Returns the row of the client that a step opened, or `None` if it opened none or another client is named.
 fn opened_row(
     alloc: Global,
     ledger: &Ledger,
@@ -157,7 +157,8 @@ fn opened_row(
     Ok(Some(row))
 }
 
-/// A row for each client that was opened, in the order of their openings; for one alone where one is named.
+/// Returns a row for each client that was opened, in the order of their openings. If a client is named, it returns only
+/// its row.
 pub(crate) fn client_rows(
     alloc: Global,
     ledger: &Ledger,

@@ -1,4 +1,4 @@
-//! Explaining a history.
+//! The explanation of a history.
 
 ghost use Rattle.std.specs.Prelude.{◌≡◌, IfOk, All, map};
 ghost use Rattle.drm_authority.specs.MasterState.{owner_in};
@@ -13,9 +13,19 @@ use drm_modes::Topology;
 use drm_rights::Ledger;
 use std::alloc::{AllocError, Global};
 
-/// What a history gives, and by which of its steps: the device's master, each client with why it is authenticated, a master and
-/// current and with the chain of each of its handles, and each lease with who made it and what ended it. Labels name clients. Where
-/// one client is named there are no rows of others. Where memory is refused there is no explanation.
+/// Returns the rights that a history grants, and the steps that granted them (own).
+///
+/// The rows are:
+///
+/// - the device's master
+/// - each client, with the reasons that it is authenticated, a master and current, and the chain of each of its handles
+/// - each lease, with the steps that created and ended it
+///
+/// Labels name clients. If `only` names a client, there are no rows of other clients. Allocates the rows.
+///
+/// # Errors
+///
+/// `AllocError` if memory is refused. There is then no explanation.
 pub fn explain(
     alloc: Global,
     ledger: &Ledger,
@@ -41,7 +51,7 @@ pub fn explain(
     })
 }
 
-/// Whether a lease is a client's: it made it or redeemed it.
+/// Returns whether the client created or redeemed a lease.
 fn is_lease_of(row: &LeaseRow, client: u64) -> bool
     ensures { result ≡ rows.is_lease_of client row.now }
 {
@@ -52,22 +62,25 @@ impl Explanation {
     ghost use Rattle.std.specs.Prelude.{◌≡◌, ◌==◌, find, filter, option_copied};
     ghost use Rattle.drm_explanations.specs.Rows as rows;
 
-    /// The row of a client; none where it was never opened.
+    /// Returns the row of a client, or `None` if it was never opened. Does not allocate.
     pub fn client(&self, client: u64) -> Option<&ClientRow>
         ensures { option_copied result ≡ find (λ row. row.client == client) self.now.clients.items }
     {
         self.clients.iter().find(|row| row.client == client)
     }
 
-    /// The lease of a lessee; none of a master that nobody lent.
+    /// Returns the lease of a lessee, or `None` if the master is no lessee. Does not allocate.
     pub fn lease(&self, master: u64) -> Option<&LeaseRow>
         ensures { option_copied result ≡ find (λ row. row.master == master) self.now.leases.items }
     {
         self.leases.iter().find(|row| row.master == master)
     }
 
-    /// Leaves the rows of one client, and the leases that it made or redeemed. The chains of that client may name rows of others as their
-    /// fronts, unless `explain` was asked for that client alone.
+    /// Removes the rows of other clients, and the leases that the client neither created nor redeemed. Does not
+    /// allocate.
+    ///
+    /// The client's chains may then name removed rows as their fronts, unless `explain` was called for that client
+    /// alone.
     pub fn retain_client(&mut self, client: u64)
         ensures clients { self.new.clients.items ≡ filter (λ row. row.client == client) self.old.clients.items }
         ensures leases { self.new.leases.items ≡ filter (rows.is_lease_of client) self.old.leases.items }

@@ -1,10 +1,10 @@
-//! Links of chains that a row has already.
+//! The links of chains that an earlier row has.
 
 use crate::rows::FrontRow;
 use drm_rights::{ChainEnd, Link, Marks};
 use std::alloc::{AllocError, Global};
 
-/// How many of the last links of a chain its row has in any case.
+/// The number of last links of a chain that its row always has.
 const KEPT: usize = 4;
 
 /// The row that has the link of a step.
@@ -14,20 +14,20 @@ struct Place {
     handle: u64,
 }
 
-/// Which steps are links of a row already, and of which, for each step.
+/// For each step, the row that has it as a link.
 #[derive(Drop)]
 pub(crate) struct Fronts {
     marks: Vec<bool>,
     places: Vec<Option<Place>>,
 }
 
-/// The place of a step among all, by its number.
+/// Returns the place of a step among all, by its number.
 fn place_of(step: u64) -> usize {
     usize::try_from(step.saturating_sub(1)).unwrap_or(usize::MAX)
 }
 
 impl Fronts {
-    /// No row has any of so many steps.
+    /// Returns the fronts of `steps` steps, none of which is in a row.
     pub(crate) fn new(alloc: Global, steps: usize) -> Result<Fronts, AllocError> {
         let mut marks = Vec::new(alloc);
         marks.resize(steps, false)?;
@@ -36,7 +36,7 @@ impl Fronts {
         Ok(Fronts { marks, places })
     }
 
-    /// Which links a further row leaves out.
+    /// Returns the links that the next row leaves out.
     pub(crate) fn marks(&self) -> Marks<'_> {
         Marks {
             steps: self.marks.as_slice(),
@@ -48,7 +48,7 @@ impl Fronts {
         *self.places.get(place_of(step))?
     }
 
-    /// The row that has the first links of a chain, if they are left out.
+    /// Returns the row that has the first links of a chain, if they are left out.
     pub(crate) fn front_of(&self, end: &ChainEnd) -> Option<FrontRow> {
         let left = end.left.as_ref()?;
         let place = self.at(left.step)?;
@@ -71,7 +71,7 @@ impl Fronts {
         }
     }
 
-    /// Notes the links that the row of a handle has.
+    /// Records the links in the row of a handle.
     pub(crate) fn note(&mut self, client: u64, handle: u64, links: &[Link]) {
         let place = Place { client, handle };
         for link in links {

@@ -12,7 +12,7 @@ use drm_modes::Topology;
 use drm_rights::{Lease, Ledger};
 use std::alloc::{AllocError, Global};
 
-/// Returns the step that ended a lease; none where it has not ended.
+/// Returns the step that ended a lease, or `None` if it has not ended.
 fn ended_row(ledger: &Ledger, master: u64) -> Option<At>
     ensures step { option_map (λ told. told.step) result ≡ ended_at ledger.now master }
     ensures ended { IfSome result (λ _. has_ended ledger.now master ≡ true) }
@@ -21,7 +21,7 @@ fn ended_row(ledger: &Ledger, master: u64) -> Option<At>
     at(ledger.steps(), step)
 }
 
-/// The row of a lease; none where no step made it.
+/// Returns the row of a lease, or `None` if no step created it.
 fn row_of(
     alloc: Global,
     ledger: &Ledger,
@@ -46,7 +46,7 @@ fn row_of(
     }))
 }
 
-/// A row for each lease, those that ended too, in the order in which they were made.
+/// Returns a row for each lease in the order of their creation, with those that ended.
 pub(crate) fn lease_rows(
     alloc: Global,
     ledger: &Ledger,

@@ -1,4 +1,4 @@
-//! Why each client has what it has: explanations of a history, as rows and as lines.
+//! Explanations of a history as rows and as lines: the rights of each client, and the steps that granted them.
 #![tactic(auto)]
 
 mod clients;

@@ -1,4 +1,4 @@
-//! Explanations as lines, each with one subject and the reason behind a colon.
+//! Explanations as lines, each with one subject and the reason after a colon.
 
 use crate::names::{Labels, Name};
 use crate::rows::{
@@ -8,7 +8,8 @@ use crate::rows::{
 use drm_modes::{Kind, Topology};
 use std::alloc::{AllocError, Global};
 
-/// What lines are made of: the whole explanation, who the labels stand for, and what the ids of mode objects are.
+/// The values that lines are written from: the whole explanation, the clients of the labels, and the kinds of mode
+/// objects.
 #[derive(Clone, Copy)]
 struct Scene<'a> {
     explanation: &'a Explanation,
@@ -22,8 +23,14 @@ impl Scene<'_> {
     }
 }
 
-/// The explanation as lines: of the device, of each client with its handles, and of each lease; of one client alone where one is
-/// named, with the leases that it made or redeemed. Where memory is refused there are no lines.
+/// Returns the explanation as lines: of the device, of each client with its handles, and of each lease (own).
+///
+/// If `only` names a client, the lines are of this client and of the leases that it created or redeemed. Allocates the
+/// text.
+///
+/// # Errors
+///
+/// `AllocError` if memory is refused. There are then no lines.
 pub fn lines_of(
     alloc: Global,
     explanation: &Explanation,
@@ -53,21 +60,30 @@ pub fn lines_of(
     Ok(text)
 }
 
-/// What a line of an explanation tells of: the device's master; who a client is, why it is authenticated or not, why it has
-/// universal planes off, why it is a master or not, and why it is current or not; the lease of a lessee.
+/// The subject of a line of an explanation (own). Clients and masters are numbers of steps.
 #[derive(Clone, Copy, PartialEq, Eq, Debug)]
 pub enum Subject {
+    /// The device's master.
     Device,
+    /// How the client was opened.
     Client(u64),
+    /// The reason the client is authenticated, or that it is not.
     Authentication(u64),
+    /// The reason the client has universal planes off.
     UniversalPlanes(u64),
+    /// The reason the client is a master, or whose master it has.
     Master(u64),
+    /// The reason the client is current, or that it is not.
     Current(u64),
+    /// The lease of the lessee.
     Lease(u64),
 }
 
-/// Puts the line of an explanation that tells of a subject; nothing where it has none. Where memory is refused, a front of the line
-/// is put.
+/// Appends the line of an explanation about a subject, or nothing if it has none (own). Allocates room in the text.
+///
+/// # Errors
+///
+/// `AllocError` if memory is refused. The text may then end with a front of the line.
 pub fn line_about(
     alloc: Global,
     explanation: &Explanation,
@@ -110,7 +126,7 @@ pub fn line_about(
     }
 }
 
-/// Why a client is current or not, or else why it is a master or not.
+/// Writes the reason that a client is current or not, or that it is a master or not.
 fn of_standing(
     scene: Scene<'_>,
     row: &ClientRow,
@@ -124,7 +140,7 @@ fn of_standing(
     }
 }
 
-/// The device's master, and the step since which it is that.
+/// Writes the device's master, and the step since which it has been that.
 fn device_line(scene: Scene<'_>, text: &mut String) -> Result<(), AllocError> {
     match scene.explanation.device.master {
         Some(master) => write!(text, "the device's master is {master}: ")?,
@@ -143,7 +159,7 @@ fn device_line(scene: Scene<'_>, text: &mut String) -> Result<(), AllocError> {
     }
 }
 
-/// The lines of one client: who it is, and where it is open why it is what it is, and what it has.
+/// Writes the lines of one client: how it was opened, and if it is open, its state, rights and handles.
 fn client_lines(
     alloc: Global,
     scene: Scene<'_>,
@@ -175,7 +191,7 @@ fn node_word(node: Node) -> &'static str {
     }
 }
 
-/// Who a client is, and when it was opened and closed.
+/// Writes how a client was opened, and when it was opened and closed.
 fn identity_line(scene: Scene<'_>, row: &ClientRow, text: &mut String) -> Result<(), AllocError> {
     let name = scene.name(row.client);
     let client = row.client;
@@ -193,7 +209,7 @@ fn identity_line(scene: Scene<'_>, row: &ClientRow, text: &mut String) -> Result
     }
 }
 
-/// Why a client is authenticated, or that it isn't.
+/// Writes the reason that a client is authenticated, or that it is not.
 fn authenticated_line(
     scene: Scene<'_>,
     row: &ClientRow,
@@ -232,7 +248,7 @@ fn authentication(
     }
 }
 
-/// Why a client is a master, or whose it is.
+/// Writes the reason that a client is a master, or whose master it has.
 fn master_line(
     scene: Scene<'_>,
     row: &ClientRow,
@@ -273,7 +289,7 @@ fn master_line(
     }
 }
 
-/// Why a client has universal planes off; nothing of one that has them on.
+/// Writes the reason that a client has universal planes off, or nothing if it has them on.
 fn universal_line(scene: Scene<'_>, row: &ClientRow, text: &mut String) -> Result<(), AllocError> {
     let Some(universal) = &row.universal_planes else {
         return Ok(());
@@ -295,7 +311,7 @@ fn universal_line(scene: Scene<'_>, row: &ClientRow, text: &mut String) -> Resul
     }
 }
 
-/// Why a client is current, or isn't.
+/// Writes the reason that a client is current, or that it is not.
 fn current_line(
     scene: Scene<'_>,
     row: &ClientRow,
@@ -332,7 +348,7 @@ fn current_line(
     }
 }
 
-/// Which master the device has in place of a client's.
+/// Writes the device's master, which is not that of the client.
 fn other_master(scene: Scene<'_>, text: &mut String) -> Result<(), AllocError> {
     match scene.explanation.device.master {
         Some(other) => writeln!(text, ", and the device's is {other}"),
@@ -340,7 +356,7 @@ fn other_master(scene: Scene<'_>, text: &mut String) -> Result<(), AllocError> {
     }
 }
 
-/// What a client may set, and why.
+/// Writes the CRTCs and planes that a client may set, and the reason.
 fn may_set_line(
     alloc: Global,
     scene: Scene<'_>,
@@ -374,7 +390,7 @@ fn kind_word(kind: Option<Kind>) -> &'static str {
     }
 }
 
-/// Mode objects by their kinds, and nothing where there are none.
+/// Writes mode objects by their kinds, or nothing if there are none.
 fn write_objects(scene: Scene<'_>, ids: &[u32], text: &mut String) -> Result<(), AllocError> {
     if ids.is_empty() {
         return text.push_str("nothing");
@@ -391,7 +407,7 @@ fn write_objects(scene: Scene<'_>, ids: &[u32], text: &mut String) -> Result<(),
     Ok(())
 }
 
-/// Which earlier line has the first links of a chain, and up to which step, where they are left out.
+/// Writes the earlier line that has the first links of a chain, and their last step, if they are left out.
 fn front_words(
     scene: Scene<'_>,
     front: Option<&FrontRow>,
@@ -405,7 +421,7 @@ fn front_words(
     write!(text, "as handle {handle} of {name} up to step {step}, ")
 }
 
-/// A handle, and the chain by which it came.
+/// Writes a handle, and the chain by which the client obtained it.
 fn hold_line(
     scene: Scene<'_>,
     client: u64,
@@ -425,7 +441,7 @@ fn hold_line(
     text.push_str("\n")
 }
 
-/// How an object was published, and given for that.
+/// Writes how an object was published, and the handle that was assigned for that.
 fn link_words(scene: Scene<'_>, link: &LinkRow, text: &mut String) -> Result<(), AllocError> {
     let At { step, client, call } = link.given;
     let name = scene.name(client);
@@ -450,7 +466,7 @@ fn published_words(published: &PublishedRow, text: &mut String) -> Result<(), Al
     }
 }
 
-/// A lease: what it has, by which leases, or what ended it.
+/// Writes a lease: what it has, the leases above it, or the step that ended it.
 fn lease_line(
     alloc: Global,
     scene: Scene<'_>,
@@ -471,7 +487,7 @@ fn lease_line(
     lease_chain(alloc, scene, row, text)
 }
 
-/// The lease of a master. Leases stand in the order in which they were made, so that none is older than the first.
+/// Returns the lease of a master. Leases are in the order of their creation, so that none is older than the first.
 fn lease_of(explanation: &Explanation, master: u64) -> Option<&LeaseRow> {
     let first = explanation.leases.first()?;
     if master < first.master {
@@ -480,7 +496,7 @@ fn lease_of(explanation: &Explanation, master: u64) -> Option<&LeaseRow> {
     explanation.lease(master)
 }
 
-/// The lessees above one, by their leases: the nearest first. Each is older than the one below it.
+/// Returns the lessees above one, by their leases, the nearest first. Each is older than the one below it.
 fn lessees_above(
     alloc: Global,
     explanation: &Explanation,
@@ -501,7 +517,7 @@ fn lessees_above(
     Ok(above)
 }
 
-/// The leases by which a lessee came, from the one that an owner made on, and what ended the last.
+/// Writes the leases above a lessee, from the one that an owner created on, and the step that ended the last.
 fn lease_chain(
     alloc: Global,
     scene: Scene<'_>,
@@ -527,7 +543,7 @@ fn lease_chain(
     text.push_str("\n")
 }
 
-/// Who leased, what the lessee was called, and who redeemed its token.
+/// Writes the client that leased, the lessee's id, and the client that redeemed its token.
 fn lease_words(scene: Scene<'_>, row: &LeaseRow, text: &mut String) -> Result<(), AllocError> {
     let name = scene.name(row.leased.client);
     let LeaseRow {

@@ -1,4 +1,4 @@
-//! How clients, calls and steps are named.
+//! Names of clients, calls and steps.
 
 ghost use Rattle.std.specs.Prelude.{◌≡◌, ◌&&◌, IfSome, length, nat_le};
 ghost use Rattle.std.specs.Option.{is_some};
@@ -8,7 +8,7 @@ use drm_rights::{Step, step_at};
 use drm_table::{CallKind, Event};
 use std::fmt;
 
-/// The clients that the labels of a script stand for: the first for `a`; 0 where a label stands for nobody.
+/// The clients that the labels of a script name, the first for `a`. A label that names no client has 0 (own).
 pub type Labels = [u32; 26];
 
 /// The letters of the labels, by their places.
@@ -17,7 +17,7 @@ const LETTERS: [char; 26] = [
     't', 'u', 'v', 'w', 'x', 'y', 'z',
 ];
 
-/// The label that stands for a client, if one does.
+/// Returns the label that names a client, or `None`.
 pub(crate) fn label_of(labels: &Labels, client: u64) -> Option<char> {
     for (place, letter) in LETTERS.iter().enumerate() {
         if u64::from(labels[place]) == client {
@@ -27,7 +27,7 @@ pub(crate) fn label_of(labels: &Labels, client: u64) -> Option<char> {
     None
 }
 
-/// A client, by its label where it has one.
+/// The name of a client: its label if it has one, or its number (own).
 #[derive(Clone, Copy, PartialEq, Eq, Debug)]
 pub struct Name {
     client: u64,
@@ -35,7 +35,7 @@ pub struct Name {
 }
 
 impl Name {
-    /// How a client is named where the labels stand for these.
+    /// Returns the name of a client, with these labels. Does not allocate.
     pub fn of(labels: &Labels, client: u64) -> Name {
         Name {
             client,
@@ -43,7 +43,7 @@ impl Name {
         }
     }
 
-    /// The label that stands for the client, if one does.
+    /// Returns the label that names the client, or `None`. Does not allocate.
     pub fn label(&self) -> Option<char> {
         self.label
     }
@@ -61,7 +61,7 @@ impl fmt::Display for Name {
     }
 }
 
-/// The word of a call in a script.
+/// Returns the word of a call in a script.
 fn word_of(number: u16) -> &'static str {
     match CallKind::of_number(number) {
         Some(kind) => str::from_utf8(kind.word()).unwrap_or(""),
@@ -69,7 +69,8 @@ fn word_of(number: u16) -> &'static str {
     }
 }
 
-/// The step of a number, from 1. An accepted opening is a step of the client that it opens.
+/// Returns the step with this number, from 1, or `None`. The caller of an accepted opening is the client that it opens.
+/// Does not allocate.
 pub fn at(steps: &[Step], number: u64) -> Option<At>
     ensures step { IfSome result (λ told. told.step ≡ number) }
     ensures numbers { is_some result ≡ (nat_le 1 number && nat_le number (length steps.now)) }

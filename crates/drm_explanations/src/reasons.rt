@@ -1,4 +1,4 @@
-//! Why a client is what it is, and has the handles that it has.
+//! The reasons for a client's state and handles.
 
 ghost use Rattle.std.specs.Prelude.{◌≡◌, true, IfOk, IfSome};
 ghost use Rattle.std.specs.Option.{is_some};
@@ -20,7 +20,7 @@ use crate::rows::{
 use drm_rights::{Effect, Held, Key, Ledger, Link, Origin, Step, Trail, handles_of};
 use std::alloc::{AllocError, Global};
 
-/// Whether a step is a client's closing, carried out.
+/// Returns whether a step closed a client.
 fn closes(step: &Step, client: u64) -> bool
     ensures { result ≡ closings.closes (effect (entry_of step.now)) client }
 {
@@ -30,7 +30,8 @@ fn closes(step: &Step, client: u64) -> bool
     }
 }
 
-/// Returns the number of the step, from 1, that closed a client: the first after the one that opened it.
+/// Returns the number of the step that closed a client, from 1, or `None` if the client is open. It is the first such
+/// step after the opening. Does not allocate.
 pub fn closed_at(steps: &[Step], client: u64) -> Option<u64>
     ensures step { result ≡ rows.closed_step (history_of steps.now) client }
     ensures closed { IfSome result (λ number. has_closed (history_of steps.now) client ≡ true) }
@@ -77,7 +78,7 @@ pub(crate) fn authenticated(ledger: &Ledger, client: u64) -> Option<Authenticate
     })
 }
 
-/// Whether a client has universal planes on, and since which step.
+/// Returns whether a client has universal planes on, and since which step.
 pub(crate) fn universal_row(ledger: &Ledger, client: u64) -> Option<UniversalRow>
     ensures tells { IfSome result (λ told. told.on ≡ is_universal_in ledger.now client) }
     ensures noted { is_some result ≡ is_some (capability_of (capabilities_in ledger.now) client) }
@@ -89,7 +90,7 @@ pub(crate) fn universal_row(ledger: &Ledger, client: u64) -> Option<UniversalRow
     })
 }
 
-/// How a client stands to masters, and since which step.
+/// Returns the master state of a client, and the step since which it has it.
 pub(crate) fn standing_row(ledger: &Ledger, client: u64) -> Option<StandingRow>
     ensures tells { IfSome result (rows.TellsStanding ledger.now client) }
     ensures noted { is_some result ≡ is_some (master_state_of (standings_in ledger.now) client) }
@@ -120,7 +121,7 @@ fn published_row(steps: &[Step], origin: Origin) -> Option<PublishedRow> {
     })
 }
 
-/// The links as rows, the step that made the object first.
+/// Returns the links as rows. The step that created the object is first.
 fn chain_rows(alloc: Global, steps: &[Step], links: &[Link]) -> Result<Vec<LinkRow>, AllocError> {
     let mut rows = Vec::new(alloc);
     for link in links.iter().rev() {
@@ -135,12 +136,12 @@ fn chain_rows(alloc: Global, steps: &[Step], links: &[Link]) -> Result<Vec<LinkR
     Ok(rows)
 }
 
-/// How many steps there are up to the one of a number.
+/// Returns the number of steps up to this one.
 fn count_to(number: u64) -> usize {
     usize::try_from(number).unwrap_or(usize::MAX)
 }
 
-/// Returns the row of a handle of a client, and notes the links of its chain.
+/// Returns the row of a client's handle, and records the links of its chain.
 fn hold_row(
     alloc: Global,
     trail: &Trail,

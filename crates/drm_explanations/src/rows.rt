@@ -1,23 +1,28 @@
-//! What an explanation tells, as rows. Steps, clients and masters are numbers, and what isn't there is none.
+//! The rows of an explanation. Steps, clients and masters are numbers, and a missing value is `None`.
 
 use serde::Serialize;
 
-/// A step: its number, who made it and by which call, or by `open` or `close`.
+/// A step with its caller and its call, or with `open` or `close` (own).
 #[derive(Clone, Copy, PartialEq, Eq, Debug, Serialize)]
 pub struct At {
+    /// The number of the step, from 1.
     pub step: u64,
+    /// The caller, or the client that was opened or closed.
     pub client: u64,
+    /// The word of the call in a script, or `open` or `close`.
     pub call: &'static str,
 }
 
-/// The device's master, and the step since which it is that; none where it always was.
+/// The device's master (drm(7)).
 #[derive(Clone, Copy, PartialEq, Eq, Debug, Serialize)]
 pub struct DeviceRow {
+    /// The master, or `None` if there is none.
     pub master: Option<u64>,
+    /// The step since which it has been that, or `None` if it never changed.
     pub since: Option<At>,
 }
 
-/// By which kind of opening a client came.
+/// The kind of a client's opening (drm-uapi, render nodes; lease tokens are own).
 #[derive(Clone, Copy, PartialEq, Eq, Debug, Serialize)]
 #[serde(rename_all = "snake_case")]
 pub enum Node {
@@ -26,7 +31,7 @@ pub enum Node {
     Lease,
 }
 
-/// Why a client is authenticated.
+/// The reason a client is authenticated (drm(7)).
 #[derive(Clone, Copy, PartialEq, Eq, Debug, Serialize)]
 #[serde(rename_all = "snake_case")]
 pub enum AuthenticatedBy {
@@ -35,33 +40,42 @@ pub enum AuthenticatedBy {
     AuthMagic,
 }
 
-/// A client is authenticated, since a step. The magic is the one that AUTH_MAGIC named.
+/// The authentication of a client (drm(7)).
 #[derive(Clone, Copy, PartialEq, Eq, Debug, Serialize)]
 pub struct Authenticated {
+    /// The reason.
     pub by: AuthenticatedBy,
+    /// The step since which the client is authenticated.
     pub since: At,
+    /// The magic that AUTH_MAGIC named, if that is the reason.
     pub magic: Option<u64>,
 }
 
-/// A client has universal planes on or off, since a step.
+/// The universal-planes capability of a client (drm-uapi).
 #[derive(Clone, Copy, PartialEq, Eq, Debug, Serialize)]
 pub struct UniversalRow {
+    /// Whether universal planes are on.
     pub on: bool,
+    /// The step since which they are.
     pub since: At,
 }
 
-/// How a client stands to masters, since a step: its master is its own, or one that it joined. The owner is the top of that
-/// master's chain of lessors.
+/// The master state of a client (drm(7)).
 #[derive(Clone, Copy, PartialEq, Eq, Debug, Serialize)]
 pub struct StandingRow {
+    /// Whether the client has an own master.
     pub is_master: bool,
+    /// The client's master, its own or one that it joined.
     pub master: Option<u64>,
+    /// The top of that master's chain of lessors.
     pub owner: Option<u64>,
+    /// Whether the client is current.
     pub current: bool,
+    /// The step since which the client has this master.
     pub since: At,
 }
 
-/// Under what an object was published.
+/// The kind of key under which an object was published (drm-gem(7), drm-mm, drm-uapi).
 #[derive(Clone, Copy, PartialEq, Eq, Debug, Serialize)]
 #[serde(rename_all = "snake_case")]
 pub enum PublishedBy {
@@ -70,23 +84,29 @@ pub enum PublishedBy {
     Framebuffer,
 }
 
-/// The step that published an object, and the number under which it did.
+/// A step that published an object (own).
 #[derive(Clone, Copy, PartialEq, Eq, Debug, Serialize)]
 pub struct PublishedRow {
+    /// The kind of the key.
     pub by: PublishedBy,
+    /// The name, token or framebuffer id.
     pub number: u64,
+    /// The step.
     pub at: At,
 }
 
-/// A step that gave a client a handle, and before it the one that published the object; the first of a chain made it.
+/// A link of a chain: a step that assigned a handle to a client (own).
 #[derive(Clone, Copy, PartialEq, Eq, Debug, Serialize)]
 pub struct LinkRow {
+    /// The step that published the object before, or `None` if this step created the object.
     pub published: Option<PublishedRow>,
+    /// The handle.
     pub handle: u64,
+    /// The step that assigned the handle.
     pub given: At,
 }
 
-/// The first links of a chain, as an earlier row has them.
+/// The first links of a chain, which an earlier row has (own).
 #[derive(Clone, Copy, PartialEq, Eq, Debug, Serialize)]
 pub struct FrontRow {
     /// The client of the earlier row.
@@ -97,50 +117,76 @@ pub struct FrontRow {
     pub step: u64,
 }
 
-/// A handle of a buffer, which is named by the step that made it, and the chain by which it came. Of a chain of more than four links,
-/// those that an earlier row has are left out, except for the last four, and `front` names that row.
+/// A handle of a buffer, and the chain by which the client obtained it (own).
+///
+/// If a chain has more than four links, those that an earlier row has are left out, except the last four. `front` names
+/// that row.
 #[derive(PartialEq, Eq, Debug, Drop, Serialize)]
 pub struct HandleRow {
+    /// The handle.
     pub handle: u64,
+    /// The buffer, by the number of the step that created it.
     pub object: u64,
+    /// The row that has the first links, if they are left out.
     pub front: Option<FrontRow>,
+    /// The links, with the step that created the object first.
     pub chain: Vec<LinkRow>,
 }
 
-/// A client. One that closed has nothing more.
+/// A client (own). The row of a closed client has no rights and handles.
 #[derive(PartialEq, Eq, Debug, Drop, Serialize)]
 pub struct ClientRow {
+    /// The client.
     pub client: u64,
+    /// The label that names it.
     pub label: Option<char>,
+    /// The kind of its opening.
     pub node: Node,
+    /// Whether it opened as root.
     pub root: bool,
+    /// The step that closed it, or `None` if it is open.
     pub closed: Option<u64>,
+    /// The reason it is authenticated, or `None` if it is not.
     pub authenticated: Option<Authenticated>,
+    /// Its universal-planes capability.
     pub universal_planes: Option<UniversalRow>,
+    /// Its master state.
     pub standing: Option<StandingRow>,
-    /// The CRTCs and planes that it may set.
+    /// The CRTCs and planes that it may set, in rising order.
     pub may_set: Vec<u32>,
+    /// Its handles, in rising order.
     pub holds: Vec<HandleRow>,
 }
 
-/// A lease: its lessee is a master, which is named by the step that made it.
+/// A lease (drm-uapi, leases). Its lessee is a master, named by the step that created it.
 #[derive(PartialEq, Eq, Debug, Drop, Serialize)]
 pub struct LeaseRow {
+    /// The lessee, by the number of the step.
     pub master: u64,
+    /// The id of the lessee, from 1.
     pub lessee_id: u64,
+    /// The lessor.
     pub lessor: Option<u64>,
+    /// The step that created the lease.
     pub leased: At,
+    /// The token of the lease.
     pub token: u64,
     pub mode_objects: Vec<u32>,
+    /// The client that redeemed the token.
     pub redeemed_by: Option<u64>,
+    /// The step that ended the lease, or `None` if it has not ended.
     pub ended: Option<At>,
 }
 
-/// What a history gives, and by which of its steps.
+/// The rights that a history grants, and the steps that granted them (own).
 #[derive(PartialEq, Eq, Debug, Drop, Serialize)]
 pub struct Explanation {
+    /// The number of steps.
     pub steps: u64,
+    /// The device's master.
     pub device: DeviceRow,
+    /// The clients, in the order of their openings.
     pub clients: Vec<ClientRow>,
+    /// The leases, in the order of their creation.
     pub leases: Vec<LeaseRow>,
 }

@@ -1,4 +1,4 @@
--- When a fact that explains a denial holds of a history, with the topology and the limits of the device.
+-- The meaning of each fact that explains a denial, by a history and the topology and limits of the device (own).
 use Rattle.std.specs.Prelude.{◌≡◌, ℕ, ◌+◌, ◌<◌, ◌≤◌, ◌==◌, Bool, true, false, not, AllPairs, List, Option, None, Some, IfSome, length, option_and_then}
 use Rattle.std.specs.Option.{is_some, option_map}
 use Rattle.drm_table.specs.declared.limits.Limits.{Limits}
@@ -51,22 +51,24 @@ use Rattle.drm_refusals.specs.declared.facts.RequestFact.TheVariants as requests
 
 -- ---- clients
 
+-- a fact of a client
 abbrev pub ClientHolds : List AnsweredEvent → ClientFact → Type 0
 ClientHolds history (clients.Closed c step) = closed_step history c ≡ Some step
 ClientHolds history (clients.NeverOpened c) = last_step (opens c) history ≡ None
 
 -- ---- handles
 
--- the last step that took the handle is this one, and no later one gave it
+-- this step is the last that took the handle, and no later one assigned it
 pub record GaveBack (history : List AnsweredEvent) (c h step : ℕ) : Type 0 where
   pub taken : last_step (λ past. takes past c h) history ≡ Some step
   pub given : IfSome (last_step (gives c h) history) (λ given. given ≤ step)
 
--- these are the handles of the client, each with the step that gave it, in rising order
+-- these are the handles of the client, each with the step that assigned it, in rising order
 pub record HoldsJust (history : List AnsweredEvent) (c : ℕ) (rows : List Held) : Type 0 where
   pub held : (h s : ℕ) → is_held_since rows h s ≡ is_given_at (last_gift history c h) s
   pub rising : AllPairs (λ (one other : Held). one.handle < other.handle) rows
 
+-- a fact of handles
 abbrev pub HandleHolds : List AnsweredEvent → HandleFact → Type 0
 HandleHolds history (handles.GaveBack c h by) = GaveBack history c h by.step
 HandleHolds history (handles.NeverGiven c h) = last_step (gives c h) history ≡ None
@@ -74,19 +76,20 @@ HandleHolds history (handles.Holds c held) = HoldsJust history c held.items
 
 -- ---- names, tokens and framebuffers
 
--- the client of what was published, and the number of the step
+-- the client that published, and the number of the step
 abbrev pub publisher : Option Sharing → Option (ℕ × ℕ)
 publisher found = option_map (λ (s : Sharing). (s.client, next_number s.past)) found
 
--- the last step that gave the name gave it to this buffer, of which the client had a handle
+-- the last step that assigned the name assigned it to this buffer, of which the client had a handle
 abbrev pub WasNamed : Option Sharing → ℕ → Type 0
 WasNamed found buffer = IfSome found (λ (s : Sharing). Has s.past s.client s.handle buffer)
 
--- the last step that gave the name, and to what
+-- the last step that assigned the name, and its buffer
 pub record IsNamed (history : List AnsweredEvent) (name buffer c step : ℕ) : Type 0 where
   pub by : publisher (last_sharing history (Name name)) ≡ Some (c, step)
   pub of : WasNamed (last_sharing history (Name name)) buffer
 
+-- a fact of a name, a token or a framebuffer
 abbrev pub PublishedHolds : List AnsweredEvent → PublishedFact → Type 0
 PublishedHolds history (published.Never key) = last_sharing history (key_of key) ≡ None
 PublishedHolds history (published.Named name buffer c step last) = IsNamed history name buffer c step
@@ -99,6 +102,7 @@ PublishedHolds history (published.Withdrawn key c step by) = (publisher (last_sh
 abbrev pub spending : Authentication → ℕ × ℕ × ℕ
 spending a = (a.magic, a.by, a.step)
 
+-- a fact of a magic
 abbrev pub MagicHolds : List AnsweredEvent → MagicFact → Type 0
 MagicHolds history (magics.OfClosed master magic c step) = (magic_in history master magic ≡ Some c) × (closed_step history c ≡ Some step)
 MagicHolds history (magics.Spent magic c by step) = option_map spending (authentication_of (authentications_in history) c) ≡ Some (magic, by, step)
@@ -107,9 +111,11 @@ MagicHolds history (magics.Unknown master magic) = magic_in history master magic
 
 -- ---- leases
 
+-- the lessor of the lessee with this id
 abbrev pub lessor_meant : List AnsweredEvent → ℕ → ℕ → Option ℕ
 lessor_meant history c id = option_and_then (λ (l : Lease). l.lessor) (lease_meant history c id)
 
+-- a fact of a lease
 abbrev pub LeaseHolds : Topology → List AnsweredEvent → LeaseFact → Type 0
 LeaseHolds t history (leases.LacksPlane c) = is_universal_in history c ≡ true
 LeaseHolds t history (leases.LeasedOut id lease) = granted t history lease.master id ≡ true
@@ -120,6 +126,7 @@ LeaseHolds t history (leases.TokenUnknown token) = lease_of_token (leases_in his
 
 -- ---- mode objects
 
+-- a fact of a mode object
 abbrev pub ModeObjectHolds : Topology → List AnsweredEvent → ModeObjectFact → Type 0
 ModeObjectHolds t history (objects.Nothing id count) = (kind_of t id ≡ None) × (count ≡ object_count t)
 ModeObjectHolds t history (objects.OfKind id kind wanted) = kind_of t id ≡ Some kind
@@ -130,12 +137,14 @@ ModeObjectHolds t history (objects.EncoderOf crtc connector encoder) = encoder_o
 
 -- ---- numbers
 
+-- the greatest value of a number
 abbrev pub most_of : Quantity → ℕ
 most_of Size = 68719476736
 most_of Width = 65535
 most_of Height = 65535
 most_of Bits = 64
 
+-- a fact of a number
 abbrev pub SizeHolds : SizeFact → Type 0
 SizeHolds (sizes.OutOfRange what number most) = (most ≡ most_of what) × ((1 ≤ number) → most < number)
 SizeHolds (sizes.ShortPitch pitch least) = pitch < least
@@ -143,6 +152,7 @@ SizeHolds (sizes.ShortBuffer height pitch needed h size) = size < needed
 
 -- ---- limits
 
+-- a fact of a limit
 abbrev pub LimitHolds : Limits → List AnsweredEvent → LimitFact → Type 0
 LimitHolds l history (limits.Clients count most) = most ≡ l.clients
 LimitHolds l history (limits.Handles c count most) = (most ≡ l.handles) × (most ≤ count)
@@ -153,8 +163,9 @@ LimitHolds l history (limits.Framebuffers most) = most ≡ l.framebuffers
 LimitHolds l history (limits.Leases lessees tokens) = (lessees ≡ l.lessees) × (tokens ≡ l.tokens)
 LimitHolds l history (limits.Journal used most clients) = (used ≡ length history) × (most ≡ l.journal)
 
--- ---- the request itself: of its own numbers nothing is said
+-- ---- the request itself: its other numbers have no condition
 
+-- a fact of the request
 abbrev pub RequestHolds : RequestFact → Type 0
 RequestHolds (requests.OtherFields number kind) = call_kind_of number ≡ Some kind
 RequestHolds (requests.NoCall number) = call_kind_of number ≡ None
@@ -162,7 +173,7 @@ RequestHolds _ = Unit {0}
 
 -- ---- all
 
--- what a line of the explanation says is a matter of its rows
+-- a line of the explanation has its meaning by its rows
 abbrev pub Holds : Topology → Limits → List AnsweredEvent → Fact → Type 0
 Holds t l history (facts.Client fact) = ClientHolds history fact
 Holds t l history (facts.Handle fact) = HandleHolds history fact

@@ -1,4 +1,4 @@
--- The lease that a lessee id means.
+-- The lease that a lessee id names (own).
 use Rattle.std.specs.Prelude.{ℕ, List, Option, option_and_then}
 use Rattle.drm_history.specs.History.{AnsweredEvent}
 use Rattle.drm_authority.specs.Lessees.{top_in}
@@ -6,6 +6,6 @@ use Rattle.drm_authority.specs.MasterState.{master_in}
 use Rattle.drm_rights.specs.Leases.{lease_of_id, leases_in}
 use Rattle.drm_rights.specs.declared.notes.Lease.{Lease}
 
--- the last lease that was answered the id under the owner of the client's master
+-- the last lease with the id under the owner of the client's master
 abbrev pub lease_meant : List AnsweredEvent → ℕ → ℕ → Option Lease
 lease_meant history c id = option_and_then (λ m. lease_of_id (leases_in history) (top_in history m) id) (master_in history c)

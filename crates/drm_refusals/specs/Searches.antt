@@ -1,4 +1,4 @@
--- The steps that give a handle, take it or open a client.
+-- The steps that assign a handle, take it or open a client (own).
 use Rattle.std.specs.Prelude.{ℕ, ◌==◌, Bool}
 use Rattle.std.specs.Option.{is_some}
 use Rattle.drm_history.specs.History.{AnsweredEvent}
@@ -9,7 +9,7 @@ use Rattle.drm_explanations.specs.Rows as rows
 use Rattle.drm_refusals.specs.declared.searching.Search.{Search}
 use Rattle.drm_refusals.specs.declared.searching.Search.TheVariants.{Gives, Takes, Opens}
 
--- whether a step gives the client the handle
+-- whether a step assigns the handle to the client
 abbrev pub gives : ℕ → ℕ → AnsweredEvent → Bool
 gives c h step = is_some (source_for c h (given step))
 

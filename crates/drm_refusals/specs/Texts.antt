@@ -1,4 +1,4 @@
--- The text of an answer.
+-- The text of an answer (own).
 use Rattle.std.specs.Prelude.{◌≡◌, ℕ, List, [], ◌∷◌, ◌++◌, Option, None, Some, String, codes, flat_map}
 use Rattle.std.specs.String.{string_bytes}
 

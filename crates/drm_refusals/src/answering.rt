@@ -1,4 +1,4 @@
-//! Explaining the answer of a line.
+//! The explanation of a line's answer.
 
 ghost use Rattle.std.specs.Prelude.{◌≡◌, All, IfOk, None, Some, is_none};
 ghost use Rattle.std.specs.Option.{option_map};
@@ -22,15 +22,18 @@ use drm_rights::{Ledger, Step};
 use drm_table::{Answer, Apart, Event, Limits};
 use std::alloc::{AllocError, Global};
 
-/// A line of a script that was answered: its number, the line of its answer, and what stands apart where it was no step.
+/// An answered line of a script (own).
 #[derive(PartialEq, Eq, Debug, Drop)]
 pub struct Line {
+    /// The number of the line, from 1.
     pub number: u64,
+    /// The line of its answer.
     pub answer: String,
+    /// The fault, if the line made no step.
     pub apart: Option<Apart>,
 }
 
-/// Returns the caller's client; none if the step opens a client, or its label represents nobody.
+/// Returns the caller's client, or `None` if the step opens a client or the label names no client.
 pub(crate) fn caller_of(step: &Step) -> Option<u64> {
     let client = match &step.event {
         Event::Open(_) => 0,
@@ -40,7 +43,7 @@ pub(crate) fn caller_of(step: &Step) -> Option<u64> {
     if client == 0 { None } else { Some(client) }
 }
 
-/// The row of what stands apart.
+/// Returns the row of a fault.
 fn apart_row(
     alloc: Global,
     scene: Scene<'_>,
@@ -70,7 +73,7 @@ fn apart_row(
     })
 }
 
-/// The row of the last step.
+/// Returns the row of the last step.
 fn step_row(
     alloc: Global,
     scene: Scene<'_>,
@@ -106,8 +109,11 @@ fn step_row(
     Ok(row)
 }
 
-/// Returns why a line was answered as it was. Of a denial it returns the rule that failed, the facts of the history that made it fail, and
-/// what would have let it pass. The line is the last step of the ledger, or a fault after all of them (`line.apart`).
+/// Returns the reason for the answer of a line (own).
+///
+/// For a denial it has the rule that failed, the facts of the history that made it fail, and the condition under which
+/// it would pass. The line is the last step of the ledger, or a fault after all steps (`line.apart`). Allocates the
+/// row.
 ///
 /// # Errors
 ///

@@ -26,7 +26,7 @@ fn handle_in(call: &Call) -> Option<u32> {
     }
 }
 
-/// Returns why a client does not hold a handle.
+/// Returns the reason a client does not hold a handle.
 fn lacked(ledger: &Ledger, client: u64, handle: u32) -> Option<HandleFact>
     ensures { IfSome result (facts.HandleHolds ledger.now) }
 {
@@ -56,7 +56,7 @@ fn lacked(ledger: &Ledger, client: u64, handle: u32) -> Option<HandleFact>
     Some(HandleFact::GaveBack { client, handle, by })
 }
 
-/// Returns which handles a client holds.
+/// Returns the handles that a client holds.
 fn held(alloc: Global, ledger: &Ledger, client: u64) -> Result<HandleFact, AllocError>
     ensures { IfOk result (facts.HandleHolds ledger.now) }
 {
@@ -64,7 +64,7 @@ fn held(alloc: Global, ledger: &Ledger, client: u64) -> Result<HandleFact, Alloc
     Ok(HandleFact::Holds { client, held })
 }
 
-/// Returns why a client does not hold the handle of a call, and which it holds.
+/// Returns the reason a client does not hold the handle of a call, and the handles that it holds.
 pub(crate) fn no_handle(
     alloc: Global,
     scene: Scene<'_>,
@@ -85,7 +85,7 @@ pub(crate) fn no_handle(
     with(scene, found, Some(Fact::Handle(held)))
 }
 
-/// Returns whether a step gave back a handle of an object, after the first `before` steps.
+/// Returns whether a step closed a handle of an object, after the first `before` steps.
 fn gives_back(
     alloc: Global,
     trail: &Trail,
@@ -112,7 +112,7 @@ fn gives_back(
     }
 }
 
-/// Returns the last step that gave back a handle of an object.
+/// Returns the last step that closed a handle of an object.
 fn last_giving_back(alloc: Global, trail: &Trail, object: u64) -> Result<Option<u64>, AllocError> {
     let steps = trail.steps();
     let mut before = steps.len();
@@ -125,7 +125,7 @@ fn last_giving_back(alloc: Global, trail: &Trail, object: u64) -> Result<Option<
     Ok(None)
 }
 
-/// Returns why no object has a name.
+/// Returns the reason no object has a name.
 fn unnamed(alloc: Global, ledger: &Ledger, name: u32) -> Result<Option<PublishedFact>, AllocError>
     ensures { IfOk result (λ fact. IfSome fact (facts.PublishedHolds ledger.now)) }
 {
@@ -148,7 +148,7 @@ fn unnamed(alloc: Global, ledger: &Ledger, name: u32) -> Result<Option<Published
     }))
 }
 
-/// Returns why no object has a name.
+/// Returns the reason no object has a name.
 pub(crate) fn no_name(alloc: Global, scene: Scene<'_>, name: u32) -> Result<Vec<Fact>, AllocError>
     ensures { IfOk result (λ found. All (facts.Holds scene.entry.topology.now scene.entry.limits scene.entry.ledger.now) found.items) }
 {

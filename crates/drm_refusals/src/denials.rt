@@ -1,4 +1,4 @@
-//! The facts behind a denial.
+//! The facts that explain a denial.
 
 ghost use Rattle.std.specs.Prelude.{◌≡◌, All, IfOk, IfSome, Some};
 ghost use Rattle.drm_authority.specs.Magics.{magic_in};
@@ -21,7 +21,7 @@ use drm_rights::Ledger;
 use drm_table::{Call, CallKind, Event, Opening, Rule};
 use std::alloc::{AllocError, Global};
 
-/// Returns why a client is not open.
+/// Returns the reason a client is not open.
 fn closed_or_never(ledger: &Ledger, client: u64) -> Option<ClientFact>
     ensures { IfSome result (facts.ClientHolds ledger.now) }
 {
@@ -35,7 +35,7 @@ fn closed_or_never(ledger: &Ledger, client: u64) -> Option<ClientFact>
     }
 }
 
-/// Returns why the caller is not open.
+/// Returns the reason the caller is not open.
 fn absent(scene: Scene<'_>, client: u64) -> Option<Fact>
     ensures { IfSome result (facts.Holds scene.entry.topology.now scene.entry.limits scene.entry.ledger.now) }
 {
@@ -48,7 +48,7 @@ fn absent(scene: Scene<'_>, client: u64) -> Option<Fact>
     }
 }
 
-/// Returns which number or layout no call has.
+/// Returns the number or the layout that no call has.
 fn unknown(call: &Call) -> RequestFact
     ensures { facts.RequestHolds result }
 {
@@ -59,7 +59,7 @@ fn unknown(call: &Call) -> RequestFact
     }
 }
 
-/// Returns who spent a magic that was last told to a client, or that it is that client's no longer.
+/// Returns the client that spent a magic of a client, or that the magic is no longer that client's.
 fn spent(ledger: &Ledger, master: u64, magic: u32, client: u64) -> MagicFact
     requires { magic_in ledger.now master magic ≡ Some client }
     ensures { facts.MagicHolds ledger.now result }
@@ -87,7 +87,7 @@ fn spent(ledger: &Ledger, master: u64, magic: u32, client: u64) -> MagicFact
     }
 }
 
-/// Returns why no client of the caller's master has a magic unspent.
+/// Returns the reason no client of the caller's master has an unspent magic.
 fn no_magic(ledger: &Ledger, client: u64, magic: u32) -> MagicFact
     ensures { facts.MagicHolds ledger.now result }
 {
@@ -108,7 +108,7 @@ fn magic_fact(scene: Scene<'_>, client: u64, call: &Call) -> Option<Fact>
     }
 }
 
-/// Returns why the framebuffer of a call is missing.
+/// Returns the reason the framebuffer of a call is missing.
 fn framebuffer_of(scene: Scene<'_>, call: &Call) -> Option<Fact>
     ensures { IfSome result (facts.Holds scene.entry.topology.now scene.entry.limits scene.entry.ledger.now) }
 {
@@ -127,7 +127,7 @@ fn own_lease(ledger: &Ledger, client: u64) -> Option<Subject> {
     Some(Subject::Lease(master))
 }
 
-/// Returns the facts of what the caller is, for a denial by the flags of the row or by the caller's master.
+/// Returns the facts of the caller's state, for a denial by the flags of the row or by the caller's master.
 fn by_caller(
     alloc: Global,
     scene: Scene<'_>,
@@ -177,7 +177,7 @@ fn told(
     Ok(found)
 }
 
-/// Returns the facts behind the denial of a lease's creation or revocation.
+/// Returns the facts that explain the denial of a lease's creation or revocation.
 fn by_lease(
     alloc: Global,
     scene: Scene<'_>,
@@ -206,7 +206,7 @@ fn by_lease(
     }
 }
 
-/// Returns the facts behind the denial of a call that names a handle, a name or a token.
+/// Returns the facts that explain the denial of a call that names a handle, a name or a token.
 fn by_name(alloc: Global, scene: Scene<'_>, call: &Call) -> Result<Vec<Fact>, AllocError>
     ensures { IfOk result (λ found. All (facts.Holds scene.entry.topology.now scene.entry.limits scene.entry.ledger.now) found.items) }
 {
@@ -218,7 +218,7 @@ fn by_name(alloc: Global, scene: Scene<'_>, call: &Call) -> Result<Vec<Fact>, Al
     }
 }
 
-/// Returns the facts behind the denial of a call.
+/// Returns the facts that explain the denial of a call.
 fn by_call(
     alloc: Global,
     scene: Scene<'_>,
@@ -243,7 +243,7 @@ fn by_call(
     }
 }
 
-/// Returns the facts behind the denial of an opening.
+/// Returns the facts that explain the denial of an opening.
 fn by_opening(
     alloc: Global,
     scene: Scene<'_>,
@@ -261,7 +261,7 @@ fn by_opening(
     }
 }
 
-/// Returns the facts behind a denial.
+/// Returns the facts that explain a denial.
 pub(crate) fn reasons(
     alloc: Global,
     scene: Scene<'_>,

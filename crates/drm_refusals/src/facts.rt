@@ -5,7 +5,7 @@ use drm_modes::Kind;
 use drm_rights::{Held, Key, Lease};
 use drm_table::CallKind;
 
-/// A fact that explains a denial. Clients and masters are named by the numbers of their steps.
+/// A fact that explains a denial (own). Clients and masters are named by the numbers of their steps.
 #[derive(PartialEq, Eq, Debug, Drop)]
 pub enum Fact {
     Client(ClientFact),
@@ -21,7 +21,7 @@ pub enum Fact {
     Told(Subject),
 }
 
-/// A client that is not open.
+/// A client that is not open (own).
 #[derive(Clone, Copy, PartialEq, Eq, Debug)]
 pub enum ClientFact {
     /// The step closed the client.
@@ -30,10 +30,10 @@ pub enum ClientFact {
     NeverOpened { client: u64 },
 }
 
-/// The handles of a client.
+/// The handles of a client (own).
 #[derive(PartialEq, Eq, Debug, Drop)]
 pub enum HandleFact {
-    /// The client gave the handle back, and no later step assigned it.
+    /// The client closed the handle, and no later step assigned it.
     GaveBack { client: u64, handle: u32, by: At },
     /// No step assigned the client this handle.
     NeverGiven { client: u64, handle: u32 },
@@ -41,14 +41,15 @@ pub enum HandleFact {
     Holds { client: u64, held: Vec<Held> },
 }
 
-/// A name, a PRIME token or a framebuffer.
+/// A name, a PRIME token or a framebuffer (own).
 #[derive(Clone, Copy, PartialEq, Eq, Debug)]
 pub enum PublishedFact {
     /// No step published anything under the key.
     Never {
         key: Key,
     },
-    /// The step was the last that gave the name, to this buffer. `last` is a later step that removed a handle of the buffer.
+    /// The step was the last that assigned the name, to this buffer. `last` is a later step that removed a handle of
+    /// the buffer.
     Named {
         name: u32,
         buffer: u64,
@@ -71,10 +72,10 @@ pub enum PublishedFact {
     },
 }
 
-/// A magic of a master.
+/// A magic of a master (own).
 #[derive(Clone, Copy, PartialEq, Eq, Debug)]
 pub enum MagicFact {
-    /// The master's magic was last told to a client, which the step closed.
+    /// The client that last received the master's magic was closed by the step.
     OfClosed {
         master: u64,
         magic: u32,
@@ -88,20 +89,20 @@ pub enum MagicFact {
         by: u64,
         step: u64,
     },
-    /// The master's magic was last told to the client.
+    /// The client was the last that received the master's magic.
     Lost {
         master: u64,
         magic: u32,
         client: u64,
     },
-    /// The master's magic was told to no client.
+    /// No client received the master's magic.
     Unknown {
         master: u64,
         magic: u32,
     },
 }
 
-/// A lease, or what one lacks.
+/// A lease, or what is missing for one (own).
 #[derive(Clone, Copy, PartialEq, Eq, Debug)]
 pub enum LeaseFact {
     /// The client has universal planes on.
@@ -113,7 +114,7 @@ pub enum LeaseFact {
         id: u32,
         lease: Lease,
     },
-    /// No lease under the owner of the client's master was answered the id.
+    /// No lease under the owner of the client's master has the id.
     NoLessee {
         client: u64,
         lessee: u32,
@@ -125,17 +126,17 @@ pub enum LeaseFact {
         lessor: u64,
         master: u64,
     },
-    /// A lease was answered the token.
+    /// A lease has the token.
     TokenUsed {
         token: u32,
     },
-    /// No lease was answered the token.
+    /// No lease has the token.
     TokenUnknown {
         token: u32,
     },
 }
 
-/// A mode object that is not of the right kind, or that the client does not see.
+/// A mode object of another kind than the call requires, or one that the client does not see (own).
 #[derive(Clone, Copy, PartialEq, Eq, Debug)]
 pub enum ModeObjectFact {
     /// No mode object has the id. The ids are 1 to `count`.
@@ -172,20 +173,20 @@ pub enum ModeObjectFact {
     },
 }
 
-/// A number of a request.
+/// A number of a request (own).
 #[derive(Clone, Copy, PartialEq, Eq, Debug)]
 pub enum Quantity {
-    /// The bytes of a buffer.
+    /// The size of a buffer in bytes.
     Size,
-    /// Pixels.
+    /// The width in pixels.
     Width,
-    /// Pixels.
+    /// The height in pixels.
     Height,
-    /// The bits of a pixel.
+    /// The bits of each pixel.
     Bits,
 }
 
-/// A number that is out of its range.
+/// A number that is out of its range (own).
 #[derive(Clone, Copy, PartialEq, Eq, Debug)]
 pub enum SizeFact {
     /// The number is 0, or greater than `most`.
@@ -194,12 +195,12 @@ pub enum SizeFact {
         number: u64,
         most: u64,
     },
-    /// The pitch is less than the bytes of a line of pixels.
+    /// The pitch is less than the bytes of a row of pixels.
     ShortPitch {
         pitch: u32,
         least: u64,
     },
-    /// The buffer has fewer bytes than the lines need.
+    /// The buffer has fewer bytes than the rows need.
     ShortBuffer {
         height: u32,
         pitch: u32,
@@ -209,11 +210,11 @@ pub enum SizeFact {
     },
 }
 
-/// A limit that is reached.
+/// A limit that is reached (own).
 #[derive(Clone, Copy, PartialEq, Eq, Debug)]
 pub enum LimitFact {
     Clients { count: u64, most: u32 },
-    /// The client has this number of handles, which is the limit at least.
+    /// The client has this number of handles, which is at least the limit.
     Handles { client: u64, count: u64, most: u32 },
     Objects { most: u32 },
     Names { most: u32 },
@@ -224,10 +225,10 @@ pub enum LimitFact {
     Journal { used: u64, most: u32, clients: u64 },
 }
 
-/// What is wrong with the request itself.
+/// A fault of the request itself (own).
 #[derive(Clone, Copy, PartialEq, Eq, Debug)]
 pub enum RequestFact {
-    /// No client was opened as the label of the caller.
+    /// No client was opened by the caller's label.
     NoCaller,
     /// The number is that of a call with other fields.
     OtherFields { number: u16, kind: CallKind },
@@ -236,7 +237,7 @@ pub enum RequestFact {
     Repeated { id: u32 },
     LacksCrtc,
     LacksConnector,
-    /// Just one of the framebuffer and the connector is 0.
+    /// Exactly one of the framebuffer and the connector is 0.
     HalfRoute { framebuffer: u32, connector: u32 },
     PlaneRoute { crtc: u32, plane: u32 },
     NoCapability { capability: u64 },

@@ -15,7 +15,7 @@ use drm_modes::Kind;
 use drm_rights::{Lease, Ledger};
 use std::alloc::{AllocError, Global};
 
-/// Returns why an id can't be leased: it is that of an encoder or a framebuffer.
+/// Returns the reason an id can't be leased: it is that of an encoder or a framebuffer.
 fn unleasable(scene: Scene<'_>, id: u32) -> Option<Fact>
     ensures { IfSome result (facts.Holds scene.entry.topology.now scene.entry.limits scene.entry.ledger.now) }
 {
@@ -26,7 +26,7 @@ fn unleasable(scene: Scene<'_>, id: u32) -> Option<Fact>
     }
 }
 
-/// Returns which ids can't be leased.
+/// Returns the ids that can't be leased.
 pub(crate) fn not_leasable(
     alloc: Global,
     scene: Scene<'_>,
@@ -41,13 +41,13 @@ pub(crate) fn not_leasable(
     Ok(found)
 }
 
-/// Returns whether an id is also before this place in the list.
+/// Returns whether an id is also in the list before this place.
 fn is_repeated(ids: &[u32], place: usize, id: u32) -> bool {
     let before = ids.get(..place).unwrap_or(&[]);
     before.contains(&id)
 }
 
-/// Returns which ids are in the list twice.
+/// Returns the ids that are in the list twice.
 pub(crate) fn repeated(
     alloc: Global,
     scene: Scene<'_>,
@@ -85,7 +85,7 @@ fn lacks_plane(scene: Scene<'_>, client: u64, ids: &[u32]) -> Option<Fact>
     }
 }
 
-/// Returns what a lease lacks.
+/// Returns what is missing in a lease.
 pub(crate) fn bad_shape(
     alloc: Global,
     scene: Scene<'_>,
@@ -119,7 +119,7 @@ fn lent(scene: Scene<'_>, lease: Lease, id: u32) -> Option<Fact>
     }
 }
 
-/// Adds which of these ids a lease has.
+/// Adds those of these ids that a lease has.
 fn lent_of(
     scene: Scene<'_>,
     found: Vec<Fact>,
@@ -136,7 +136,7 @@ fn lent_of(
     Ok(found)
 }
 
-/// Adds what a lease has of what a client names, or of what comes along with that.
+/// Adds what a lease has of the mode objects that a client names, or of the planes that a named CRTC brings.
 fn lent_by(
     scene: Scene<'_>,
     found: Vec<Fact>,
@@ -159,7 +159,8 @@ fn lent_by(
     with(scene, found, Some(Fact::Told(Subject::Lease(lease.master))))
 }
 
-/// Returns which direct lessees of a client's master have what it names, or what comes along with that.
+/// Returns the direct lessees of a client's master that have a mode object that it names, or a plane that a named CRTC
+/// brings.
 pub(crate) fn leased_out(
     alloc: Global,
     scene: Scene<'_>,
@@ -178,7 +179,7 @@ pub(crate) fn leased_out(
     Ok(found)
 }
 
-/// Returns the last lease that was answered an id under an owner.
+/// Returns the last lease with an id under an owner.
 fn lease_under(leases: &[Lease], owner: u64, id: u32) -> Option<Lease>
     ensures { result ≡ lending.lease_of_id leases.now owner id }
 {
@@ -189,7 +190,7 @@ fn lease_under(leases: &[Lease], owner: u64, id: u32) -> Option<Lease>
         .find(|lease| lease.id == u64::from(id) && lease.owner == owner)
 }
 
-/// Returns the last lease that was answered an id under the owner of a client's master.
+/// Returns the last lease with an id under the owner of a client's master.
 fn lease_of_id(ledger: &Ledger, client: u64, id: u32) -> Option<Lease>
     ensures { result ≡ lease_meant ledger.now client id }
 {
@@ -197,7 +198,7 @@ fn lease_of_id(ledger: &Ledger, client: u64, id: u32) -> Option<Lease>
     lease_under(ledger.leases(), owner, id)
 }
 
-/// Returns why no lessee has an id.
+/// Returns the reason no lessee has an id.
 pub(crate) fn no_lessee(
     alloc: Global,
     scene: Scene<'_>,
@@ -213,7 +214,7 @@ pub(crate) fn no_lessee(
     only(alloc, scene, Some(fact))
 }
 
-/// Returns whose a lessee is, if its lessor is known.
+/// Returns the lessor of a lessee, if it is known.
 fn lessor_fact(scene: Scene<'_>, client: u64, lessee: u32) -> Option<Fact>
     ensures { IfSome result (facts.Holds scene.entry.topology.now scene.entry.limits scene.entry.ledger.now) }
 {
@@ -228,7 +229,7 @@ fn lessor_fact(scene: Scene<'_>, client: u64, lessee: u32) -> Option<Fact>
     }))
 }
 
-/// Returns whose a lessee is, and its lease.
+/// Returns the lessor of a lessee, and its lease.
 pub(crate) fn other_lessee(
     alloc: Global,
     scene: Scene<'_>,
@@ -244,7 +245,7 @@ pub(crate) fn other_lessee(
     with(scene, found, Some(Fact::Told(Subject::Lease(lease.master))))
 }
 
-/// Returns the last lease that was answered a token.
+/// Returns the last lease with a token.
 fn lease_of_token(ledger: &Ledger, token: u32) -> Option<Lease>
     ensures { result ≡ lending.lease_of_token (leases_in ledger.now) token }
 {
@@ -256,7 +257,7 @@ fn lease_of_token(ledger: &Ledger, token: u32) -> Option<Lease>
         .find(|lease| lease.token == u64::from(token))
 }
 
-/// Returns why a lease token is not open.
+/// Returns the reason a lease token is not open.
 pub(crate) fn no_lease_token(
     alloc: Global,
     scene: Scene<'_>,

@@ -1,4 +1,5 @@
-//! Why a request was denied: the rule that failed, the facts of the history that made it so, and what would have let it pass.
+//! The reasons for a denial: the rule that failed, the facts of the history that made it fail, and the condition under
+//! which it would pass.
 #![tactic(auto)]
 
 mod answering;

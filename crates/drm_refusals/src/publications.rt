@@ -11,7 +11,7 @@ use drm_explanations::at;
 use drm_rights::{Key, Ledger, last_publishing};
 use std::alloc::{AllocError, Global};
 
-/// Returns which step published under a key, and which withdrew that.
+/// Returns the step that published under a key, and the step that withdrew that.
 fn publication(ledger: &Ledger, key: Key) -> Option<PublishedFact>
     ensures { IfSome result (facts.PublishedHolds ledger.now) }
 {
@@ -42,7 +42,7 @@ fn publication_fact(scene: Scene<'_>, key: Key) -> Option<Fact>
     }
 }
 
-/// Returns why a PRIME token is not open, or whose it is.
+/// Returns the reason a PRIME token is not open, or the client that published it.
 pub(crate) fn no_token(alloc: Global, scene: Scene<'_>, token: u32) -> Result<Vec<Fact>, AllocError>
     ensures { IfOk result (λ found. All (facts.Holds scene.entry.topology.now scene.entry.limits scene.entry.ledger.now) found.items) }
 {
@@ -53,7 +53,7 @@ pub(crate) fn no_token(alloc: Global, scene: Scene<'_>, token: u32) -> Result<Ve
     )
 }
 
-/// Returns why a framebuffer is missing, or whose it is.
+/// Returns the reason a framebuffer is missing, or the client that created it.
 pub(crate) fn framebuffer_fact(scene: Scene<'_>, framebuffer: u32) -> Option<Fact>
     ensures { IfSome result (facts.Holds scene.entry.topology.now scene.entry.limits scene.entry.ledger.now) }
 {

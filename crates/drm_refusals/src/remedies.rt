@@ -45,7 +45,7 @@ pub(crate) fn remedy(rule: Rule) -> &'static str {
     }
 }
 
-/// Returns the condition under which a step would be made that ended in a fault.
+/// Returns the condition under which a step that ended in a fault would be made.
 pub(crate) fn remedy_apart(apart: Apart) -> &'static str {
     match apart {
         Apart::JournalFull => "the journal's limit were greater",

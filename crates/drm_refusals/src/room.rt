@@ -10,7 +10,7 @@ use drm_rights::{Step, handles_of};
 use drm_table::{Answer, Call};
 use std::alloc::{AllocError, Global};
 
-/// Returns how many clients are open after these steps.
+/// Returns the number of clients that are open after these steps.
 fn open_clients(steps: &[Step]) -> u64 {
     let mut count: u64 = 0;
     for step in steps {
@@ -23,7 +23,7 @@ fn open_clients(steps: &[Step]) -> u64 {
     count
 }
 
-/// Returns that as many clients are open as the limit allows.
+/// Returns that the limit of open clients is reached.
 pub(crate) fn full_of_clients(alloc: Global, scene: Scene<'_>) -> Result<Vec<Fact>, AllocError>
     ensures { IfOk result (λ found. All (facts.Holds scene.entry.topology.now scene.entry.limits scene.entry.ledger.now) found.items) }
 {
@@ -36,7 +36,7 @@ pub(crate) fn full_of_clients(alloc: Global, scene: Scene<'_>) -> Result<Vec<Fac
     )
 }
 
-/// Returns that a client has as many handles as the limit allows, or that there are as many objects.
+/// Returns that the limit of a client's handles is reached, or that of objects.
 fn full_of_handles(alloc: Global, scene: Scene<'_>, client: u64) -> Result<LimitFact, AllocError>
     ensures { IfOk result (facts.LimitHolds scene.entry.limits scene.entry.ledger.now) }
 {
@@ -54,7 +54,7 @@ fn full_of_handles(alloc: Global, scene: Scene<'_>, client: u64) -> Result<Limit
     })
 }
 
-/// Returns which limit a call has reached.
+/// Returns the limit that a call has reached.
 fn limit_of(
     alloc: Global,
     scene: Scene<'_>,
@@ -80,7 +80,7 @@ fn limit_of(
     }
 }
 
-/// Returns which limit a call has reached.
+/// Returns the limit that a call has reached.
 pub(crate) fn full(
     alloc: Global,
     scene: Scene<'_>,
@@ -93,7 +93,7 @@ pub(crate) fn full(
     only(alloc, scene, Some(Fact::Limit(limit)))
 }
 
-/// Returns how much of the journal is used.
+/// Returns the number of steps in the journal, and its limit.
 pub(crate) fn full_journal(alloc: Global, scene: Scene<'_>) -> Result<Vec<Fact>, AllocError>
     ensures { IfOk result (λ found. All (facts.Holds scene.entry.topology.now scene.entry.limits scene.entry.ledger.now) found.items) }
 {

@@ -1,10 +1,10 @@
-//! What is reported of an answer.
+//! The rows of an explained answer.
 
 use crate::facts::Fact;
 use drm_explanations::At;
 use serde::Serialize;
 
-/// The answer of a script's line, and why, if it is a denial.
+/// The answer of a script's line, and the reason if it is a denial (own).
 #[derive(PartialEq, Eq, Debug, Drop)]
 pub struct AnswerRow {
     /// The line's number, from 1.
@@ -15,24 +15,33 @@ pub struct AnswerRow {
     pub label: Option<char>,
     /// The line of its answer.
     pub answer: String,
+    /// Whether the line was carried out.
     pub is_carried_out: bool,
     /// The number of the rule that failed, or of the fault.
     pub rule: Option<u32>,
-    /// The facts that made it so.
+    /// The facts that explain it.
     pub facts: Vec<Fact>,
     /// The condition under which the rule would pass.
     pub passes_if: Option<&'static str>,
 }
 
-/// An `AnswerRow` with a sentence for each fact.
+/// An `AnswerRow` with a sentence for each fact (own).
 #[derive(PartialEq, Eq, Debug, Drop, Serialize)]
 pub struct WrittenAnswer {
+    /// The line's number, from 1.
     pub line: u64,
+    /// The line's step, with its caller. A fault outside the rules is no step.
     pub asked: Option<At>,
+    /// The label of the caller.
     pub label: Option<char>,
+    /// The line of its answer.
     pub answer: String,
+    /// Whether the line was carried out.
     pub is_carried_out: bool,
+    /// The number of the rule that failed, or of the fault.
     pub rule: Option<u32>,
+    /// A sentence for each fact that explains it.
     pub facts: Vec<String>,
+    /// The condition under which the rule would pass.
     pub passes_if: Option<&'static str>,
 }

@@ -1,10 +1,10 @@
-//! What facts are looked for in.
+//! The values in which facts are looked up.
 
 use drm_modes::Topology;
 use drm_rights::{Ledger, Step};
 use drm_table::Limits;
 
-/// The history up to an answer, and what the device is.
+/// The history up to an answer, with the topology and the limits of the device.
 #[derive(Clone, Copy)]
 pub(crate) struct Scene<'a> {
     pub(crate) ledger: &'a Ledger,

@@ -60,7 +60,7 @@ fn own_lease(scene: Scene<'_>, client: u64) -> Option<Fact>
     Some(Fact::Told(Subject::Lease(master)))
 }
 
-/// Adds why a client doesn't see a mode object of a kind, or of any; nothing if it does.
+/// Adds the reason a client doesn't see a mode object of a kind, or of any; nothing if it does.
 fn unseen(
     scene: Scene<'_>,
     found: Vec<Fact>,
@@ -94,7 +94,7 @@ fn unseen(
     }
 }
 
-/// The mode objects that a call names, each with the kind that it has to be of, in the order of the tests.
+/// Returns the mode objects that a call names, each with the kind that the call requires, in the order of the tests.
 fn named_by(call: &Call) -> [Option<(u32, Kind)>; 2] {
     match *call {
         Call::GetCrtc { crtc } => [Some((crtc, Kind::Crtc)), None],
@@ -121,7 +121,7 @@ fn named_by(call: &Call) -> [Option<(u32, Kind)>; 2] {
     }
 }
 
-/// Returns why a client doesn't see one of the mode objects that a call names.
+/// Returns the reason a client doesn't see one of the mode objects that a call names.
 pub(crate) fn no_mode_object(
     alloc: Global,
     scene: Scene<'_>,
@@ -142,7 +142,8 @@ pub(crate) fn no_mode_object(
     Ok(found)
 }
 
-/// Returns why a client doesn't see some of the ids of a lease, of which those above the mode objects may be framebuffers.
+/// Returns the reason a client doesn't see some of the ids of a lease. Ids above those of mode objects may be
+/// framebuffers.
 fn unseen_of(
     alloc: Global,
     scene: Scene<'_>,
@@ -163,7 +164,7 @@ fn unseen_of(
     Ok(found)
 }
 
-/// Returns why a CRTC can't be shown by a connector or a plane.
+/// Returns the reason a CRTC can't be shown by a connector or a plane.
 fn route_fact(scene: Scene<'_>, call: &Call) -> Option<Fact>
     ensures { IfSome result (facts.Holds scene.entry.topology.now scene.entry.limits scene.entry.ledger.now) }
 {
@@ -193,7 +194,7 @@ fn route_fact(scene: Scene<'_>, call: &Call) -> Option<Fact>
     }
 }
 
-/// Returns why a CRTC can't be shown by a connector or a plane.
+/// Returns the reason a CRTC can't be shown by a connector or a plane.
 pub(crate) fn bad_route(
     alloc: Global,
     scene: Scene<'_>,

@@ -1,4 +1,4 @@
-//! The last step that did something to a client or its handle.
+//! The last step that changed a client or its handle.
 
 ghost use Rattle.std.specs.Prelude.{◌≡◌};
 ghost use Rattle.drm_trails.specs.Passing.{last_step};
@@ -8,7 +8,7 @@ ghost use Rattle.drm_refusals.specs.Searches as specs;
 use drm_rights::Step;
 use drm_table::{Answer, Event};
 
-/// What a step is searched for.
+/// The step that is searched for.
 #[derive(Clone, Copy)]
 pub(crate) enum Search {
     /// It assigned the client the handle.

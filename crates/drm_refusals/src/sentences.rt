@@ -9,10 +9,10 @@ use drm_modes::{Kind, Topology};
 use drm_rights::{Held, Key};
 use std::alloc::{AllocError, Global};
 
-/// The number of handles of a client that a sentence lists.
+/// The most handles of a client that a sentence lists.
 const MOST_HANDLES: usize = 16;
 
-/// What sentences are written with: the explanation, the device, and the clients of the labels.
+/// The values that sentences are written from: the explanation, the device, and the clients of the labels.
 #[derive(Clone, Copy)]
 pub(crate) struct Page<'a> {
     pub(crate) explanation: &'a Explanation,
@@ -39,7 +39,7 @@ fn put_client(page: Page<'_>, fact: ClientFact, text: &mut String) -> Result<(),
     }
 }
 
-/// Puts which handles a client holds, the first of them.
+/// Writes the first of the handles that a client holds.
 fn put_held(
     page: Page<'_>,
     client: u64,
@@ -84,7 +84,7 @@ fn put_handle(page: Page<'_>, fact: &HandleFact, text: &mut String) -> Result<()
     }
 }
 
-/// Puts that nothing was published under a key.
+/// Writes that nothing was published under a key.
 fn put_never(key: Key, text: &mut String) -> Result<(), AllocError> {
     match key {
         Key::Name(name) => write!(text, "no buffer has name {name}: no step gave one that"),
@@ -96,7 +96,7 @@ fn put_never(key: Key, text: &mut String) -> Result<(), AllocError> {
     }
 }
 
-/// Puts which client published under a key.
+/// Writes the client that published under a key.
 fn put_publisher(
     page: Page<'_>,
     key: Key,
@@ -118,7 +118,7 @@ fn put_publisher(
     }
 }
 
-/// Puts which client published under a key, and which step withdrew that.
+/// Writes the client that published under a key, and the step that withdrew that.
 fn put_withdrawn(
     page: Page<'_>,
     key: Key,
@@ -419,7 +419,7 @@ fn put_request(fact: RequestFact, text: &mut String) -> Result<(), AllocError> {
     }
 }
 
-/// Puts the line of the explanation about a subject, without its line end; nothing if it has none.
+/// Writes the line of the explanation about a subject, without its line end, or nothing if it has none.
 fn put_told(
     alloc: Global,
     page: Page<'_>,
@@ -438,7 +438,7 @@ fn put_told(
     Ok(())
 }
 
-/// Puts the sentence of a fact. If memory is refused, a front of the sentence is put.
+/// Writes the sentence of a fact. If memory is refused, it writes a front of the sentence.
 fn put_fact(
     alloc: Global,
     page: Page<'_>,
@@ -459,7 +459,7 @@ fn put_fact(
     }
 }
 
-/// Returns the sentence of each fact, in order. The explanation has no line about some subjects: they have no sentence.
+/// Returns the sentence of each fact, in order. A subject without a line in the explanation has no sentence.
 pub(crate) fn sentences_of(
     alloc: Global,
     page: Page<'_>,

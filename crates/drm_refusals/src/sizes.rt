@@ -42,7 +42,7 @@ fn range_fact(scene: Scene<'_>, what: Quantity, number: u64) -> Option<Fact>
     }
 }
 
-/// Returns which numbers of a picture are out of their ranges.
+/// Returns the numbers of a picture that are out of their ranges.
 fn shape(
     alloc: Global,
     scene: Scene<'_>,
@@ -72,7 +72,7 @@ fn size_of(scene: Scene<'_>, client: u64, handle: u32) -> Option<u64> {
     }
 }
 
-/// Returns that the bytes of a line don't hold its pixels, if they don't.
+/// Returns that the pitch is less than the bytes of a row of pixels, if it is.
 fn short_pitch(scene: Scene<'_>, width: u32, bpp: u32, pitch: u32) -> Option<Fact>
     ensures { IfSome result (facts.Holds scene.entry.topology.now scene.entry.limits scene.entry.ledger.now) }
 {
@@ -84,7 +84,7 @@ fn short_pitch(scene: Scene<'_>, width: u32, bpp: u32, pitch: u32) -> Option<Fac
     }
 }
 
-/// Returns that the buffer of a handle doesn't hold the lines of a framebuffer, if it doesn't.
+/// Returns that the buffer of a handle is smaller than the rows of a framebuffer, if it is.
 fn short_buffer(scene: Scene<'_>, client: u64, handle: u32, height: u32, pitch: u32) -> Option<Fact>
     ensures { IfSome result (facts.Holds scene.entry.topology.now scene.entry.limits scene.entry.ledger.now) }
 {
@@ -103,7 +103,7 @@ fn short_buffer(scene: Scene<'_>, client: u64, handle: u32, height: u32, pitch: 
     }
 }
 
-/// Returns which numbers of a call are out of their ranges.
+/// Returns the numbers of a call that are out of their ranges.
 pub(crate) fn bad_size(
     alloc: Global,
     scene: Scene<'_>,
@@ -134,7 +134,7 @@ pub(crate) fn bad_size(
     }
 }
 
-/// Returns which capability, or value of one, does not exist.
+/// Returns the capability that does not exist, or the value of one that does not.
 pub(crate) fn bad_cap(alloc: Global, scene: Scene<'_>, call: &Call) -> Result<Vec<Fact>, AllocError>
     ensures { IfOk result (λ found. All (facts.Holds scene.entry.topology.now scene.entry.limits scene.entry.ledger.now) found.items) }
 {

@@ -1,4 +1,4 @@
-//! Steps that took back what a client had.
+//! The steps that withdrew what a client published.
 
 ghost use Rattle.std.specs.Prelude.{◌≡◌, ◌<◌, ◌+◌, length};
 ghost use Rattle.drm_trails.specs.Passing.{first_step_after};
@@ -27,7 +27,8 @@ fn is_for(key: Key, call: &Call) -> bool
     }
 }
 
-/// Returns whether a step closes the token or removes the framebuffer, by its number or with the client that published it.
+/// Returns whether a step closes the token or removes the framebuffer. It does so by its number, or by closing the
+/// client that published it.
 fn withdraws(step: &Step, key: Key, client: u64) -> bool
     ensures { result ≡ specs.withdraws (key_of key) client (entry_of step.now) }
 {

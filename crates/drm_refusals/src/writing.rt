@@ -1,4 +1,4 @@
-//! The answer of a line, written out.
+//! The answer of a line as text.
 
 ghost use Rattle.std.specs.Prelude.{◌≡◌, ◌++◌, IfOk, OnOk};
 ghost use Rattle.std.specs.Option.{option_map};
@@ -13,11 +13,12 @@ use drm_modes::Topology;
 use drm_rights::Ledger;
 use std::alloc::{AllocError, Global};
 
-/// Returns the row with a sentence for each of its facts. The ledger, the topology and the labels are those of the row.
+/// Returns the row with a sentence for each of its facts (own). The ledger, the topology and the labels must be those
+/// of the row. Allocates the sentences.
 ///
 /// # Errors
 ///
-/// `AllocError` if memory is refused.
+/// `AllocError` if memory is refused. The row is then dropped.
 pub fn write_answer(
     alloc: Global,
     ledger: &Ledger,
@@ -67,7 +68,7 @@ pub fn write_answer(
     })
 }
 
-/// Returns the word of a call, or what represents one without a row.
+/// Returns the word of a call, or the words for a call without a row.
 fn call_words(call: &'static str) -> &'static str {
     if call.is_empty() {
         "a call without a row"
@@ -76,7 +77,7 @@ fn call_words(call: &'static str) -> &'static str {
     }
 }
 
-/// Puts which step a line is, with its call and its caller.
+/// Writes the step of a line, with its call and its caller.
 fn asked_words(asked: At, labels: &Labels, text: &mut String) -> Result<(), AllocError> {
     let At { step, client, call } = asked;
     let call = call_words(call);
@@ -91,7 +92,7 @@ fn asked_words(asked: At, labels: &Labels, text: &mut String) -> Result<(), Allo
     write!(text, " by {name}")
 }
 
-/// Puts the first line: which step the line is, and what it was answered.
+/// Writes the first line: the step of the line, and its answer.
 fn put_answer(row: &WrittenAnswer, labels: &Labels, text: &mut String) -> Result<(), AllocError> {
     let line = row.line;
     write!(text, "line {line}")?;
@@ -107,7 +108,7 @@ fn put_answer(row: &WrittenAnswer, labels: &Labels, text: &mut String) -> Result
     writeln!(text, "{done}: {answer}")
 }
 
-/// Puts a line for each sentence.
+/// Writes a line for each sentence.
 fn put_sentences(sentences: &[String], text: &mut String) -> Result<(), AllocError>
     ensures { OnOk result (string_bytes text.new ≡ string_bytes text.old ++ texts.lines sentences.now) }
 {
@@ -118,7 +119,7 @@ fn put_sentences(sentences: &[String], text: &mut String) -> Result<(), AllocErr
     Ok(())
 }
 
-/// Puts the condition under which the rule would pass, if there is one.
+/// Writes the condition under which the rule would pass, if there is one.
 fn put_condition(passes_if: Option<&'static str>, text: &mut String) -> Result<(), AllocError>
     ensures { OnOk result (string_bytes text.new ≡ string_bytes text.old ++ texts.condition_line (option_map (λ words. words.now) passes_if.entry)) }
 {
@@ -128,8 +129,8 @@ fn put_condition(passes_if: Option<&'static str>, text: &mut String) -> Result<(
     writeln!(text, "it would pass if {condition}")
 }
 
-/// Returns the answer as lines: which step the line is and what it was answered, the sentences of the facts, and the condition under
-/// which the rule would pass.
+/// Returns the answer as lines: its step and its answer, the sentences of the facts, and the condition under which the
+/// rule would pass (own). Allocates the text.
 ///
 /// # Errors
 ///

@@ -1,4 +1,4 @@
-//! The use of a line of a script: a step of the device, and the line of its answer.
+//! The use of a line of a script: the device makes a step, and the line of its answer is written.
 
 ghost use Rattle.std.specs.Prelude.{◌≡◌, ◌<◌, ◌+◌, ◌^◌};
 ghost use Rattle.drm_streams.specs.Turns.{Writes};

@@ -1,4 +1,4 @@
--- The listing of what a device holds (own).
+-- The listing of a device's rows (own).
 use Rattle.std.specs.Prelude.{◌≡◌, ℕ, ◌+◌, ◌<◌, ◌≤◌, List, [], ◌++◌, Option, None, Some, length}
 use Rattle.std.specs.List.{flat_map}
 use Rattle.drm_table.specs.declared.audits.AuditKind.{AuditKind}
@@ -21,13 +21,13 @@ kind_text w kind = flat_map (audit_line kind) (rising_rows (audit_rows w kind))
 unfoldable pub audit_text : Rows → List ℕ
 audit_text w = flat_map (kind_text w) kinds
 
--- why a listing ended, by what was not written and what the sink's trace shows
+-- the reason a listing ended, by the text that was not written and the sink's trace
 abbrev pub EndCondition : ListEnd → List ℕ → SinkTrace → SinkTrace → ℕ → Type 0
 EndCondition ends.Done later old new turns = later ≡ []
 EndCondition ends.WriteFault later old new turns = (0 < length later) × (old.counts.faults < new.counts.faults)
 EndCondition ends.TurnsUsed later old new turns = (0 < length later) × (new.counts.calls ≡ old.counts.calls + turns)
 
--- A listing: what it wrote, a front of the whole, at what cost, and why it ended.
+-- A listing: it wrote a front of the whole text, with its cost and the reason it ended.
 pub record Lists (w : Rows) (old new : SinkTrace) (turns : ℕ) (end : ListEnd) : Type 0 where
   pub written : List ℕ
   pub later : List ℕ

@@ -1,4 +1,4 @@
-//! The command line.
+//! The arguments of the command line.
 
 use crate::sockets::Paths;
 use clap::builder::ValueParser;
@@ -8,7 +8,7 @@ use drm_commands::{AskedDevice, Checking, Explaining, Running};
 use drm_connections::Counts;
 use std::alloc::{AllocError, Global};
 
-/// How many connections each listener may be told to accept.
+/// The most connections that a listener accepts by its option.
 const MOST_CONNECTIONS: u64 = 64;
 
 /// The exit statuses of all commands.
@@ -53,39 +53,39 @@ Exit status:
   2  a line of the topology is malformed
   3  a refused command line";
 
-/// How many connections a server accepts.
+/// The number of connections that a server accepts.
 #[derive(Clone, Copy, Debug, PartialEq, Eq)]
 pub(crate) enum Accepts {
-    /// These on each listener.
+    /// These numbers on each listener.
     Counted(Counts),
-    /// Any number, until it is told to end.
+    /// Any number, until the server is asked to end.
     AnyNumber,
 }
 
-/// Where to listen, and how many connections to accept there.
+/// The sockets to listen on, and the number of connections to accept on each.
 #[derive(Clone, Copy, Debug, PartialEq, Eq)]
 pub(crate) struct Serving<'a> {
     pub(crate) paths: Paths<'a>,
     pub(crate) accepts: Accepts,
-    /// Whether the end of standard input ends it.
+    /// Whether the server ends at the end of standard input.
     pub(crate) ends_with_input: bool,
     /// Whether it logs the sockets that it listens on.
     pub(crate) is_verbose: bool,
     pub(crate) device: AskedDevice<'a>,
-    /// Where what was noted is written at the end.
+    /// The file to which the journal is written at the end.
     pub(crate) journal: Option<&'a str>,
 }
 
-/// What the command line asks for.
+/// A command with its arguments.
 #[derive(Debug, PartialEq, Eq, Drop)]
 pub(crate) enum Asked<'a> {
     /// To run a script.
     Run(Running<'a>),
     /// To check files.
     Check(Checking<'a>),
-    /// To write into files what is answered.
+    /// To write the received answers into files.
     Update(Checking<'a>),
-    /// To explain what the clients of a script have.
+    /// To explain the rights of a script's clients.
     Explain(Explaining<'a>),
     /// To serve connections.
     Serve(Serving<'a>),
@@ -131,7 +131,7 @@ fn limits<'a>(alloc: Global, help: &'a str) -> Arg<'a> {
         .help(help)
 }
 
-/// The limits of a device that a script asks.
+/// Returns the option for the limits of a script's device.
 fn script_limits<'a>(alloc: Global) -> Arg<'a> {
     limits(
         alloc,
@@ -366,7 +366,8 @@ fn checking_of<'a>(
     }))
 }
 
-/// Reads the words of a command line, the program's name first. An error is a mistake, a request for help, or want of memory.
+/// Reads the words of a command line, the program's name first. An error is a mistake, a request for help, or refused
+/// memory.
 pub(crate) fn read_words<'a>(
     alloc: Global,
     words: &'a [String],
@@ -384,7 +385,7 @@ pub(crate) fn read_words<'a>(
     }
 }
 
-/// Whether the error is want of memory, and no mistake.
+/// Returns whether the error is refused memory and not a mistake.
 pub(crate) fn is_memory(error: &Error) -> bool {
     error.kind() == ErrorKind::OutOfMemory
 }

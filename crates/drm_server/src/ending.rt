@@ -1,4 +1,4 @@
-//! A server that ends where its standard input does.
+//! A server that ends at the end of its standard input.
 
 use drm_connections::OpenConnections;
 use libc::net::{POLLIN, poll};
@@ -11,7 +11,7 @@ use std::sync::Wait;
 /// The descriptor of standard input.
 const INPUT: RawFd = 0;
 
-/// How many bytes of standard input are read at once.
+/// The most bytes of standard input in one read.
 const READ: usize = 256;
 
 fn awaiting(descriptor: RawFd) -> pollfd {
@@ -22,7 +22,7 @@ fn awaiting(descriptor: RawFd) -> pollfd {
     }
 }
 
-/// Reads on, and says whether standard input has ended.
+/// Reads standard input, and returns whether it has ended.
 fn has_ended<R: Input>(rt: &R) -> bool {
     let mut bytes = [0; READ];
     match rt.reader().read(&mut bytes) {
@@ -31,7 +31,8 @@ fn has_ended<R: Input>(rt: &R) -> bool {
     }
 }
 
-/// Waits until standard input ends, and then tells all connections to end; or until nobody is at the other end of `served`.
+/// Waits until standard input ends, and then asks all connections to end. It also returns if the other end of `served`
+/// is closed.
 pub(crate) fn end_with_input<R: Input + Wait>(rt: &R, served: &UnixStream, open: &OpenConnections) {
     for _ in rt.forever() {
         let mut asked = [awaiting(served.as_raw_fd()), awaiting(INPUT)];

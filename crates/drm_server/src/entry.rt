@@ -26,17 +26,17 @@ use std::rt::{Env, Files};
 use std::sync::Wait;
 use std::thread::Threads;
 
-/// How many writes a listing makes at most.
+/// The most writes of a listing.
 const MOST_TURNS: u64 = 1_000_000;
 
-/// Lists on standard output what the device holds.
+/// Lists the rows of the device on standard output.
 fn list<R: Print>(rt: &R, device: &Device) -> Outcome {
     let mut sink = ToWrite::new(io::writer(rt));
     outcome_of_listing(&list_audit(device, &mut sink, MOST_TURNS))
 }
 
-/// Writes what a device has noted, if there is a file for it, and lists on standard output what it holds. Then a fault of the listeners is
-/// logged.
+/// Writes the journal of a device, if there is a file for it, and lists its rows on standard output. Then it logs a
+/// fault of the listeners.
 fn write_and_list<R: Print + Files + AllocGlobal + Log>(
     rt: &R,
     alloc: Global,
@@ -58,7 +58,7 @@ fn write_and_list<R: Print + Files + AllocGlobal + Log>(
     Ok(listed)
 }
 
-/// Serves an empty device, writes what it noted where that is asked for, and lists on standard output what it holds at the end, also
+/// Serves an empty device. At the end it writes the journal if requested, and lists the rows on standard output, also
 /// after a fault of a listener.
 fn serve_and_list<R: Input + Print + Files + Net + AllocGlobal + Log + Wait + Threads + Sync>(
     rt: &R,
@@ -89,7 +89,7 @@ fn serve<R: Input + Print + Files + Net + AllocGlobal + Log + Wait + Threads + S
     }
 }
 
-/// Prints what the command line's reading stopped at: help on standard output, a mistake on standard error.
+/// Prints help on standard output, or a mistake of the command line on standard error.
 fn stop_at<R: Print + Eprint>(rt: &R, error: &Error) -> Outcome {
     if is_memory(error) {
         return outcome_of_fault(Fault::Memory);
@@ -104,7 +104,7 @@ fn stop_at<R: Print + Eprint>(rt: &R, error: &Error) -> Outcome {
     }
 }
 
-/// Does what the command line asks for.
+/// Executes the command.
 fn carry_out_command<
     R: Input + Print + Eprint + Files + Net + AllocGlobal + Log + Wait + Threads + Sync,
 >(rt: &R, alloc: Global, words: &[String]) -> Outcome {
@@ -119,7 +119,8 @@ fn carry_out_command<
     }
 }
 
-/// The whole program: does what the command line asks for, tells of a fault on standard error, and gives the status.
+/// Runs the whole program: executes the command, prints the line of a fault on standard error, and returns the exit
+/// status (own).
 pub fn program<
     R: Input + Print + Eprint + Files + Net + Env + AllocGlobal + Log + Wait + Threads + Sync,
 >(rt: &R) -> ExitCode {

@@ -1,4 +1,4 @@
-//! The display server: it serves connections on sockets, lists what a device holds, and is a program as a function.
+//! The display server: serves connections on sockets, lists the rows of a device, and is a program as a function.
 #![tactic(auto)]
 
 mod command_line;

@@ -1,4 +1,4 @@
-//! Listing what a device holds.
+//! The listing of a device's rows.
 
 ghost use Rattle.std.specs.Prelude.{◌≡◌, ◌<◌, ◌+◌, ◌^◌};
 ghost use Rattle.std.specs.List.{flat_map};
@@ -14,25 +14,27 @@ use drm_script::audit_line;
 use drm_streams::{Sink, Written, put_all};
 use drm_table::{AuditKind, AuditRow};
 
-/// How many rows a page of an audit has at most.
+/// The most rows of a page of an audit.
 const PAGE: u32 = 16;
 
 /// More pages than any kind has.
 const PAGES: u32 = 1 << 27;
 
-/// How a listing ends (own).
+/// The end of a listing (own).
 #[derive(Clone, Copy, Debug, PartialEq, Eq)]
 pub enum ListEnd {
     /// All rows are written.
     Done,
-    /// The sink failed; a front of the lines is written.
+    /// The sink failed. A front of the lines is written.
     WriteFault,
-    /// A call of the sink was wanted, and no turn was left for it; a front of the lines is written.
+    /// A call of the sink was needed, and no turn was left for it. A front of the lines is written.
     TurnsUsed,
 }
 
-/// Writes a line for each row of the device, kind by kind, the rows of a kind in the order of their numbers, in at most so
-/// many calls of the sink. A line has the kind's name and the row's four numbers (own).
+/// Writes a line for each row of the device, in at most `turns` calls of the sink (own). Does not allocate.
+///
+/// A line has the name of the row's kind and its four numbers. The rows are listed kind by kind, in the order of their
+/// numbers.
 pub fn list_audit<K: Sink>(device: &Device, sink: &mut K, turns: u64) -> ListEnd
     requires { (K.trace sink.old).counts.calls + turns < 2 ^ 48 }
     ensures { Lists (rows_of device.now) (K.trace sink.old) (K.trace sink.new) turns result }
@@ -91,8 +93,8 @@ fn listing_fault(end: &ListEnd) -> Option<Fault>
     }
 }
 
-/// What `drm_server serve` ends with once all sessions have ended, by how the listing ended: status 0 and no line where it is
-/// done (own).
+/// Returns the outcome of `drm_server serve` by the end of the listing: status 0 and no line if it is done (own). Does
+/// not allocate.
 pub fn outcome_of_listing(end: &ListEnd) -> Outcome
     ensures status { result.status ≡ status_by (fault_of_listing end.now) }
     ensures line { result.line ≡ line_by (fault_of_listing end.now) }

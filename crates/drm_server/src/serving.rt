@@ -1,4 +1,4 @@
-//! Serving a device on three sockets.
+//! A device that is served on three sockets.
 
 use crate::command_line::{Accepts, Serving};
 use crate::ending::end_with_input;
@@ -16,7 +16,7 @@ use std::sync::Wait;
 use std::thread;
 use std::thread::{JoinHandle, Scope, Threads};
 
-/// Logs where the server listens, and how many connections it accepts there.
+/// Logs the paths of the sockets, and the number of connections that the server accepts on each.
 fn log_sockets<R: Log>(rt: &R, serving: &Serving<'_>) {
     let paths = serving.paths;
     let Accepts::Counted(counts) = serving.accepts else {
@@ -34,7 +34,7 @@ fn log_sockets<R: Log>(rt: &R, serving: &Serving<'_>) {
     info!(rt; target: PROGRAM, "root: {} accepts {} in all", paths.root, counts.roots);
 }
 
-/// A device, and where it is served.
+/// A device, and the sockets on which it is served.
 #[derive(Drop)]
 struct Task {
     device: Device,
@@ -42,7 +42,7 @@ struct Task {
     accepts: Accepts,
 }
 
-/// Returns why a task was not begun, with its device.
+/// Returns the reason a task was not begun, with its device.
 fn unbegun(fault: ServeFault, task: Task) -> Unserved {
     Unserved {
         fault,
@@ -50,7 +50,7 @@ fn unbegun(fault: ServeFault, task: Task) -> Unserved {
     }
 }
 
-/// Serves the connections until all have ended, or until told to end.
+/// Serves the connections until all have ended, or until they are asked to end.
 fn serve_all_of<R: Log + Wait + Threads + Sync>(
     rt: &R,
     alloc: Global,
@@ -74,7 +74,7 @@ fn serve_all_of<R: Log + Wait + Threads + Sync>(
     }
 }
 
-/// Returns room for the connections that are open at once. `ended` is a connection that was closed at the other end.
+/// Returns room for the connections that are open at once. `ended` is a connection that is closed at the other end.
 fn open_of(
     alloc: Global,
     accepts: Accepts,
@@ -86,7 +86,7 @@ fn open_of(
     }
 }
 
-/// A connection of two ends, where there may be one more.
+/// Creates a pair of connected sockets.
 fn make_pair<R: Net + Log>(rt: &R) -> Result<(UnixStream, UnixStream), ServeFault> {
     match UnixStream::pair(rt) {
         Ok(pair) => Ok(pair),
@@ -97,7 +97,7 @@ fn make_pair<R: Net + Log>(rt: &R) -> Result<(UnixStream, UnixStream), ServeFaul
     }
 }
 
-/// Returns the device of a server, however it ended.
+/// Returns the device of a server, after any end.
 fn device_of(served: Result<Device, Unserved>) -> Device {
     match served {
         Ok(device) => device,
@@ -105,8 +105,10 @@ fn device_of(served: Result<Device, Unserved>) -> Device {
     }
 }
 
-/// Serves the connections in a thread of the scope, and lets go of `serving` once all have ended. If no thread can be started, all
-/// connections are told to end: then serving them here takes no step, and returns the device.
+/// Serves the connections in a thread of the scope, and drops `serving` once all have ended.
+///
+/// If no thread can be started, all connections are asked to end. Serving them here then makes no step, and returns the
+/// device.
 fn start_serving<'s, E: 's, R: Log + Wait + Threads + Sync>(
     scope: &Scope<'s, E>,
     rt: &'s R,
@@ -161,7 +163,7 @@ fn serve_beside_input<R: Input + Log + Wait + Threads + Sync>(
     )
 }
 
-/// The two ends of what tells connections to end, and of what tells that all have ended.
+/// The ends of two pairs: one asks connections to end, and one signals that all have ended.
 #[derive(Drop)]
 struct Ends {
     ended: UnixStream,
@@ -174,7 +176,7 @@ fn make_ends<R: Net + Log>(rt: &R) -> Result<Ends, ServeFault> {
     Ok(Ends { ended, served })
 }
 
-/// Serves the connections, and tells them to end once standard input has.
+/// Serves the connections, and asks them to end once standard input has ended.
 fn serve_until_input_ends<R: Input + Net + Log + Wait + Threads + Sync>(
     rt: &R,
     alloc: Global,
@@ -206,7 +208,7 @@ fn serve_listeners<R: Input + Net + Log + Wait + Threads + Sync>(
     }
 }
 
-/// A device that was served, and why not all connections were.
+/// A device that was served, and the fault if not all connections were.
 #[derive(Drop)]
 pub(crate) struct Ended {
     pub(crate) device: Device,

@@ -23,7 +23,8 @@ pub(crate) struct Paths<'a> {
     pub(crate) root: &'a str,
 }
 
-/// Which file a path names. Where the file system tells when it was made, a number that was given again is another file's.
+/// The identity of the file at a path. If the file system stores the time of creation, a reused number is that of
+/// another file.
 #[derive(Clone, Copy, PartialEq, Eq)]
 struct FileId {
     device: u64,
@@ -40,7 +41,7 @@ fn file_at<R: Files>(rt: &R, path: &str) -> Option<FileId> {
     })
 }
 
-/// The file of a bound socket. As this is let go the file is removed, if it is still the one that was bound.
+/// The file of a bound socket. On drop it is removed, if it is still the one that was bound.
 pub(crate) struct SocketFile<'a, R: Files> {
     rt: &'a R,
     path: &'a str,
@@ -56,7 +57,7 @@ impl<R: Files> Drop for SocketFile<'_, R> {
     }
 }
 
-/// Logs why a socket can't be bound.
+/// Logs the reason a socket can't be bound.
 fn tell<R: Log>(rt: &R, path: &str, reason: &io::Error) {
     if reason.kind() == ErrorKind::AddrInUse {
         error!(rt; target: PROGRAM, "{path}: a file is there already: remove it if no server uses it");
@@ -73,7 +74,7 @@ pub(crate) struct Socket<'a, R: Files> {
 }
 
 impl<'a, R: Files + Net + Log> Socket<'a, R> {
-    /// Binds a socket at a path where no file is. Where that fails, what stands there is left alone, and the cause is logged.
+    /// Binds a socket at a path without a file. If that fails, an existing file is unchanged, and the cause is logged.
     pub(crate) fn bind(rt: &'a R, path: &'a str, class: Class) -> Result<Socket<'a, R>, Fault>
         ensures { IfErr result (λ fault. fault ≡ Listen class) }
     {
@@ -99,7 +100,7 @@ pub(crate) struct Sockets<'a, R: Files> {
     pub(crate) root: Socket<'a, R>,
 }
 
-/// Their listeners, apart from their files.
+/// Their listeners, without their files.
 #[derive(Drop)]
 pub(crate) struct Listeners {
     pub(crate) card: UnixListener,
@@ -107,7 +108,7 @@ pub(crate) struct Listeners {
     pub(crate) root: UnixListener,
 }
 
-/// Binds the sockets in the order card, render, root. Where one can't be bound, those before it are closed and their files
+/// Binds the sockets in the order card, render, root. If one can't be bound, those before it are closed and their files
 /// are removed.
 pub(crate) fn bind_all<'a, R: Files + Net + Log>(
     rt: &'a R,

@@ -1,4 +1,4 @@
-//! Descriptors 0 to 2.
+//! The descriptors 0 to 2.
 
 use libc::net::{POLLNVAL, poll};
 use libc::types::pollfd;
@@ -6,10 +6,10 @@ use std::fs::OpenOptions;
 use std::os::fd::RawFd;
 use std::rt::Files;
 
-/// The file on standard streams that were closed.
+/// The file for standard streams that were closed.
 const NOTHING: &str = "/dev/null";
 
-/// The files on the standard streams that were closed.
+/// The files of the standard streams that were closed.
 #[derive(Drop)]
 pub(crate) struct Standard<F: Drop> {
     input: Option<F>,
@@ -26,7 +26,7 @@ fn is_closed(descriptor: RawFd) -> bool {
     poll(&mut asked, 0) == 1 && asked[0].revents & POLLNVAL != 0
 }
 
-/// Opens `/dev/null` on a descriptor that is closed, which has to be the lowest such.
+/// Opens `/dev/null` on a descriptor that is closed, which must be the lowest closed one.
 fn open_if_closed<R: Files>(rt: &R, descriptor: RawFd, how: &OpenOptions) -> Option<R::File> {
     if is_closed(descriptor) {
         how.open(rt, NOTHING).ok()
@@ -35,9 +35,11 @@ fn open_if_closed<R: Files>(rt: &R, descriptor: RawFd, how: &OpenOptions) -> Opt
     }
 }
 
-/// Opens `/dev/null` on each of the descriptors 0 to 2 that is closed, so that no socket and no file gets its number: what is written to
-/// standard output or logged would otherwise reach a client. Standard input is opened for writing, and the others for reading, so that
-/// its use still fails as that of a closed one.
+/// Opens `/dev/null` on each of the descriptors 0 to 2 that is closed.
+///
+/// No socket and no file then gets such a number. Otherwise, text for standard output or the log would reach a client.
+/// Standard input is opened for writing, and the others for reading, so that their use still fails like that of a
+/// closed one.
 pub(crate) fn open_standard<R: Files>(rt: &R) -> Standard<R::File> {
     let mut writing = OpenOptions::new();
     writing.write(true);

@@ -8,12 +8,12 @@ use std::env;
 use std::io::ErrorKind;
 use std::rt::Env;
 
-/// How many bytes of a word that isn't text are looked at, and of how many words.
+/// The most bytes of a word that isn't text, and the most words, that are looked at.
 const MOST_BYTES: usize = 4_096;
 
 const MOST_WORDS: usize = 65_536;
 
-/// The first word that isn't text, with signs in place of what can't be shown.
+/// Returns the first word that isn't text, with signs in place of the bytes that can't be shown.
 fn word_of_no_text<R: Env>(rt: &R, alloc: Global) -> Option<String> {
     let mut word = [0; MOST_BYTES];
     for place in 0..MOST_WORDS {
@@ -26,7 +26,7 @@ fn word_of_no_text<R: Env>(rt: &R, alloc: Global) -> Option<String> {
     None
 }
 
-/// The words of the command line, the program's name first. Where one isn't text, that is logged.
+/// Returns the words of the command line, the program's name first. If one isn't text, that is logged.
 pub(crate) fn words_of<R: Env + AllocGlobal + Log>(
     rt: &R,
     alloc: Global,
