@@ -1,4 +1,4 @@
-//! Arrays, call by call and beside a plain map.
+//! Arrays, call by call and compared with a plain map.
 
 use crate::numbers::Numbers;
 use crate::plain_map::{MARKS, Plain, SLOTS, index_of};
@@ -22,7 +22,7 @@ pub(crate) enum Ask {
     Len,
 }
 
-/// Replaces what is there, and gives what was there.
+/// Replaces a value, and returns the old one.
 fn replace(array: &mut IndexArray<u32>, index: u32, value: u32) -> Option<u32> {
     let here = array.get_mut(index)?;
     let was = *here;
@@ -30,7 +30,7 @@ fn replace(array: &mut IndexArray<u32>, index: u32, value: u32) -> Option<u32> {
     Some(was)
 }
 
-/// A value that is refused comes back.
+/// Inserts a value. A refused value is returned.
 fn insert(array: &mut IndexArray<u32>, index: u32, value: u32) -> Told {
     match array.insert(index, value) {
         Ok(()) => Told::Done,
@@ -145,7 +145,7 @@ const LEVELS: [(Ask, Told); 14] = [
     (Ask::Nth(65), Told::Nothing),
 ];
 
-/// Indices that are far from each other: each level grows, and is refused memory where that is refused in turn.
+/// Indices that are far from each other. Each level grows, and returns a refusal when memory for it is refused.
 const FAR: [(Ask, Told); 13] = [
     (Ask::Insert(3, 3), Told::Done),
     (Ask::Get(3), Told::Number(3)),
@@ -189,7 +189,7 @@ fn edit(numbers: &mut Numbers, value: u32) -> Ask {
     }
 }
 
-/// What is asked of a random index.
+/// The calls with a random index.
 fn questions(numbers: &mut Numbers) -> [Ask; 7] {
     let slot = numbers.below(SLOTS);
     let index = index_of(slot);

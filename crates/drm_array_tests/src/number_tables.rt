@@ -1,4 +1,4 @@
-//! Tables of numbers, call by call and beside a plain table.
+//! Tables of numbers, call by call and compared with a plain table.
 
 ghost use Rattle.std.specs.Prelude.{◌+◌, ◌<◌, ◌^◌};
 
@@ -89,7 +89,7 @@ const CALLS: [(Ask, Told); 27] = [
     (Ask::Nth(2), Told::Nothing),
 ];
 
-/// Calls of a table of the numbers 1 to 3, given in turn until it is full.
+/// Calls of a table of the numbers 1 to 3, allocated in rotation until it is full.
 const FROM_ONE: [(Ask, Told); 9] = [
     (Ask::AddCyclic(10), Told::Number(1)),
     (Ask::AddCyclic(11), Told::Number(2)),
@@ -120,7 +120,7 @@ fn edit(numbers: &mut Numbers, id: u32, kinds: usize, value: u32) -> Ask
     }
 }
 
-/// What is asked of a number, and of the whole table.
+/// The calls for a number, and for the whole table.
 fn questions(id: u32, place: usize) -> [Ask; 6] {
     [
         Ask::Get(id),

@@ -28,7 +28,7 @@ const MIDDLE: [u32; 11] = [
 
 pub(crate) const MARKS: [Mark; 3] = [Mark::M0, Mark::M1, Mark::M2];
 
-/// The index that a slot stands for.
+/// Returns the index of a slot.
 pub(crate) fn index_of(slot: usize) -> u32
     requires { slot < SLOTS }
 {
@@ -86,7 +86,7 @@ impl Plain {
         self.cells[slot_of(index)?]
     }
 
-    /// Puts a cell in the place of an index, or leaves that empty, and gives what was there.
+    /// Puts a cell in the place of an index, or empties it, and returns the old cell.
     fn put(&mut self, index: u32, cell: Option<Cell>) -> Option<Cell> {
         let slot = slot_of(index)?;
         std::mem::replace(&mut self.cells[slot], cell)
@@ -101,7 +101,7 @@ impl Plain {
         Told::Done
     }
 
-    /// Replaces what is there.
+    /// Replaces a value, and returns the old one.
     fn replace(&mut self, index: u32, value: u32) -> Option<u32> {
         let cell = self.cell(index)?;
         self.put(index, Some(Cell { value, ..cell }));

@@ -70,7 +70,7 @@ impl Plain {
         self.least_free_above(given).or(self.least_free())
     }
 
-    /// Puts a value at this number, or gives it back where there is none.
+    /// Puts a value at this number, or returns it if there is no number.
     fn add_at(&mut self, id: Option<u32>, value: u32) -> Told {
         let Some(id) = id else {
             return Told::Back(value);

@@ -9,8 +9,8 @@ use drm_test_cases::{Call, Told, check};
 use std::alloc::Global;
 use std::process::Abort;
 
-/// What a client asks, or what is asked of it: with the flags of an opening, a handle or an object, and an export order. An object is
-/// named by the number of its key.
+/// A call of a client or about one: with the flags of an opening, a handle or an object, and an export order. An object
+/// is named by the number of its key.
 #[derive(Clone, Copy)]
 enum Ask {
     Open {
@@ -72,7 +72,7 @@ fn is_nth_hold(
     files.nth_handle(nth) == Some(hold)
 }
 
-/// What is asked of all.
+/// The calls for all clients.
 fn asked_of_all(files: &Files, client: u32, ask: Ask) -> Told {
     match ask {
         Ask::IsNth(nth, flags) => {
@@ -108,7 +108,7 @@ fn add(files: &mut Files, client: u32, object: u32, export_order: Option<u32>) -
     }
 }
 
-/// Gives a handle its place, if the client has it.
+/// Moves a handle to its place, if the client has it.
 fn placed(files: &mut Files, client: u32, handle: u32, export_order: u32) -> Told
     requires { is_open_client files.old client ≡ true }
 {
@@ -119,7 +119,7 @@ fn placed(files: &mut Files, client: u32, handle: u32, export_order: u32) -> Tol
     Told::Done
 }
 
-/// Closes a client, and tells whether it leaves these two handles with their objects.
+/// Closes a client, and returns whether it leaves these two handles with their objects.
 fn closed(files: &mut Files, client: u32, pairs: [(u32, u32); 2]) -> Told
     requires { is_open_client files.old client ≡ true }
 {
@@ -132,7 +132,7 @@ fn closed(files: &mut Files, client: u32, pairs: [(u32, u32); 2]) -> Told
     Told::Whether(are_left && rest.take_next().is_none())
 }
 
-/// What an open client asks, or what is asked of it.
+/// The calls for an open client.
 fn asked(files: &mut Files, client: u32, flags: FileFlags, ask: Ask) -> Told
     requires { is_open_client files.old client ≡ true }
 {
@@ -193,7 +193,7 @@ const CARD: Ask = Ask::Open {
     universal: true,
 };
 
-/// One client with two handles, of which the first is given again. Its closing leaves both.
+/// One client with two handles, of which the first is reused. Its closing leaves both.
 const GIVEN_AGAIN: [Case; 21] = [
     (By(1, CARD), Told::Done),
     (By(2, CARD), Told::Full),
@@ -335,7 +335,7 @@ const PLACES_IN_ANY_ORDER: [Case; 26] = [
     (By(1, Ask::Prime(5)), Told::Number(2)),
 ];
 
-/// So many clients, of so many handles each, may be there.
+/// Checks files with room for `clients` clients, with `handles` handles each.
 fn check_files(rt: &impl Abort, alloc: Global, clients: u32, handles: u32, cases: &[Case])
     requires { 1 ≤ handles }
 {

@@ -8,7 +8,7 @@ use drm_test_cases::{Call, Told, check};
 use std::alloc::Global;
 use std::process::Abort;
 
-/// What is told of an object.
+/// The counts of an object.
 #[derive(Clone, Copy, PartialEq, Eq)]
 struct Counts {
     step_number: u32,
@@ -28,7 +28,7 @@ enum Ask {
     Refer(u32),
     Unrefer(u32),
     Stamp(u32, u64),
-    /// Whether this is told of an object.
+    /// Whether the object has these counts.
     Get(u32, Counts),
     /// The same, value by value.
     Read(u32, Counts),
@@ -68,7 +68,7 @@ fn created(objects: &mut Objects, birth: u32, size: u64) -> Told {
     }
 }
 
-/// Whether this is told of an object.
+/// Returns whether the object has these counts.
 fn is_told(object: Option<Object>, counts: Counts) -> Told {
     let Some(object) = object else {
         return Told::Nothing;
@@ -90,7 +90,7 @@ fn told_gone(gone: Option<Dead>) -> Told {
     }
 }
 
-/// What is told of an object that is there, value by value.
+/// Returns the counts of an existing object, value by value.
 fn read(objects: &Objects, key: ObjectKey) -> Counts
     requires { is_there objects.now key ≡ true }
 {
@@ -103,7 +103,7 @@ fn read(objects: &Objects, key: ObjectKey) -> Counts
     }
 }
 
-/// What is asked of an object that is there.
+/// The calls for an existing object.
 fn asked_of(objects: &mut Objects, number: u32, ask: Ask) -> Told {
     let key = ObjectKey::from_number(number);
     let Some(object) = objects.get(key) else {
@@ -192,7 +192,7 @@ const FIRST: Told = Told::Gone {
     size: 4096,
 };
 
-/// An object goes with its last handle, and its key is given again.
+/// An object is destroyed with its last handle, and its key is reused.
 const LAST_HANDLE: [Case; 8] = [
     (Ask::Create(1, 4096), Told::Number(0)),
     (Ask::Hold(0), Told::Done),
@@ -204,7 +204,7 @@ const LAST_HANDLE: [Case; 8] = [
     (Ask::Create(2, 8192), Told::Number(0)),
 ];
 
-/// An object goes with its last token.
+/// An object is destroyed with its last token.
 const LAST_TOKEN: [Case; 8] = [
     (Ask::Create(1, 4096), Told::Number(0)),
     (Ask::Refer(0), Told::Done),
@@ -232,7 +232,7 @@ const LARGE: Counts = Counts {
     refs: 0,
 };
 
-/// The middle one of three objects goes.
+/// The middle one of three objects is destroyed.
 const MIDDLE: [Case; 10] = [
     (Ask::Create(1, 4096), Told::Number(0)),
     (Ask::Create(5, 8192), Told::Number(1)),
@@ -296,7 +296,7 @@ const UNORDERED: [Case; 10] = [
     (Ask::Create(5, 64), Told::Number(0)),
 ];
 
-/// So many objects may be there.
+/// Checks objects with room for `limit` of them.
 fn check_objects(rt: &impl Abort, alloc: Global, limit: u32, cases: &[Case]) {
     assert_eq!(rt; check(&mut Objects::new(alloc, limit), cases), None);
 }

@@ -34,7 +34,7 @@ fn told_by(given: Result<u32, ShareFault>) -> Told {
     }
 }
 
-/// Gives an object a name that has none.
+/// Names an object that has no name.
 fn give(names: &mut Names, object: ObjectKey) -> Told {
     match names.name_of(object) {
         Some(_name) => Told::Nothing,
@@ -65,7 +65,7 @@ impl Call<Names> for Naming {
     }
 }
 
-/// Two objects get names, and the name of the first is given again.
+/// Two objects get names, and the name of the first is reused.
 const NAMES: [(Naming, Told); 15] = [
     (Naming::NameOf(7), Told::Nothing),
     (Naming::Give(7), Told::Number(1)),
@@ -161,7 +161,7 @@ impl Call<Tokens> for Tokening {
     }
 }
 
-/// Three tokens are given in turn.
+/// Three tokens are allocated in rotation.
 const IN_TURN: [(Tokening, Told); 12] = [
     (Tokening::LastGiven, Told::Nothing),
     (Tokening::Export(1, 2), Told::Number(1)),
@@ -220,8 +220,8 @@ fn tokens_of_objects(rt: HostRuntime) {
     check_tokens(&rt, rt.alloc(), 1, &ONE_TOKEN);
 }
 
-/// Names and tokens that want memory, of objects that are far from each other. Where a request for it is refused, nothing has changed,
-/// and the same call is carried out once there is memory.
+/// Names and tokens that need memory, of objects that are far from each other. If memory is refused, nothing changes.
+/// The same call is carried out once there is memory.
 #[test]
 fn a_refusal_changes_nothing(rt: HostRuntime) {
     check_names(&rt, rt.alloc(), 8, &FAR_NAMES);

@@ -22,7 +22,7 @@ const MET: &[u8] = b"\
     b version -> apart 50\n\
     close a -> closed";
 
-/// A file, how its check ends, how many expectations were met and weren't, and what is told.
+/// A file, the end of its check, the numbers of expectations that were met and not met, and the text that is written.
 #[derive(Clone, Copy)]
 struct File<'a> {
     text: &'a [u8],

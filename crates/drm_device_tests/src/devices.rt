@@ -1,4 +1,4 @@
-//! Devices by their public calls: what makes one, what it notes and tells, and what is replayed. Scripts show the rest.
+//! Devices by their public calls: construction, journal, audit and replay. Scripts show the rest.
 
 use crate::comparing::same;
 use crate::journals::CASES;
@@ -24,7 +24,7 @@ impl<R: Abort> Trial<R> for HasJournal<'_> {
     }
 }
 
-/// Whether a device is refused for its limits, which stand in the order of the fields.
+/// Returns whether a device is refused for its limits, which are in the order of the fields.
 fn are_bad(rt: &impl Abort, alloc: Global, limits: [u32; 8]) -> Result<bool, Fail> {
     let limits = Limits {
         clients: limits[0],
@@ -68,8 +68,8 @@ fn limits_out_of_range(rt: HostRuntime) -> Result<(), Fail> {
 /// The rows of each kind from a place on.
 pub(crate) type Page = (AuditKind, u32, &'static [[u64; 4]]);
 
-/// A script, what a device holds after it, and how many places of its journal are left for events. The device that the journal
-/// gives again holds the same, and both then answer alike what is asked further, and hold the same.
+/// A script, the rows of the device after it, and the number of events for which its journal has room. A device that
+/// replays the journal has the same rows. Both then answer further calls alike, and have the same rows again.
 #[derive(Clone, Copy)]
 pub(crate) struct Case {
     pub(crate) row: Row,

@@ -48,7 +48,7 @@ const LENT: [Page; 8] = [
     (AuditKind::Device, 0, &[[1, 1, 3, 10]]),
 ];
 
-/// Once the third lease is redeemed and client 4 has gone.
+/// The pages after the third lease is redeemed and client 4 is closed.
 const GONE: [Page; 3] = [
     (
         AuditKind::Master,
@@ -80,7 +80,7 @@ const DENIED_EVENTS: Row = Row {
         d drop_master -> denied 28 NotCurrent 22",
 };
 
-/// A root client makes twenty buffers, gives back the third handle, and gets it again for one more.
+/// A root client creates twenty buffers, closes the third handle, and receives it again for another one.
 const TWENTY_BUFFERS: Row = Row {
     name: "audits_have_pages",
     answers: 23,
@@ -148,7 +148,7 @@ const TWENTY: [Page; 4] = [
     (AuditKind::Object, 20, &[]),
 ];
 
-/// Client 1 makes two leases, of which client 4 redeems the second, and goes.
+/// Client 1 creates two leases, of which client 4 redeems the second, and is closed.
 const OWNER_CLOSES: Row = Row {
     name: "owner_gone",
     answers: 5,
@@ -160,7 +160,7 @@ const OWNER_CLOSES: Row = Row {
         close a -> closed",
 };
 
-/// Both leases are empty, the lessee that nobody redeemed is gone, and the owner's master stays under the other.
+/// Both leases are empty. The lessee that no client redeemed is freed, and the owner's master stays under the other.
 const OWNER_GONE: [Page; 4] = [
     (AuditKind::Client, 0, &[[4, 20, 3, 0]]),
     (AuditKind::Master, 0, &[[1, 0, 0, 0], [3, 1, 2, 0]]),
@@ -168,7 +168,7 @@ const OWNER_GONE: [Page; 4] = [
     (AuditKind::Device, 0, &[[0, 0, 2, 5]]),
 ];
 
-/// Client 1 names a buffer and exports it and another, which client 7 imports, and goes.
+/// Client 1 names a buffer and exports it and another, which client 7 imports, and is closed.
 const EXPORTER_CLOSES: Row = Row {
     name: "exporter_gone",
     answers: 9,

@@ -1,4 +1,4 @@
-//! Replays that stop, and where: before the first event, or at one that isn't noted.
+//! Replays that stop, and the place: before the first event, or at one that isn't journaled.
 
 use crate::comparing::same;
 use crate::devices::HasJournal;
@@ -16,7 +16,7 @@ const CARD: Event = Event::Open(Opening::Primary {
 
 const TWO_CARDS: [Event; 2] = [CARD, CARD];
 
-/// Replays these events within these limits, compares the journal, and gives the fault.
+/// Replays these events within these limits, compares the journal, and returns the fault.
 fn fault_of(
     rt: &impl Abort,
     alloc: Global,
@@ -27,7 +27,7 @@ fn fault_of(
     lend(rt, alloc, replayed, &HasJournal(events))
 }
 
-/// Whether memory was refused, for the device or at one of so many events.
+/// Returns whether memory was refused, for the device or at one of `count` events.
 fn is_refusal(fault: Option<ReplayFault>, count: usize) -> bool {
     match fault {
         Some(ReplayFault::New(fault)) => fault == NewFault::NoMemory,

@@ -1,5 +1,5 @@
-//! A lessee that stays connected while owners come and go: its lease ended with the first of them, and stays empty whichever keys
-//! are given again.
+//! A lessee that stays connected while owners open and close. Its lease ended with the first of them, and stays empty
+//! even if keys are reused.
 
 use crate::comparing::same;
 use drm_device::Device;
@@ -10,7 +10,7 @@ use std::alloc::Global;
 use std::process::Abort;
 use std::test::Fail;
 
-/// The events of a round, and of what stands before the first.
+/// The events of a round, which is also the number of those before the first.
 const STEPS: u32 = 4;
 
 const PRIMARY: Opening = Opening::Primary {
@@ -31,7 +31,8 @@ fn lend_and_close(rt: &impl Abort, device: &mut Device) {
     close(rt, device, 1);
 }
 
-/// An owner opens, leases the same to nobody, and closes. The lessee of the first doesn't see CRTC 2.
+/// An owner opens, creates the same lease, which no client redeems, and closes. The lessee of the first doesn't see
+/// CRTC 2.
 fn one_round(rt: &impl Abort, device: &mut Device, owner: u32, token: u32) {
     open(rt, device, PRIMARY, owner);
     lease(rt, device, owner, token);

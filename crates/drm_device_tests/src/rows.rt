@@ -11,7 +11,7 @@ pub(crate) mod sharing;
 use std::fmt;
 use std::fmt::{Display, Formatter};
 
-/// A script, whose lines have their answers behind ` -> `, and how many have one.
+/// A script, whose lines have their answers after ` -> `, and the number of those lines.
 #[derive(Clone, Copy)]
 pub(crate) struct Row {
     pub(crate) name: &'static str,

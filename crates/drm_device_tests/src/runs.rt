@@ -140,7 +140,7 @@ fn scripts_and_their_ends(rt: HostRuntime) {
     for run in &CUT_RUNS {
         check_run(&rt, rt.alloc(), run);
     }
-    // A line that is too long is judged as soon as its 256th byte is there, before the fault behind it.
+    // A line that is too long is refused at its 256th byte, before the fault after it.
     let long = Run {
         script: &[b' '; 256],
         source: Cut::Fault(256),
@@ -151,7 +151,7 @@ fn scripts_and_their_ends(rt: HostRuntime) {
     check_run(&rt, rt.alloc(), &long);
 }
 
-/// The first so many lines of a text, with their ends.
+/// Returns the first lines of a text, with their ends.
 fn first_lines(text: &[u8], count: usize) -> &[u8] {
     let mut left = count;
     for (index, byte) in text.iter().enumerate() {
@@ -165,7 +165,7 @@ fn first_lines(text: &[u8], count: usize) -> &[u8] {
     text
 }
 
-/// The source fails, or is interrupted too often, at each byte: what came before is answered.
+/// The source fails, or is interrupted too often, at each byte. The lines before it are answered.
 fn check_source_faults(rt: &impl Abort, alloc: Global, piece: usize) {
     for at in 0..=BUFFER.len() {
         let lines = BUFFER[..at].iter().filter(|byte| **byte == b'\n').count();
@@ -182,7 +182,7 @@ fn check_source_faults(rt: &impl Abort, alloc: Global, piece: usize) {
     }
 }
 
-/// The source ends at each byte: what comes of that is what comes of a script that has no more.
+/// The source ends at each byte. The result is that of a script that ends there.
 fn check_source_ends(rt: &impl Abort, alloc: Global, piece: usize) {
     for at in 0..=BUFFER.len() {
         let mut whole = source_of(&BUFFER[..at], 256, Cut::Never);
@@ -261,7 +261,7 @@ const CAUSES: [(&[u8], u64, usize, Malformation); 8] = [
 /// How a script ended, and the column and the cause of a malformed line.
 type Told = (ScriptEnd, Option<(usize, Malformation)>);
 
-/// Runs a script that comes in pieces, and compares its end with the cause.
+/// Runs a script that arrives in pieces, and compares its end with the cause.
 fn check_cause(rt: &impl Abort, alloc: Global, script: &[u8], cut: Cut, ended: Told) {
     for piece in [1, 7, 100, 256] {
         let mut source = source_of(script, piece, cut);

@@ -1,5 +1,5 @@
-//! Scripts as the events of a device, line by line: each gets its answer. That what is refused for want of memory leaves nothing is
-//! shown on the built program (`tests/test_memory.py`), and so is who has which handle (`tests/test_explanations.py`).
+//! Scripts as the events of a device, line by line. Each event has its answer. `tests/test_memory.py` shows on the
+//! built program that refused memory leaves nothing. `tests/test_explanations.py` shows the handles of each client.
 
 use crate::comparing::same;
 use crate::rows::buffers::BUFFERS;
@@ -45,7 +45,7 @@ fn text_of(line: &[u8]) -> &str {
     from_utf8(line).unwrap_or("no text")
 }
 
-/// Compares what came of a line with what it expects.
+/// Compares the result of a line with its expectation.
 fn check_answer(
     rt: &impl Abort,
     expected: &[u8],
@@ -66,7 +66,7 @@ fn check_answer(
     }
 }
 
-/// What comes of a part of a line that says something.
+/// Returns the result of the script part of a line.
 fn asked(
     device: &mut Device,
     labels: &mut [u32; Label::COUNT],
@@ -83,7 +83,7 @@ fn asked(
     Some(answered)
 }
 
-/// Asks what a line says, and compares its answer. It gives how many answers were compared.
+/// Uses a line, and compares its answer. It returns the number of answers that were compared.
 pub(crate) fn ask_line(
     rt: &impl Abort,
     device: &mut Device,

@@ -20,15 +20,15 @@ use std::alloc::Global;
 use std::process::Abort;
 use std::test::Fail;
 
-/// What is asked of leases and masters. A lease and a client that opens are made by steps that are numbered from 2 on: client 1 is a
-/// master by step 1. A lessee is named by the number of its step.
+/// The calls for leases and masters. A lease and a client that opens are created by steps with numbers from 2 on:
+/// client 1 is a master by step 1. A lessee is named by the number of its step.
 #[derive(Clone, Copy)]
 enum Ask {
     /// A client leases, with universal planes on.
     Lease(u32, &'static [u32]),
     /// The same with universal planes off.
     LeaseUnseen(u32, &'static [u32]),
-    /// A client opens by a lessee that nobody redeemed.
+    /// A client opens by a lessee that no client redeemed.
     Enter(u32),
     Redeem(u32),
     Revoke(u32),
@@ -57,7 +57,7 @@ fn test_masters(alloc: Global) -> Result<Masters, Fail>
     }
 }
 
-/// Leases by the step of this number, if the client stands to a master, with universal planes on or off.
+/// Leases by the step of this number, if the client has a master, with universal planes on or off.
 fn lease(
     leases: &mut Leases,
     masters: &mut Masters,
@@ -107,7 +107,8 @@ fn lease_again(
     }
 }
 
-/// What came of a lease by the step of this number: its id and its token, if its lessee is the one that the step made.
+/// Returns the result of a lease by the step of this number: its id and its token, if its lessee is the one that the
+/// step created.
 fn told_lease(
     masters: &Masters,
     step_number: u32,
@@ -124,7 +125,7 @@ fn told_lease(
     }
 }
 
-/// Opens a client of a lessee that nobody redeemed, where there are three at most.
+/// Opens a client of a lessee that no client redeemed. There are at most three.
 fn enter(masters: &mut Masters, lessee: u32, client: u32) -> Told
     requires { IsBefore masters.old client }
     ensures before { IsBefore masters.new (client + 1) }
@@ -160,7 +161,7 @@ fn enter_again(masters: &mut Masters, lessee: u32, client: u32) -> Told
     }
 }
 
-/// The number of the step that made a master, if a key is told.
+/// Returns the number of the step that created a master, if there is a key.
 fn step_of(masters: &Masters, key: Option<MasterKey>) -> Option<u32> {
     Some(masters.of_key(key?)?.step_number)
 }
@@ -346,7 +347,7 @@ fn check(
     }
 }
 
-/// The same of new leases, of which so many may be there.
+/// Checks the same for new leases, with room for a given number of them.
 fn check_new(rt: &impl Abort, alloc: Global, last: u32, cases: &[(Ask, Told)]) -> Result<(), Fail>
     requires { 1 ≤ last }
 {
@@ -368,7 +369,7 @@ const YES: Told = Told::Whether(true);
 /// A lease of three mode objects.
 const OUTPUT: &[u32] = &[2, 4, 8];
 
-/// A lease is told.
+/// The values of a lease.
 const ONE_LEASE: [(Ask, Told); 19] = [
     (Ask::LastGiven, Told::Nothing),
     (Ask::OfToken(1), Told::Nothing),
@@ -418,7 +419,7 @@ const OWN_LEASE_STAYS: [(Ask, Told); 10] = [
     (Ask::IsThere(4), Told::Whether(false)),
 ];
 
-/// And its own token, and goes with its owner's.
+/// And its own token, which is freed with its owner's.
 const OWN_TOKEN_STAYS: [(Ask, Told); 9] = [
     (Ask::Lease(1, OUTPUT), Told::Two(1, 1)),
     (Ask::RevokeBelow(2), Told::Done),
@@ -443,7 +444,7 @@ fn leases_end(rt: HostRuntime) -> Result<(), Fail> {
     check_new(&rt, rt.alloc(), 4, &OWN_TOKEN_STAYS)
 }
 
-/// Closes a client that is a master, and gives the key of its master, which stays until its release.
+/// Closes a client that is a master, and returns the key of its master, which stays until its release.
 fn closed(leases: &Leases, masters: &mut Masters, client: u32) -> Option<MasterKey>
     requires { AreAgreed leases.now masters.old }
     ensures agreed { IfSome result (λ key. AreAgreed leases.now masters.new) }
@@ -479,7 +480,7 @@ const RULES: [(Ask, Told); 9] = [
     (Ask::Lease(1, &[1, 3, 7]), Told::Denied(Rule::Full)),
 ];
 
-/// Two leases, of which one goes, and its token and its id are given again.
+/// Two leases, of which one is freed, and its token and its id are reused.
 const GIVEN_AGAIN: [(Ask, Told); 5] = [
     (Ask::Lease(1, &[1, 3, 7]), Told::Two(1, 1)),
     (Ask::Lease(1, OUTPUT), Told::Two(2, 2)),
@@ -488,7 +489,7 @@ const GIVEN_AGAIN: [(Ask, Told); 5] = [
     (Ask::Has(4, &[1, 3, 7]), YES),
 ];
 
-/// With universal planes off a primary plane is not seen, and comes along with its CRTC.
+/// With universal planes off, a primary plane is not seen, and is leased with its CRTC.
 const PLANE_COMES_ALONG: [(Ask, Told); 5] = [
     (
         Ask::LeaseUnseen(1, &[1, 3, 7]),

@@ -74,7 +74,7 @@ fn is_new_client(masters: &Masters, client: u32) -> bool
     is_last && is_new
 }
 
-/// The key of a master that is there.
+/// Returns the key of an existing master.
 #[tactic(auto, using(crate::proofs::Keyed::there_keyed))]
 pub(crate) fn key_of(masters: &Masters, step_number: u32) -> Option<MasterKey>
     ensures { IfSome result (λ key. is_there masters.now.masters key ≡ true) }

@@ -11,9 +11,8 @@ use std::process::Abort;
 /// A call and its answer.
 type Case = (Ask, Told);
 
-/// Makes these calls in turn, and compares each answer.
-/// Asks each, and once more where memory was refused, as it is where a test's requests for memory are refused in turn: nothing has changed
-/// then, as what is asked behind it shows.
+/// Makes these calls one after the other, and compares each answer. If memory is refused, it makes the call again. The
+/// later calls show that the refusal changed nothing.
 fn check(rt: &impl Abort, masters: &mut Masters, cases: &[Case])
     requires { masters.old.last_magic ≡ 4 }
     ensures { masters.new.last_magic ≡ 4 }
@@ -50,8 +49,8 @@ const CURRENT: Told = Told::Client(Member {
     magic: None,
 });
 
-/// Client 1 is current, and clients 2 and 3 stand to its master. A number is kept until its client closes, and then given
-/// again.
+/// Client 1 is current, and clients 2 and 3 belong to its master. A number is kept until its client closes, and is then
+/// reused.
 const MAGICS: [Case; 22] = [
     (Ask::Open(1), Told::Whether(true)),
     (Ask::Open(2), Told::Whether(false)),
@@ -77,7 +76,7 @@ const MAGICS: [Case; 22] = [
     (Ask::DeviceMaster, Told::Nothing),
 ];
 
-/// Clients 1 and 3 are two masters, each with magics of its own.
+/// Clients 1 and 3 are two masters, each with own magics.
 const TWO_MASTERS: [Case; 8] = [
     (Ask::Open(1), Told::Whether(true)),
     (Ask::Drop(1), Told::Done),
@@ -89,7 +88,7 @@ const TWO_MASTERS: [Case; 8] = [
     (Ask::Auth(3, 1), Told::Number(3)),
 ];
 
-/// A client that was authenticated sets a master of its own, and leaves its magic with the old one.
+/// An authenticated client sets an own master, and leaves its magic with the old one.
 const NEW_MASTER: [Case; 11] = [
     (Ask::Open(1), Told::Whether(true)),
     (Ask::Open(2), Told::Whether(false)),
@@ -134,7 +133,7 @@ const DROPS: [Case; 10] = [
     (Ask::DropAsRoot(9), Told::Unasked),
 ];
 
-/// Root takes a device that was left, and goes: the first client's master stays.
+/// Root takes a device without a master, and is closed. The first client's master stays.
 const LEFT: [Case; 12] = [
     (Ask::Open(1), Told::Whether(true)),
     (Ask::Open(2), Told::Whether(false)),
@@ -254,7 +253,8 @@ const REDEEMED: [Case; 6] = [
     (Ask::IsCurrent(5), Told::Whether(false)),
 ];
 
-/// A birth is new, and need not be the greatest: masters are listed by birth, ids are given in the order of the calls.
+/// A birth is new, and need not be the greatest. Masters are listed by birth, and ids are allocated in the order of the
+/// calls.
 const BORN_IN_ANY_ORDER: [Case; 12] = [
     (Ask::Open(1), Told::Whether(true)),
     (Ask::Lend(1, 9), Told::Lent(9, 1)),
@@ -304,7 +304,7 @@ fn lessees_of_a_master(rt: HostRuntime) {
     check_new(&rt, rt.alloc(), &BORN_IN_ANY_ORDER);
 }
 
-/// A lessee that is released goes.
+/// A lessee is destroyed at its release.
 const LESSEE_RELEASED: [Case; 5] = [
     (Ask::Open(1), Told::Whether(true)),
     (Ask::Lend(1, 2), Told::Lent(2, 1)),
@@ -331,7 +331,7 @@ const OWNER_STAYS: [Case; 6] = [
     ),
 ];
 
-/// Without a lessee it goes.
+/// Without a lessee, the owner is destroyed.
 const OWNER_GOES: [Case; 5] = [
     (Ask::Open(1), Told::Whether(true)),
     (Ask::Close(1), Told::Number(1)),
@@ -340,7 +340,7 @@ const OWNER_GOES: [Case; 5] = [
     (Ask::NthMaster(0), Told::Nothing),
 ];
 
-/// An owner goes with its last lessee.
+/// An owner is destroyed with its last lessee.
 const LAST_LESSEE_RELEASED: [Case; 9] = [
     (Ask::LastLessee, Told::Number(4)),
     (Ask::Open(1), Told::Whether(true)),
@@ -381,7 +381,7 @@ const LESSEE: Told = Told::Master {
     kept: true,
 };
 
-/// Clients and masters stand in the order of their step numbers.
+/// Clients and masters are in the order of their step numbers.
 const ROWS: [Case; 15] = [
     (Ask::Open(1), Told::Whether(true)),
     (Ask::Open(2), Told::Whether(false)),
@@ -473,7 +473,7 @@ fn rows_in_the_order_of_step_numbers(rt: HostRuntime) {
     check_new(&rt, rt.alloc(), &UNORDERED_BIRTHS);
 }
 
-/// What is there after a client that was refused, which then opens.
+/// The rows after a client that was refused, which then opens.
 const REFUSED: [Case; 4] = [
     (Ask::NthMember(0), Told::Nothing),
     (Ask::NthMaster(0), Told::Nothing),

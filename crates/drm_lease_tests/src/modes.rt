@@ -20,16 +20,16 @@ const SHAPE: Shape = Shape {
 /// What the planes of the test topology are for.
 const KINDS: [PlaneKind; 2] = [PlaneKind::Primary(1), PlaneKind::Overlay];
 
-/// CRTCs 1 and 2, the primary plane 3 of CRTC 1, the overlay plane 4 of CRTC 2, encoders 5 for both and 6 for CRTC 2, connectors 7
-/// at 5 and 8 at 6.
+/// Returns a topology with CRTCs 1 and 2 and the primary plane 3 of CRTC 1. Plane 4 is an overlay plane of CRTC 2.
+/// Encoder 5 drives both CRTCs, encoder 6 only CRTC 2. Connector 7 has encoder 5, connector 8 encoder 6.
 pub(crate) fn test_topology() -> Option<Topology>
     ensures { IfSome result (λ topology. topology.crtcs ≡ 2) }
 {
     Topology::with_kinds(2, &[1, 2], &KINDS, &[3, 2], &[5, 6])
 }
 
-/// Counts of CRTCs, planes, encoders and connectors that no topology has: 65 objects, no CRTC, 9 CRTCs, a plane and an encoder
-/// of CRTC 3, and connectors of what is no encoder.
+/// Counts of CRTCs, planes, encoders and connectors that no topology has. They have 65 objects, no CRTC, 9 CRTCs, a
+/// plane or an encoder of CRTC 3, or a connector without an encoder.
 const NO_TOPOLOGIES: [(u32, &[u32], &[u32], &[u32]); 7] = [
     (8, &[0; 57], &[], &[]),
     (0, &[], &[], &[]),
@@ -40,8 +40,8 @@ const NO_TOPOLOGIES: [(u32, &[u32], &[u32], &[u32]); 7] = [
     (2, &[1, 2], &[3, 2], &[7]),
 ];
 
-/// What no two planes, each of both of two CRTCs, may be for: one kind alone, too many, a CRTC that isn't there, and two planes of
-/// a kind for one CRTC.
+/// Kinds that two planes may not have. Each plane can be on both of two CRTCs. The rows have one kind alone, too many kinds, a
+/// CRTC that doesn't exist, or two planes of a kind for one CRTC.
 const NO_KINDS: [&[PlaneKind]; 6] = [
     &[PlaneKind::Overlay],
     &[PlaneKind::Overlay, PlaneKind::Overlay, PlaneKind::Overlay],
@@ -96,8 +96,8 @@ fn planes_of_topologies(rt: HostRuntime) -> Result<(), Fail> {
     Ok(())
 }
 
-/// What is asked of mode objects, of framebuffers and of what is shown: a client adds a framebuffer over an object, or removes one; an
-/// id shows one; or with a client, an id or a place alone. An object is named by the number of its key.
+/// The calls for mode objects, framebuffers and scanout. A client adds a framebuffer over an object or removes one, or
+/// an id shows one. The others have a client, an id or a place. An object is named by the number of its key.
 #[derive(Clone, Copy)]
 enum Ask {
     /// Whether an id is of this kind, with its encoder where it is a connector, and its possible CRTCs.
@@ -132,7 +132,7 @@ fn is_plane(modes: &Modes, id: u32, kind: Option<PlaneKind>, crtc: Option<u32>) 
     modes.plane_kind(id) == kind && modes.crtc_of_plane(id) == crtc
 }
 
-/// What is asked of mode objects.
+/// The calls for mode objects.
 fn asked_of_objects(modes: &Modes, ask: Ask) -> Told {
     let is_so = match ask {
         Ask::IsObject(id, kind, encoder, crtcs) => is_object(modes, id, kind, encoder, crtcs),
@@ -279,7 +279,7 @@ const OBJECTS: [Case; 34] = [
     (Ask::Reaches(7, 3), NO),
 ];
 
-/// Ids are given from 9 on, three at most, and again; only its own client removes a framebuffer.
+/// Ids are allocated from 9 on, at most three, and reused. Only its own client removes a framebuffer.
 const FRAMEBUFFERS: [(Ask, Told); 20] = [
     (Ask::Add(1, 7), Told::Number(9)),
     (Ask::Add(2, 4), Told::Number(10)),
@@ -303,7 +303,7 @@ const FRAMEBUFFERS: [(Ask, Told); 20] = [
     (Ask::NthFramebuffer(0), Told::Three(10, 2, 7)),
 ];
 
-/// Two framebuffers of client 1 are shown, and what showed one that goes is dark.
+/// Two framebuffers of client 1 are shown. An id that shows a removed one becomes dark.
 const SCANOUTS: [(Ask, Told); 25] = [
     (Ask::Add(1, 7), Told::Number(9)),
     (Ask::Add(1, 7), Told::Number(10)),
@@ -332,7 +332,7 @@ const SCANOUTS: [(Ask, Told); 25] = [
     (Ask::Shown(3), Told::Number(0)),
 ];
 
-/// A framebuffer is added, and what is told of it.
+/// A framebuffer is added, and its values.
 const ADDED: [Case; 4] = [
     (Ask::NthFramebuffer(0), Told::Nothing),
     (Ask::Add(1, 7), Told::Number(9)),

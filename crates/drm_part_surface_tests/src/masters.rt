@@ -83,7 +83,7 @@ pub fn set_faults(fault: SetFault) -> Option<Rule> {
     }
 }
 
-/// The reason that a client was not noted, or got no magic.
+/// The reason that a client was not recorded, or got no magic.
 pub fn no_memory() -> NoMemory {
     NoMemory
 }

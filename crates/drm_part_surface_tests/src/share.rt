@@ -37,7 +37,7 @@ pub fn rows(id: u32, object: ObjectKey) -> (SharedName, SharedToken) {
     )
 }
 
-/// The reasons that no name or token was given.
+/// The reasons that no name or token was allocated.
 pub fn share_faults(fault: ShareFault) -> bool {
     match fault {
         ShareFault::Full => true,

@@ -3,7 +3,7 @@
 use std::fmt::{Debug, Display};
 use std::process::Abort;
 
-/// Compares what came of a case, which is named so.
+/// Compares the result of a named case.
 pub(crate) fn same<T: PartialEq + Debug, P: Display + Copy>(
     rt: &impl Abort,
     came: &T,

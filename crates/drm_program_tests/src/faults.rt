@@ -1,4 +1,4 @@
-//! What the program tells of the ends of runs and listings, and of faults.
+//! The outcomes of runs, listings and faults.
 
 use crate::comparing::same;
 use drm_checks::Totals;
@@ -28,7 +28,7 @@ const LISTINGS: [(ListEnd, u8, &str); 3] = [
     (ListEnd::TurnsUsed, 1, "fault: turns"),
 ];
 
-/// Compares the status and the line that an outcome tells.
+/// Compares the status and the line of an outcome.
 fn check_told<P: Display + Copy>(rt: &impl Abort, outcome: &Outcome, told: (u8, &str), name: P) {
     same(rt, &(outcome.status, outcome.line.as_str()), &told, name);
 }

@@ -47,8 +47,8 @@ fn check_listing(rt: &impl Abort, device: &Device, piece: usize, listing: Listin
     same(rt, &(listed, sink.written()), &(end, lines), piece);
 }
 
-/// A sink that takes pieces of so many bytes takes the whole listing, and where it fails, takes nothing more or is interrupted too often,
-/// what comes before.
+/// A sink that takes pieces of `piece` bytes takes the whole listing. If it fails, takes nothing more or is interrupted
+/// too often, it takes the part before.
 fn check_cuts(rt: &impl Abort, device: &Device, piece: usize) {
     check_listing(rt, device, piece, (Cut::Never, 1_000, ListEnd::Done, 80));
     for at in 0..LINES.len() {

@@ -81,7 +81,7 @@ fn remove(rt: &HostRuntime, places: &Places) -> io::Result<()> {
     fs::remove_file(rt, places.root.as_str())
 }
 
-/// Sends the text, ends its writing, and gives what came back.
+/// Sends the text, ends its writing, and returns the answer.
 fn ask<R: Net>(rt: &R, alloc: Global, path: &str, text: &[u8]) -> io::Result<Vec<u8>> {
     let mut stream = UnixStream::connect(rt, path)?;
     stream.write_all(text)?;
@@ -91,7 +91,7 @@ fn ask<R: Net>(rt: &R, alloc: Global, path: &str, text: &[u8]) -> io::Result<Vec
     Ok(answers)
 }
 
-/// Opens a client, and gives its connection once the answer is read.
+/// Opens a client, and returns its connection once the answer is read.
 fn open<R: Net>(rt: &R, path: &str) -> io::Result<UnixStream> {
     let (hello, _) = HELLO_VERSION.split_at(18);
     let mut stream = UnixStream::connect(rt, path)?;
@@ -101,7 +101,7 @@ fn open<R: Net>(rt: &R, path: &str) -> io::Result<UnixStream> {
     Ok(stream)
 }
 
-/// Opens four clients, which are all open before the first goes.
+/// Opens four clients, which are all open before the first one closes.
 fn open_four<R: Net>(rt: &R, places: &Places) -> io::Result<()> {
     let root = open(rt, places.root.as_str())?;
     let render = open(rt, places.render.as_str())?;
@@ -113,7 +113,8 @@ fn open_four<R: Net>(rt: &R, places: &Places) -> io::Result<()> {
     Ok(())
 }
 
-/// Opens three clients of each class, one after the other, which are all open before the last one opened goes first.
+/// Opens three clients of each class, one after the other. All are open before the first one closes, which is the last
+/// opened.
 fn open_nine<R: Net>(rt: &R, alloc: Global, places: &Places) -> io::Result<()> {
     let card = places.card.as_str();
     let render = places.render.as_str();
@@ -128,7 +129,7 @@ fn open_nine<R: Net>(rt: &R, alloc: Global, places: &Places) -> io::Result<()> {
     Ok(())
 }
 
-/// Opens two clients, of which the second ends while the first is open, and gives what the second then reads. Where it
+/// Opens two clients, of which the second ends while the first is open. It returns what the second then reads. If that
 /// reads no end, the read times out.
 fn end_second_first<R: Net>(rt: &R, alloc: Global, path: &str) -> io::Result<Vec<u8>> {
     let first = open(rt, path)?;
@@ -155,7 +156,7 @@ fn break_first<R: Net>(rt: &R, path: &str) -> io::Result<()> {
     second.shutdown(Shutdown::Both)
 }
 
-/// Opens a client, and asks for the version so many times, each time once the answer before is read.
+/// Opens a client, and calls VERSION `times` times, each time once the previous answer is read.
 fn ask_in_turn<R: Net>(rt: &R, path: &str, times: u32) -> io::Result<()> {
     let (_, version) = HELLO_VERSION.split_at(18);
     let mut stream = open(rt, path)?;
@@ -167,8 +168,8 @@ fn ask_in_turn<R: Net>(rt: &R, path: &str, times: u32) -> io::Result<()> {
     stream.shutdown(Shutdown::Both)
 }
 
-/// Opens a client, connects again until that is refused, which comes while the client is still served, and then asks for the
-/// version. It gives whether a connection was refused.
+/// Opens a client, connects again until that is refused, which happens while the client is still served, and then calls
+/// VERSION. It returns whether a connection was refused.
 fn refusal<R: Net + Clock>(rt: &R, path: &str) -> io::Result<bool> {
     let (_, version) = HELLO_VERSION.split_at(18);
     let mut first = open(rt, path)?;
@@ -188,7 +189,7 @@ fn refusal<R: Net + Clock>(rt: &R, path: &str) -> io::Result<bool> {
     Ok(refused == Some(ErrorKind::ConnectionRefused))
 }
 
-/// Asks for an audit of the device, and notes the first so many bytes of the answer behind its length, which are all.
+/// Calls for an audit of the device, and records the first `size` bytes of the answer after its length, which are all.
 fn ask_audit(stream: &mut UnixStream, heard: &mut Vec<u8>, size: usize) -> io::Result<()> {
     stream.write_all(&AUDIT)?;
     let mut answer = [0; 64];
@@ -231,11 +232,11 @@ enum Scenario {
     Refused,
     /// One of each class asks for an audit.
     Audits,
-    /// The first breaks off, and the second goes on.
+    /// The first breaks off, and the second continues.
     FirstBreaks,
 }
 
-/// Does this, and gives what was heard: the bytes of answers, or whether a connection was refused.
+/// Does this, and returns the bytes of answers, or whether a connection was refused.
 fn talk<R: Net + Clock>(
     rt: &R,
     alloc: Global,
@@ -256,8 +257,9 @@ fn talk<R: Net + Clock>(
     Ok(heard)
 }
 
-/// What clients do, how many connections are accepted on each socket, what is heard, and the clients and steps of the sessions.
-/// So many of these, the first ones, end with a broken connection, and the others between frames.
+/// The actions of clients, the number of connections that are accepted on each socket, the received bytes, and the
+/// clients and steps of the sessions. The first `broken` sessions end with a broken connection, and the others between
+/// frames.
 #[derive(Clone, Copy)]
 struct Scene {
     scenario: Scenario,
@@ -338,7 +340,7 @@ const SCENES: [Scene; 8] = [
     },
 ];
 
-/// What a device served, and how many steps it noted and what it lists afterwards.
+/// The sessions of a device, the number of journaled steps, and the listing afterwards.
 #[derive(Drop)]
 struct Outcome {
     sessions: Vec<Session>,
@@ -378,7 +380,7 @@ fn serve<R: Wait + Threads + Log + Sync>(
     }
 }
 
-/// Compares what a scene came to.
+/// Compares the outcome of a scene.
 fn check_outcome(
     rt: &impl Abort,
     alloc: Global,

@@ -48,7 +48,7 @@ impl Gate for Counted {
     }
 }
 
-/// The frames of a client, how its session ends after so many steps, and what the answers say.
+/// The frames of a client, the end and the steps of its session, and its answers.
 #[derive(Clone, Copy)]
 struct Dialogue<'a> {
     exchanges: &'a [Exchange],

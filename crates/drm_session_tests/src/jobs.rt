@@ -22,7 +22,7 @@ pub(crate) const HELLO_VERSION_TWICE: [u8; 30] = [
     0x0e, 0, 0, 0, 0, 1, 1, 0, 0, 0, 0, 0, 0, 0, 0, 0, 0, 0, 2, 0, 0, 0, 0, 0, 2, 0, 0, 0, 0, 0,
 ];
 
-/// How often a gate looks for a flag before it gives up.
+/// The most times that a gate looks for a flag.
 const MOST_LOOKS: u32 = 10_000;
 
 const MANY_TURNS: u64 = 1_000_000;
@@ -90,7 +90,7 @@ fn ended<S, K>(finished: Option<&Finished<S, K>>) -> Option<(SessionEnd, u64)> {
     }
 }
 
-/// Both sessions stand in the journal.
+/// Both sessions are in the journal.
 struct Journal;
 
 impl<R: Abort> Trial<R> for Journal {

@@ -56,7 +56,7 @@ const LIST_NO_LESSEES: Exchange = Exchange {
     answer: b"\x06\0\0\0\x07\x10\0\0\0\0",
 };
 
-/// MODE_REVOKE_LEASE 1, which is gone.
+/// MODE_REVOKE_LEASE 1, which does not exist any more.
 const NO_LESSEE: Exchange = Exchange {
     request: b"\x06\0\0\0\xc9\0\x01\0\0\0",
     answer: b"\x0a\0\0\0\0\x20\x24\0\0\0\x02\0\0\0",

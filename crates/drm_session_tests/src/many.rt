@@ -1,4 +1,4 @@
-//! Jobs that are asked for again where they weren't served as they should be, as for want of memory.
+//! Jobs that are started again if they were not served as expected, for instance because memory was refused.
 
 ghost use Rattle.std.specs.Prelude.{◌≡◌};
 
@@ -23,7 +23,7 @@ const EXPECTED: Ends = (
     Some((SessionEnd::Ended, 4)),
 );
 
-/// Serves two jobs, and gives the ends of their sessions.
+/// Serves two jobs, and returns the ends of their sessions.
 fn serve_two<R: Wait + Threads + Sync>(
     rt: &R,
     alloc: Global,

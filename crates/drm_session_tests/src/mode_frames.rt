@@ -82,7 +82,7 @@ const GETCRTC_WITHOUT: Exchange = Exchange {
     answer: b"\x0a\0\0\0\x03\x10\0\0\0\0\0\0\0\0",
 };
 
-/// MODE_SETCRTC 1 9 7, whose framebuffer is gone.
+/// MODE_SETCRTC 1 9 7, whose framebuffer does not exist any more.
 const SETCRTC_REFUSED: Exchange = Exchange {
     request: b"\x0e\0\0\0\xa2\0\x01\0\0\0\x09\0\0\0\x07\0\0\0",
     answer: b"\x0a\0\0\0\0\x20\x26\0\0\0\x02\0\0\0",

@@ -51,8 +51,8 @@ const MANY_TURNS: u64 = 1_000_000;
 
 const PIECES: [usize; 4] = [1, 2, 3, 7];
 
-/// What a client sends in pieces of so many bytes, how its session ends after so many steps, and what is written, of which the
-/// sink takes so many bytes at once.
+/// The bytes that a client sends, in pieces of a given size, and the end and the steps of its session. Then the bytes
+/// that are written, of which the sink takes a given number at once.
 #[derive(Clone, Copy)]
 struct Case<'a> {
     class: Class,
@@ -214,7 +214,7 @@ const CASES: [Case<'static>; 26] = [
         written: b"",
         ..WHOLE
     },
-    // nothing is read behind an end
+    // nothing is read after an end
     Case {
         piece: 18,
         takes: Some(1),
@@ -253,7 +253,7 @@ const CASES: [Case<'static>; 26] = [
     },
 ];
 
-/// What comes in place of the hello, and how the session ends.
+/// Bytes in place of the hello, and the end of the session.
 const IN_PLACE_OF_HELLO: [(&[u8], SessionEnd); 5] = [
     (b"\x02\0\0\0\0\0", SessionEnd::BadHello),
     (b"\0\0\0\0", SessionEnd::TooLong),
@@ -262,7 +262,8 @@ const IN_PLACE_OF_HELLO: [(&[u8], SessionEnd); 5] = [
     (b"\xff\xff\xff\xff", SessionEnd::TooLong),
 ];
 
-/// What comes behind the hello, how the session ends after so many steps, and what is written behind the hello's answer.
+/// The bytes after the hello, the end and the steps of the session, and the bytes that are written after the hello's
+/// answer.
 const AFTER_HELLO: [(&[u8], SessionEnd, u64, &[u8]); 12] = [
     (b"\x02\0\0\0\0", SessionEnd::Truncated, 2, b""),
     (b"\0\0\0\0", SessionEnd::TooLong, 2, b""),
@@ -391,7 +392,7 @@ fn sessions_and_their_ends(rt: HostRuntime) -> Result<(), Fail> {
     serves_each(&rt, rt.alloc(), &CASES)
 }
 
-/// An opening that a full journal refuses ends its session, and the device goes on.
+/// An opening that a full journal refuses ends its session, and the device continues.
 #[test]
 fn sessions_of_a_full_journal(rt: HostRuntime) -> Result<(), Fail> {
     let limits = Limits {
@@ -412,7 +413,7 @@ fn sessions_of_a_full_journal(rt: HostRuntime) -> Result<(), Fail> {
     serves(&rt, rt.alloc(), limits, &[first, full])
 }
 
-/// Two texts, one behind the other.
+/// Returns two texts, one after the other.
 fn joined(alloc: Global, front: &[u8], back: &[u8]) -> Result<Vec<u8>, AllocError> {
     let mut text = Vec::new(alloc);
     text.extend_from_slice(front)?;
@@ -495,8 +496,8 @@ fn sessions_are_cut_at_each_byte(rt: HostRuntime) -> Result<(), Fail> {
     Ok(())
 }
 
-/// What a session called, a digit each: 1 the gate before a request of client 1, 2 an opening, 3 a request, 4 a closing, and 5
-/// the gate before another client's.
+/// The calls of a session, a digit each. 1 is the gate before a request of client 1, 2 an opening, 3 a request, 4 a
+/// closing, and 5 the gate before another client's request.
 type Calls = Cell<u64>;
 
 /// Notes one call more.
@@ -551,7 +552,7 @@ impl Access for Noted<'_> {
     }
 }
 
-/// Serves the hello and VERSION twice, and gives the session with the calls that it made.
+/// Serves the hello and VERSION twice, and returns the session with the calls that it made.
 fn noted_calls(alloc: Global, closing: Result<Answer, Apart>) -> Result<(Session, u64), Fail> {
     let input = joined(alloc, HELLO_VERSION, &HELLO_VERSION[18..])?;
     let calls = Cell::new(0);
@@ -573,7 +574,7 @@ fn noted_calls(alloc: Global, closing: Result<Answer, Apart>) -> Result<(Session
     Ok((session, calls.get()))
 }
 
-/// The gate stands before each request and nothing else; a closing for which there is no turn left is the end.
+/// The gate is called before each request and before nothing else. A closing without a turn is the end.
 #[test]
 fn gates_and_closings(rt: HostRuntime) -> Result<(), Fail> {
     let rows: [(Result<Answer, Apart>, SessionEnd, u64); 3] = [
@@ -593,7 +594,7 @@ fn gates_and_closings(rt: HostRuntime) -> Result<(), Fail> {
     Ok(())
 }
 
-/// Sends the hello and VERSION, closes its writing side, and gives what came back.
+/// Sends the hello and VERSION, closes its writing side, and returns the answer.
 fn client(alloc: Global, mut stream: UnixStream) -> io::Result<Vec<u8>> {
     stream.write_all(HELLO_VERSION)?;
     stream.shutdown(Shutdown::Write)?;
@@ -616,7 +617,7 @@ fn serves_stream(device: &mut Device, stream: UnixStream) -> Session {
     )
 }
 
-/// A client and its server, each in a thread of its own.
+/// A client and its server, each in an own thread.
 #[derive(Drop)]
 struct Streamed<'a, R> {
     rt: &'a R,
@@ -646,7 +647,7 @@ fn stream_is_served(rt: HostRuntime) -> Result<(), Fail> {
     try_on_new(&rt, rt.alloc(), Limits::PROGRAM, &Streamed { rt: &rt })
 }
 
-/// What is told of the ends of sessions.
+/// The words of the ends of sessions.
 const ENDS: [(SessionEnd, &str); 9] = [
     (SessionEnd::Ended, "the input ended between frames"),
     (SessionEnd::Truncated, "the input ended inside a frame"),

@@ -14,7 +14,8 @@ use std::test::Fail;
 use std::thread;
 use std::thread::Threads;
 
-/// Shares a device, and gives the first participant. Where memory is refused the device comes back, and is shared once more.
+/// Shares a device, and returns the first participant. If memory is refused, the device is returned, and shared once
+/// more.
 pub(crate) fn shared(alloc: Global, device: Device) -> Result<(SharedDevice, Seat), Device>
     ensures { IfOk result (λ made. made.1.table ≡ made.0) }
 {
@@ -28,10 +29,10 @@ pub(crate) fn shared(alloc: Global, device: Device) -> Result<(SharedDevice, Sea
     }
 }
 
-/// A device that comes back from its participants, and how it was with these.
+/// A device that is returned from its participants, and the result of the trial with them.
 pub(crate) type Played = (Result<Device, TurnOut>, Result<(), AllocError>);
 
-/// Lends the device that came back.
+/// Lends the returned device.
 pub(crate) fn lend_back<R, T: Trial<R>>(
     rt: &R,
     alloc: Global,
@@ -207,7 +208,7 @@ fn call_in_turn(
     Ok(())
 }
 
-/// What one participant calls alone, and what two call in turn.
+/// The calls of one participant alone, and those of two in rotation.
 fn call_all(
     rt: &(impl Wait + Abort),
     shared: &SharedDevice,
@@ -229,7 +230,7 @@ fn call_all(
     Ok(())
 }
 
-/// The same on a device that is shared and comes back. It has noted so many events.
+/// The same on a device that is shared and returned. It has journaled a given number of events.
 fn play(
     rt: &(impl Wait + Abort),
     alloc: Global,
@@ -257,7 +258,8 @@ struct Meeting<'a> {
 }
 
 impl<'a> Meeting<'a> {
-    /// What one participant calls alone, what two then call in turn, and what they call once the device is shared again.
+    /// Returns the calls of one participant alone, those of two in rotation, and those after the device is shared
+    /// again.
     fn new(alone: &'a [Turn], in_turn: &'a [Turn], again: &'a [Turn]) -> Self {
         Meeting {
             limits: Limits::PROGRAM,
@@ -268,7 +270,7 @@ impl<'a> Meeting<'a> {
     }
 }
 
-/// What of this a device has noted, and the rest.
+/// Compares the front of the journal with these calls, and returns the rest.
 fn rest_of<'a>(rt: &impl Abort, journal: &'a [Event], turns: &[Turn]) -> &'a [Event] {
     let mut rest = journal;
     for (_, event, answer) in turns {
@@ -284,7 +286,7 @@ fn rest_of<'a>(rt: &impl Abort, journal: &'a [Event], turns: &[Turn]) -> &'a [Ev
     rest
 }
 
-/// The device comes back with the events that were noted.
+/// The device is returned with the journaled events.
 impl<R: Abort> Trial<R> for Meeting<'_> {
     fn run(&self, rt: &R, _alloc: Global, device: &mut Device) -> Result<(), Fail> {
         let rest = rest_of(rt, device.journal(), self.alone);
@@ -316,7 +318,7 @@ fn check_meeting(
     lend_back(rt, alloc, played, meeting)
 }
 
-/// A participant that is split off behind a write reads it, and a device that is shared again goes on with its count.
+/// A participant that is split off after a write reads it. A device that is shared again continues with its count.
 #[test]
 fn seats_share_one_device(rt: HostRuntime) -> Result<(), Fail> {
     let limits = Limits {
@@ -378,7 +380,7 @@ fn two_hundred_events<R: Wait + Threads + Abort + Sync, D: Sharing + Sync>(
     )
 }
 
-/// The device comes back with so many events, and so many more may be noted.
+/// The device is returned with a given number of events, and a given number may still be journaled.
 #[derive(Clone, Copy)]
 struct Noted {
     events: usize,

@@ -46,7 +46,7 @@ pub fn bytes<'a>(frame: &Frame<'a>, text: &'a FrameBytes) -> (u16, &'a [u8], &'a
     (frame.number(), frame.fields(), text.as_slice())
 }
 
-/// What a call of a source gives.
+/// The results of a call of a source.
 pub fn taken(taken: Taken) -> usize {
     match taken {
         Taken::Got(count) => count,
@@ -56,7 +56,7 @@ pub fn taken(taken: Taken) -> usize {
     }
 }
 
-/// What a call of a sink gives.
+/// The results of a call of a sink.
 pub fn put(put: Put) -> usize {
     match put {
         Put::Took(count) => count,

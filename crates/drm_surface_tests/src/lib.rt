@@ -1,5 +1,5 @@
-//! The public surface of the device and of what is above it, as a table: types and calls by their names and types, so that a renamed item
-//! or another type does not compile.
+//! The public surface of the device and of the crates above it, as a table of types and calls. A renamed item or
+//! another type does not compile.
 #![tactic(auto)]
 
 mod devices;

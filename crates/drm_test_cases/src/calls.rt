@@ -1,14 +1,14 @@
-//! Calls of a part as data, which are asked one after the other.
+//! Calls of a part as data, which are made one after the other.
 
 use drm_table::Rule;
 
 /// A call of a part.
 pub trait Call<P> {
-    /// Makes the call, and returns what the part answers.
+    /// Makes the call, and returns the part's answer.
     fn ask(self, part: &mut P) -> Told;
 }
 
-/// What a part answers: nothing, numbers, or a refusal. `Unasked` is for a call that may not be made.
+/// The answer of a part: nothing, numbers, or a refusal. `Unasked` is for a call that may not be made.
 #[derive(Clone, Copy, PartialEq, Eq, Debug)]
 pub enum Told {
     Unasked,
@@ -38,8 +38,7 @@ impl Told {
     }
 }
 
-/// Asks this, and once more where memory was refused, as it is where a test's requests for memory are refused in turn: nothing has
-/// changed then, as what is asked after it shows.
+/// Makes the call, and makes it again if memory was refused. The later calls show that the refusal changed nothing.
 fn answer<P, C: Call<P> + Copy>(part: &mut P, call: C) -> Told {
     let told = call.ask(part);
     if told == Told::NoMemory {
@@ -51,12 +50,15 @@ fn answer<P, C: Call<P> + Copy>(part: &mut P, call: C) -> Told {
 /// An answer that is not the expected one, with the place of its call in a table.
 #[derive(Clone, Copy, PartialEq, Eq, Debug)]
 pub struct Difference {
+    /// The place of the call, from 0.
     pub place: usize,
+    /// The answer.
     pub told: Told,
+    /// The expected answer.
     pub expected: Told,
 }
 
-/// Asks each, and returns the first answer that differs from the expected one.
+/// Makes each call, and returns the first answer that differs from the expected one.
 pub fn check<P, C: Call<P> + Copy>(part: &mut P, cases: &[(C, Told)]) -> Option<Difference> {
     for (place, (call, expected)) in cases.iter().enumerate() {
         let told = answer(part, *call);
@@ -71,7 +73,7 @@ pub fn check<P, C: Call<P> + Copy>(part: &mut P, cases: &[(C, Told)]) -> Option<
     None
 }
 
-/// Asks both, and returns the first answer of the part that differs from that of the plain one.
+/// Makes each call on both, and returns the first answer of the part that differs from that of the plain one.
 pub fn compare<P, Q, C: Call<P> + Call<Q> + Copy>(
     part: &mut P,
     plain: &mut Q,

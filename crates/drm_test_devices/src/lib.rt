@@ -1,4 +1,5 @@
-//! Devices for tests. A function that lets a device go takes long to prove, so one does, and lends it to what is tried.
+//! Devices for tests. A function that drops a device takes long to prove. So one function does, and lends the device to
+//! trials.
 #![tactic(auto)]
 
 mod trials;

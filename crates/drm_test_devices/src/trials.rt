@@ -5,9 +5,9 @@ use drm_table::Limits;
 use std::alloc::Global;
 use std::test::Fail;
 
-/// What is tried on a device that is lent, with a test's runtime.
+/// A trial on a device that is lent, with a test's runtime.
 pub trait Trial<R> {
-    /// Tries it on this device.
+    /// Runs the trial on this device.
     fn run(&self, rt: &R, alloc: Global, device: &mut Device) -> Result<(), Fail>;
 }
 
@@ -23,7 +23,7 @@ pub fn new_device(alloc: Global, limits: Limits) -> Result<Device, Fail> {
     Ok(Device::new(alloc, test_topology()?, limits)?)
 }
 
-/// Tries this on a device that is made. If none is, it returns the fault.
+/// Runs the trial on a device that was created. If none was, it returns the fault.
 pub fn lend<R, F: Drop, T: Trial<R>>(
     rt: &R,
     alloc: Global,
@@ -39,7 +39,7 @@ pub fn lend<R, F: Drop, T: Trial<R>>(
     }
 }
 
-/// Tries this on a new device within these limits.
+/// Runs the trial on a new device within these limits.
 pub fn try_on_new<R, T: Trial<R>>(
     rt: &R,
     alloc: Global,

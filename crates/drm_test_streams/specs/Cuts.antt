@@ -1,4 +1,4 @@
--- What is left of bytes where a source is cut.
+-- The bytes that are left before a cut of a source (own).
 use Rattle.std.specs.Prelude.{ℕ, List, take}
 use Rattle.drm_test_streams.specs.declared.cuts.Cut.{Cut}
 use Rattle.drm_test_streams.specs.declared.cuts.Cut.TheVariants.{Never, End, Fault, Interrupted, Interruptions}

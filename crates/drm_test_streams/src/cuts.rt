@@ -1,4 +1,4 @@
-//! Sources and sinks that are cut where a row says.
+//! Sources and sinks with a cut at a given place.
 
 ghost use Rattle.std.specs.Prelude.{◌≡◌, [], Some};
 ghost use Rattle.drm_streams.specs.Streams.{no_calls};
@@ -7,7 +7,7 @@ ghost use Rattle.drm_test_streams.specs.Cuts.{left_by};
 use crate::sink::CutSink;
 use crate::source::CutSource;
 
-/// Where a source or a sink fails, ends or is interrupted. Places are counted in bytes from the beginning.
+/// The place where a source or a sink fails, ends or is interrupted. Places are counted in bytes from the beginning.
 #[derive(Clone, Copy)]
 pub enum Cut {
     /// Nowhere.
@@ -16,13 +16,13 @@ pub enum Cut {
     End(usize),
     /// It fails there for good.
     Fault(usize),
-    /// It is interrupted there so many times in a row.
+    /// It is interrupted there this many times in a row.
     Interrupted(u64, usize),
-    /// It is interrupted so many times in a row before each byte.
+    /// It is interrupted this many times in a row before each byte.
     Interruptions(u64),
 }
 
-/// A source of these bytes that is cut so. It gives as many in a call as `piece` says, or fewer, and one where that is 0.
+/// Returns a source of these bytes with this cut. A call returns at most `piece` bytes, or one if that is 0.
 pub fn source_of(bytes: &[u8], piece: usize, cut: Cut) -> CutSource<'_>
     ensures left { result.left ≡ Some (left_by cut bytes.now) }
     ensures counts { result.counts ≡ no_calls }
@@ -37,7 +37,7 @@ pub fn source_of(bytes: &[u8], piece: usize, cut: Cut) -> CutSource<'_>
     }
 }
 
-/// An empty sink of up to 512 bytes that is cut so. It takes as many in a call as `piece` says, or fewer, and one where that is 0.
+/// Returns an empty sink of up to 512 bytes with this cut. A call takes at most `piece` bytes, or one if that is 0.
 pub fn sink_of(piece: usize, cut: Cut) -> CutSink<512>
     ensures written { result.written ≡ Some [] }
     ensures counts { result.counts ≡ no_calls }

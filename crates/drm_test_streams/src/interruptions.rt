@@ -1,7 +1,7 @@
-//! When a source or a sink is interrupted.
+//! The interruptions of a source or a sink.
 ghost use Rattle.std.specs.Prelude.{◌≡◌, ◌<◌};
 
-/// Interruptions to come: those due now, and so many more each time that a period has passed.
+/// Future interruptions: those due now, and more each time that a period has passed.
 #[derive(Drop)]
 pub(crate) struct Interruptions {
     due: u64,
@@ -14,7 +14,7 @@ pub(crate) struct Interruptions {
 }
 
 impl Interruptions {
-    /// No interruption ever.
+    /// Returns no interruptions.
     pub(crate) fn never() -> Self {
         Interruptions {
             due: 0,
@@ -24,7 +24,7 @@ impl Interruptions {
         }
     }
 
-    /// So many interruptions, before the byte at this place.
+    /// Returns this many interruptions, before the byte at this place.
     pub(crate) fn once(times: u64, at: usize) -> Self {
         Interruptions {
             due: if at == 0 { times } else { 0 },
@@ -34,7 +34,7 @@ impl Interruptions {
         }
     }
 
-    /// So many interruptions, before each piece of so many bytes.
+    /// Returns this many interruptions before each piece of `bytes` bytes.
     pub(crate) fn every(times: u64, bytes: usize) -> Self
         requires { 0 < bytes }
     {
@@ -46,7 +46,7 @@ impl Interruptions {
         }
     }
 
-    /// Takes one of the interruptions that are due, and says whether there was one.
+    /// Takes one of the interruptions that are due, and returns whether there was one.
     pub(crate) fn take_due(&mut self) -> bool {
         let is_due = self.due > 0;
         if is_due {
@@ -55,14 +55,14 @@ impl Interruptions {
         is_due
     }
 
-    /// How many bytes may pass before the next interruption.
+    /// Returns the number of bytes that may pass before the next interruption.
     pub(crate) fn room(&self) -> usize
         ensures { 0 < result }
     {
         self.until
     }
 
-    /// Lets bytes pass.
+    /// Advances by these bytes.
     pub(crate) fn pass(&mut self, count: usize) {
         if count < self.until {
             self.until -= count;

@@ -1,5 +1,5 @@
-//! Sources and sinks for tests, which give and take bytes in pieces and fail, end or are
-//! interrupted where a test wants it.
+//! Sources and sinks for tests, which return and take bytes in pieces, and fail, end or are interrupted at given
+//! places.
 #![tactic(auto)]
 
 mod cuts;

@@ -7,22 +7,22 @@ use arrayvec::ArrayVec;
 use drm_streams::{Put, Sink};
 use std::marker::Model;
 
-/// A sink that takes up to `N` bytes in pieces, and fails or is interrupted where a test wants it.
-/// Places are counted from the bytes that it has. Interruptions replace those wanted earlier.
+/// A sink that takes up to `N` bytes in pieces, and fails or is interrupted at given places. Places are counted from
+/// the bytes that it has. New interruptions replace earlier ones.
 #[derive(Drop)]
 pub struct CutSink<const N: usize> {
     bytes: ArrayVec<u8, N>,
-    /// How many bytes it takes yet.
+    /// The number of bytes that it still takes.
     room: usize,
     piece: usize,
-    /// Whether it takes nothing where it has no room, and doesn't say that it failed.
+    /// Whether it takes nothing once it has no room, without a failure.
     is_silent: bool,
     interruptions: Interruptions,
     calls: u64,
     faults: u64,
-    /// How many of the faults were no interruption.
+    /// The number of faults that were no interruption.
     failures: u64,
-    /// How many bytes the last call was handed.
+    /// The number of bytes that the last call was handed.
     handed: usize,
 }
 
@@ -42,7 +42,7 @@ impl<const N: usize> Model for CutSink<N> {
 }
 
 impl<const N: usize> CutSink<N> {
-    /// An empty sink that takes pieces of at most so many bytes, and faults once it has `N`.
+    /// Returns an empty sink that takes at most `piece` bytes in a call, and faults once it has `N`.
     pub fn new(piece: usize) -> Self
         requires { 0 < piece }
         ensures written { result.written ≡ Some [] }
@@ -61,7 +61,7 @@ impl<const N: usize> CutSink<N> {
         }
     }
 
-    /// The sink with a fault for good after so many bytes more.
+    /// Returns the sink with a permanent fault after `at` more bytes.
     pub fn faulting_at(mut self, at: usize) -> Self
         ensures { result ≡ self.entry }
     {
@@ -70,7 +70,7 @@ impl<const N: usize> CutSink<N> {
         self
     }
 
-    /// The sink taking nothing any more after so many bytes more.
+    /// Returns the sink taking nothing more after `at` more bytes.
     pub fn refusing_at(mut self, at: usize) -> Self
         ensures { result ≡ self.entry }
     {
@@ -79,7 +79,7 @@ impl<const N: usize> CutSink<N> {
         self
     }
 
-    /// The sink with so many interruptions before the byte at this place.
+    /// Returns the sink with `times` interruptions before the byte at this place.
     pub fn interrupted(mut self, times: u64, at: usize) -> Self
         ensures { result ≡ self.entry }
     {
@@ -87,7 +87,7 @@ impl<const N: usize> CutSink<N> {
         self
     }
 
-    /// The sink with so many interruptions before each piece of so many bytes.
+    /// Returns the sink with `times` interruptions before each piece of `bytes` bytes.
     pub fn interrupted_every(mut self, times: u64, bytes: usize) -> Self
         requires { 0 < bytes }
         ensures { result ≡ self.entry }
@@ -96,7 +96,7 @@ impl<const N: usize> CutSink<N> {
         self
     }
 
-    /// The bytes that it took.
+    /// Returns the bytes that it took.
     pub fn written(&self) -> &[u8]
         ensures { self.now.written ≡ Some result.now }
     {

@@ -7,21 +7,21 @@ use crate::interruptions::Interruptions;
 use drm_streams::{Source, Taken};
 use std::marker::Model;
 
-/// A source that gives its bytes in pieces, and fails, ends or is interrupted where a test wants it.
-/// Places are counted from the bytes still to come. Interruptions replace those wanted earlier.
+/// A source that returns its bytes in pieces, and fails, ends or is interrupted at given places. Places are counted
+/// from the bytes that are left. New interruptions replace earlier ones.
 #[derive(Drop)]
 pub struct CutSource<'a> {
     rest: &'a [u8],
     piece: usize,
-    /// Whether it fails after its bytes, where it would end.
+    /// Whether it fails after its bytes, in place of its end.
     is_faulty: bool,
     interruptions: Interruptions,
     calls: u64,
     ends: u64,
     faults: u64,
-    /// How many of the faults were no interruption.
+    /// The number of faults that were no interruption.
     failures: u64,
-    /// How many bytes the last call gave that gave some.
+    /// The number of bytes of the last call that returned some.
     gave: usize,
 }
 
@@ -41,7 +41,7 @@ impl<'a> Model for CutSource<'a> {
 }
 
 impl<'a> CutSource<'a> {
-    /// A source of these bytes, in pieces of at most so many bytes, and then its end.
+    /// Returns a source of these bytes, with at most `piece` bytes in a call, and then its end.
     pub fn new(bytes: &'a [u8], piece: usize) -> Self
         requires { 0 < piece }
         ensures left { result.left ≡ Some bytes.now }
@@ -60,7 +60,7 @@ impl<'a> CutSource<'a> {
         }
     }
 
-    /// The source with its end after so many bytes, if it has more.
+    /// Returns the source with its end after `at` bytes, if it has more.
     pub fn ending_at(mut self, at: usize) -> Self
         ensures left { result.left ≡ option_map (take at) self.entry.left }
         ensures counts { result.counts ≡ self.entry.counts }
@@ -70,7 +70,7 @@ impl<'a> CutSource<'a> {
         self
     }
 
-    /// The source with a fault for good after so many bytes, or after all, if it has fewer.
+    /// Returns the source with a permanent fault after `at` bytes, or after all if it has fewer.
     pub fn faulting_at(self, at: usize) -> Self
         ensures left { result.left ≡ option_map (take at) self.entry.left }
         ensures counts { result.counts ≡ self.entry.counts }
@@ -80,7 +80,7 @@ impl<'a> CutSource<'a> {
         source
     }
 
-    /// The source with so many interruptions before the byte at this place.
+    /// Returns the source with `times` interruptions before the byte at this place.
     pub fn interrupted(mut self, times: u64, at: usize) -> Self
         ensures { result ≡ self.entry }
     {
@@ -88,7 +88,7 @@ impl<'a> CutSource<'a> {
         self
     }
 
-    /// The source with so many interruptions before each piece of so many bytes.
+    /// Returns the source with `times` interruptions before each piece of `bytes` bytes.
     pub fn interrupted_every(mut self, times: u64, bytes: usize) -> Self
         requires { 0 < bytes }
         ensures { result ≡ self.entry }

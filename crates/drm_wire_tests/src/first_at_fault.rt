@@ -24,11 +24,11 @@ const OUT_OF_RANGE: Malformation = Malformation::LimitRange;
 
 const TOO_MANY: Malformation = Malformation::TooManyWords;
 
-/// A line, the column of the first word that doesn't fit, that word, and the reason. Each word of a line is wrong once, with others
-/// behind it that are wrong too.
+/// A line, the column of the first word that doesn't fit, that word, and the reason. Each word of a line is wrong once,
+/// and words after it are wrong too.
 type Case = (&'static [u8], usize, &'static [u8], Malformation);
 
-/// Compares what is told of each line.
+/// Compares the result of each line.
 fn check_each(rt: &impl Abort, cases: &[Case]) {
     for (place, (line, column, word, cause)) in cases.iter().enumerate() {
         assert!(rt; is_malformed(line, *column, word, *cause), "line {place}");

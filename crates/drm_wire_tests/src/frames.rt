@@ -637,7 +637,7 @@ fn answers_have_their_bytes(rt: HostRuntime) {
     }
 }
 
-/// Whether the answer's frame has so many bytes, which begin and end so, and is read as it.
+/// Returns whether the answer's frame has `size` bytes with this front and this last byte, and is read as the answer.
 fn is_long_answer(outcome: &Result<Answer, Apart>, size: usize, front: &[u8], last: u8) -> bool {
     match answer_bytes(outcome) {
         Some(written) => {
@@ -674,8 +674,8 @@ fn longest_answers_have_their_bytes(rt: HostRuntime) {
     assert!(rt; is_long_answer(&page_of(&rows), 522, &page, 1));
 }
 
-/// Frames that are no answer: the errno of another rule, no rule, a rule that stands apart, more behind an answer, no answer's
-/// number, and lists, pages and resources whose lengths are others.
+/// Frames that are no answer. They have the errno of another rule, no rule, a fault outside the rules, bytes after an
+/// answer, or no answer's number. In others a list, a page or a resource has another length.
 const NO_ANSWERS: [&[u8]; 19] = [
     &[10, 0, 0, 0, 0, 32, 2, 0, 0, 0, 2, 0, 0, 0],
     &[10, 0, 0, 0, 0, 32, 4, 0, 0, 0, 22, 0, 0, 0],

@@ -9,8 +9,8 @@ use std::process::Abort;
 
 const TEXT: &[u8] = b"one frame and one more";
 
-/// What takes of pieces of so many bytes, or puts, come to over a source or a sink that is cut, with so many turns: how they end,
-/// and how many bytes are taken or written.
+/// The result of takes or puts of pieces of a given size: the end, and the number of bytes that are taken or written. The source or
+/// the sink has a cut, and there is a number of turns.
 #[derive(Clone, Copy)]
 struct Piece<E> {
     size: usize,
@@ -20,7 +20,7 @@ struct Piece<E> {
     bytes: usize,
 }
 
-/// Takes all that the source gives, and says how many bytes of the text these are, and what came after them.
+/// Takes all bytes of the source, and returns the end and the number of bytes that are those of the text.
 fn drained(mut source: CutSource<'_>, mut turns: u64) -> (Refill, usize)
     requires { source.counts.calls + turns < 2 ^ 48 }
 {
@@ -54,7 +54,7 @@ fn check_taking(rt: &impl Abort, piece: Piece<Refill>) {
     same(rt, &taken, &(piece.end, piece.bytes), piece.size);
 }
 
-/// Puts the text, and gives how many calls of the sink are made.
+/// Writes the text, and returns the number of calls of the sink.
 fn check_putting(rt: &impl Abort, piece: Piece<Written>) -> u64 {
     let mut sink = sink_of(piece.size, piece.cut);
     let mut turns = piece.turns.min(100_000);
@@ -136,7 +136,7 @@ fn each_cut_ends_with_the_bytes_before_it(rt: HostRuntime) {
     }
 }
 
-/// Pieces of seven bytes: how they are cut, how many turns there are, and what comes of it.
+/// Pieces of seven bytes: the cut, the number of turns, and the result.
 const TAKINGS: [(Cut, u64, Refill, usize); 4] = [
     (Cut::Never, 4, Refill::TurnsUsed, 22),
     (Cut::Never, 5, Refill::End, 22),
@@ -151,7 +151,7 @@ const PUTTINGS: [(Cut, u64, Written, usize, u64); 3] = [
     (Cut::Interruptions(999), 100_000, Written::Whole, 22, 22_000),
 ];
 
-/// Turns are used up only where one is wanted.
+/// A turn is used only if it is needed.
 #[test]
 fn turns_of_pieces(rt: HostRuntime) {
     let size = 7;

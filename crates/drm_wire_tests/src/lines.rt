@@ -379,7 +379,7 @@ fn other_lines_are_read(rt: HostRuntime) {
     }
 }
 
-/// Texts with their first lines and what stands behind.
+/// Texts with their first lines and the rest.
 const FIRST_LINES: [(&[u8], &[u8], &[u8]); 5] = [
     (b"", b"", b""),
     (b"a", b"a", b""),

@@ -337,7 +337,7 @@ const MALFORMED: &str = "\
     a destroy_dumb 1 1\n\
     a destroy_dum 1";
 
-/// What is told of a line that can't be used.
+/// Returns the report of a line that can't be used.
 fn malformed(column: usize, word: &str, cause: Malformation) -> Malformed {
     Malformed {
         column,

@@ -58,7 +58,8 @@ fn sink_writes_behind_what_is_there(rt: HostRuntime) {
     assert!(rt; are_put && written.as_slice() == b"frame".as_slice());
 }
 
-/// A text that is read by four bytes at most, so many turns, and what each take comes to, with the turns that are left.
+/// A text that is read by at most four bytes, the number of turns, and the result of each take with the turns that are
+/// left.
 type Refills = (&'static [u8], u64, &'static [(Refill, u64)]);
 
 const REFILLS: [Refills; 2] = [
@@ -93,7 +94,8 @@ fn refills_cost_their_turns(rt: HostRuntime) {
     }
 }
 
-/// Texts that are put with so many turns, and what each comes to, with the turns that are left; and what is written then.
+/// Texts that are written with a number of turns, the result of each with the turns that are left, and the bytes that
+/// are written then.
 type Puts = (u64, &'static [(&'static [u8], Written, u64)], &'static [u8]);
 
 const PUTS: [Puts; 3] = [
@@ -204,7 +206,7 @@ const FAILURES: [ErrorKind; 41] = [
     ErrorKind::Uncategorized,
 ];
 
-/// Whether so many calls are made of a source whose errors are all of this kind.
+/// Returns whether a source whose errors are all of this kind is called `calls` times.
 fn is_read_so_often(kind: ErrorKind, calls: u64) -> bool {
     let mut turns = 2000;
     let mut source = FromRead::new(Failing(kind));

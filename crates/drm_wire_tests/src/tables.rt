@@ -11,8 +11,8 @@ use std::alloc::AllocError;
 use std::process::Abort;
 use std::test::Fail;
 
-/// For each set of flags (1 ROOT_ONLY, 2 AUTH, 4 MASTER, 8 RENDER_ALLOW) and all credentials (1 root, 2 render,
-/// 4 authenticated, 8 current): the number of the rule that refuses, or 0.
+/// For each set of flags (1 ROOT_ONLY, 2 AUTH, 4 MASTER, 8 RENDER_ALLOW) and all credentials (1 root, 2 render, 4
+/// authenticated, 8 current): the rule that denies, or 0.
 const REFUSALS: [[u32; 16]; 16] = [
     [0, 0, 14, 14, 0, 0, 14, 14, 0, 0, 14, 14, 0, 0, 14, 14],
     [11, 0, 11, 14, 11, 0, 11, 14, 11, 0, 11, 14, 11, 0, 11, 14],
@@ -99,7 +99,7 @@ fn permit_of_all_flags_and_standings(rt: HostRuntime) {
     }
 }
 
-/// What stands apart, with its number, errno and name.
+/// The faults outside the rules, with number, errno and name.
 const APARTS: [(Apart, u32, u32, &str); 3] = [
     (Apart::JournalFull, 50, 28, "JournalFull"),
     (Apart::NoMemory, 51, 12, "NoMemory"),
