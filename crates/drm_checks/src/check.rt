@@ -12,6 +12,16 @@ use drm_streams::{Sink, Source};
 use std::alloc::Global;
 
 /// The result of the check of a file (own).
+///
+/// # Examples
+///
+/// ```rust
+/// use drm_checks::Report;
+/// use drm_runs::ScriptEnd;
+///
+/// let report = Report { end: ScriptEnd::Done, passed: 0, failed: 0 };
+/// assert!(rt; report.expects_nothing());
+/// ```
 #[derive(Clone, Copy, Debug, PartialEq, Eq)]
 pub struct Report {
     /// The end of the run of its script.
@@ -27,6 +37,16 @@ impl Report {
     ghost use Rattle.drm_checks.specs.Totals as totals;
 
     /// Returns whether the whole file was checked and none of its lines expects an answer. Does not allocate.
+    ///
+    /// # Examples
+    ///
+    /// ```rust
+    /// use drm_checks::Report;
+    /// use drm_runs::ScriptEnd;
+    ///
+    /// let report = Report { end: ScriptEnd::Done, passed: 0, failed: 0 };
+    /// assert!(rt; report.expects_nothing());
+    /// ```
     pub fn expects_nothing(&self) -> bool
         ensures { result ≡ totals.expects_nothing self.now }
     {
@@ -38,6 +58,16 @@ impl Report {
 
     /// Returns the number of failures: of expectations that were not met, or 1 for a file without an expectation. Does
     /// not allocate.
+    ///
+    /// # Examples
+    ///
+    /// ```rust
+    /// use drm_checks::Report;
+    /// use drm_runs::ScriptEnd;
+    ///
+    /// let report = Report { end: ScriptEnd::Done, passed: 0, failed: 0 };
+    /// assert!(rt; report.failures() == 1);
+    /// ```
     pub fn failures(&self) -> u64
         ensures { result ≡ totals.failures_of self.now }
     {
@@ -99,6 +129,19 @@ impl Check {
 /// answer. `denied N` and `apart N` are short for the whole line. A line without ` -> ` and a comment expect nothing.
 ///
 /// The device has the test topology, and the program's limits by default. The function allocates only the device.
+///
+/// # Examples
+///
+/// ```rust
+/// use drm_checks::check_script;
+/// use drm_streams::{FromRead, ToWrite};
+///
+/// let alloc = rt.alloc();
+/// let mut source = FromRead::new(b"open a card -> client 1\n".as_slice());
+/// let mut sink = ToWrite::new(Vec::new(alloc));
+/// let report = check_script(alloc, "a.script", &mut source, &mut sink, 1000);
+/// assert!(rt; report.passed == 1 && report.failed == 0);
+/// ```
 pub fn check_script<S: Source, K: Sink>(
     alloc: Global,
     name: &str,
@@ -117,6 +160,19 @@ pub fn check_script<S: Source, K: Sink>(
 ///
 /// The cause says why the text before the first ` -> ` is no line of a script, and at which place. It may also be that
 /// the whole line is too long.
+///
+/// # Examples
+///
+/// ```rust
+/// use drm_checks::check_with_cause;
+/// use drm_streams::{FromRead, ToWrite};
+///
+/// let alloc = rt.alloc();
+/// let mut source = FromRead::new(b"open a card -> client 1\n".as_slice());
+/// let mut sink = ToWrite::new(Vec::new(alloc));
+/// let (report, cause) = check_with_cause(alloc, "a.script", &mut source, &mut sink, 1000);
+/// assert!(rt; report.passed == 1 && cause.is_none());
+/// ```
 pub fn check_with_cause<S: Source, K: Sink>(
     alloc: Global,
     name: &str,
@@ -136,6 +192,21 @@ pub fn check_with_cause<S: Source, K: Sink>(
 ///
 /// After each answer that differs it writes a line with four spaces, the command and the line's number. If the command
 /// is empty, it does not.
+///
+/// # Examples
+///
+/// ```rust
+/// use drm_checks::check_on;
+/// use drm_runs::Setup;
+/// use drm_streams::{FromRead, ToWrite};
+///
+/// let alloc = rt.alloc();
+/// let mut source = FromRead::new(b"open a card -> client 1\n".as_slice());
+/// let mut sink = ToWrite::new(Vec::new(alloc));
+/// let setup = Setup::usual();
+/// let (report, cause) = check_on(alloc, setup, "a.script", "", &mut source, &mut sink, 1000);
+/// assert!(rt; report.passed == 1 && cause.is_none());
+/// ```
 pub fn check_on<S: Source, K: Sink>(
     alloc: Global,
     setup: Setup,

@@ -44,6 +44,17 @@ fn arrow_place(line: &[u8]) -> Option<usize>
 }
 
 /// Returns the script part of a line, and the answer that it expects after ` -> ` (own). Does not allocate.
+///
+/// # Examples
+///
+/// ```rust
+/// use drm_checks::parts_of;
+///
+/// let (script, expected) = parts_of(b"open a card -> client 1");
+/// assert!(rt; script == b"open a card".as_slice());
+/// let Some(expected) = expected else { return };
+/// assert!(rt; expected == b"client 1".as_slice());
+/// ```
 pub fn parts_of(line: &[u8]) -> (&[u8], Option<&[u8]>)
     ensures script { result.0.now ≡ script_part line.now }
     ensures expected { option_map (λ e. e.now) result.1 ≡ expected_part line.now }
@@ -60,6 +71,15 @@ pub fn parts_of(line: &[u8]) -> (&[u8], Option<&[u8]>)
 
 /// Returns the script part of a line: the text before its first ` -> `, or the whole of a comment (own). Does not
 /// allocate.
+///
+/// # Examples
+///
+/// ```rust
+/// use drm_checks::script_of;
+///
+/// let script = script_of(b"open a card -> client 1");
+/// assert!(rt; script == b"open a card".as_slice());
+/// ```
 pub fn script_of(line: &[u8]) -> &[u8]
     ensures { result.now ≡ script_part line.now }
 {
@@ -107,6 +127,16 @@ fn is_short(expected: &[u8], answer: &Result<Answer, Apart>) -> bool
 }
 
 /// Returns whether the answer is the expected one (own). Without an answer it is not. Does not allocate.
+///
+/// # Examples
+///
+/// ```rust
+/// use drm_checks::is_met;
+/// use drm_table::Answer;
+///
+/// assert!(rt; is_met(b"done", &Some(Ok(Answer::Done))));
+/// assert!(rt; !is_met(b"done", &None));
+/// ```
 pub fn is_met(expected: &[u8], came: &Option<Result<Answer, Apart>>) -> bool
     ensures { result ≡ is_met expected.now came.now }
 {

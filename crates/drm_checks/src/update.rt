@@ -18,6 +18,17 @@ const LONGEST: usize = 255;
 const LINE_END: &[u8] = b"\n";
 
 /// The reason a script was not updated (own).
+///
+/// # Examples
+///
+/// ```rust
+/// use drm_checks::{UpdateFault, update_script};
+/// use drm_runs::Setup;
+///
+/// let alloc = rt.alloc();
+/// let Err(fault) = update_script(alloc, Setup::usual(), b"opn a card\n") else { return };
+/// assert!(rt; fault != UpdateFault::NoMemory);
+/// ```
 #[derive(Clone, Copy, Debug, PartialEq, Eq)]
 pub enum UpdateFault {
     /// The line with this number, from 1, can't be used. The cause says why the text before its first ` -> ` is no line
@@ -80,6 +91,18 @@ fn put_line(updated: &mut Vec<u8>, line: &[u8]) -> Result<(), AllocError>
 /// # Errors
 ///
 /// `AllocError` if memory is refused. `updated` may then end with a part of the line.
+///
+/// # Examples
+///
+/// ```rust
+/// use drm_checks::put_answered;
+/// use drm_table::Answer;
+///
+/// let alloc = rt.alloc();
+/// let mut text = Vec::new(alloc);
+/// let Ok(_put) = put_answered(&mut text, b"close a", &Ok(Answer::Closed)) else { return };
+/// assert!(rt; text.as_slice() == b"close a -> closed\n".as_slice());
+/// ```
 pub fn put_answered(
     updated: &mut Vec<u8>,
     script: &[u8],
@@ -127,6 +150,17 @@ fn put_updated(
 /// - `NoMemory` if memory is refused.
 ///
 /// There is no text then, and the device is dropped.
+///
+/// # Examples
+///
+/// ```rust
+/// use drm_checks::update_script;
+/// use drm_runs::Setup;
+///
+/// let alloc = rt.alloc();
+/// let Ok(text) = update_script(alloc, Setup::usual(), b"open a card -> done\n") else { return };
+/// assert!(rt; text.as_slice() == b"open a card -> client 1\n".as_slice());
+/// ```
 pub fn update_script(alloc: Global, setup: Setup, text: &[u8]) -> Result<Vec<u8>, UpdateFault>
     ensures updated { IfOk result (λ updated. Updates setup text.now updated.items) }
     ensures fault { IfErr result (λ fault. HasFault setup text.now fault) }

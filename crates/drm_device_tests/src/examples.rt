@@ -1,3 +1,6 @@
 //! The examples of doc comments, made by `tools/doc_examples`.
 
+mod checks;
 mod device;
+mod journals;
+mod runs;

@@ -22,6 +22,16 @@ const LABELS_USED: &[u8] =
     b"# more clients are open here than there are labels: each further step is a comment\n";
 
 /// The script of a journal (own).
+///
+/// # Examples
+///
+/// ```rust
+/// use drm_journals::Journal;
+///
+/// let alloc = rt.alloc();
+/// let journal = Journal { text: Vec::new(alloc), is_whole: true };
+/// assert!(rt; journal.is_whole);
+/// ```
 #[derive(Drop)]
 pub struct Journal {
     /// The bytes of the script.
@@ -230,6 +240,21 @@ fn with_comments(
 /// # Errors
 ///
 /// `AllocError` if memory is refused. There is then no text. The device is dropped in any case.
+///
+/// # Examples
+///
+/// ```rust
+/// use drm_device::Limits;
+/// use drm_journals::journal_of;
+/// use drm_runs::make_device;
+/// use drm_table::{Event, Opening};
+///
+/// let alloc = rt.alloc();
+/// let Some(device) = make_device(alloc, Limits::PROGRAM) else { return };
+/// let events = [Event::Open(Opening::Render)];
+/// let Ok(journal) = journal_of(alloc, &events, Limits::PROGRAM, device) else { return };
+/// assert!(rt; journal.is_whole);
+/// ```
 pub fn journal_of(
     alloc: Global,
     events: &[Event],

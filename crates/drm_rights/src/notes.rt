@@ -10,6 +10,15 @@ ghost use Rattle.drm_rights.specs.Leases as lending;
 ghost use Rattle.drm_rights.specs.Leases.{is_ended_by, lessor_noted};
 
 /// The master state of a client from a step on: whether it has an own master, and which master it has (drm(7)).
+///
+/// # Examples
+///
+/// ```rust
+/// use drm_rights::MasterState;
+///
+/// let master_state = MasterState { step: 1, client: 1, is_master: true, master: Some(1) };
+/// assert!(rt; master_state.is_master);
+/// ```
 #[derive(Clone, Copy, PartialEq, Eq, Debug)]
 pub struct MasterState {
     /// The number of the step, from 1.
@@ -23,6 +32,15 @@ pub struct MasterState {
 }
 
 /// A lease (drm-uapi, leases). Its lessee is a master, named by the step that created it.
+///
+/// # Examples
+///
+/// ```rust
+/// use drm_rights::Lease;
+///
+/// let lease = Lease { master: 2, client: 1, lessor: Some(1), owner: 1, id: 1, token: 1, universal: true };
+/// assert!(rt; lease.lessor == Some(1));
+/// ```
 #[derive(Clone, Copy, PartialEq, Eq, Debug)]
 pub struct Lease {
     /// The lessee, by the number of the step.
@@ -51,6 +69,15 @@ pub struct End {
 }
 
 /// A magic that a client of a master received (drm(7)).
+///
+/// # Examples
+///
+/// ```rust
+/// use drm_rights::Magic;
+///
+/// let magic = Magic { step: 2, master: 1, number: 1, client: 1 };
+/// assert!(rt; magic.client == 1);
+/// ```
 #[derive(Clone, Copy, PartialEq, Eq, Debug)]
 pub struct Magic {
     /// The number of the step.
@@ -64,6 +91,15 @@ pub struct Magic {
 }
 
 /// An AUTH_MAGIC that named the magic of a client (drm(7)).
+///
+/// # Examples
+///
+/// ```rust
+/// use drm_rights::Authentication;
+///
+/// let authentication = Authentication { step: 4, client: 2, by: 1, magic: 1 };
+/// assert!(rt; authentication.by == 1);
+/// ```
 #[derive(Clone, Copy, PartialEq, Eq, Debug)]
 pub struct Authentication {
     /// The number of the step.
@@ -77,6 +113,15 @@ pub struct Authentication {
 }
 
 /// The universal-planes capability of a client from a step on (drm-uapi).
+///
+/// # Examples
+///
+/// ```rust
+/// use drm_rights::Capability;
+///
+/// let capability = Capability { step: 1, client: 1, universal: true };
+/// assert!(rt; capability.universal);
+/// ```
 #[derive(Clone, Copy, PartialEq, Eq, Debug)]
 pub struct Capability {
     /// The number of the step.

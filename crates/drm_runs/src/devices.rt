@@ -9,6 +9,18 @@ use std::alloc::Global;
 use std::marker::Model;
 
 /// The topology of a script's device, and its default limits (own).
+///
+/// # Examples
+///
+/// ```rust
+/// use drm_device::Limits;
+/// use drm_runs::{Setup, test_topology};
+///
+/// let alloc = rt.alloc();
+/// let setup = Setup::new(test_topology(), Limits::PROGRAM);
+/// let Some(device) = setup.make(alloc) else { return };
+/// assert!(rt; device.journal().is_empty());
+/// ```
 #[derive(Drop)]
 pub struct Setup {
     topology: Topology,
@@ -33,6 +45,18 @@ impl Setup {
     ghost use Rattle.drm_runs.specs.Script.{limited_to, usual};
 
     /// Returns the setup of a device with this topology and these default limits. Does not allocate.
+    ///
+    /// # Examples
+    ///
+    /// ```rust
+    /// use drm_device::Limits;
+    /// use drm_runs::{Setup, test_topology};
+    ///
+    /// let alloc = rt.alloc();
+    /// let setup = Setup::new(test_topology(), Limits::PROGRAM);
+    /// let Some(device) = setup.make(alloc) else { return };
+    /// assert!(rt; device.journal().is_empty());
+    /// ```
     pub fn new(topology: Topology, limits: Limits) -> Setup
         requires in_range { are_in_range limits ≡ true }
         ensures { result ≡ record { topology = topology; limits = limits } }
@@ -41,6 +65,16 @@ impl Setup {
     }
 
     /// Returns the setup with the test topology and the program's limits. Does not allocate.
+    ///
+    /// # Examples
+    ///
+    /// ```rust
+    /// use drm_runs::Setup;
+    ///
+    /// let alloc = rt.alloc();
+    /// let Some(device) = Setup::usual().make(alloc) else { return };
+    /// assert!(rt; device.journal().is_empty());
+    /// ```
     pub fn usual() -> Setup
         ensures { result ≡ usual }
     {
@@ -67,6 +101,16 @@ impl Setup {
     }
 
     /// Returns an empty device, or `None` if memory is refused.
+    ///
+    /// # Examples
+    ///
+    /// ```rust
+    /// use drm_runs::Setup;
+    ///
+    /// let alloc = rt.alloc();
+    /// let Some(device) = Setup::usual().make(alloc) else { return };
+    /// assert!(rt; device.journal().is_empty());
+    /// ```
     pub fn make(self, alloc: Global) -> Option<Device>
         ensures { IfSome result (λ device. device ≡ record { topology = self.topology; limits = self.limits; journal = [] }) }
     {
@@ -80,6 +124,14 @@ impl Setup {
 
 /// Returns the default topology (own): two CRTCs, two planes, two encoders and two connectors. The first plane is the
 /// primary plane of the first CRTC. Does not allocate.
+///
+/// # Examples
+///
+/// ```rust
+/// use drm_runs::test_topology;
+///
+/// assert!(rt; test_topology().object_count() == 8);
+/// ```
 pub fn test_topology() -> Topology
     ensures { result ≡ script.test_topology }
 {
@@ -91,6 +143,17 @@ pub fn test_topology() -> Topology
 }
 
 /// Returns an empty device of the test topology, or `None` if memory is refused.
+///
+/// # Examples
+///
+/// ```rust
+/// use drm_device::Limits;
+/// use drm_runs::make_device;
+///
+/// let alloc = rt.alloc();
+/// let Some(device) = make_device(alloc, Limits::PROGRAM) else { return };
+/// assert!(rt; device.journal().is_empty());
+/// ```
 pub fn make_device(alloc: Global, limits: Limits) -> Option<Device>
     requires { ranges.are_in_range limits ≡ true }
     ensures { IfSome result (λ device. device ≡ record { topology = script.test_topology; limits = limits; journal = [] }) }

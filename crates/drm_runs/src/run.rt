@@ -67,6 +67,20 @@ impl Run {
 /// the script's first line, or the program's. It is created at the first well-formed line that is not skipped. A step
 /// for which memory is refused is answered by a fault. Clients that are open at the end are not closed: the device is
 /// dropped.
+///
+/// # Examples
+///
+/// ```rust
+/// use drm_runs::{ScriptEnd, run_script};
+/// use drm_streams::{FromRead, ToWrite};
+///
+/// let alloc = rt.alloc();
+/// let mut source = FromRead::new(b"open a card\n".as_slice());
+/// let mut sink = ToWrite::new(Vec::new(alloc));
+/// let end = run_script(alloc, &mut source, &mut sink, 1000);
+/// assert!(rt; end == ScriptEnd::Done);
+/// assert!(rt; sink.into_inner().as_slice() == b"client 1\n".as_slice());
+/// ```
 pub fn run_script<S: Source, K: Sink>(
     alloc: Global,
     source: &mut S,
@@ -81,6 +95,19 @@ pub fn run_script<S: Source, K: Sink>(
 }
 
 /// Runs a script as `run_script` does, and also returns the cause if a line can't be used.
+///
+/// # Examples
+///
+/// ```rust
+/// use drm_runs::{ScriptEnd, run_with_cause};
+/// use drm_streams::{FromRead, ToWrite};
+///
+/// let alloc = rt.alloc();
+/// let mut source = FromRead::new(b"opn a card\n".as_slice());
+/// let mut sink = ToWrite::new(Vec::new(alloc));
+/// let (end, cause) = run_with_cause(alloc, &mut source, &mut sink, 1000);
+/// assert!(rt; end == ScriptEnd::Malformed(1) && cause.is_some());
+/// ```
 pub fn run_with_cause<S: Source, K: Sink>(
     alloc: Global,
     source: &mut S,
@@ -97,6 +124,19 @@ pub fn run_with_cause<S: Source, K: Sink>(
 }
 
 /// The result of a run (own).
+///
+/// # Examples
+///
+/// ```rust
+/// use drm_runs::{ScriptEnd, Setup, run_on};
+/// use drm_streams::{FromRead, ToWrite};
+///
+/// let alloc = rt.alloc();
+/// let mut source = FromRead::new(b"open a card\n".as_slice());
+/// let mut sink = ToWrite::new(Vec::new(alloc));
+/// let ran = run_on(alloc, Setup::usual(), &mut source, &mut sink, 1000);
+/// assert!(rt; ran.end == ScriptEnd::Done && ran.cause.is_none());
+/// ```
 #[derive(Drop)]
 pub struct Ran {
     /// The end of the run.
@@ -109,6 +149,19 @@ pub struct Ran {
 
 /// Runs a script as `run_script` does, on a device that begins with this topology and these default limits. It also
 /// returns the device.
+///
+/// # Examples
+///
+/// ```rust
+/// use drm_runs::{Setup, run_on};
+/// use drm_streams::{FromRead, ToWrite};
+///
+/// let alloc = rt.alloc();
+/// let mut source = FromRead::new(b"open a card\n".as_slice());
+/// let mut sink = ToWrite::new(Vec::new(alloc));
+/// let ran = run_on(alloc, Setup::usual(), &mut source, &mut sink, 1000);
+/// assert!(rt; ran.interpreter.labels()[0] == 1);
+/// ```
 pub fn run_on<S: Source, K: Sink>(
     alloc: Global,
     setup: Setup,

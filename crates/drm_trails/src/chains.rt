@@ -10,6 +10,15 @@ use crate::steps::{Key, Source, Step};
 use std::alloc::{AllocError, Global};
 
 /// The source of a link's object (own).
+///
+/// # Examples
+///
+/// ```rust
+/// use drm_trails::{Key, Origin};
+///
+/// let origin = Origin::Published { key: Key::Name(5), step: 3 };
+/// assert!(rt; origin != Origin::Made);
+/// ```
 #[derive(Clone, Copy, PartialEq, Eq, Debug)]
 pub enum Origin {
     /// The link's step created the object.
@@ -19,6 +28,15 @@ pub enum Origin {
 }
 
 /// A step that assigned a handle to a client (own).
+///
+/// # Examples
+///
+/// ```rust
+/// use drm_trails::{Link, Origin};
+///
+/// let link = Link { step: 2, client: 1, handle: 1, origin: Origin::Made };
+/// assert!(rt; link.step == 2);
+/// ```
 #[derive(Clone, Copy, PartialEq, Eq, Debug)]
 pub struct Link {
     /// The number of the step, from 1.
@@ -32,6 +50,15 @@ pub struct Link {
 }
 
 /// A client's handle after the first `count` steps (own).
+///
+/// # Examples
+///
+/// ```rust
+/// use drm_trails::HandleThen;
+///
+/// let then = HandleThen { count: 4, client: 1, handle: 1, step: 2 };
+/// assert!(rt; then.step == 2);
+/// ```
 #[derive(Clone, Copy, PartialEq, Eq, Debug)]
 pub struct HandleThen {
     /// The number of steps.
@@ -45,6 +72,16 @@ pub struct HandleThen {
 }
 
 /// The last links of a chain (own).
+///
+/// # Examples
+///
+/// ```rust
+/// use drm_trails::ChainEnd;
+///
+/// let alloc = rt.alloc();
+/// let end = ChainEnd { links: Vec::new(alloc), left: None };
+/// assert!(rt; end.links.is_empty());
+/// ```
 #[derive(PartialEq, Eq, Debug, Drop)]
 pub struct ChainEnd {
     /// The links. The one that leads to the handle is first.
@@ -54,6 +91,15 @@ pub struct ChainEnd {
 }
 
 /// The links to leave out of a chain: those of marked steps, and all links before them (own).
+///
+/// # Examples
+///
+/// ```rust
+/// use drm_trails::Marks;
+///
+/// let marks = Marks { steps: &[true, false], kept: 4 };
+/// assert!(rt; marks.kept == 4);
+/// ```
 #[derive(Clone, Copy, Debug)]
 pub struct Marks<'a> {
     /// Whether each step is marked, the oldest first. A step past the end is not marked.

@@ -5,6 +5,16 @@ ghost use Rattle.std.specs.Prelude.{◌≡◌, ◌++◌, option_to_list, IfOk};
 use std::alloc::AllocError;
 
 /// Returns the list with the item appended, or unchanged if there is none. If memory is refused, the list is dropped.
+///
+/// # Examples
+///
+/// ```rust
+/// use drm_trails::{Source, with_item};
+///
+/// let alloc = rt.alloc();
+/// let Ok(list) = with_item(Vec::new(alloc), Some(Source::Creation)) else { return };
+/// assert!(rt; list.len() == 1);
+/// ```
 pub fn with_item<T: Drop>(list: Vec<T>, item: Option<T>) -> Result<Vec<T>, AllocError>
     ensures { IfOk result (λ longer. longer.items ≡ list.items ++ option_to_list item) }
 {

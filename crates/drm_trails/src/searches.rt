@@ -20,6 +20,15 @@ pub(crate) struct LastGiving {
 }
 
 /// The last step that published under a key (own).
+///
+/// # Examples
+///
+/// ```rust
+/// use drm_trails::LastPublishing;
+///
+/// let found = LastPublishing { past: 0, client: 1, handle: 1 };
+/// assert!(rt; found.client == 1);
+/// ```
 #[derive(Clone, Copy, PartialEq, Eq, Debug)]
 pub struct LastPublishing {
     /// The number of steps before it.
@@ -226,6 +235,21 @@ pub(crate) fn last_giving(
 }
 
 /// Returns the last step that published under the key, or `None`. Does not allocate.
+///
+/// # Examples
+///
+/// ```rust
+/// use drm_table::{Answer, Call, Event};
+/// use drm_trails::{Key, LastPublishing, Step, Trail, last_publishing};
+///
+/// let alloc = rt.alloc();
+/// let call = Call::GemFlink { handle: 1 };
+/// let answer = Answer::Number { value: 5 };
+/// let step = Step { event: Event::Ask(1, call), answer };
+/// let Ok(trail) = Trail::new(alloc).push(step) else { return };
+/// let found = last_publishing(trail.steps(), Key::Name(5));
+/// assert!(rt; found == Some(LastPublishing { past: 0, client: 1, handle: 1 }));
+/// ```
 pub fn last_publishing(steps: &[Step], key: Key) -> Option<LastPublishing>
     ensures last { sharings_at steps.now result ≡ last_sharing (history_of steps.now) (key_of key) }
     ensures within { IfSome result (λ publishing. publishing.past < length steps.now) }

@@ -12,6 +12,16 @@ ghost use Rattle.drm_trails.specs.Steps.{givings_of, key_of, publishings_of, sou
 use drm_table::{Answer, Call, Event};
 
 /// A step: an event and its answer (own).
+///
+/// # Examples
+///
+/// ```rust
+/// use drm_table::{Answer, Event};
+/// use drm_trails::Step;
+///
+/// let step = Step { event: Event::Close(1), answer: Answer::Closed };
+/// assert!(rt; step.answer == Answer::Closed);
+/// ```
 #[derive(PartialEq, Eq, Debug, Drop)]
 pub struct Step {
     /// The event.
@@ -21,6 +31,19 @@ pub struct Step {
 }
 
 /// Returns the step with this number, from 1, or `None`. Does not allocate.
+///
+/// # Examples
+///
+/// ```rust
+/// use drm_table::{Answer, Event};
+/// use drm_trails::{Step, Trail, step_at};
+///
+/// let alloc = rt.alloc();
+/// let step = Step { event: Event::Close(1), answer: Answer::Closed };
+/// let Ok(trail) = Trail::new(alloc).push(step) else { return };
+/// assert!(rt; step_at(trail.steps(), 1).is_some());
+/// assert!(rt; step_at(trail.steps(), 2).is_none());
+/// ```
 pub fn step_at(steps: &[Step], number: u64) -> Option<&Step>
     ensures step { IfSome result (λ step. slice_get steps.now (number - 1) ≡ Some step.now) }
     ensures numbers { is_some result ≡ (nat_le 1 number && nat_le number (length steps.now)) }
@@ -31,6 +54,15 @@ pub fn step_at(steps: &[Step], number: u64) -> Option<&Step>
 
 /// A key under which an object is published: a global name (drm-gem(7)), a PRIME token (drm-mm; tokens are own), or a
 /// framebuffer (drm-uapi).
+///
+/// # Examples
+///
+/// ```rust
+/// use drm_trails::Key;
+///
+/// let key = Key::Name(5);
+/// assert!(rt; key != Key::Token(5));
+/// ```
 #[derive(Clone, Copy, PartialEq, Eq, Debug)]
 pub enum Key {
     Name(u64),
@@ -39,6 +71,15 @@ pub enum Key {
 }
 
 /// The source of a handle's object: the step creates it, or it was published under a key (own).
+///
+/// # Examples
+///
+/// ```rust
+/// use drm_trails::{Key, Source};
+///
+/// let source = Source::Transfer(Key::Name(5));
+/// assert!(rt; source != Source::Creation);
+/// ```
 #[derive(Clone, Copy, PartialEq, Eq, Debug)]
 pub enum Source {
     Creation,
@@ -46,6 +87,15 @@ pub enum Source {
 }
 
 /// A handle that a step assigns to a client (own).
+///
+/// # Examples
+///
+/// ```rust
+/// use drm_trails::{Giving, Source};
+///
+/// let giving = Giving { client: 1, handle: 1, source: Source::Creation };
+/// assert!(rt; giving.handle == 1);
+/// ```
 #[derive(Clone, Copy, PartialEq, Eq, Debug)]
 pub struct Giving {
     /// The client.
@@ -57,6 +107,15 @@ pub struct Giving {
 }
 
 /// An object that a client publishes by its handle (own).
+///
+/// # Examples
+///
+/// ```rust
+/// use drm_trails::{Key, Publishing};
+///
+/// let publishing = Publishing { key: Key::Name(5), client: 1, handle: 1 };
+/// assert!(rt; publishing.handle == 1);
+/// ```
 #[derive(Clone, Copy, PartialEq, Eq, Debug)]
 pub struct Publishing {
     /// The key under which it is published.
@@ -234,6 +293,18 @@ impl Step {
     ghost use Rattle.drm_trails.specs.Steps.{entry_of, givings_of, publishings_of};
 
     /// Returns the handle that the step assigns, or `None`. Does not allocate.
+    ///
+    /// # Examples
+    ///
+    /// ```rust
+    /// use drm_table::{Answer, Call, Event};
+    /// use drm_trails::{Giving, Source, Step};
+    ///
+    /// let call = Call::BufCreate { size: 4096 };
+    /// let answer = Answer::Buffer { handle: 1, size: 4096 };
+    /// let step = Step { event: Event::Ask(1, call), answer };
+    /// assert!(rt; step.given() == Some(Giving { client: 1, handle: 1, source: Source::Creation }));
+    /// ```
     #[tactic(auto, unfolding(drm_history::specs::Steps::given))]
     pub fn given(&self) -> Option<Giving>
         ensures { givings_of result ≡ given (entry_of self.now) }
@@ -246,6 +317,18 @@ impl Step {
     }
 
     /// Returns what the step publishes, or `None`. Does not allocate.
+    ///
+    /// # Examples
+    ///
+    /// ```rust
+    /// use drm_table::{Answer, Call, Event};
+    /// use drm_trails::{Key, Publishing, Step};
+    ///
+    /// let call = Call::GemFlink { handle: 1 };
+    /// let answer = Answer::Number { value: 5 };
+    /// let step = Step { event: Event::Ask(1, call), answer };
+    /// assert!(rt; step.published() == Some(Publishing { key: Key::Name(5), client: 1, handle: 1 }));
+    /// ```
     #[tactic(auto, unfolding(drm_history::specs::Steps::published))]
     pub fn published(&self) -> Option<Publishing>
         ensures { publishings_of result ≡ published (entry_of self.now) }
@@ -282,6 +365,16 @@ impl Step {
     }
 
     /// Returns whether the step takes the handle from the client. Does not allocate.
+    ///
+    /// # Examples
+    ///
+    /// ```rust
+    /// use drm_table::{Answer, Event};
+    /// use drm_trails::Step;
+    ///
+    /// let step = Step { event: Event::Close(1), answer: Answer::Closed };
+    /// assert!(rt; step.takes(1, 1) && !step.takes(2, 1));
+    /// ```
     pub fn takes(&self, client: u64, handle: u64) -> bool
         ensures { result ≡ takes (entry_of self.now) client handle }
     {

@@ -18,6 +18,20 @@ use std::marker::Model;
 ///
 /// The index lists the steps that published, assigned or took a handle, and the object of each assigned handle. A chain
 /// is found without a look at the steps between. Contracts see only the steps.
+///
+/// # Examples
+///
+/// ```rust
+/// use drm_table::{Answer, Call, Event};
+/// use drm_trails::{Step, Trail};
+///
+/// let alloc = rt.alloc();
+/// let call = Call::BufCreate { size: 4096 };
+/// let answer = Answer::Buffer { handle: 1, size: 4096 };
+/// let step = Step { event: Event::Ask(1, call), answer };
+/// let Ok(trail) = Trail::new(alloc).push(step) else { return };
+/// assert!(rt; trail.object_of(1, 1, 1) == Some(1));
+/// ```
 #[derive(Drop)]
 pub struct Trail {
     steps: Vec<Step>,
@@ -42,6 +56,15 @@ impl Model for Trail {
 
 impl Trail {
     /// Returns a trail without steps. Does not allocate.
+    ///
+    /// # Examples
+    ///
+    /// ```rust
+    /// use drm_trails::Trail;
+    ///
+    /// let alloc = rt.alloc();
+    /// assert!(rt; Trail::new(alloc).steps().is_empty());
+    /// ```
     pub fn new(alloc: Global) -> Trail
         ensures { result ≡ [] }
     {
@@ -58,6 +81,18 @@ impl Trail {
     /// # Errors
     ///
     /// `AllocError` if memory is refused. The trail is then dropped.
+    ///
+    /// # Examples
+    ///
+    /// ```rust
+    /// use drm_table::{Answer, Event};
+    /// use drm_trails::{Step, Trail};
+    ///
+    /// let alloc = rt.alloc();
+    /// let step = Step { event: Event::Close(1), answer: Answer::Closed };
+    /// let Ok(trail) = Trail::new(alloc).push(step) else { return };
+    /// assert!(rt; trail.steps().len() == 1);
+    /// ```
     pub fn push(self, step: Step) -> Result<Trail, AllocError>
         ensures { IfOk result (λ trail. trail ≡ self ++ step ∷ []) }
     {
@@ -90,6 +125,20 @@ impl Trail {
     /// handle.
     ///
     /// An object is the number of the step that created it. Does not allocate.
+    ///
+    /// # Examples
+    ///
+    /// ```rust
+    /// use drm_table::{Answer, Call, Event};
+    /// use drm_trails::{Step, Trail};
+    ///
+    /// let alloc = rt.alloc();
+    /// let call = Call::BufCreate { size: 4096 };
+    /// let answer = Answer::Buffer { handle: 1, size: 4096 };
+    /// let step = Step { event: Event::Ask(1, call), answer };
+    /// let Ok(trail) = Trail::new(alloc).push(step) else { return };
+    /// assert!(rt; trail.object_of(1, 1, 1) == Some(1));
+    /// ```
     pub fn object_of(&self, count: usize, client: u64, handle: u64) -> Option<u64>
         ensures object { IfSome result (Has (history_of (take count self.now)) client handle) }
         ensures none { IfNone result (IsOfDevice (history_of (take count self.now)) → HasNone (history_of (take count self.now)) client handle) }
@@ -105,6 +154,20 @@ impl Trail {
     }
 
     /// Returns the steps, the oldest first. Does not allocate.
+    ///
+    /// # Examples
+    ///
+    /// ```rust
+    /// use drm_table::{Answer, Call, Event};
+    /// use drm_trails::{Step, Trail};
+    ///
+    /// let alloc = rt.alloc();
+    /// let call = Call::BufCreate { size: 4096 };
+    /// let answer = Answer::Buffer { handle: 1, size: 4096 };
+    /// let step = Step { event: Event::Ask(1, call), answer };
+    /// let Ok(trail) = Trail::new(alloc).push(step) else { return };
+    /// assert!(rt; trail.steps().len() == 1);
+    /// ```
     pub fn steps(&self) -> &[Step]
         ensures { result.now ≡ self.now }
     {
@@ -120,6 +183,23 @@ impl Trail {
     /// # Errors
     ///
     /// `AllocError` if memory is refused.
+    ///
+    /// # Examples
+    ///
+    /// ```rust
+    /// use drm_table::{Answer, Call, Event};
+    /// use drm_trails::{Link, Origin, Step, Trail};
+    ///
+    /// let alloc = rt.alloc();
+    /// let call = Call::BufCreate { size: 4096 };
+    /// let answer = Answer::Buffer { handle: 1, size: 4096 };
+    /// let step = Step { event: Event::Ask(1, call), answer };
+    /// let Ok(trail) = Trail::new(alloc).push(step) else { return };
+    /// let Ok(found) = trail.chain_of(alloc, 1, 1, 1) else { return };
+    /// let Some(links) = found else { return };
+    /// let link = Link { step: 1, client: 1, handle: 1, origin: Origin::Made };
+    /// assert!(rt; links.as_slice() == [link].as_slice());
+    /// ```
     pub fn chain_of(
         &self,
         alloc: Global,
@@ -150,6 +230,23 @@ impl Trail {
     /// # Errors
     ///
     /// `AllocError` if memory is refused.
+    ///
+    /// # Examples
+    ///
+    /// ```rust
+    /// use drm_table::{Answer, Call, Event};
+    /// use drm_trails::{Marks, Step, Trail};
+    ///
+    /// let alloc = rt.alloc();
+    /// let call = Call::BufCreate { size: 4096 };
+    /// let answer = Answer::Buffer { handle: 1, size: 4096 };
+    /// let step = Step { event: Event::Ask(1, call), answer };
+    /// let Ok(trail) = Trail::new(alloc).push(step) else { return };
+    /// let marks = Marks { steps: &[], kept: 4 };
+    /// let Ok(found) = trail.chain_end_of(alloc, 1, 1, 1, marks) else { return };
+    /// let Some(end) = found else { return };
+    /// assert!(rt; end.left.is_none());
+    /// ```
     pub fn chain_end_of(
         &self,
         alloc: Global,
