@@ -6,7 +6,7 @@ use crate::arrays::Ask;
 use drm_index_array::Mark;
 use drm_test_cases::{Call, Told};
 
-/// How many indices the plain map can have: 0 to 40, those where a level of the tree begins or ends, and the five
+/// The number of indices of the plain map: 0 to 40, those at which a level of the tree begins or ends, and the five
 /// greatest.
 pub(crate) const SLOTS: usize = 57;
 

@@ -6,7 +6,7 @@ use crate::number_tables::Ask;
 use crate::numbers::Numbers;
 use drm_test_cases::{Call, Told};
 
-/// How many numbers the range has.
+/// The number of numbers in the range.
 pub(crate) const SIZE: usize = 24;
 
 #[derive(Drop)]

@@ -54,7 +54,7 @@ fn told_fault(fault: FileFault) -> Told {
     }
 }
 
-/// Whether the handle of a place among all is this one.
+/// Returns whether the handle of a place among all is this one.
 fn is_nth_hold(
     files: &Files,
     nth: usize,

@@ -177,7 +177,7 @@ const IN_TURN: [(Tokening, Told); 12] = [
     (Tokening::Close(1, 9), Told::Nothing),
 ];
 
-/// Who exported a token closes it, and no other client.
+/// Only the client that exported a token closes it.
 const OF_CLIENTS: [(Tokening, Told); 13] = [
     (Tokening::Export(5, 7), Told::Number(1)),
     (Tokening::Export(6, 4), Told::Number(2)),

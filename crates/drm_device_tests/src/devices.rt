@@ -79,7 +79,7 @@ pub(crate) struct Case {
     pub(crate) further_pages: &'static [Page],
 }
 
-/// Whether these are the rows of a page.
+/// Returns whether these are the rows of a page.
 fn are_rows(found: &[AuditRow], rows: &[[u64; 4]]) -> bool {
     found.len() == rows.len()
         && found
@@ -95,7 +95,7 @@ fn check_pages(rt: &impl Abort, device: &Device, pages: &[Page], name: &str) {
     }
 }
 
-/// Whether both hold the same rows of a kind, on all pages.
+/// Returns whether both have the same rows of a kind, on all pages.
 fn have_same_rows(device: &Device, again: &Device, kind: AuditKind) -> bool {
     let mut from = 0_u32;
     for _ in 0..10_000 {

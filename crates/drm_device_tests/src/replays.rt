@@ -38,7 +38,7 @@ fn is_refusal(fault: Option<ReplayFault>, count: usize) -> bool {
     }
 }
 
-/// What is said of a fault where memory was refused.
+/// Returns the word of a fault after memory was refused.
 fn word_of(fault: ReplayFault) -> &'static str {
     match fault {
         ReplayFault::New(_) => "refused for the device",

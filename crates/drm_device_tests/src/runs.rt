@@ -258,7 +258,7 @@ const CAUSES: [(&[u8], u64, usize, Malformation); 8] = [
     ),
 ];
 
-/// How a script ended, and the column and the cause of a malformed line.
+/// The end of a script, and the column and the cause of a malformed line.
 type Told = (ScriptEnd, Option<(usize, Malformation)>);
 
 /// Runs a script that arrives in pieces, and compares its end with the cause.

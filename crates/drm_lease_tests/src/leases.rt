@@ -405,7 +405,7 @@ const PAST_ITS_LEASE: [(Ask, Told); 9] = [
     (Ask::Lease(1, OUTPUT), Told::Two(2, 3)),
 ];
 
-/// What ends below a lessee leaves its own lease.
+/// The end of leases below a lessee leaves its own lease.
 const OWN_LEASE_STAYS: [(Ask, Told); 10] = [
     (Ask::Lease(1, OUTPUT), Told::Two(1, 1)),
     (Ask::Redeem(1), Told::Number(2)),
@@ -455,7 +455,7 @@ fn closed(leases: &Leases, masters: &mut Masters, client: u32) -> Option<MasterK
     masters.on_close(client)
 }
 
-/// Whether the masters are those of these steps.
+/// Returns whether the masters are those of these steps.
 fn are_left(masters: &Masters, steps: &[u32]) -> bool {
     let mut are_so = masters.nth_master(steps.len()).is_none();
     for (place, step) in steps.iter().enumerate() {
@@ -552,7 +552,8 @@ fn check_closings(rt: &impl Abort, leases: &mut Leases, masters: &mut Masters)
     assert!(rt; are_left(masters, &[]));
 }
 
-/// What a revocation releases, and what stays until its own release: the masters that are left after each.
+/// A revocation releases some masters, and the others stay until their own release. Each step lists the masters that
+/// are left.
 #[test]
 fn revocations_release_by_their_tokens(rt: HostRuntime) -> Result<(), Fail> {
     let topology = test_topology().ok_or("no topology")?;

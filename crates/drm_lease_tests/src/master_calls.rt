@@ -41,7 +41,7 @@ pub(crate) enum Ask {
     Depth(u32),
 }
 
-/// What a call answers. `Unasked` is for a call that may not be made.
+/// The answer of a call. `Unasked` is for a call that may not be made.
 #[derive(Clone, Copy, PartialEq, Eq, Debug)]
 pub(crate) enum Told {
     Unasked,

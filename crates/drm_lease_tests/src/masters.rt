@@ -175,7 +175,7 @@ const SET_AGAIN: [Case; 5] = [
     (Ask::DeviceMaster, Told::Number(1)),
 ];
 
-/// What is set once a client was authenticated.
+/// A client sets its master after it was authenticated.
 const SET_AFTER_MAGIC: [Case; 8] = [
     (Ask::Open(1), Told::Whether(true)),
     (Ask::Open(2), Told::Whether(false)),

@@ -17,7 +17,7 @@ const SHAPE: Shape = Shape {
     bpp: 32,
 };
 
-/// What the planes of the test topology are for.
+/// The kinds of the planes of the test topology.
 const KINDS: [PlaneKind; 2] = [PlaneKind::Primary(1), PlaneKind::Overlay];
 
 /// Returns a topology with CRTCs 1 and 2 and the primary plane 3 of CRTC 1. Plane 4 is an overlay plane of CRTC 2.
@@ -72,7 +72,7 @@ const FOUR_KINDS: [PlaneKind; 4] = [
     PlaneKind::Primary(1),
 ];
 
-/// Whether these are the primary and cursor planes of CRTCs.
+/// Returns whether these are the primary and cursor planes of CRTCs.
 fn are_planes_of(topology: &Topology, crtcs: &[u32], planes: &[u32]) -> bool {
     topology.planes_of(crtcs).ids() == planes
 }
@@ -100,12 +100,12 @@ fn planes_of_topologies(rt: HostRuntime) -> Result<(), Fail> {
 /// an id shows one. The others have a client, an id or a place. An object is named by the number of its key.
 #[derive(Clone, Copy)]
 enum Ask {
-    /// Whether an id is of this kind, with its encoder where it is a connector, and its possible CRTCs.
+    /// Whether an id is of this kind, with its encoder if it is a connector, and its possible CRTCs.
     IsObject(u32, Option<Kind>, Option<u32>, u32),
     /// Whether an id is a plane of this kind, and of this CRTC alone.
     IsPlane(u32, Option<PlaneKind>, Option<u32>),
-    /// How many ids are of a kind, and the first two of them. The same of the primary and cursor planes of CRTCs, and of a client's
-    /// framebuffers.
+    /// The number of ids of a kind, and the first two of them. The same of the primary and cursor planes of CRTCs, and
+    /// of a client's framebuffers.
     Ids(Kind),
     PlanesOf([u32; 2]),
     FramebuffersOf(u32),
@@ -146,7 +146,7 @@ fn asked_of_objects(modes: &Modes, ask: Ask) -> Told {
     Told::Whether(is_so)
 }
 
-/// How many ids these are, and the first two of them, or 0.
+/// Returns the number of these ids, and the first two of them, or 0.
 fn told_ids(ids: &[u32]) -> Told {
     let first = ids.first().copied().unwrap_or(0);
     let second = ids.get(1).copied().unwrap_or(0);
@@ -358,7 +358,7 @@ fn framebuffers_and_what_is_shown(rt: HostRuntime) -> Result<(), Fail> {
     check_modes(&rt, rt.alloc(), &SCANOUTS)
 }
 
-/// Where a request for memory is refused, nothing has changed, and the same call is carried out once there is memory.
+/// If memory is refused, nothing changes. The same call is carried out once there is memory.
 #[test]
 fn a_refusal_changes_nothing(rt: HostRuntime) -> Result<(), Fail> {
     check_modes(&rt, rt.alloc(), &ADDED)

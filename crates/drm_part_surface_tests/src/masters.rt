@@ -38,7 +38,7 @@ pub fn rows(row: MasterRow) -> (Option<Member>, Option<Master>) {
     }
 }
 
-/// What a client is to masters.
+/// The values of a client.
 pub fn members(id: u32, once_master: bool, is_master: bool, magic: Option<Magic>) -> Member {
     Member {
         client: id,
@@ -66,7 +66,7 @@ pub fn magics(magic: Magic) -> (u32, bool) {
     (number, spent)
 }
 
-/// What SET_MASTER did.
+/// The results of SET_MASTER.
 pub fn set_done(done: SetDone) -> u32 {
     match done {
         SetDone::Already => 0,

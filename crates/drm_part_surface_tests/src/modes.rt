@@ -41,7 +41,7 @@ pub fn kinds(kind: Kind) -> u32 {
     }
 }
 
-/// What planes are for.
+/// The kinds of planes.
 pub fn plane_kinds(kind: PlaneKind) -> u32 {
     match kind {
         PlaneKind::Overlay => 0,

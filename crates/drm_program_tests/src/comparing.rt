@@ -1,4 +1,4 @@
-//! What tests compare.
+//! The comparisons of tests.
 
 use std::fmt::{Debug, Display};
 use std::process::Abort;

@@ -28,7 +28,7 @@ const EVENTS: [Event; 2] = [
     ),
 ];
 
-/// How a sink is cut, how many turns there are, how the listing ends, and how many bytes it writes.
+/// The cut of a sink, the number of turns, the end of the listing, and the number of bytes that it writes.
 type Listing = (Cut, u64, ListEnd, usize);
 
 const LISTINGS: [Listing; 5] = [

@@ -27,7 +27,7 @@ const HELLO_VERSION: [u8; 24] = [
 /// AUDIT of the device.
 const AUDIT: [u8; 14] = [0x0a, 0, 0, 0, 0x45, 0, 0x0a, 0, 0, 0, 0, 0, 0, 0];
 
-/// How often a client connects at most until it is refused.
+/// The most attempts of a client to connect until it is refused.
 const MOST_TRIES: u32 = 2_000;
 
 /// Client 1 was opened, and the version is 1.0.0.
@@ -215,7 +215,7 @@ fn ask_audits<R: Net>(rt: &R, alloc: Global, places: &Places) -> io::Result<Vec<
     Ok(heard)
 }
 
-/// What clients do.
+/// The actions of clients.
 #[derive(Clone, Copy)]
 enum Scenario {
     /// One sends the hello and VERSION at once.

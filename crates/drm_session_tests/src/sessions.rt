@@ -65,7 +65,7 @@ struct Case<'a> {
     end: SessionEnd,
     steps: u64,
     written: &'a [u8],
-    /// How many calls of the source are made, where it matters.
+    /// The number of calls of the source, if it matters.
     takes: Option<u64>,
 }
 

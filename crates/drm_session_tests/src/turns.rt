@@ -55,7 +55,7 @@ const CARD: Event = Event::Open(Opening::Primary {
 
 const OPENED: Result<Answer, Apart> = Ok(Answer::Opened { client: 1 });
 
-/// Whether it is the other participant that calls, the event, and the answer.
+/// Whether the other participant makes the call, the event, and the answer.
 type Turn = (bool, Event, Result<Answer, Apart>);
 
 const OPENING: Turn = (false, CARD, OPENED);

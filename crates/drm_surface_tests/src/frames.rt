@@ -21,7 +21,7 @@ pub fn first(bytes: &[u8]) -> Decoded<'_> {
     decode(bytes)
 }
 
-/// What a frame requests, greets with, or answers.
+/// The contents of a frame: a request, a hello, or an answer.
 pub fn read(frame: &Frame<'_>) -> (Call, Option<Hello>, Option<Result<Answer, Apart>>) {
     (call_of(frame), hello_of(frame), answer_of(frame))
 }
@@ -32,7 +32,7 @@ pub fn hellos(hello: Hello) -> (u32, Option<u32>) {
     (version, lease)
 }
 
-/// What the first bytes are.
+/// The results of decoding the first bytes.
 pub fn decoded(decoded: Decoded<'_>) -> Option<(Frame<'_>, usize)> {
     match decoded {
         Decoded::Whole(frame, used) => Some((frame, used)),

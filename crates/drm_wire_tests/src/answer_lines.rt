@@ -89,7 +89,7 @@ const ANSWERS: [(Result<Answer, Apart>, &[u8]); 20] = [
     ),
 ];
 
-/// Whether an answer has this line, whose length is bounded.
+/// Returns whether an answer has this line, whose length is bounded.
 fn has_line(outcome: &Result<Answer, Apart>, text: &[u8]) -> bool {
     let line = line_of(outcome);
     line.as_bytes() == text && text.len() <= LINE

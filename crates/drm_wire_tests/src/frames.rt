@@ -24,7 +24,7 @@ fn hello_in(bytes: &[u8]) -> Option<Hello> {
     hello_of(&frame_in(bytes)?)
 }
 
-/// Whether the bytes are a frame of this call.
+/// Returns whether the bytes are a frame of this call.
 fn asks(bytes: &[u8], call: &Call) -> bool {
     match frame_in(bytes) {
         Some(frame) => call_of(&frame) == *call,
@@ -32,7 +32,7 @@ fn asks(bytes: &[u8], call: &Call) -> bool {
     }
 }
 
-/// Whether the bytes are a frame, and no answer's.
+/// Returns whether the bytes are a frame, and no answer's.
 fn is_no_answer(bytes: &[u8]) -> bool {
     match frame_in(bytes) {
         Some(frame) => answer_of(&frame).is_none(),
@@ -40,7 +40,7 @@ fn is_no_answer(bytes: &[u8]) -> bool {
     }
 }
 
-/// Whether the bytes are a frame of this answer.
+/// Returns whether the bytes are a frame of this answer.
 fn answers(bytes: &[u8], outcome: &Result<Answer, Apart>) -> bool {
     let Some(frame) = frame_in(bytes) else {
         return false;
@@ -59,7 +59,7 @@ fn call_bytes(call: &Call) -> Option<FrameBytes> {
     }
 }
 
-/// Whether the lists of an answer have 251 ids at most, which one frame takes.
+/// Returns whether the lists of an answer have 251 ids at most, which one frame takes.
 fn is_few(outcome: &Result<Answer, Apart>) -> bool
     ensures { result ≡ true → FitsOneFrame outcome.now }
 {
@@ -164,7 +164,7 @@ const NO_HELLOS: [&[u8]; 6] = [
     &[2, 0, 0, 0, 0, 0],
 ];
 
-/// Whether the bytes are the hello's, and are read as it.
+/// Returns whether the bytes are the hello's, and are read as it.
 fn is_hello(bytes: &[u8], hello: Hello) -> bool
     requires { is_version hello.version ≡ true }
 {
@@ -340,7 +340,7 @@ const CALLS: [(&[u8], Call); 35] = [
     ),
 ];
 
-/// Whether the bytes are the call's, and are read as it.
+/// Returns whether the bytes are the call's, and are read as it.
 fn is_call(bytes: &[u8], call: &Call) -> bool {
     match call_bytes(call) {
         Some(written) => written.as_slice() == bytes && asks(bytes, call),
@@ -431,7 +431,7 @@ const BAD_LAYOUTS: [(u16, &[u8]); 12] = [
     (0x45, &[11, 0, 0, 0, 0x45, 0, 1, 0, 0, 0, 0, 0, 0, 0, 0]),
 ];
 
-/// Whether with fields of each of these sizes the call has another layout.
+/// Returns whether with fields of each of these sizes the call has another layout.
 fn have_another_layout(number: u16, sizes: &[usize]) -> bool {
     let zeros = [0; 21];
     sizes.iter().all(|size| {
@@ -543,7 +543,7 @@ const ANSWERS: [(&[u8], Result<Answer, Apart>); 13] = [
     ),
 ];
 
-/// Whether the bytes are the answer's, and are read as it.
+/// Returns whether the bytes are the answer's, and are read as it.
 fn is_answer(bytes: &[u8], outcome: &Result<Answer, Apart>) -> bool {
     match answer_bytes(outcome) {
         Some(written) => written.as_slice() == bytes && answers(bytes, outcome),
@@ -720,7 +720,7 @@ const OTHER_ANSWER_SIZES: [(u16, [usize; 2]); 5] = [
     (0x100A, [7, 9]),
 ];
 
-/// Whether with fields of this size the number is no answer's.
+/// Returns whether with fields of this size the number is no answer's.
 fn is_no_answer_of(number: u16, size: usize) -> bool {
     let zeros = [0; 21];
     let frame = Frame::new(number, &zeros[..size.min(21)]);

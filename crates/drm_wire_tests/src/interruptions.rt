@@ -1,4 +1,4 @@
-//! What taking and putting over interruptions come to at each cut.
+//! The results of takes and puts over interruptions at each cut.
 ghost use Rattle.std.specs.Prelude.{◌+◌, ◌<◌, ◌^◌};
 
 use crate::comparing::same;

@@ -172,7 +172,7 @@ fn command_in(line: &[u8]) -> Option<Command> {
     }
 }
 
-/// Whether the client of this label asks this.
+/// Returns whether the client of this label asks this.
 fn asks(line: &[u8], label: Label, call: &Call) -> bool {
     let Some(command) = command_in(line) else {
         return false;
@@ -310,7 +310,7 @@ const OPENINGS: [(&[u8], u8, Opening); 10] = [
 /// Closings by a label's letter, with its place among all.
 const CLOSINGS: [(&[u8], u8, usize); 2] = [(b"close a", b'a', 0), (b"  close   z  ", b'z', 25)];
 
-/// Whether a line says this.
+/// Returns whether a line says this.
 fn says(line: &[u8], command: &Command) -> bool {
     match command_in(line) {
         Some(said) => said == *command,

@@ -346,7 +346,7 @@ fn malformed(column: usize, word: &str, cause: Malformation) -> Malformed {
     }
 }
 
-/// Whether a line can't be used, for this word at this column and for this cause.
+/// Returns whether a line can't be used, for this word at this column and for this cause.
 pub(crate) fn is_malformed(line: &[u8], column: usize, word: &[u8], cause: Malformation) -> bool {
     match read_line(line) {
         Ok(_reading) => false,

@@ -322,7 +322,7 @@ fn kinds_of_an_audit(rt: HostRuntime) {
     assert!(rt; AuditKind::of_number(0).is_none() && AuditKind::of_number(11).is_none());
 }
 
-/// Whether a copy of the event is the same.
+/// Returns whether a copy of the event is the same.
 fn is_copied(event: &Event) -> Result<bool, AllocError> {
     Ok(event.clone()? == *event)
 }
