@@ -76,7 +76,7 @@ pub(crate) fn create_journal<'a, R: Files + Log>(
     }
 }
 
-/// Creates the file of a journal or empties it, if there is to be one (own). Does not allocate.
+/// Creates the file of a journal or empties it, if there is to be one (own).
 ///
 /// # Errors
 ///

@@ -46,7 +46,8 @@ fn word_of(fault: ReplayFault) -> &'static str {
     }
 }
 
-/// Replays these events within these limits, and compares the fault. Where memory was refused it says for what, and replays once more.
+/// Replays these events within these limits, and compares the fault. If memory was refused, it prints for what, and
+/// replays once more.
 fn check_replay(
     rt: &(impl Abort + Print),
     alloc: Global,

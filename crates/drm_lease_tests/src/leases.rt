@@ -81,7 +81,7 @@ fn lease(
     Some(leases.create(masters, modes, client, universal, ids, step_number))
 }
 
-/// The same, and once more where memory was refused: nothing has changed then.
+/// The same, and once more if memory was refused, which changes nothing.
 fn lease_again(
     leases: &mut Leases,
     masters: &mut Masters,
@@ -148,7 +148,7 @@ fn enter(masters: &mut Masters, lessee: u32, client: u32) -> Told
     }
 }
 
-/// The same, and once more where memory was refused: nothing has changed then.
+/// The same, and once more if memory was refused, which changes nothing.
 fn enter_again(masters: &mut Masters, lessee: u32, client: u32) -> Told
     requires { IsBefore masters.old client }
     ensures before { IsBefore masters.new (client + 1) }
@@ -467,7 +467,7 @@ fn are_left(masters: &Masters, steps: &[u32]) -> bool {
     are_so
 }
 
-/// The rules of leases in their order, where one lease may be there.
+/// The rules of leases in their order, with room for one lease.
 const RULES: [(Ask, Told); 9] = [
     (Ask::Lease(1, &[]), Told::Denied(Rule::LeaseShape)),
     (Ask::Lease(1, &[2, 2, 4, 8]), Told::Denied(Rule::Repeated)),

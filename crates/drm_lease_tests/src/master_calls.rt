@@ -1,4 +1,4 @@
-//! Calls of masters as data, each made where it may be.
+//! Calls of masters as data, each made if it may be.
 
 ghost use Rattle.std.specs.Prelude.{◌≡◌, ◌<◌, true, false, length, IfSome};
 ghost use Rattle.std.specs.Option.{is_some};

@@ -481,8 +481,8 @@ const REFUSED: [Case; 4] = [
     (Ask::Open(1), Told::Whether(true)),
 ];
 
-/// With ample memory nothing is refused. Where it is, as under `rt try --test --fail-alloc N`, nothing has changed, and the same call
-/// may be made again.
+/// With ample memory no call is refused. If one is, as under `rt try --test --fail-alloc N`, nothing has changed, and
+/// the same call may be made again.
 #[test]
 fn a_refusal_changes_nothing(rt: HostRuntime) {
     let mut masters = Masters::new(rt.alloc(), 4, 4);

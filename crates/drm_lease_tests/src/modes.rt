@@ -77,7 +77,8 @@ fn are_planes_of(topology: &Topology, crtcs: &[u32], planes: &[u32]) -> bool {
     topology.planes_of(crtcs).ids() == planes
 }
 
-/// Counts of mode objects, of CRTCs with planes, and planes of CRTCs. Planes are for nothing where all are made by masks alone.
+/// Counts of mode objects, of CRTCs with planes, and planes of CRTCs. If a topology has only masks, its planes are
+/// overlay planes.
 #[test]
 fn planes_of_topologies(rt: HostRuntime) -> Result<(), Fail> {
     let small = test_topology().ok_or("no topology")?;
@@ -180,7 +181,7 @@ fn told_shown(shown: Option<Shown>) -> Told {
     }
 }
 
-/// Shows a framebuffer on a CRTC or a plane, or nothing where it is 0. Nothing is asked where that can't be.
+/// Shows a framebuffer on a CRTC or a plane, or nothing if it is 0. If that can't be, it makes no call.
 fn show(modes: &mut Modes, id: u32, framebuffer: u32) -> Told {
     if framebuffer != 0 && modes.fb(framebuffer).is_none() {
         return Told::Unasked;

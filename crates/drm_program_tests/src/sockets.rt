@@ -228,7 +228,7 @@ enum Scenario {
     SecondFirst,
     /// One asks a thousand times.
     Thousand,
-    /// One connects where a listener has its connections.
+    /// One connects to a listener that has all its connections.
     Refused,
     /// One of each class asks for an audit.
     Audits,

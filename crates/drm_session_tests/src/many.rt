@@ -42,7 +42,7 @@ fn serve_two<R: Wait + Threads + Sync>(
     })
 }
 
-/// Serves two jobs, and two others where the first weren't served as is expected.
+/// Serves two jobs, and two others if the first weren't served as expected.
 fn serve_again<R: Wait + Threads + Sync + Abort>(
     rt: &R,
     alloc: Global,

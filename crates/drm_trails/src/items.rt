@@ -4,7 +4,11 @@ ghost use Rattle.std.specs.Prelude.{◌≡◌, ◌++◌, option_to_list, IfOk};
 
 use std::alloc::AllocError;
 
-/// Returns the list with the item appended, or unchanged if there is none. If memory is refused, the list is dropped.
+/// Returns the list with the item appended, or unchanged if there is none (own). Allocates room for the item.
+///
+/// # Errors
+///
+/// `AllocError` if memory is refused. The list is then dropped.
 ///
 /// # Examples
 ///
