@@ -78,8 +78,8 @@ impl View {
     /// let alloc = rt.alloc();
     /// let Some(topology) = Topology::new(1, &[1], &[1], &[3]) else { return };
     /// let modes = Modes::new(alloc, topology, 4);
-    /// let view = View { controlled: Controlled::All, universal: false };
-    /// assert!(rt; view.sees(&modes, 1) && !view.sees(&modes, 2));
+    /// let view = View { controlled: Controlled::Lease(0b1), universal: true };
+    /// assert!(rt; view.sees(&modes, 1) && view.sees(&modes, 3) && !view.sees(&modes, 4));
     /// ```
     pub fn sees(self, modes: &Modes, id: u32) -> bool
         ensures { result ≡ is_in_view modes.now.topology self id }

@@ -1,13 +1,13 @@
 //! What a caller sees of the fixed mode objects.
 
-ghost use Rattle.std.specs.Prelude.{◌≡◌, ◌≤◌, ℕ, filter, length};
+ghost use Rattle.std.specs.Prelude.{◌≡◌, ℕ};
 ghost use Rattle.drm_leases.specs.Views.{is_in_view};
 ghost use Rattle.drm_modes.specs.Topology.{mask_over};
 ghost use Rattle.drm_modes.specs.declared.kinds.Kind.TheVariants.{Crtc};
 ghost use Rattle.drm_state.specs.Seeing as views;
 
 use drm_leases::View;
-use drm_modes::{Kind, Modes};
+use drm_modes::Kind;
 use drm_state::{PrimaryCaller, State};
 use drm_table::ShownList;
 
@@ -32,20 +32,6 @@ pub(crate) fn sees_object(state: &State, caller: PrimaryCaller, kind: Kind, id: 
     state.modes.is_of_kind(kind, id) && sees(state, caller, id)
 }
 
-/// Returns those of these objects that are in a view, in order. Does not allocate.
-fn in_view(view: View, modes: &Modes, ids: &[u32]) -> ShownList
-    requires { length ids.now ≤ 64 }
-    ensures { result ≡ filter (is_in_view modes.now.topology view) ids.now }
-{
-    let mut seen = ShownList::new();
-    for id in ids {
-        if view.sees(modes, *id) {
-            seen.push(*id);
-        }
-    }
-    seen
-}
-
 /// Returns the objects of a kind that a caller sees, rising (drm-uapi, leases; that they rise is own). Does not
 /// allocate.
 #[tactic(auto, using(std::proofs::lemmas::List::Elements::filter_agree))]
@@ -53,7 +39,14 @@ pub(crate) fn visible(state: &State, caller: PrimaryCaller, kind: Kind) -> Shown
     ensures { result ≡ views.visible state.now caller kind }
 {
     let ids = state.modes.ids(kind);
-    in_view(view(state, caller), &state.modes, ids.ids())
+    let view = view(state, caller);
+    let mut seen = ShownList::new();
+    for id in ids.ids() {
+        if view.sees(&state.modes, *id) {
+            seen.push(*id);
+        }
+    }
+    seen
 }
 
 /// Returns the possible CRTCs of a plane or an encoder among those that the caller sees, as a mask. Bit i is the i-th

@@ -98,9 +98,5 @@ fn view(rt: HostRuntime) {
         universal: true,
     };
     assert!(rt; view.sees(&modes, 1) && !view.sees(&modes, 2));
-    let view = View {
-        controlled: Controlled::All,
-        universal: false,
-    };
-    assert!(rt; view.sees(&modes, 1) && !view.sees(&modes, 2));
+    assert!(rt; view.sees(&modes, 1) && view.sees(&modes, 3) && !view.sees(&modes, 4));
 }
