@@ -2,5 +2,3 @@
 
 mod checks;
 mod device;
-mod journals;
-mod runs;
