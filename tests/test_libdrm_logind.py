@@ -164,7 +164,7 @@ class LibdrmLogindTests(FolderCase):
         self.expect_answers(DEVICES)
 
     def test_session_is_switched(self):
-        """The program loses and regains master, and is told so."""
+        """The program loses and regains master, and the stand-in reports both."""
         want_libdrm()
         want_logind()
         ran = run(WITH_SERVER, "--libdrm", LOGIND, "/usr/bin/python3", "-c", SWITCHER)

@@ -53,7 +53,7 @@ def want_root():
 
 
 def run_as_a_user(root, script):
-    """Runs a script in the root, which it cannot change, as an ordinary user who is root there only."""
+    """Runs a script in the root as an ordinary user, who is root only there. The script cannot change the root."""
     want_program("bwrap")
     user = ["setpriv", "--reuid=65534", "--regid=65534", "--clear-groups"] if os.geteuid() == 0 else []
     places = [

@@ -122,7 +122,7 @@ module _ {setting : Setting} {s0 s : SourceTrace} {k0 k : SinkTrace} {read : Lis
       grown_count : new.failed ≡ length (differences ++ found)
       grown_count = let a = u.failed in let b = length-append differences found in omega (arith, a, b, counted)
 
-      -- a front of the difference was told
+      -- a front of the difference was reported
       cut_front : (p : PartialWriteCost k k' (differences_text file found) old.turns new.turns) → IsCutInLast file (length (lines ++ state.held ∷ [])) (differences ++ found) (differences_text file differences ++ p.front)
       cut_front p =
           subst (λ (m : ℕ). IsCutInLast file m (differences ++ found) (differences_text file differences ++ p.front)) h.so_far.number

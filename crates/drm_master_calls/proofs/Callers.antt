@@ -39,7 +39,7 @@ use Rattle.drm_state.proofs.Represented.{device_master_is}
 use Rattle.drm_state.proofs.Lookups.{credentials_is}
 use Rattle.drm_state.proofs.Callers.{row_is, caller_row, lessee_is}
 
--- ---- what is asked of a caller that belongs to a master
+-- ---- the rules for a caller that belongs to a master
 
 module _ (s : State) (w : Rows) (c : ℕ) (flags : FileFlags) (x : Member) (h : Represents s w) (file : find (files.is_client c) s.files.clients ≡ Some (record { client = c; flags = flags })) (look : member_of s.masters.members c ≡ Some x) where
   stands : credentials_of w c ≡ record { root = flags.root; render = flags.render; authenticated = flags.authenticated; current = is_current s.masters c }

@@ -29,7 +29,7 @@ use Rattle.drm_state.proofs.Ended.{fresh_token, kept_more, kept_swept, of_lessee
 use Rattle.drm_state.proofs.Sweeps.{named_by_clients, magics_left, unswept}
 use Rattle.drm_master_calls.proofs.Authenticated.{put, changed_clients, changed_invariants, authenticated_invariants}
 
--- who has no magic now is as one that is removed, where magics are reported
+-- where magics are reported, a client that has no magic any more is like a removed one
 magics_put : (y : Member) → magic_row_of y ≡ None → (xs : List Member) → filter_map magic_row_of (filter (λ (z : Member). not (is_client y.client z)) xs) ≡ filter_map magic_row_of (map (put y) xs)
 magics_put y none [] = refl
 magics_put y none (z ∷ zs) =

@@ -212,7 +212,7 @@ module _ (g : Master → Master) (step_numbers : (x : Master) → (g x).step_num
       row None = refl
       row (Some y) = λ i. (is_some (lessors y i) && (lessee_ids y i == q)) && ((ap (owner_of (map g ms)) (step_numbers y) ∙ owners y.step_number) i == p)
 
--- ---- who is no client's lessor
+-- ---- masters that are no client's lessor
 
 -- A master that is not used is no master's lessor.
 pub unnamed : (members : List Member) (ms : List Master) (x : Master) → is_used members ms x ≡ false → list_any (λ (y : Master). is_option x.step_number y.lessor) ms ≡ false

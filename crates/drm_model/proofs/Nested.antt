@@ -40,7 +40,7 @@ use Rattle.drm_model.proofs.Changes.{along, by_verdict}
 abbrev has : List GrantRow → ℕ → ℕ → Bool
 has grants m x = list_any (λ (row : GrantRow). (row.master == m) && (row.mode_object == x)) grants
 
--- by who is above whom, and the grants
+-- by the lessor of each master, and by the grants
 abbrev Nest : (ℕ → Option ℕ) → List GrantRow → Type 0
 Nest above grants = ((m : ℕ) → chains.depth_of above m ≤ last_depth) × ((m l x : ℕ) → above m ≡ Some l → is_some (above l) ≡ true → has grants m x ≡ true → has grants l x ≡ true)
 
