@@ -10,7 +10,7 @@ import sys
 sys.dont_write_bytecode = True
 from support import REPOSITORY, FolderCase, expect, run, run_tests, want_program  # noqa: E402
 
-COMMANDS = ("run", "check", "explain", "serve", "test", "client", "audit", "watch")
+COMMANDS = ("run", "check", "explain", "shrink", "serve", "test", "client", "audit", "watch")
 PAGES = {
     "man1": ["zirkoshe.1", *(f"zirkoshe-{name}.1" for name in COMMANDS)],
     "man5": ["zirkoshe-script.5"],

@@ -46,8 +46,28 @@ impl From<AllocError> for UpdateFault {
     }
 }
 
-/// Uses the script part of a line. It returns the answer, or `None` if the line has none.
-fn use_line(
+/// Uses the script part of a line, and returns its answer, or `None` if the line has none (own).
+///
+/// `number` is the line's number, from 1. A line that creates the device allocates it.
+///
+/// # Errors
+///
+/// - `Malformed` if the line can't be used, with its number and the cause. The interpreter is unchanged.
+/// - `NoMemory` if memory for the device is refused. No later line creates one.
+///
+/// # Examples
+///
+/// ```rust
+/// use drm_checks::use_line;
+/// use drm_runs::{Interpreter, Setup};
+/// use drm_table::Answer;
+///
+/// let alloc = rt.alloc();
+/// let mut interpreter = Interpreter::new(Setup::usual());
+/// let Ok(came) = use_line(&mut interpreter, alloc, 1, b"open a card -> done") else { return };
+/// assert!(rt; came == Some(Ok(Answer::Opened { client: 1 })));
+/// ```
+pub fn use_line(
     interpreter: &mut Interpreter,
     alloc: Global,
     number: u64,

@@ -43,3 +43,14 @@ pub struct Explaining<'a> {
     /// Whether the explanation is printed as JSON.
     pub is_json: bool,
 }
+
+/// The arguments of `drm_server shrink` (own).
+#[derive(Clone, Copy, Debug, PartialEq, Eq)]
+pub struct Shrinking<'a> {
+    /// The file of the script.
+    pub path: &'a str,
+    /// The device.
+    pub device: AskedDevice<'a>,
+    /// The line whose answer stays, from 1.
+    pub line: u64,
+}

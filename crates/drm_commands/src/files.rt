@@ -55,12 +55,28 @@ impl<R: Log, F: Read + Drop> Read for LoggedRead<'_, R, F> {
     }
 }
 
-/// Returns the bytes of a file, at most one more than [`MOST_BYTES`].
-fn read_bounded<R: Files>(rt: &R, alloc: Global, path: &str) -> io::Result<Vec<u8>> {
-    let file = fs::open(rt, path)?;
+/// Returns the bytes of a reader, at most one more than [`MOST_BYTES`].
+fn read_bounded<F: Read + Drop>(alloc: Global, file: F) -> io::Result<Vec<u8>> {
     let mut bytes = Vec::new(alloc);
     file.take(MOST_BYTES as u64 + 1).read_to_end(&mut bytes)?;
     Ok(bytes)
+}
+
+/// Returns the bytes of a reader. If it fails, or has more than 32 MiB, the reason is logged.
+pub(crate) fn read_whole_from<R: Log, F: Read + Drop>(
+    rt: &R,
+    alloc: Global,
+    path: &str,
+    file: F,
+) -> Result<Vec<u8>, Fault> {
+    match read_bounded(alloc, file) {
+        Ok(bytes) if bytes.len() > MOST_BYTES => {
+            error!(rt; target: PROGRAM, "{path}: more than {MOST_BYTES} bytes, which is the most of a file that is read whole");
+            Err(Fault::Read)
+        }
+        Ok(bytes) => Ok(bytes),
+        Err(reason) => Err(read_fault(rt, path, &reason)),
+    }
 }
 
 /// Returns the bytes of a file. If it can't be read, or has more than 32 MiB, the reason is logged.
@@ -69,12 +85,8 @@ pub(crate) fn read_whole<R: Files + Log>(
     alloc: Global,
     path: &str,
 ) -> Result<Vec<u8>, Fault> {
-    match read_bounded(rt, alloc, path) {
-        Ok(bytes) if bytes.len() > MOST_BYTES => {
-            error!(rt; target: PROGRAM, "{path}: more than {MOST_BYTES} bytes, which is the most of a file that is read whole");
-            Err(Fault::Read)
-        }
-        Ok(bytes) => Ok(bytes),
+    match fs::open(rt, path) {
+        Ok(file) => read_whole_from(rt, alloc, path, file),
         Err(reason) => Err(read_fault(rt, path, &reason)),
     }
 }

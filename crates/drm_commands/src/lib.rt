@@ -1,4 +1,4 @@
-//! The commands of the program that run, check, update and explain scripts, and the outcomes of the program.
+//! The commands of the program that run, check, update, explain and shrink scripts, and the outcomes of the program.
 #![tactic(auto)]
 
 mod asked;
@@ -13,10 +13,11 @@ mod limits;
 mod outcomes;
 mod recording;
 mod running;
+mod shrinking;
 mod updating;
 mod visible;
 
-pub use asked::{AskedDevice, Checking, Explaining, Running};
+pub use asked::{AskedDevice, Checking, Explaining, Running, Shrinking};
 pub use checking::check;
 pub use devices::{TopologyText, asked_device, asked_limits, read_asked};
 pub use explaining::explain_script;
@@ -24,4 +25,5 @@ pub use faults::{Fault, FaultLine};
 pub use journal::{FilesRead, JournalFile, create_asked, write_noted};
 pub use outcomes::{Outcome, outcome_by, outcome_of, outcome_of_checks, outcome_of_fault};
 pub use running::run;
+pub use shrinking::shrink;
 pub use updating::update;

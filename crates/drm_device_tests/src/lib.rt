@@ -21,4 +21,6 @@ mod rows;
 #[cfg(test)]
 mod runs;
 #[cfg(test)]
+mod shrinking;
+#[cfg(test)]
 mod steps;

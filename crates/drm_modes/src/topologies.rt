@@ -16,6 +16,7 @@ use crate::kinds::{Kind, PlaneKind};
 use crate::planes::{are_kinds, is_possible, overlays};
 use arrayvec::ArrayVec;
 use drm_table::ShownList;
+use std::alloc::AllocError;
 use std::marker::Model;
 
 /// CRTCs, planes, encoders and connectors, with ids from 1 in that order (drm-uapi, mode setting).
@@ -48,6 +49,25 @@ impl Model for Topology {
     ghost view = { λ t. topology_with t.crtcs t.planes.items t.kinds.items t.encoders.items t.connectors.items };
 
     ghost invariant = { λ t. is_topology (topology_with t.crtcs t.planes.items t.kinds.items t.encoders.items t.connectors.items) ≡ true };
+}
+
+/// Copies the topology. Does not allocate and never fails.
+impl Clone for Topology {
+    ghost use Rattle.std.specs.Prelude.{◌≡◌, ⊤};
+
+    ghost is_clone = { λ topology copy. copy ≡ topology };
+
+    ghost is_infallible = { λ _. ⊤ };
+
+    fn clone(&self) -> Result<Topology, AllocError> {
+        Ok(Topology {
+            crtcs: self.crtcs,
+            planes: list_of(self.planes.as_slice()),
+            kinds: list_of(self.kinds.as_slice()),
+            encoders: list_of(self.encoders.as_slice()),
+            connectors: list_of(self.connectors.as_slice()),
+        })
+    }
 }
 
 impl Topology {

@@ -5,7 +5,7 @@ ghost use Rattle.drm_table.specs.Limits as ranges;
 ghost use Rattle.drm_runs.specs.Script as script;
 
 use drm_device::{Device, Limits, NewFault, PlaneKind, Topology};
-use std::alloc::Global;
+use std::alloc::{AllocError, Global};
 use std::marker::Model;
 
 /// The topology of a script's device, and its default limits (own).
@@ -37,6 +37,22 @@ impl Model for Setup {
     ghost view = { λ s. record { topology = s.topology; limits = s.limits } };
 
     ghost invariant = { λ s. are_in_range s.limits ≡ true };
+}
+
+/// Copies the setup. Does not allocate and never fails.
+impl Clone for Setup {
+    ghost use Rattle.std.specs.Prelude.{◌≡◌, ⊤};
+
+    ghost is_clone = { λ setup copy. copy ≡ setup };
+
+    ghost is_infallible = { λ _. ⊤ };
+
+    fn clone(&self) -> Result<Setup, AllocError> {
+        Ok(Setup {
+            topology: self.topology.clone()?,
+            limits: self.limits,
+        })
+    }
 }
 
 impl Setup {

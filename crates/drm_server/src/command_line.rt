@@ -4,7 +4,7 @@ use crate::sockets::Paths;
 use clap::builder::ValueParser;
 use clap::error::ErrorKind;
 use clap::{Arg, ArgAction, ArgMatches, Command, Error};
-use drm_commands::{AskedDevice, Checking, Explaining, Running};
+use drm_commands::{AskedDevice, Checking, Explaining, Running, Shrinking};
 use drm_connections::Counts;
 use std::alloc::{AllocError, Global};
 
@@ -44,6 +44,14 @@ Exit status:
   1  the script or standard output failed, or no memory
   2  a line of the script or of the topology is malformed
   3  a refused command line, or no such client or line";
+
+/// The exit statuses of `shrink`.
+const SHRINK_STATUS: &str = "\
+Exit status:
+  0  a script was printed
+  1  the script or standard output failed, or no memory
+  2  a line of the script or of the topology is malformed
+  3  a refused command line, or no such line";
 
 /// The exit statuses of `serve`.
 const SERVE_STATUS: &str = "\
@@ -87,6 +95,8 @@ pub(crate) enum Asked<'a> {
     Update(Checking<'a>),
     /// To explain the rights of a script's clients.
     Explain(Explaining<'a>),
+    /// To make a script shorter.
+    Shrink(Shrinking<'a>),
     /// To serve connections.
     Serve(Serving<'a>),
 }
@@ -215,6 +225,29 @@ fn explain_command<'a>(alloc: Global) -> Result<Command<'a>, Error> {
     Ok(command)
 }
 
+fn shrink_command<'a>(alloc: Global) -> Result<Command<'a>, Error> {
+    let file = Arg::new(alloc, "FILE")
+        .value_parser(ValueParser::NonEmptyString)
+        .required(true)
+        .help("A script or a journal; - is standard input");
+    let line = Arg::new(alloc, "line")
+        .long("line")
+        .value_name("N")
+        .value_parser(ValueParser::unsigned(0, u64::MAX))
+        .required(true)
+        .help("The line whose answer stays the same");
+    let command = Command::new(alloc, "shrink")
+        .about(
+            "Prints a shorter script in which a line is answered the same, with all answers, and logs how many lines are left",
+        )
+        .after_help(SHRINK_STATUS)
+        .arg(file)?
+        .arg(line)?
+        .arg(topology(alloc))?
+        .arg(script_limits(alloc))?;
+    Ok(command)
+}
+
 fn serve_command<'a>(alloc: Global) -> Result<Command<'a>, Error> {
     let until_ended = flag(
         alloc,
@@ -293,6 +326,7 @@ fn command<'a>(alloc: Global) -> Result<Command<'a>, Error> {
         .subcommand(run_command(alloc)?)?
         .subcommand(check_command(alloc)?)?
         .subcommand(explain_command(alloc)?)?
+        .subcommand(shrink_command(alloc)?)?
         .subcommand(serve_command(alloc)?)?;
     Ok(command)
 }
@@ -349,6 +383,14 @@ fn explaining_of<'a>(matches: &ArgMatches<'a>) -> Option<Explaining<'a>> {
     })
 }
 
+fn shrinking_of<'a>(matches: &ArgMatches<'a>) -> Option<Shrinking<'a>> {
+    Some(Shrinking {
+        path: matches.get_str("FILE")?,
+        device: device_of(matches),
+        line: matches.get_one("line")?,
+    })
+}
+
 fn checking_of<'a>(
     alloc: Global,
     matches: &ArgMatches<'a>,
@@ -380,6 +422,7 @@ pub(crate) fn read_words<'a>(
         }
         Some(("check", found)) => Ok(checking_of(alloc, found)?.map(Asked::Check)),
         Some(("explain", found)) => Ok(explaining_of(found).map(Asked::Explain)),
+        Some(("shrink", found)) => Ok(shrinking_of(found).map(Asked::Shrink)),
         Some(("serve", found)) => Ok(serving_of(found).map(Asked::Serve)),
         _ => Ok(None),
     }

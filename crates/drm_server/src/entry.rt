@@ -11,7 +11,7 @@ use crate::words::words_of;
 use clap::Error;
 use drm_commands::{
     Fault, FilesRead, JournalFile, Outcome, TopologyText, asked_device, asked_limits, check,
-    create_asked, explain_script, outcome_by, outcome_of_fault, read_asked, run, update,
+    create_asked, explain_script, outcome_by, outcome_of_fault, read_asked, run, shrink, update,
     write_noted,
 };
 use drm_connections::PROGRAM;
@@ -113,6 +113,7 @@ fn carry_out_command<
         Ok(Some(Asked::Check(checking))) => check(rt, alloc, &checking),
         Ok(Some(Asked::Update(checking))) => update(rt, alloc, &checking),
         Ok(Some(Asked::Explain(explaining))) => explain_script(rt, alloc, explaining),
+        Ok(Some(Asked::Shrink(shrinking))) => shrink(rt, alloc, shrinking),
         Ok(Some(Asked::Serve(serving))) => serve(rt, alloc, serving),
         Ok(None) => outcome_of_fault(Fault::CommandLine),
         Err(error) => stop_at(rt, &error),

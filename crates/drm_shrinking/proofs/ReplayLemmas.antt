@@ -1,0 +1,157 @@
+-- The lines of a replay, one after the other.
+use Rattle.std.proofs.Common.{◌≡◌, ℕ, zero, suc, ◌+◌, ◌<◌, ◌≤◌, ◌==◌, List, [], ◌∷◌, ◌++◌, ◌⊎◌, inl, inr, length, refl, sym, ap, subst, ◌∙◌, arith, Some, None, Option, Result, Ok, Err, Bool, true, false, append_assoc, append-nil}
+use Rattle.std.proofs.lemmas.List.{length_push}
+use Rattle.std.proofs.lemmas.Bool.Decides.{nat_tests}
+use Rattle.drm_table.specs.declared.answers.Answer.{Answer}
+use Rattle.drm_table.specs.declared.apart.Apart.{Apart}
+use Rattle.drm_script.specs.Lines.{lines_of}
+use Rattle.drm_runs.specs.Lines.{ended}
+use Rattle.drm_runs.specs.Script.{Setting}
+use Rattle.drm_runs.specs.Interpreter.{InterpreterState, at_start}
+use Rattle.drm_checks.specs.Expectations.{script_part}
+use Rattle.drm_checks.specs.Updates.{IsUnfit, UsesLine, with_answer}
+use Rattle.drm_checks.specs.declared.update.UpdateFault.{UpdateFault}
+use Rattle.drm_checks.specs.declared.update.UpdateFault.TheVariants as updates
+use Rattle.drm_checks.proofs.UpdateLemmas.{FirstLine, shorter}
+use Rattle.drm_shrinking.specs.Shrinking.{Selected, LineAt, IsReplay, IsUnanswered, HasUnfit, HasNoLine, HasShrinkFault, fault_of}
+use Rattle.drm_shrinking.specs.Shrinking.Selected.{start, used, left_out}
+use Rattle.drm_shrinking.specs.declared.faults.ShrinkFault.{ShrinkFault}
+
+-- the lines so far, and what is left of the text
+pub record ReplaySoFar (setting : Setting) (text rest written : List ℕ) (number before count kept : ℕ) (interpreter : InterpreterState) : Type 0 where
+  pub lines : List (List ℕ)
+  pub selected : Selected setting lines count written interpreter.device interpreter.labels
+  pub whole : lines_of text ≡ lines ++ lines_of rest
+  pub counted : before ≡ length lines
+  pub bounded : before + length rest ≤ length text
+  pub few : count ≤ before
+  pub not_yet : (number ≡ 0) ⊎ (before < number)
+  pub all : kept ≡ 0 → count ≡ before
+
+-- A replay that begins has used no line.
+pub none_so_far : (setting : Setting) (text written : List ℕ) (number kept : ℕ) (interpreter : InterpreterState) → interpreter ≡ at_start setting → written ≡ [] → ReplaySoFar setting text text written number 0 0 kept interpreter
+none_so_far setting text written number kept interpreter at none = record {
+  lines = [];
+  selected = subst (λ (i : InterpreterState). Selected setting [] 0 written i.device i.labels) (sym at) (subst (λ (u : List ℕ). Selected setting [] 0 u (at_start setting).device (at_start setting).labels) (sym none) start);
+  whole = refl;
+  counted = refl;
+  bounded = omega arith;
+  few = omega arith;
+  not_yet = begun number;
+  all = λ _. refl;
+}
+  where
+    begun : (n : ℕ) → (n ≡ 0) ⊎ (0 < n)
+    begun zero = inl refl
+    begun (suc n) = inr (omega arith)
+
+module _ {setting : Setting} {text rest written : List ℕ} {number before count kept : ℕ} {interpreter : InterpreterState} (so : ReplaySoFar setting text rest written number before count kept interpreter) where
+  module _ (first behind : List ℕ) (f : FirstLine rest first behind) where
+    -- the first line of the rest has the next number
+    here : LineAt text (before + 1) so.lines first
+    here = record { others = lines_of behind; lines = so.whole ∙ ap (λ (ls : List (List ℕ)). so.lines ++ ls) f.lines; number_is = ap (λ n. n + 1) so.counted }
+
+    whole_next : lines_of text ≡ (so.lines ++ first ∷ []) ++ lines_of behind
+    whole_next = so.whole ∙ ap (λ (ls : List (List ℕ)). so.lines ++ ls) f.lines ∙ sym (append_assoc so.lines (first ∷ []) (lines_of behind))
+
+    counted_next : before + 1 ≡ length (so.lines ++ first ∷ [])
+    counted_next = let a = so.counted in let b = length_push so.lines first in omega (arith, a, b)
+
+    bounded_next : before + 1 + length behind ≤ length text
+    bounded_next = let a = so.bounded in let b = shorter f in omega (arith, a, b)
+
+    not_yet_next : (before + 1 == number) ≡ false → (number ≡ 0) ⊎ (before + 1 < number)
+    not_yet_next e = later so.not_yet
+      where
+        later : (number ≡ 0) ⊎ (before < number) → (number ≡ 0) ⊎ (before + 1 < number)
+        later (inl zero_is) = inl zero_is
+        later (inr past) = inr (grind (arith, nat_tests))
+
+    -- After one more line was used, it is selected.
+    pub one_used : (next : InterpreterState) (came : Option (Result Answer Apart)) (grown : List ℕ) → (before + 1 == number) ≡ false → UsesLine interpreter next (before + 1) first (Ok came)
+        → grown ≡ written ++ ended (with_answer (script_part first) came) → ReplaySoFar setting text behind grown number (before + 1) (count + 1) kept next
+    one_used next came grown e u g = record {
+      lines = so.lines ++ first ∷ [];
+      selected = subst (λ (t : List ℕ). Selected setting (so.lines ++ first ∷ []) (count + 1) t next.device next.labels) (sym g) (used first came so.selected u.0 u.1);
+      whole = whole_next;
+      counted = counted_next;
+      bounded = bounded_next;
+      few = (let a = so.few in omega (arith, a));
+      not_yet = not_yet_next e;
+      all = λ none. ap (λ n. n + 1) (so.all none);
+    }
+
+    -- A line that is left out changes nothing but the number of lines.
+    pub one_left_out : (is_kept : Bool) → (kept ≡ 0 → is_kept ≡ true) → is_kept ≡ false → (before + 1 == number) ≡ false → ReplaySoFar setting text behind written number (before + 1) count kept interpreter
+    one_left_out is_kept always left e = record {
+      lines = so.lines ++ first ∷ [];
+      selected = left_out first so.selected;
+      whole = whole_next;
+      counted = counted_next;
+      bounded = bounded_next;
+      few = (let a = so.few in omega (arith, a));
+      not_yet = not_yet_next e;
+      all = λ none. let a = always none in absurd (cc);
+    }
+
+    -- The line of the number ends the replay with its answer.
+    pub ends_replay : (next : InterpreterState) (answer : Result Answer Apart) (grown : List ℕ) → before + 1 ≡ number → UsesLine interpreter next (before + 1) first (Ok (Some answer))
+        → grown ≡ written ++ ended (with_answer (script_part first) (Some answer)) → IsReplay setting text number grown count answer
+    ends_replay next answer grown e u g = record {
+      before = so.lines;
+      last = first;
+      at = subst (λ n. LineAt text n so.lines first) e here;
+      front = written;
+      device = interpreter.device;
+      device' = next.device;
+      labels = interpreter.labels;
+      labels' = next.labels;
+      selected = so.selected;
+      answered = u.1;
+      written_is = g;
+    }
+
+    -- All lines before it were used if none is marked.
+    pub all_used : before + 1 ≡ number → kept ≡ 0 → number ≡ count + 1
+    all_used e none = let a = so.all none in omega (arith, a, e)
+
+    -- The line of the number may have no answer.
+    pub no_answer : (next : InterpreterState) → before + 1 ≡ number → UsesLine interpreter next (before + 1) first (Ok None) → IsUnanswered setting text number
+    no_answer next e u = record {
+      before = so.lines;
+      last = first;
+      at = subst (λ n. LineAt text n so.lines first) e here;
+      device = interpreter.device;
+      device' = next.device;
+      labels = interpreter.labels;
+      labels' = next.labels;
+      nothing = u.1;
+    }
+
+    -- A replay stops at a line that can't be used, or without memory.
+    pub fault_of_use : (next : InterpreterState) (fault : UpdateFault) → UsesLine interpreter next (before + 1) first (Err fault) → HasShrinkFault setting text number (fault_of fault)
+    fault_of_use next (updates.Malformed told cause) u = subst (HasUnfit setting text) (sym u.0) (record {
+      before = so.lines;
+      unfit = first;
+      at = here;
+      count = count;
+      written = written;
+      device = interpreter.device;
+      labels = interpreter.labels;
+      selected = so.selected;
+      cause = u.1;
+    })
+    fault_of_use next updates.NoMemory u = tt
+
+  -- At the end of the text no line had the number.
+  pub no_line : rest ≡ [] → HasNoLine text number before
+  no_line e = (so.counted ∙ ap length (sym (so.whole ∙ ap (λ (r : List ℕ). so.lines ++ lines_of r) e ∙ append-nil so.lines)), so.not_yet)
+
+-- The same after values that are equal.
+pub joined_so_far : {setting : Setting} {text rest written written' : List ℕ} {number before count count' kept : ℕ} {interpreter interpreter' : InterpreterState}
+    → interpreter ≡ interpreter' → written ≡ written' → count ≡ count'
+    → ReplaySoFar setting text rest written' number before count' kept interpreter' → ReplaySoFar setting text rest written number before count kept interpreter
+joined_so_far {setting} {text} {rest} {written} {written'} {number} {before} {count} {count'} {kept} {interpreter} {interpreter'} i w c so =
+    subst (λ (s : InterpreterState). ReplaySoFar setting text rest written number before count kept s) (sym i)
+    (subst (λ (t : List ℕ). ReplaySoFar setting text rest t number before count kept interpreter') (sym w)
+    (subst (λ (n : ℕ). ReplaySoFar setting text rest written' number before n kept interpreter') (sym c) so))
