@@ -7,6 +7,7 @@ use crate::asked::AskedDevice;
 use crate::faults::Fault;
 use crate::files::read_whole;
 use crate::limits::limits_of;
+use arrayvec::ArrayString;
 use drm_connections::PROGRAM;
 use drm_device::{Device, Limits, Topology};
 use drm_runs::{Setup, test_topology};
@@ -14,6 +15,25 @@ use drm_topologies::read_topology;
 use log::{Log, error};
 use std::alloc::Global;
 use std::rt::Files;
+
+/// The most bytes of a line that are logged.
+const LINE: usize = 64;
+
+/// Returns the first bytes of the line with this number, from 1, with `?` in place of a byte that is not printable.
+fn shown_line(text: &[u8], number: u64) -> ArrayString<LINE> {
+    let mut shown = ArrayString::new();
+    let mut line = 1_u64;
+    for byte in text {
+        if *byte == b'\n' {
+            line = line.saturating_add(1);
+        } else if line == number {
+            let is_printable = byte.is_ascii_graphic() || *byte == b' ';
+            let sign = if is_printable { char::from(*byte) } else { '?' };
+            let _ = shown.try_push(sign);
+        }
+    }
+    shown
+}
 
 /// Returns the limits that the command line sets, or the program's (own). Does not allocate.
 ///
@@ -27,7 +47,7 @@ pub fn asked_limits<R: Log>(rt: &R, numbers: Option<&str>) -> Result<Limits, Fau
         return Ok(Limits::PROGRAM);
     };
     let Some(limits) = limits_of(numbers) else {
-        error!(rt; target: PROGRAM, "--limits needs eight numbers: clients 1 to 1024; handles, names, tokens and objects 1 to 65535 each; framebuffers and lessees 1 to 64 each; journal 2 to 100000");
+        error!(rt; target: PROGRAM, "--limits {numbers}: eight numbers are required: clients 1 to 1024; handles, names, tokens and objects 1 to 65535 each; framebuffers and lessees 1 to 64 each; journal 2 to 100000");
         return Err(Fault::CommandLine);
     };
     Ok(limits)
@@ -75,7 +95,12 @@ pub(crate) fn asked_topology<R: Log>(
         Ok(topology) => Ok(topology),
         Err(line) => {
             let path = file.path;
-            error!(rt; target: PROGRAM, "{path}:{}: {}", line.number, line.cause);
+            let shown = shown_line(file.text.as_slice(), line.number);
+            if shown.is_empty() {
+                error!(rt; target: PROGRAM, "{path}:{}: {}", line.number, line.cause);
+            } else {
+                error!(rt; target: PROGRAM, "{path}:{}: `{shown}`: {}", line.number, line.cause);
+            }
             Err(Fault::ScriptLine(line.number))
         }
     }

@@ -34,7 +34,7 @@ fn client_of(labels: &Labels, word: &str) -> Option<u64> {
 
 /// Logs that a word names no client of the script.
 fn no_client<R: Log>(rt: &R, path: &str, word: &str) -> Fault {
-    error!(rt; target: PROGRAM, "{path}: no client was opened as {word}");
+    error!(rt; target: PROGRAM, "{path}: no client has the label or number {word}");
     Fault::CommandLine
 }
 
@@ -94,7 +94,7 @@ fn text_of<R: Log>(
 /// Logs that a line can't be explained.
 fn no_answer<R: Log>(rt: &R, path: &str, number: u64, lines: u64) -> Fault {
     if number == 0 || number > lines {
-        error!(rt; target: PROGRAM, "{path}: no line {number}: the script has {lines} lines");
+        error!(rt; target: PROGRAM, "{path}: there is no line {number}: the last line of the script is {lines}");
     } else {
         error!(rt; target: PROGRAM, "{path}: line {number} makes no request");
     }

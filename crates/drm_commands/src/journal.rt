@@ -54,7 +54,7 @@ fn refuse_same<R: Files + Log>(
 ) -> Result<(), Fault> {
     match other {
         Some(other) if is_same_file(rt, path, other) => {
-            error!(rt; target: PROGRAM, "{path}: the journal would replace the {kind}");
+            error!(rt; target: PROGRAM, "{path}: the journal would replace the {kind}: choose another file");
             Err(Fault::CommandLine)
         }
         _ => Ok(()),

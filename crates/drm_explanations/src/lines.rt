@@ -226,7 +226,7 @@ fn authenticated_line(
         }
         None => writeln!(
             text,
-            "{name} is not authenticated: it didn't open by root, is no master, and nobody named its magic (auth_magic)"
+            "{name} is not authenticated: it didn't open by root, is no master, and no client named its magic (auth_magic)"
         ),
     }
 }
@@ -302,7 +302,7 @@ fn universal_line(scene: Scene<'_>, row: &ClientRow, text: &mut String) -> Resul
     match call {
         "open" => writeln!(
             text,
-            "{name} has universal planes off: it opened so at step {step}"
+            "{name} has universal planes off: it opened without them at step {step}"
         ),
         _ => writeln!(
             text,
@@ -452,7 +452,7 @@ fn link_words(scene: Scene<'_>, link: &LinkRow, text: &mut String) -> Result<(),
     match published.by {
         PublishedBy::Name => write!(text, ", opened by {name} at step {step}"),
         PublishedBy::Token => write!(text, ", imported by {name} at step {step}"),
-        PublishedBy::Framebuffer => write!(text, ", given to {name} at step {step} ({call})"),
+        PublishedBy::Framebuffer => write!(text, ", returned to {name} at step {step} ({call})"),
     }
 }
 
@@ -562,6 +562,6 @@ fn lease_words(scene: Scene<'_>, row: &LeaseRow, text: &mut String) -> Result<()
             let redeemer = scene.name(client);
             write!(text, ", redeemed by {redeemer} at step {client}")
         }
-        None => text.push_str(", redeemed by nobody"),
+        None => text.push_str(", not redeemed"),
     }
 }

@@ -71,7 +71,7 @@ pub fn write_answer(
 /// Returns the word of a call, or the words for a call without a row.
 fn call_words(call: &'static str) -> &'static str {
     if call.is_empty() {
-        "a call without a row"
+        "a call with an unknown number"
     } else {
         call
     }
@@ -86,7 +86,7 @@ fn asked_words(asked: At, labels: &Labels, text: &mut String) -> Result<(), Allo
         return Ok(());
     }
     if client == 0 {
-        return text.push_str(" by a label that stands for nobody");
+        return text.push_str(" by a label that names no client");
     }
     let name = Name::of(labels, client);
     write!(text, " by {name}")
