@@ -40,6 +40,16 @@ fn shown_line(text: &[u8], number: u64) -> ArrayString<LINE> {
 /// # Errors
 ///
 /// `Fault::CommandLine`, which is logged, if they are not eight numbers in their ranges.
+///
+/// # Examples
+///
+/// ```rust
+/// use drm_commands::{Fault, asked_limits};
+/// use drm_device::Limits;
+///
+/// assert!(rt; asked_limits(&rt, None) == Ok(Limits::PROGRAM));
+/// assert!(rt; asked_limits(&rt, Some("1 2 3")) == Err(Fault::CommandLine));
+/// ```
 pub fn asked_limits<R: Log>(rt: &R, numbers: Option<&str>) -> Result<Limits, Fault>
     ensures { IfOk result (λ limits. are_in_range limits ≡ true) }
 {
@@ -54,6 +64,16 @@ pub fn asked_limits<R: Log>(rt: &R, numbers: Option<&str>) -> Result<Limits, Fau
 }
 
 /// The text of a topology's file (own). It is read once, so that it can be a pipe.
+///
+/// # Examples
+///
+/// ```rust
+/// use drm_commands::{AskedDevice, read_asked};
+///
+/// let device = AskedDevice { topology: None, limits: None };
+/// let Ok(text) = read_asked(&rt, device) else { return };
+/// assert!(rt; text.is_none());
+/// ```
 #[derive(Drop)]
 pub struct TopologyText<'a> {
     pub(crate) path: &'a str,
@@ -69,6 +89,16 @@ pub struct TopologyText<'a> {
 /// - `Fault::Read` if the file can't be read.
 ///
 /// Both are logged.
+///
+/// # Examples
+///
+/// ```rust
+/// use drm_commands::{AskedDevice, read_asked};
+///
+/// let device = AskedDevice { topology: Some("/dev/null"), limits: None };
+/// let Ok(text) = read_asked(&rt, device) else { return };
+/// assert!(rt; text.is_some());
+/// ```
 pub fn read_asked<'a, R: Files + AllocGlobal + Log>(
     rt: &R,
     asked: AskedDevice<'a>,
@@ -123,6 +153,17 @@ pub(crate) fn asked_setup<R: Log>(
 ///
 /// - `Fault::ScriptLine`, which is logged, if a line of the topology can't be used.
 /// - `Fault::Memory` if memory is refused.
+///
+/// # Examples
+///
+/// ```rust
+/// use drm_commands::asked_device;
+/// use drm_device::Limits;
+///
+/// let alloc = rt.alloc();
+/// let Ok(device) = asked_device(&rt, alloc, None, Limits::PROGRAM) else { return };
+/// assert!(rt; device.journal().is_empty());
+/// ```
 pub fn asked_device<R: Log>(
     rt: &R,
     alloc: Global,

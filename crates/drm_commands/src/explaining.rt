@@ -211,6 +211,23 @@ fn record_and_tell<R: Input + Files + Print + AllocGlobal + Log>(
 
 /// Explains the rights of a script's clients, or the answer of one of its lines, on standard output (own). Returns the
 /// outcome of the program. Allocates the device and the explanation.
+///
+/// # Examples
+///
+/// ```rust
+/// use drm_commands::{AskedDevice, Explaining, explain_script};
+///
+/// let alloc = rt.alloc();
+/// let device = AskedDevice { topology: None, limits: None };
+/// let explaining = Explaining {
+///     path: "/dev/null",
+///     device,
+///     client: None,
+///     line: None,
+///     is_json: false,
+/// };
+/// assert!(rt; explain_script(&rt, alloc, explaining).status == 0);
+/// ```
 pub fn explain_script<R: Input + Files + Print + AllocGlobal + Log>(
     rt: &R,
     alloc: Global,
