@@ -274,10 +274,11 @@ class StreamTests(FolderCase):
         for journal in (topology, folder / "link"):
             for words in (["run"], ["serve", *path_words(folder)]):
                 ran = run(PROGRAM, *words, "--topology", topology, "--journal", journal)
+                cause = f"ERROR {journal}: the journal would replace the topology: choose another file"
                 expect(
                     "status and what is told",
                     (ran.returncode, [told_by(line) for line in ran.stderr.splitlines()]),
-                    (3, [f"ERROR {journal}: the journal would replace the topology: choose another file", "fault: command line"]),
+                    (3, [cause, "fault: command line"]),
                 )
                 expect("the topology", topology.read_text(), before)
         expect("the files", sorted(path.name for path in folder.iterdir()), ["link", "topology"])

@@ -846,9 +846,7 @@ it would pass if the caller held the handle
         folder = self.folder
         malformed = folder / "malformed"
         malformed.write_text("open a card\nfly away\n")
-        cause = (
-            f"ERROR {malformed}:2: column 1: `fly` is not a label from a to z, limits, open, open2 or close"
-        )
+        cause = f"ERROR {malformed}:2: column 1: `fly` is not a label from a to z, limits, open, open2 or close"
         for words in ([], ["--json"], ["--client", "a"]):
             expect_told(run_program("explain", malformed, *words), 2, [cause], f"{malformed}:2: malformed\n")
         ran = run_program("explain", folder / "none")
@@ -858,7 +856,8 @@ it would pass if the caller held the handle
         for client in ("z", "7", "A", "lessee", "-1"):
             ran = explain("sharing", f"--client={client}")
             path = REPOSITORY / "examples/sharing.script"
-            expect_told(ran, 3, [f"ERROR {path}: no client has the label or number {client}", "fault: command line"], "")
+            cause = f"ERROR {path}: no client has the label or number {client}"
+            expect_told(ran, 3, [cause, "fault: command line"], "")
 
     def test_full_journals_are_explained(self):
         """What 50,000 steps gave is told of each, as lines and as JSON, and takes no more than the formats say."""

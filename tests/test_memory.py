@@ -391,7 +391,8 @@ def expect_refused_session(folder, at, served):
     expect(f"answers at request {at}", served.answers, rest.answers[:place] + [APART] + rest.answers[place:])
     notes = [told_by(line) for line in rest.ran.stderr.splitlines()]
     if SESSION_STEPS[place][1] == "open":
-        notes.append(f"WARN {SESSION_STEPS[place][2]}, no client: the opening or the closing ended in a fault: 51 NoMemory")
+        end = "the opening or the closing ended in a fault: 51 NoMemory"
+        notes.append(f"WARN {SESSION_STEPS[place][2]}, no client: {end}")
     expect_told(served.ran, 0, notes, rest.ran.stdout)
 
 

@@ -43,6 +43,13 @@ from support import (  # noqa: E402
     want_no_checks,
 )
 
+# what is logged of a connection beyond a count, and the ranges of the limits in messages
+BEYOND = "a connection was refused: all that the command line allows were accepted"
+RANGES = (
+    "clients 1 to 1024; handles, names, tokens and objects 1 to 65535 each; "
+    "framebuffers and lessees 1 to 64 each; journal 2 to 100000"
+)
+
 # a first frame that opens a client, and one that asks for a lease of token 0
 HELLO = bytes.fromhex("0e000000 0001 01000000 00000000 00000000")
 LEASE_HELLO = bytes.fromhex("0e000000 0001 01000000 01000000 00000000")
@@ -104,7 +111,7 @@ def ask_until(asked, call, wanted):
 
 def expect_seen_beyond(ran, output):
     """Compares the output of a server that ended well, which tells of nothing but a connection that it saw wait beyond a count."""
-    told = {f"WARN {name}: a connection was refused: all that the command line allows were accepted" for name in CLASSES}
+    told = {f"WARN {name}: {BEYOND}" for name in CLASSES}
     lines = list(map(told_by, ran.stderr.splitlines()))
     expect("what is told else, or twice", [line for line in lines if line not in told or lines.count(line) > 1], [])
     expect("status", ran.returncode, 0)
@@ -332,9 +339,7 @@ class ProgramTests(FolderCase):
             f"{unmet}:3: expected done, got nothing\n"
         )
         stopped = f"{malformed}:2: expected client 2, got client 1\n    drm_server explain {malformed} --line 2\n{malformed}:3: malformed\n"
-        cause = (
-            f"ERROR {malformed}:3: column 1: `fly` is not a label from a to z, limits, open, open2 or close"
-        )
+        cause = f"ERROR {malformed}:3: column 1: `fly` is not a label from a to z, limits, open, open2 or close"
         silent = f"{quiet}: no expected answers\n"
         expect_end(run_program("check", quiet), 4, "", silent + "0 passed, 1 failed\n")
         expect_end(run_program("check", met, quiet, met), 4, "", silent + "4 passed, 1 failed\n")
@@ -445,6 +450,7 @@ denied 42 NoLeaseToken 2
 
     def test_causes_of_malformed_lines(self):
         folder = self.folder
+        late = "column 1: `limits` sets limits after the first line that is neither empty nor a comment"
         causes = {
             "version\r": "column 10: the byte is a carriage return; a line feed alone ends a line",
             "\tversion": "column 3: the byte is a tab; only spaces separate words",
@@ -452,7 +458,7 @@ denied 42 NoLeaseToken 2
             "version 1": "column 11: `1` is an extra word",
             "gem_close 4294967296": "column 13: `4294967296` is not a number from 0 to 4294967295",
             "audit 11 0": "column 9: `11` is not a kind of an audit, from 1 to 10",
-            "version\nlimits 2 8 8 8 8 4 4 7": "column 1: `limits` sets limits after the first line that is neither empty nor a comment",
+            "version\nlimits 2 8 8 8 8 4 4 7": late,
             "version\nopen a disk": "column 8: `disk` is not a kind of opening: card, render, root, lease or rootlease",
             "version\nclose A": "column 7: `A` is not a label from a to z",
             "version\nopen  a  card1": "column 10: `card1` is not a kind of opening: card, render, root, lease or rootlease",
@@ -473,9 +479,11 @@ denied 42 NoLeaseToken 2
             ran = run_program("check", file)
             expect_told(ran, 2, [f"ERROR {file}:{bad}: {cause}"], f"{file}:{bad}: malformed\n0 passed, 0 failed\n")
         ran = run_program("run", script="limits 0 8 8 8 8 4 4 7\n")
-        expect_told(ran, 2, ["ERROR line 1: column 8: `0` is out of range: clients 1 to 1024; handles, names, tokens and objects 1 to 65535 each; framebuffers and lessees 1 to 64 each; journal 2 to 100000", "fault: script line 1"], "")
+        cause = f"ERROR line 1: column 8: `0` is out of range: {RANGES}"
+        expect_told(ran, 2, [cause, "fault: script line 1"], "")
         ran = run_program("run", script="# \N{POUND SIGN}\n")
-        expect_told(ran, 2, ["ERROR line 1: column 3: the byte is above 127; a script is ASCII", "fault: script line 1"], "")
+        cause = "ERROR line 1: column 3: the byte is above 127; a script is ASCII"
+        expect_told(ran, 2, [cause, "fault: script line 1"], "")
 
     def test_scripts_on_the_topologies_of_the_examples(self):
         """A script is run, checked, updated and explained on a device of the topology that is asked for."""
@@ -517,17 +525,14 @@ denied 42 NoLeaseToken 2
         wrong, absent, file = folder / "wrong", folder / "absent", folder / "file"
         wrong.write_text("crtcs 1\nencoder 2\n")
         file.write_text("open a card -> client 1\n")
-        limits = (
-            "eight numbers are required: clients 1 to 1024; handles, names, tokens and objects 1 to 65535 each; "
-            "framebuffers and lessees 1 to 64 each; journal 2 to 100000"
-        )
         for words in (["run"], ["check", file], ["check", "--update", file], ["explain", file]):
-            told = [f"ERROR {wrong}:2: `encoder 2`: a word is not the number of a CRTC, from 1 to 1", "fault: script line 2"]
-            expect_told(run_program(*words, "--topology", wrong), 2, told, "")
+            cause = f"ERROR {wrong}:2: `encoder 2`: a word is not the number of a CRTC, from 1 to 1"
+            expect_told(run_program(*words, "--topology", wrong), 2, [cause, "fault: script line 2"], "")
             told = [f"ERROR {absent}: No such file or directory (os error 2)", "fault: read"]
             expect_told(run_program(*words, "--topology", absent), 1, told, "")
             for numbers in ("", "1", "0 8 8 8 8 4 4 50", "2 8 8 8 8 4 4 50 1"):
-                expect_told(run_program(*words, "--limits", numbers), 3, [f"ERROR --limits {numbers}: {limits}", "fault: command line"], "")
+                cause = f"ERROR --limits {numbers}: eight numbers are required: {RANGES}"
+                expect_told(run_program(*words, "--limits", numbers), 3, [cause, "fault: command line"], "")
         expect("the file", file.read_text(), "open a card -> client 1\n")
 
     def test_script_of_2000_lines(self):
@@ -908,7 +913,7 @@ lessee getcrtc 2 -> denied 30 NoModeObject 2
             for asked in (*opened, *waiting):
                 asked.close()
             ran = end_of(started)
-        expect_told(ran, 0, ["WARN root: a connection was refused: all that the command line allows were accepted"], "device 0 0 0 6\n")
+        expect_told(ran, 0, [f"WARN root: {BEYOND}"], "device 0 0 0 6\n")
 
     def test_connection_that_cannot_be_accepted(self):
         folder = self.folder
