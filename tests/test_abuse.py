@@ -274,10 +274,11 @@ class StreamTests(FolderCase):
         for journal in (topology, folder / "link"):
             for words in (["run"], ["serve", *path_words(folder)]):
                 ran = run(PROGRAM, *words, "--topology", topology, "--journal", journal)
+                cause = f"ERROR {journal}: the journal would replace the topology: choose another file"
                 expect(
                     "status and what is told",
                     (ran.returncode, [told_by(line) for line in ran.stderr.splitlines()]),
-                    (3, [f"ERROR {journal}: the journal would replace the topology", "fault: command line"]),
+                    (3, [cause, "fault: command line"]),
                 )
                 expect("the topology", topology.read_text(), before)
         expect("the files", sorted(path.name for path in folder.iterdir()), ["link", "topology"])
@@ -340,7 +341,7 @@ class LogTests(FolderCase):
         expect("status and output", (started.returncode, output), (0, "device 0 0 0 259\n"))
         # few are at the thread that logs, and 64 wait
         left_out = int(
-            re.fullmatch(r"WARN (\d+) log lines were left out: standard error did not take them", told[-1])[1]
+            re.fullmatch(r"WARN (\d+) log lines were left out: standard error did not accept them", told[-1])[1]
         )
         expect("the lines that were logged or left out", len(told) - 1 + left_out, 128)
         expect("whether most of those beyond the room were left out", left_out > 50, True)

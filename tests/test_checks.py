@@ -73,10 +73,10 @@ class ChecksTests(FolderCase):
             b"open a card -> client 1\r\na version -> version 1 0 0 \na version ->  \na version -> \n"
         )
         told = (
-            "a:1: expected client 1\\r, came client 1\n    drm_server explain a --line 1\n"
-            "a:2: expected version 1 0 0\\x20, came version 1 0 0\n    drm_server explain a --line 2\n"
-            "a:3: expected \\x20, came version 1 0 0\n    drm_server explain a --line 3\n"
-            "a:4: expected , came version 1 0 0\n    drm_server explain a --line 4\n0 passed, 4 failed\n"
+            "a:1: expected client 1\\r, got client 1\n    drm_server explain a --line 1\n"
+            "a:2: expected version 1 0 0\\x20, got version 1 0 0\n    drm_server explain a --line 2\n"
+            "a:3: expected \\x20, got version 1 0 0\n    drm_server explain a --line 3\n"
+            "a:4: expected , got version 1 0 0\n    drm_server explain a --line 4\n0 passed, 4 failed\n"
         )
         expect_end(run(PROGRAM, "check", "a", cwd=folder), 4, "", told)
 
@@ -87,7 +87,7 @@ class ChecksTests(FolderCase):
             run(PROGRAM, "check", "a", cwd=folder),
             4,
             "",
-            "a:1: expected \\x00\\x1b[31m\\x07\\x09a\\x0db\\x7f\\r, came client 1\n    drm_server explain a --line 1\n0 passed, 1 failed\n",
+            "a:1: expected \\x00\\x1b[31m\\x07\\x09a\\x0db\\x7f\\r, got client 1\n    drm_server explain a --line 1\n0 passed, 1 failed\n",
         )
 
     def test_standard_input_is_checked(self):
@@ -98,10 +98,10 @@ class ChecksTests(FolderCase):
             run_program("check", "-", script=script),
             4,
             "",
-            "-:2: expected done, came version 1 0 0\n1 passed, 1 failed\n",
+            "-:2: expected done, got version 1 0 0\n1 passed, 1 failed\n",
         )
         ran = run_program("check", "file", "-", script=script, cwd=folder)
-        expect_end(ran, 4, "", "-:2: expected done, came version 1 0 0\n2 passed, 1 failed\n")
+        expect_end(ran, 4, "", "-:2: expected done, got version 1 0 0\n2 passed, 1 failed\n")
         expect_end(run_program("check", "-", script=""), 4, "", "-: no expected answers\n0 passed, 1 failed\n")
 
     def test_files_without_expectations(self):
@@ -132,14 +132,14 @@ class ChecksTests(FolderCase):
         """What stands behind the first ` -> ` is no word of the line that is malformed, and counts for its length alone."""
         folder = self.folder
         causes = {
-            "a gem_close -> done": "column 12: it lacks a number from 0 to 4294967295",
-            "a gem_close x -> done": "column 13: `x` is no number from 0 to 4294967295",
-            "a gem_close 1 2 -> done -> 3": "column 15: `2` is a word too many",
-            "open a -> client 1": "column 7: it lacks a kind of opening: card, render, root, lease or rootlease",
-            "a -> done": "column 2: it lacks a call",
-            "a version ->": "column 11: `->` is a word too many",
-            "a version ->done": "column 11: `->done` is a word too many",
-            "a version -> " + 256 * "x": "column 256: it has more than 255 bytes",
+            "a gem_close -> done": "column 12: missing number from 0 to 4294967295",
+            "a gem_close x -> done": "column 13: `x` is not a number from 0 to 4294967295",
+            "a gem_close 1 2 -> done -> 3": "column 15: `2` is an extra word",
+            "open a -> client 1": "column 7: missing kind of opening: card, render, root, lease or rootlease",
+            "a -> done": "column 2: missing call",
+            "a version ->": "column 11: `->` is an extra word",
+            "a version ->done": "column 11: `->done` is an extra word",
+            "a version -> " + 256 * "x": "column 256: the line has more than 255 bytes",
         }
         for line, cause in causes.items():
             (folder / "a").write_text(line + "\n")
@@ -276,7 +276,7 @@ class ChecksTests(FolderCase):
             "what is told",
             [told_by(line) for line in ran.stderr.splitlines()],
             [
-                "ERROR a:7: column 1: `limits` sets limits behind the first line that isn't skipped",
+                "ERROR a:7: column 1: `limits` sets limits after the first line that is neither empty nor a comment",
                 "fault: script line 7",
             ],
         )

@@ -639,7 +639,7 @@ class ClientsTests(FolderCase):
             expect_end(ran, 1, "drm-client: the server closed the connection\n", "")
             notes = [
                 "WARN card, no client: the opening was denied: 42 NoLeaseToken",
-                "WARN render, no client: the first frame is no hello that this listener allows",
+                "WARN render, no client: the first frame is not a hello that this listener allows",
             ]
             expect_told(end_of(started), 0, notes, "device 0 0 0 1\n")
 

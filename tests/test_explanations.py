@@ -36,8 +36,8 @@ l was client 6: a lease client, opened at step 6, closed at step 36
 lessee 1, master 3, has nothing: leased by a at step 3 (lessee 1, token 1), redeemed by l at step 6, \
 ended at step 30 (revoke_lease by a)
 lessee 2, master 14, has nothing: leased by a at step 3 (lessee 1, token 1), redeemed by l at step 6, \
-leased by l at step 14 (lessee 2, token 2), redeemed by nobody, ended at step 30 (revoke_lease by a)
-lessee 2, master 35, has nothing: leased by a at step 35 (lessee 2, token 3), redeemed by nobody, \
+leased by l at step 14 (lessee 2, token 2), not redeemed, ended at step 30 (revoke_lease by a)
+lessee 2, master 35, has nothing: leased by a at step 35 (lessee 2, token 3), not redeemed, \
 ended at step 39 (revoke_lease by a)
 """
 
@@ -139,7 +139,7 @@ it would pass if the device had no master: after drop_master, or after its maste
         3,
         """\
 line 3 is step 3, gem_open by b: denied 12 Auth 13
-b is not authenticated: it didn't open by root, is no master, and nobody named its magic (auth_magic)
+b is not authenticated: it didn't open by root, is no master, and no client named its magic (auth_magic)
 it would pass if the caller had opened the root node or were a master, or if a current client of its master had authenticated it (auth_magic)
 """,
     ),
@@ -148,8 +148,8 @@ it would pass if the caller had opened the root node or were a master, or if a c
         7,
         """\
 line 7 is step 7, gem_flink by a: denied 21 NoHandle 2
-a does not hold handle 1: it gave it back at step 6 (gem_close)
-a holds 1 of its own: 2
+a does not hold handle 1: it closed it at step 6 (gem_close)
+a holds 1 own handle: 2
 it would pass if the caller held the handle
 """,
     ),
@@ -158,7 +158,7 @@ it would pass if the caller held the handle
         4,
         """\
 line 4 is step 4, auth_magic by a: denied 25 NoMagic 22
-magic 1 is a's, and a spent it at step 3 (auth_magic)
+magic 1 belongs to a, and a spent it at step 3 (auth_magic)
 it would pass if a client of the caller's master had the magic (get_magic), and it were not spent
 """,
     ),
@@ -167,7 +167,7 @@ it would pass if a client of the caller's master had the magic (get_magic), and 
         2,
         """\
 line 2 is step 2, setcrtc by a: denied 38 NoFb 2
-there is no framebuffer 9: no step added it
+framebuffer 9 does not exist: no step added it
 it would pass if the framebuffer existed, and, to be removed, were the caller's
 """,
     ),
@@ -176,7 +176,7 @@ it would pass if the framebuffer existed, and, to be removed, were the caller's
         5,
         """\
 line 5 is step 5, rmfb by a: denied 38 NoFb 2
-there is no framebuffer 9: a added it at step 3, and it went at step 4 (rmfb by a)
+framebuffer 9 does not exist: a added it at step 3, and it was removed at step 4 (rmfb by a)
 it would pass if the framebuffer existed, and, to be removed, were the caller's
 """,
     ),
@@ -194,7 +194,7 @@ it would pass if the numbers were in their ranges
         6,
         """\
 line 6 is step 6, setcrtc by a: denied 40 BadRoute 22
-CRTC 1 is no possible one of encoder 6, which connector 8 has
+CRTC 1 is not a possible CRTC of encoder 6, which is that of connector 8
 it would pass if the CRTC were a possible one, and neither or both of framebuffer and connector were 0
 """,
     ),
@@ -204,7 +204,7 @@ it would pass if the CRTC were a possible one, and neither or both of framebuffe
         """\
 line 2 is step 2, getplane by a: denied 30 NoModeObject 2
 a does not see plane 3: it is the primary or the cursor plane of CRTC 1
-a has universal planes off: it opened so at step 1
+a has universal planes off: it opened without them at step 1
 it would pass if each id were that of such a mode object, and the caller saw it
 """,
     ),
@@ -231,7 +231,7 @@ it would pass if each id were that of a CRTC, a plane or a connector
         2,
         """\
 line 2 is step 2, create_lease by a: denied 32 Repeated 22
-id 7 stands twice
+id 7 occurs twice
 it would pass if no id were listed twice
 """,
     ),
@@ -240,7 +240,7 @@ it would pass if no id were listed twice
         2,
         """\
 line 2 is step 2, get_cap by a: denied 41 BadCap 22
-there is no capability 3 to be told: there are 1 and 5
+capability 3 cannot be read: only 1 and 5 can
 it would pass if the capability existed, and could have the value
 """,
     ),
@@ -258,7 +258,7 @@ it would pass if the caller had opened the root node
         5,
         """\
 line 5 is step 5, token_close by b: denied 24 NoToken 2
-token 1 is a's, which exported it at step 4
+token 1 belongs to a, which exported it at step 4
 it would pass if the token were open (prime_export), and, to be closed, the caller's
 """,
     ),
@@ -299,7 +299,7 @@ it would pass if the token were open (prime_export), and, to be closed, the call
         8,
         """\
 line 8 is step 8, rmfb by c: denied 38 NoFb 2
-there is no framebuffer 9: a added it at step 4, and it went at step 6 (close by a)
+framebuffer 9 does not exist: a added it at step 4, and it was removed at step 6 (close by a)
 it would pass if the framebuffer existed, and, to be removed, were the caller's
 """,
     ),
@@ -309,7 +309,7 @@ it would pass if the framebuffer existed, and, to be removed, were the caller's
         8,
         """\
 line 8 is step 8, gem_flink by a: denied 21 NoHandle 2
-a does not hold handle 1: it gave it back at step 5 (gem_close)
+a does not hold handle 1: it closed it at step 5 (gem_close)
 a holds no handle
 it would pass if the caller held the handle
 """,
@@ -320,8 +320,8 @@ it would pass if the caller held the handle
         6,
         """\
 line 6 is step 6, gem_flink by a: denied 21 NoHandle 2
-a does not hold handle 3: no step gave it that
-a holds 2 of its own: 1, 2
+a does not hold handle 3: no step assigned it
+a holds 2 own handles: 1, 2
 it would pass if the caller held the handle
 """,
     ),
@@ -351,7 +351,7 @@ it would pass if the owner had a lessee of that id
         4,
         """\
 line 4: apart 50 JournalFull 28
-the journal has 2 steps of 3, and each of 1 open clients keeps a place for its closing
+the journal has 2 steps of 3, and each of 1 open clients reserves a step for its closing
 it would pass if the journal's limit were greater
 """,
     ),
@@ -372,9 +372,9 @@ it would pass if the caller had opened the card or the root node
         "denials",
         12,
         """\
-line 12 is step 7, a call without a row by a: denied 1 Unknown 22
-no row of the table of calls has number 65535
-it would pass if a row of the table of calls had the number
+line 12 is step 7, a call with an unknown number by a: denied 1 Unknown 22
+no call has number 65535
+it would pass if a call had the number
 """,
     ),
     (
@@ -382,16 +382,16 @@ it would pass if a row of the table of calls had the number
         13,
         """\
 line 13 is step 8, create_dumb by a: denied 2 Layout 22
-number 178 is that of create_dumb, which has other fields
-it would pass if the fields were those of the row
+number 178 is create_dumb, which has other fields
+it would pass if the fields were those of the call
 """,
     ),
     (
         "denials",
         15,
         """\
-line 15 is step 9, version by a label that stands for nobody: denied 3 NoClient 22
-no client was opened as the label that asks
+line 15 is step 9, version by a label that names no client: denied 3 NoClient 22
+no step opened a client with the label of the line
 it would pass if the client were open
 """,
     ),
@@ -409,7 +409,7 @@ it would pass if the client were open
         12,
         """\
 line 12 is step 9, gem_open by a: denied 23 NoName 2
-no buffer has name 1: buffer 3 had it since a named it at step 5, up to its last handle, which went at step 8 (gem_close by a)
+no buffer has name 1: a named buffer 3 at step 5, and its last handle was closed at step 8 (gem_close by a)
 it would pass if an object had the name (gem_flink)
 """,
     ),
@@ -428,7 +428,7 @@ it would pass if the token were open (prime_export), and, to be closed, the call
         """\
 line 8 is step 4, create_lease by a: denied 34 LeasedOut 16
 mode object 2 is leased out to lessee 1
-lessee 1, master 3, has CRTC 2, plane 4 and connector 8: leased by a at step 3 (lessee 1, token 1), redeemed by nobody
+lessee 1, master 3, has CRTC 2, plane 4 and connector 8: leased by a at step 3 (lessee 1, token 1), not redeemed
 it would pass if no other lease had it: after revoke_lease, or after the lessee's client is closed
 """,
     ),
@@ -504,7 +504,7 @@ it would pass if the caller's master had fewer lessors above it
         43,
         """\
 line 43 is step 31, getcrtc by l: denied 30 NoModeObject 2
-l does not see mode object 2, a CRTC: its master's lease does not have it
+l does not see mode object 2, a CRTC: its master's lease does not include it
 lessee 1, master 3, has nothing: leased by a at step 3 (lessee 1, token 1), redeemed by l at step 6, \
 ended at step 30 (revoke_lease by a)
 it would pass if each id were that of such a mode object, and the caller saw it
@@ -788,7 +788,7 @@ a set_client_cap 2 0
         script.write_text("open a card\na gem_close 3 -> done\nfly away\n")
         told = """\
 line 2 is step 2, gem_close by a: denied 22 NoHandleToClose 22
-a does not hold handle 3: no step gave it that
+a does not hold handle 3: no step assigned it
 a holds no handle
 it would pass if the caller held the handle
 """
@@ -830,8 +830,8 @@ it would pass if the caller held the handle
         script = folder / "script"
         script.write_text("# a comment\nlimits 4 8 8 8 8 4 4 4\nopen a card\n\n")
         for number, reason in [
-            (0, "no line 0: the script has 4 lines"),
-            (5, "no line 5: the script has 4 lines"),
+            (0, "there is no line 0: the last line of the script is 4"),
+            (5, "there is no line 5: the last line of the script is 4"),
             (1, "line 1 makes no request"),
             (2, "line 2 makes no request"),
             (4, "line 4 makes no request"),
@@ -839,16 +839,14 @@ it would pass if the caller held the handle
             ran = run_program("explain", script, "--line", str(number))
             expect_told(ran, 3, [f"ERROR {script}: {reason}", "fault: command line"], "")
         script.write_text("open a card\nfly away\na version\n")
-        cause = f"ERROR {script}:2: column 1: `fly` is no label from a to z, and none of limits, open, open2 and close"
+        cause = f"ERROR {script}:2: column 1: `fly` is not a label from a to z, limits, open, open2 or close"
         expect_told(run_program("explain", script, "--line", "3"), 2, [cause], f"{script}:2: malformed\n")
 
     def test_scripts_that_cannot_be_explained(self):
         folder = self.folder
         malformed = folder / "malformed"
         malformed.write_text("open a card\nfly away\n")
-        cause = (
-            f"ERROR {malformed}:2: column 1: `fly` is no label from a to z, and none of limits, open, open2 and close"
-        )
+        cause = f"ERROR {malformed}:2: column 1: `fly` is not a label from a to z, limits, open, open2 or close"
         for words in ([], ["--json"], ["--client", "a"]):
             expect_told(run_program("explain", malformed, *words), 2, [cause], f"{malformed}:2: malformed\n")
         ran = run_program("explain", folder / "none")
@@ -858,7 +856,8 @@ it would pass if the caller held the handle
         for client in ("z", "7", "A", "lessee", "-1"):
             ran = explain("sharing", f"--client={client}")
             path = REPOSITORY / "examples/sharing.script"
-            expect_told(ran, 3, [f"ERROR {path}: no client was opened as {client}", "fault: command line"], "")
+            cause = f"ERROR {path}: no client has the label or number {client}"
+            expect_told(ran, 3, [cause, "fault: command line"], "")
 
     def test_full_journals_are_explained(self):
         """What 50,000 steps gave is told of each, as lines and as JSON, and takes no more than the formats say."""

@@ -292,7 +292,7 @@ MOST_SECONDS = 10
 
 GONE = "gone"
 FAULTS = {
-    "fault: memory": "ERROR there was no memory to serve the connections",
+    "fault: memory": "ERROR memory was refused for the connections",
     "fault: thread": "ERROR a thread could not be started",
 }
 
@@ -391,7 +391,8 @@ def expect_refused_session(folder, at, served):
     expect(f"answers at request {at}", served.answers, rest.answers[:place] + [APART] + rest.answers[place:])
     notes = [told_by(line) for line in rest.ran.stderr.splitlines()]
     if SESSION_STEPS[place][1] == "open":
-        notes.append(f"WARN {SESSION_STEPS[place][2]}, no client: the opening or the closing was answered: 51 NoMemory")
+        end = "the opening or the closing ended in a fault: 51 NoMemory"
+        notes.append(f"WARN {SESSION_STEPS[place][2]}, no client: {end}")
     expect_told(served.ran, 0, notes, rest.ran.stdout)
 
 
@@ -507,7 +508,7 @@ class StartTests(FolderCase):
                 expect_told(ran, 1, ["fault: memory"], "")
             elif ran.returncode == 4:
                 first, *rest = ran.stdout.splitlines()
-                expect(f"the first difference at request {at}", first.endswith(f", came {APART}"), True)
+                expect(f"the first difference at request {at}", first.endswith(f", got {APART}"), True)
                 expect(f"others like it at request {at}", [line for line in rest if APART in line], [])
             elif ran.refused:
                 expect_same_start(at, ran, plain)

@@ -43,6 +43,13 @@ from support import (  # noqa: E402
     want_no_checks,
 )
 
+# what is logged of a connection beyond a count, and the ranges of the limits in messages
+BEYOND = "a connection was refused: all that the command line allows were accepted"
+RANGES = (
+    "clients 1 to 1024; handles, names, tokens and objects 1 to 65535 each; "
+    "framebuffers and lessees 1 to 64 each; journal 2 to 100000"
+)
+
 # a first frame that opens a client, and one that asks for a lease of token 0
 HELLO = bytes.fromhex("0e000000 0001 01000000 00000000 00000000")
 LEASE_HELLO = bytes.fromhex("0e000000 0001 01000000 01000000 00000000")
@@ -104,7 +111,7 @@ def ask_until(asked, call, wanted):
 
 def expect_seen_beyond(ran, output):
     """Compares the output of a server that ended well, which tells of nothing but a connection that it saw wait beyond a count."""
-    told = {f"WARN {name}: a connection beyond the count was refused" for name in CLASSES}
+    told = {f"WARN {name}: {BEYOND}" for name in CLASSES}
     lines = list(map(told_by, ran.stderr.splitlines()))
     expect("what is told else, or twice", [line for line in lines if line not in told or lines.count(line) > 1], [])
     expect("status", ran.returncode, 0)
@@ -205,7 +212,7 @@ class ProgramTests(FolderCase):
         for name, text in texts.items():
             (folder / name).write_text(text)
         unmet = {
-            name: f"{name}:1: expected client {wanted}, came client 1\n    drm_server explain {name} --line 1\n"
+            name: f"{name}:1: expected client {wanted}, got client 1\n    drm_server explain {name} --line 1\n"
             for name, wanted in (("a", 2), ("b/c.script", 3))
         }
         files = ("b/c.script", "a", "b/c.script")
@@ -238,7 +245,7 @@ class ProgramTests(FolderCase):
 
     def test_word_that_is_no_text(self):
         folder = self.folder
-        told = ["ERROR a word of the command line is not text: c\N{REPLACEMENT CHARACTER}rd", "fault: command line"]
+        told = ["ERROR a word of the command line is not UTF-8: c\N{REPLACEMENT CHARACTER}rd", "fault: command line"]
         expect_told(run_program("serve", *path_words(folder), "--card", b"c\xffrd"), 3, told, "")
         expect_told(run_program("check", b"c\xffrd"), 3, told, "")
         expect_no_sockets(folder)
@@ -256,7 +263,7 @@ class ProgramTests(FolderCase):
         (folder / "script").write_text(script)
         answers = "client 1\nversion 1 0 0\n"
         told = [
-            "ERROR line 3: column 1: `fly` is no label from a to z, and none of limits, open, open2 and close",
+            "ERROR line 3: column 1: `fly` is not a label from a to z, limits, open, open2 or close",
             "fault: script line 3",
         ]
         expect_told(run(PROGRAM, "run", "script", cwd=folder), 2, told, answers)
@@ -269,7 +276,7 @@ class ProgramTests(FolderCase):
         expect_told(
             run(PROGRAM, "run", "--journal", "script", "script", cwd=folder),
             3,
-            ["ERROR script: the journal would replace the script", "fault: command line"],
+            ["ERROR script: the journal would replace the script: choose another file", "fault: command line"],
             "",
         )
         expect("the script", (folder / "script").read_text(), script)
@@ -327,14 +334,12 @@ class ProgramTests(FolderCase):
             (folder / name).write_text(text)
         met, unmet, malformed, quiet, none = (str(folder / name) for name in (*files, "none"))
         differences = (
-            f"{unmet}:1: expected client 2, came client 1\n    drm_server explain {unmet} --line 1\n"
-            f"{unmet}:2: expected done, came denied 22 NoHandleToClose 22\n    drm_server explain {unmet} --line 2\n"
-            f"{unmet}:3: expected done, came nothing\n"
+            f"{unmet}:1: expected client 2, got client 1\n    drm_server explain {unmet} --line 1\n"
+            f"{unmet}:2: expected done, got denied 22 NoHandleToClose 22\n    drm_server explain {unmet} --line 2\n"
+            f"{unmet}:3: expected done, got nothing\n"
         )
-        stopped = f"{malformed}:2: expected client 2, came client 1\n    drm_server explain {malformed} --line 2\n{malformed}:3: malformed\n"
-        cause = (
-            f"ERROR {malformed}:3: column 1: `fly` is no label from a to z, and none of limits, open, open2 and close"
-        )
+        stopped = f"{malformed}:2: expected client 2, got client 1\n    drm_server explain {malformed} --line 2\n{malformed}:3: malformed\n"
+        cause = f"ERROR {malformed}:3: column 1: `fly` is not a label from a to z, limits, open, open2 or close"
         silent = f"{quiet}: no expected answers\n"
         expect_end(run_program("check", quiet), 4, "", silent + "0 passed, 1 failed\n")
         expect_end(run_program("check", met, quiet, met), 4, "", silent + "4 passed, 1 failed\n")
@@ -434,29 +439,30 @@ denied 42 NoLeaseToken 2
     def test_malformed_script(self):
         ran = run_program("run", script="open a card\na version\na fly\na version\n")
         expect_told(
-            ran, 2, ["ERROR line 3: column 3: `fly` is no call", "fault: script line 3"], "client 1\nversion 1 0 0\n"
+            ran, 2, ["ERROR line 3: column 3: `fly` is not a call", "fault: script line 3"], "client 1\nversion 1 0 0\n"
         )
 
     def test_line_that_is_too_long(self):
         ran = run_program("run", script="open a card\n# " + 254 * "-" + "\n")
         expect_told(
-            ran, 2, ["ERROR line 2: column 256: it has more than 255 bytes", "fault: script line 2"], "client 1\n"
+            ran, 2, ["ERROR line 2: column 256: the line has more than 255 bytes", "fault: script line 2"], "client 1\n"
         )
 
     def test_causes_of_malformed_lines(self):
         folder = self.folder
+        late = "column 1: `limits` sets limits after the first line that is neither empty nor a comment"
         causes = {
-            "version\r": "column 10: it has a carriage return",
-            "\tversion": "column 3: it has a tab, and spaces alone separate words",
-            "gem_close": "column 12: it lacks a number from 0 to 4294967295",
-            "version 1": "column 11: `1` is a word too many",
-            "gem_close 4294967296": "column 13: `4294967296` is no number from 0 to 4294967295",
-            "audit 11 0": "column 9: `11` is no kind of an audit, from 1 to 10",
-            "version\nlimits 2 8 8 8 8 4 4 7": "column 1: `limits` sets limits behind the first line that isn't skipped",
-            "version\nopen a disk": "column 8: `disk` is no kind of opening: card, render, root, lease or rootlease",
-            "version\nclose A": "column 7: `A` is no label from a to z",
-            "version\nopen  a  card1": "column 10: `card1` is no kind of opening: card, render, root, lease or rootlease",
-            "versio\33": "column 3: `versio?` is no call",
+            "version\r": "column 10: the byte is a carriage return; a line feed alone ends a line",
+            "\tversion": "column 3: the byte is a tab; only spaces separate words",
+            "gem_close": "column 12: missing number from 0 to 4294967295",
+            "version 1": "column 11: `1` is an extra word",
+            "gem_close 4294967296": "column 13: `4294967296` is not a number from 0 to 4294967295",
+            "audit 11 0": "column 9: `11` is not a kind of an audit, from 1 to 10",
+            "version\nlimits 2 8 8 8 8 4 4 7": late,
+            "version\nopen a disk": "column 8: `disk` is not a kind of opening: card, render, root, lease or rootlease",
+            "version\nclose A": "column 7: `A` is not a label from a to z",
+            "version\nopen  a  card1": "column 10: `card1` is not a kind of opening: card, render, root, lease or rootlease",
+            "versio\33": "column 3: `versio?` is not a call",
         }
         for place, (line, cause) in enumerate(causes.items()):
             script = f"a {line}\na version\n"
@@ -473,9 +479,11 @@ denied 42 NoLeaseToken 2
             ran = run_program("check", file)
             expect_told(ran, 2, [f"ERROR {file}:{bad}: {cause}"], f"{file}:{bad}: malformed\n0 passed, 0 failed\n")
         ran = run_program("run", script="limits 0 8 8 8 8 4 4 7\n")
-        expect_told(ran, 2, ["ERROR line 1: column 8: `0` is a limit out of its range", "fault: script line 1"], "")
+        cause = f"ERROR line 1: column 8: `0` is out of range: {RANGES}"
+        expect_told(ran, 2, [cause, "fault: script line 1"], "")
         ran = run_program("run", script="# \N{POUND SIGN}\n")
-        expect_told(ran, 2, ["ERROR line 1: column 3: it has a byte above 127", "fault: script line 1"], "")
+        cause = "ERROR line 1: column 3: the byte is above 127; a script is ASCII"
+        expect_told(ran, 2, [cause, "fault: script line 1"], "")
 
     def test_scripts_on_the_topologies_of_the_examples(self):
         """A script is run, checked, updated and explained on a device of the topology that is asked for."""
@@ -517,17 +525,14 @@ denied 42 NoLeaseToken 2
         wrong, absent, file = folder / "wrong", folder / "absent", folder / "file"
         wrong.write_text("crtcs 1\nencoder 2\n")
         file.write_text("open a card -> client 1\n")
-        limits = (
-            "--limits needs eight numbers: clients 1 to 1024; handles, names, tokens and objects 1 to 65535 each; "
-            "framebuffers and lessees 1 to 64 each; journal 2 to 100000"
-        )
         for words in (["run"], ["check", file], ["check", "--update", file], ["explain", file]):
-            told = [f"ERROR {wrong}:2: a word is no number of a CRTC, from 1 to 1", "fault: script line 2"]
-            expect_told(run_program(*words, "--topology", wrong), 2, told, "")
+            cause = f"ERROR {wrong}:2: `encoder 2`: a word is not the number of a CRTC, from 1 to 1"
+            expect_told(run_program(*words, "--topology", wrong), 2, [cause, "fault: script line 2"], "")
             told = [f"ERROR {absent}: No such file or directory (os error 2)", "fault: read"]
             expect_told(run_program(*words, "--topology", absent), 1, told, "")
             for numbers in ("", "1", "0 8 8 8 8 4 4 50", "2 8 8 8 8 4 4 50 1"):
-                expect_told(run_program(*words, "--limits", numbers), 3, [f"ERROR {limits}", "fault: command line"], "")
+                cause = f"ERROR --limits {numbers}: eight numbers are required: {RANGES}"
+                expect_told(run_program(*words, "--limits", numbers), 3, [cause, "fault: command line"], "")
         expect("the file", file.read_text(), "open a card -> client 1\n")
 
     def test_script_of_2000_lines(self):
@@ -709,7 +714,7 @@ denied 42 NoLeaseToken 2
                 asked.close()
             notes = [
                 "WARN card, no client: the opening was denied: 42 NoLeaseToken",
-                "WARN render, no client: the first frame is no hello that this listener allows",
+                "WARN render, no client: the first frame is not a hello that this listener allows",
             ]
             expect_told(end_of(started), 0, notes, "device 0 0 2 22\n")
 
@@ -817,7 +822,7 @@ lessee getcrtc 2 -> denied 30 NoModeObject 2
             taken = folder / name
             taken.write_text("not a socket")
             ran = run_program("serve", *path_words(folder), *count_words(0, 0, 0))
-            cause = f"ERROR {taken}: a file is there already: remove it if no server uses it"
+            cause = f"ERROR {taken}: a file exists already: remove it if no server uses it"
             expect_told(ran, 1, [cause, f"fault: listen {name}"], "")
             expect("what stands there", taken.read_text(), "not a socket")
             taken.unlink()
@@ -829,7 +834,7 @@ lessee getcrtc 2 -> denied 30 NoModeObject 2
             for name in (first, second):
                 (folder / name).write_text("not a socket")
             ran = run_program("serve", *path_words(folder), *count_words(0, 0, 0))
-            cause = f"ERROR {folder / first}: a file is there already: remove it if no server uses it"
+            cause = f"ERROR {folder / first}: a file exists already: remove it if no server uses it"
             expect_told(ran, 1, [cause, f"fault: listen {first}"], "")
             for name in (first, second):
                 (folder / name).unlink()
@@ -842,6 +847,16 @@ lessee getcrtc 2 -> denied 30 NoModeObject 2
             words = [str(path) if word == str(folder / name) else word for word in path_words(folder)]
             ran = run_program("serve", *words, *count_words(0, 0, 0))
             expect_told(ran, 1, [f"ERROR {path}: No such file or directory (os error 2)", f"fault: listen {name}"], "")
+            expect_no_sockets(folder)
+
+    def test_path_that_is_too_long(self):
+        folder = self.folder
+        for name in CLASSES:
+            path = folder / (100 * "x")
+            words = [str(path) if word == str(folder / name) else word for word in path_words(folder)]
+            ran = run_program("serve", *words, *count_words(0, 0, 0))
+            cause = f"the path of a socket has at most 107 bytes, and this one has {len(str(path))}"
+            expect_told(ran, 1, [f"ERROR {path}: {cause}", f"fault: listen {name}"], "")
             expect_no_sockets(folder)
 
     def test_full_listeners_refuse(self):
@@ -898,7 +913,7 @@ lessee getcrtc 2 -> denied 30 NoModeObject 2
             for asked in (*opened, *waiting):
                 asked.close()
             ran = end_of(started)
-        expect_told(ran, 0, ["WARN root: a connection beyond the count was refused"], "device 0 0 0 6\n")
+        expect_told(ran, 0, [f"WARN root: {BEYOND}"], "device 0 0 0 6\n")
 
     def test_connection_that_cannot_be_accepted(self):
         folder = self.folder
@@ -949,7 +964,7 @@ lessee getcrtc 2 -> denied 30 NoModeObject 2
                 ("card", HELLO + b"\x06\0\0", "card, client 1: the input ended inside a frame"),
                 ("card", LEASE_HELLO, "card, no client: the opening was denied: 42 NoLeaseToken"),
                 ("card", HELLO, None),
-                ("render", LEASE_HELLO, "render, no client: the first frame is no hello that this listener allows"),
+                ("render", LEASE_HELLO, "render, no client: the first frame is not a hello that this listener allows"),
                 ("root", HELLO + b"\1\0\0\0", "root, client 6: a frame's length is out of range"),
             ]
             for name, text, _ in said:

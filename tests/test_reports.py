@@ -41,17 +41,17 @@ WORDS = (
     ["--topology"],
     [],
 )
-WRONG = """wrong:1: expected client 2, came client 1
+WRONG = """wrong:1: expected client 2, got client 1
     drm_server explain wrong --line 1
-wrong:3: expected done, came number 1
+wrong:3: expected done, got number 1
     drm_server explain wrong --line 3
 """
-MALFORMED = """malformed:1: expected client 2, came client 1
+MALFORMED = """malformed:1: expected client 2, got client 1
     drm_server explain malformed --line 1
 malformed:2: malformed
 """
 SILENT = "silent: no expected answers\n"
-FLY = "column 1: `fly` is no label from a to z, and none of limits, open, open2 and close"
+FLY = "column 1: `fly` is not a label from a to z, limits, open, open2 or close"
 
 
 def make_files(folder):
@@ -135,7 +135,7 @@ class ReportsTests(FolderCase):
             finally:
                 started.kill()
         lines = [line for line in output.splitlines() if not line.startswith("    ")]
-        told = [f"{name}:1: expected client 2, came client 1" for name in ("first", "second")]
+        told = [f"{name}:1: expected client 2, got client 1" for name in ("first", "second")]
         expect("status and output", (started.returncode, lines), (4, [*told, "0 passed, 2 failed"]))
 
     def test_signal_ends_the_processes_too(self):

@@ -52,7 +52,7 @@ LAYOUT = bytes.fromhex("0a000000 0020 02000000 16000000")
 ENDED = None
 TRUNCATED = "the input ended inside a frame"
 TOO_LONG = "a frame's length is out of range"
-BAD_HELLO = "the first frame is no hello that this listener allows"
+BAD_HELLO = "the first frame is not a hello that this listener allows"
 READ_FAULT = "the connection could not be read"
 WRITE_FAULT = "the connection could not be written"
 
@@ -247,8 +247,8 @@ class ScriptsTests(FolderCase):
         path = folder / "wrong"
         path.write_text("open a card -> client 2\na version -> version 2 0 0\n")
         told = (
-            f"{path}:1: expected client 2, came client 1\n    drm_server explain {path} --line 1\n"
-            f"{path}:2: expected version 2 0 0, came version 1 0 0\n    drm_server explain {path} --line 2\n0 passed, 2 failed\n"
+            f"{path}:1: expected client 2, got client 1\n    drm_server explain {path} --line 1\n"
+            f"{path}:2: expected version 2 0 0, got version 1 0 0\n    drm_server explain {path} --line 2\n0 passed, 2 failed\n"
         )
         expect_end(run_program("check", path), 4, "", told)
         for at, times in itertools.product(range(len(told)), TIMES):

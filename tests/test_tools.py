@@ -147,6 +147,44 @@ crates/lower/specs/Lib.antt:4: "comes": write is created, arrives, follows
 """
 
 
+# what tools/prose reads of the messages in a source, and what it leaves out
+MESSAGES = r"""//! Messages.
+
+/// The statuses.
+const STATUS: &str = "\
+Exit status:
+  0  done
+  1  nobody came";
+const WORD: &str = "nobody";
+const QUOTE: char = '"'; // nobody came here
+const MARK: u8 = b'\'';
+
+#[error("it lacks a {0}")]
+fn one<'a>(text: &'a str) {
+    write!(text, "{told} is \"behind\" {name}")?;
+    writeln!(text, "a line\n\
+        and one that stands there\n")?;
+    let bytes = b"no step gave it";
+    let said = format!(in alloc; "{nobody} and {somebody}")?;
+    error!(rt; target: PROGRAM, "{}: who asked", text);
+    Arg::new(alloc, "told").about("Tells all").help(
+        "a text that goes \
+         on",
+    )
+}
+"""
+MESSAGES_LISTED = """crates/low/src/messages.rt:7: "nobody": write the client, the caller, no client
+crates/low/src/messages.rt:7: "came": write is created, arrives, follows
+crates/low/src/messages.rt:12: "lacks": write is missing, has no
+crates/low/src/messages.rt:14: "behind": write after
+crates/low/src/messages.rt:16: "stands": write is in, represents, belongs to, is attached to
+crates/low/src/messages.rt:17: "gave": write returns, allocates, grants, receives
+crates/low/src/messages.rt:19: "who asked": write the caller
+crates/low/src/messages.rt:20: "Tells": write reports, returns, logs, prints
+crates/low/src/messages.rt:21: "goes": write is freed, is destroyed, is removed, has exited
+"""
+
+
 def prose(folder, *words):
     return run(PROSE, "--repository", folder, *words)
 
@@ -386,36 +424,30 @@ class ToolsTests(FolderCase):
         expect("one crate", prose(folder, "--comments", "low").stdout.endswith(counted), True)
         expect_end(prose(folder, "--comments", "high"), 2, "prose: high is not the name of a crate\n", "")
 
-    def test_prose_of_listed_crates_is_checked(self):
+    def test_prose_of_all_crates_is_checked(self):
         folder = self.folder
         for name, text in (*COMMENTED.items(), ("low/src/faults.rt", '#[error("it lacks a word")]\n')):
             path = folder / "crates" / name
             path.parent.mkdir(parents=True, exist_ok=True)
             path.write_text(text.replace("LONG", "word"))
         (folder / "page.md").write_text("One sentence.\n")
-        expect_end(prose(folder), 0, "", "")
-        (folder / "tools").mkdir()
-        crates = folder / "tools/prose-crates.txt"
-        crates.write_text("# a comment\nlower comments\nlow comments messages\n")
         listed = COMMENTS_LISTED.splitlines(keepends=True)[1:3]
         lacks = 'crates/low/src/faults.rt:1: "lacks": write is missing, has no\n'
-        expect_end(prose(folder), 1, "", "".join([*listed, lacks]))
+        expect_end(prose(folder), 1, "", "".join([lacks, *listed]))
         expect_end(prose(folder, "page.md"), 0, "", "")
-        crates.write_text("low words\n")
-        expect_end(prose(folder), 2, "prose: tools/prose-crates.txt:1: malformed\n", "")
+        exceptions = folder / "tools/prose-exceptions.txt"
+        exceptions.parent.mkdir()
+        exceptions.write_text("crates/low/src/faults.rt | lacks a word | a quotation\n")
+        expect_end(prose(folder), 1, "", "".join(listed))
 
-    def test_prose_reads_the_crates_below_the_server(self):
-        listed = [line.split() for line in (REPOSITORY / "tools/prose-crates.txt").read_text().splitlines()]
-        clean = {name for name, *parts in listed if "comments" in parts}
-        layers = (REPOSITORY / "crates.txt").read_text().split("\n\n")
-        below = {
-            line.split(":")[0]
-            for layer in layers
-            if re.search(r"^# (parts|definitions|calls|device|wire|threads):", layer, re.MULTILINE)
-            for line in layer.splitlines()
-            if not line.startswith("#")
-        }
-        expect("crates that are not read", below - clean, set())
+    def test_prose_of_messages(self):
+        """All string literals of more than one word are read, where they begin, without the values that they print."""
+        folder = self.folder
+        for crate in ("low", "low_tests"):
+            source = folder / "crates" / crate / "src/messages.rt"
+            source.parent.mkdir(parents=True)
+            source.write_text(MESSAGES)
+        expect_end(prose(folder), 1, "", MESSAGES_LISTED)
 
     def test_prose_has_exceptions_with_reasons(self):
         folder = self.folder

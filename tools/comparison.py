@@ -140,7 +140,7 @@ class Comparing:
         expected = script.expected_of(self.series)
         place = f"{script.name}:{number}"
         if came != compared(expected.get(number, asked)):
-            self.result.missing.append(f"{place}: expected {expected.get(number, asked)}, came {came}")
+            self.result.missing.append(f"{place}: expected {expected.get(number, asked)}, got {came}")
         elif number in expected and came == compared(asked):
             self.result.missing.append(f"{place}: the difference does not show: {came}")
 

@@ -127,7 +127,7 @@ def read_groups(text: str) -> List[Group]:
         elif line and not line.startswith("#"):
             asked, arrow, answer = line.partition(" -> ")
             if not arrow:
-                raise ValueError(f"no answer is told of: {line}")
+                raise ValueError(f"no answer of {line}")
             groups[-1].rows[-1].lines.append(Line(asked, answer))
     return groups
 

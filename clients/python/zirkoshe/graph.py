@@ -105,7 +105,7 @@ def connector_box(audit: Audit, number: int) -> Box:
     lines += (
         listed_numbers("may be used by client", users)
         if users
-        else ["may be used by nobody"]
+        else ["may be used by no client"]
     )
     return Box(audit.name_of(number), tuple(lines), "connector")
 
@@ -118,7 +118,7 @@ def output_box(audit: Audit, number: int) -> Box:
     lines += (
         listed_numbers("may be set by client", setters)
         if setters
-        else ["may be set by nobody"]
+        else ["may be set by no client"]
     )
     return Box(audit.name_of(number), tuple(lines), "output" if shown else "dark")
 

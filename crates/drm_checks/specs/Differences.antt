@@ -41,7 +41,7 @@ end_of_expected expected = end_shown (drop (length expected - 1) expected)
 
 -- the file's name, the line's number, the expected text and the answer
 abbrev pub line_text : (name : List ℕ) (number : ℕ) (expected : List ℕ) (came : Option (Result Answer Apart)) → List ℕ
-line_text name number expected came = name ++ (codes ":" ++ (decimal number ++ (codes ": expected " ++ (front_of expected ++ (end_of_expected expected ++ (codes ", came " ++ came_line came))))))
+line_text name number expected came = name ++ (codes ":" ++ (decimal number ++ (codes ": expected " ++ (front_of expected ++ (end_of_expected expected ++ (codes ", got " ++ came_line came))))))
 
 -- a line with a command and the number that it ends with; empty if there is no command
 abbrev pub command_text : (command : List ℕ) (number : ℕ) → List ℕ

@@ -57,7 +57,7 @@ fn tell_line<K: Sink>(
                 b": expected ",
                 front,
                 last,
-                b", came ",
+                b", got ",
                 line.as_bytes(),
             ];
             put_each(sink, &texts, turns)
@@ -70,7 +70,7 @@ fn tell_line<K: Sink>(
                 b": expected ",
                 front,
                 last,
-                b", came nothing\n",
+                b", got nothing\n",
             ];
             put_each(sink, &texts, turns)
         }

@@ -144,6 +144,17 @@ fn check_files<R: Input + Files + Print + AllocGlobal + Log>(
 
 /// Checks each file on a new device, prints the differences and the totals, and returns the outcome of the program
 /// (own). Allocates the devices.
+///
+/// # Examples
+///
+/// ```rust
+/// use drm_commands::{AskedDevice, Checking, check};
+///
+/// let alloc = rt.alloc();
+/// let device = AskedDevice { topology: None, limits: None };
+/// let checking = Checking { files: Vec::new(alloc), device };
+/// assert!(rt; check(&rt, alloc, &checking).status == 0);
+/// ```
 pub fn check<R: Input + Files + Print + AllocGlobal + Log>(
     rt: &R,
     alloc: Global,

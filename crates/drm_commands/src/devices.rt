@@ -7,6 +7,7 @@ use crate::asked::AskedDevice;
 use crate::faults::Fault;
 use crate::files::read_whole;
 use crate::limits::limits_of;
+use arrayvec::ArrayString;
 use drm_connections::PROGRAM;
 use drm_device::{Device, Limits, Topology};
 use drm_runs::{Setup, test_topology};
@@ -15,11 +16,40 @@ use log::{Log, error};
 use std::alloc::Global;
 use std::rt::Files;
 
+/// The most bytes of a line that are logged.
+const LINE: usize = 64;
+
+/// Returns the first bytes of the line with this number, from 1, with `?` in place of a byte that is not printable.
+fn shown_line(text: &[u8], number: u64) -> ArrayString<LINE> {
+    let mut shown = ArrayString::new();
+    let mut line = 1_u64;
+    for byte in text {
+        if *byte == b'\n' {
+            line = line.saturating_add(1);
+        } else if line == number {
+            let is_printable = byte.is_ascii_graphic() || *byte == b' ';
+            let sign = if is_printable { char::from(*byte) } else { '?' };
+            let _ = shown.try_push(sign);
+        }
+    }
+    shown
+}
+
 /// Returns the limits that the command line sets, or the program's (own). Does not allocate.
 ///
 /// # Errors
 ///
 /// `Fault::CommandLine`, which is logged, if they are not eight numbers in their ranges.
+///
+/// # Examples
+///
+/// ```rust
+/// use drm_commands::{Fault, asked_limits};
+/// use drm_device::Limits;
+///
+/// assert!(rt; asked_limits(&rt, None) == Ok(Limits::PROGRAM));
+/// assert!(rt; asked_limits(&rt, Some("1 2 3")) == Err(Fault::CommandLine));
+/// ```
 pub fn asked_limits<R: Log>(rt: &R, numbers: Option<&str>) -> Result<Limits, Fault>
     ensures { IfOk result (λ limits. are_in_range limits ≡ true) }
 {
@@ -27,13 +57,23 @@ pub fn asked_limits<R: Log>(rt: &R, numbers: Option<&str>) -> Result<Limits, Fau
         return Ok(Limits::PROGRAM);
     };
     let Some(limits) = limits_of(numbers) else {
-        error!(rt; target: PROGRAM, "--limits needs eight numbers: clients 1 to 1024; handles, names, tokens and objects 1 to 65535 each; framebuffers and lessees 1 to 64 each; journal 2 to 100000");
+        error!(rt; target: PROGRAM, "--limits {numbers}: eight numbers are required: clients 1 to 1024; handles, names, tokens and objects 1 to 65535 each; framebuffers and lessees 1 to 64 each; journal 2 to 100000");
         return Err(Fault::CommandLine);
     };
     Ok(limits)
 }
 
 /// The text of a topology's file (own). It is read once, so that it can be a pipe.
+///
+/// # Examples
+///
+/// ```rust
+/// use drm_commands::{AskedDevice, read_asked};
+///
+/// let device = AskedDevice { topology: None, limits: None };
+/// let Ok(text) = read_asked(&rt, device) else { return };
+/// assert!(rt; text.is_none());
+/// ```
 #[derive(Drop)]
 pub struct TopologyText<'a> {
     pub(crate) path: &'a str,
@@ -49,6 +89,16 @@ pub struct TopologyText<'a> {
 /// - `Fault::Read` if the file can't be read.
 ///
 /// Both are logged.
+///
+/// # Examples
+///
+/// ```rust
+/// use drm_commands::{AskedDevice, read_asked};
+///
+/// let device = AskedDevice { topology: Some("/dev/null"), limits: None };
+/// let Ok(text) = read_asked(&rt, device) else { return };
+/// assert!(rt; text.is_some());
+/// ```
 pub fn read_asked<'a, R: Files + AllocGlobal + Log>(
     rt: &R,
     asked: AskedDevice<'a>,
@@ -75,7 +125,12 @@ pub(crate) fn asked_topology<R: Log>(
         Ok(topology) => Ok(topology),
         Err(line) => {
             let path = file.path;
-            error!(rt; target: PROGRAM, "{path}:{}: {}", line.number, line.cause);
+            let shown = shown_line(file.text.as_slice(), line.number);
+            if shown.is_empty() {
+                error!(rt; target: PROGRAM, "{path}:{}: {}", line.number, line.cause);
+            } else {
+                error!(rt; target: PROGRAM, "{path}:{}: `{shown}`: {}", line.number, line.cause);
+            }
             Err(Fault::ScriptLine(line.number))
         }
     }
@@ -98,6 +153,17 @@ pub(crate) fn asked_setup<R: Log>(
 ///
 /// - `Fault::ScriptLine`, which is logged, if a line of the topology can't be used.
 /// - `Fault::Memory` if memory is refused.
+///
+/// # Examples
+///
+/// ```rust
+/// use drm_commands::asked_device;
+/// use drm_device::Limits;
+///
+/// let alloc = rt.alloc();
+/// let Ok(device) = asked_device(&rt, alloc, None, Limits::PROGRAM) else { return };
+/// assert!(rt; device.journal().is_empty());
+/// ```
 pub fn asked_device<R: Log>(
     rt: &R,
     alloc: Global,

@@ -34,7 +34,7 @@ fn client_of(labels: &Labels, word: &str) -> Option<u64> {
 
 /// Logs that a word names no client of the script.
 fn no_client<R: Log>(rt: &R, path: &str, word: &str) -> Fault {
-    error!(rt; target: PROGRAM, "{path}: no client was opened as {word}");
+    error!(rt; target: PROGRAM, "{path}: no client has the label or number {word}");
     Fault::CommandLine
 }
 
@@ -94,7 +94,7 @@ fn text_of<R: Log>(
 /// Logs that a line can't be explained.
 fn no_answer<R: Log>(rt: &R, path: &str, number: u64, lines: u64) -> Fault {
     if number == 0 || number > lines {
-        error!(rt; target: PROGRAM, "{path}: no line {number}: the script has {lines} lines");
+        error!(rt; target: PROGRAM, "{path}: there is no line {number}: the last line of the script is {lines}");
     } else {
         error!(rt; target: PROGRAM, "{path}: line {number} makes no request");
     }
@@ -211,6 +211,23 @@ fn record_and_tell<R: Input + Files + Print + AllocGlobal + Log>(
 
 /// Explains the rights of a script's clients, or the answer of one of its lines, on standard output (own). Returns the
 /// outcome of the program. Allocates the device and the explanation.
+///
+/// # Examples
+///
+/// ```rust
+/// use drm_commands::{AskedDevice, Explaining, explain_script};
+///
+/// let alloc = rt.alloc();
+/// let device = AskedDevice { topology: None, limits: None };
+/// let explaining = Explaining {
+///     path: "/dev/null",
+///     device,
+///     client: None,
+///     line: None,
+///     is_json: false,
+/// };
+/// assert!(rt; explain_script(&rt, alloc, explaining).status == 0);
+/// ```
 pub fn explain_script<R: Input + Files + Print + AllocGlobal + Log>(
     rt: &R,
     alloc: Global,

@@ -30,6 +30,16 @@ fn is_same_file<R: Files>(rt: &R, path: &str, other: &str) -> bool {
 }
 
 /// The open file of a journal (own).
+///
+/// # Examples
+///
+/// ```rust
+/// use drm_commands::{FilesRead, create_asked};
+///
+/// let read = FilesRead { topology: None, script: None };
+/// let Ok(journal) = create_asked(&rt, Some("/dev/null"), read) else { return };
+/// assert!(rt; journal.is_some());
+/// ```
 #[derive(Drop)]
 pub struct JournalFile<'a, F: Drop> {
     path: &'a str,
@@ -37,6 +47,15 @@ pub struct JournalFile<'a, F: Drop> {
 }
 
 /// The files that a journal must not replace (own).
+///
+/// # Examples
+///
+/// ```rust
+/// use drm_commands::FilesRead;
+///
+/// let read = FilesRead { topology: None, script: Some("a.script") };
+/// assert!(rt; read.topology.is_none());
+/// ```
 #[derive(Clone, Copy, Debug, PartialEq, Eq)]
 pub struct FilesRead<'a> {
     /// The file of the topology.
@@ -54,7 +73,7 @@ fn refuse_same<R: Files + Log>(
 ) -> Result<(), Fault> {
     match other {
         Some(other) if is_same_file(rt, path, other) => {
-            error!(rt; target: PROGRAM, "{path}: the journal would replace the {kind}");
+            error!(rt; target: PROGRAM, "{path}: the journal would replace the {kind}: choose another file");
             Err(Fault::CommandLine)
         }
         _ => Ok(()),
@@ -84,6 +103,16 @@ pub(crate) fn create_journal<'a, R: Files + Log>(
 /// - `Fault::Write` if it can't be created.
 ///
 /// Both are logged.
+///
+/// # Examples
+///
+/// ```rust
+/// use drm_commands::{FilesRead, create_asked};
+///
+/// let read = FilesRead { topology: None, script: None };
+/// let Ok(journal) = create_asked(&rt, None, read) else { return };
+/// assert!(rt; journal.is_none());
+/// ```
 pub fn create_asked<'a, R: Files + Log>(
     rt: &R,
     path: Option<&'a str>,
@@ -126,6 +155,19 @@ fn write_journal<R: Log, F: Write + Drop>(
 /// - `Fault::Write`, which is logged, if the file can't be written.
 /// - `Fault::Memory` if memory is refused.
 /// - The faults of `asked_device`.
+///
+/// # Examples
+///
+/// ```rust
+/// use drm_commands::{FilesRead, create_asked, write_noted};
+/// use drm_device::Limits;
+///
+/// let alloc = rt.alloc();
+/// let read = FilesRead { topology: None, script: None };
+/// let Ok(journal) = create_asked(&rt, None, read) else { return };
+/// let written = write_noted(&rt, alloc, journal, None, Limits::PROGRAM, &[]);
+/// assert!(rt; written.is_ok());
+/// ```
 pub fn write_noted<R: Files + AllocGlobal + Log>(
     rt: &R,
     alloc: Global,

@@ -9,6 +9,15 @@ use drm_checks::Totals;
 use drm_runs::ScriptEnd;
 
 /// The outcome of the program (own).
+///
+/// # Examples
+///
+/// ```rust
+/// use drm_commands::{FaultLine, Outcome};
+///
+/// let outcome = Outcome { status: 0, line: FaultLine::empty() };
+/// assert!(rt; outcome.line.as_str().is_empty());
+/// ```
 #[derive(Drop)]
 pub struct Outcome {
     /// The exit status.
@@ -31,6 +40,15 @@ pub(crate) fn script_fault(end: &ScriptEnd) -> Option<Fault>
 }
 
 /// Returns the outcome for this fault (own). Does not allocate.
+///
+/// # Examples
+///
+/// ```rust
+/// use drm_commands::{Fault, outcome_of_fault};
+///
+/// let outcome = outcome_of_fault(Fault::Write);
+/// assert!(rt; outcome.status == 1 && outcome.line.as_str() == "fault: write");
+/// ```
 pub fn outcome_of_fault(fault: Fault) -> Outcome
     ensures status { result.status ≡ fault_status fault }
     ensures line { result.line ≡ fault_line fault }
@@ -42,6 +60,15 @@ pub fn outcome_of_fault(fault: Fault) -> Outcome
 }
 
 /// Returns the outcome for this fault, or status 0 and no line if there is none (own). Does not allocate.
+///
+/// # Examples
+///
+/// ```rust
+/// use drm_commands::outcome_by;
+///
+/// let outcome = outcome_by(None);
+/// assert!(rt; outcome.status == 0 && outcome.line.as_str().is_empty());
+/// ```
 pub fn outcome_by(fault: Option<Fault>) -> Outcome
     ensures status { result.status ≡ status_by fault }
     ensures line { result.line ≡ line_by fault }
@@ -57,6 +84,16 @@ pub fn outcome_by(fault: Option<Fault>) -> Outcome
 
 /// Returns the outcome of `drm_server run` by the end of its script: status 0 and no line if it is done (own). Does not
 /// allocate.
+///
+/// # Examples
+///
+/// ```rust
+/// use drm_commands::outcome_of;
+/// use drm_runs::ScriptEnd;
+///
+/// let outcome = outcome_of(&ScriptEnd::Malformed(2));
+/// assert!(rt; outcome.status == 2);
+/// ```
 pub fn outcome_of(end: &ScriptEnd) -> Outcome
     ensures status { result.status ≡ status_by (fault_of end.now) }
     ensures line { result.line ≡ line_by (fault_of end.now) }
@@ -67,6 +104,16 @@ pub fn outcome_of(end: &ScriptEnd) -> Outcome
 /// Returns the outcome of `drm_server check` by the results of its files (own). Does not allocate.
 ///
 /// The status is 2 if a file is malformed, else 4 if an expectation is not met or a file has none, else 0.
+///
+/// # Examples
+///
+/// ```rust
+/// use drm_checks::Totals;
+/// use drm_commands::outcome_of_checks;
+///
+/// let outcome = outcome_of_checks(&Totals::new());
+/// assert!(rt; outcome.status == 0);
+/// ```
 pub fn outcome_of_checks(totals: &Totals) -> Outcome
     ensures status { result.status ≡ checks_status totals.now }
     ensures line { result.line ≡ [] }

@@ -93,6 +93,17 @@ fn run_asked<R: Input + Print + Files + AllocGlobal + Log>(
 
 /// Runs the script of a file or of standard input, prints its answers, and returns the outcome of the program (own).
 /// Allocates the device.
+///
+/// # Examples
+///
+/// ```rust
+/// use drm_commands::{AskedDevice, Running, run};
+///
+/// let alloc = rt.alloc();
+/// let device = AskedDevice { topology: None, limits: None };
+/// let running = Running { path: Some("/dev/null"), device, journal: None };
+/// assert!(rt; run(&rt, alloc, running).status == 0);
+/// ```
 pub fn run<R: Input + Print + Files + AllocGlobal + Log>(
     rt: &R,
     alloc: Global,

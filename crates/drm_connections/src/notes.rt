@@ -79,7 +79,7 @@ impl Note {
                 error!(rt; target: PROGRAM, "{}: {}", class_word(class), reason_of(number));
             }
             Note::Refused(class) => {
-                warn!(rt; target: PROGRAM, "{}: a connection beyond the count was refused", class_word(class));
+                warn!(rt; target: PROGRAM, "{}: a connection was refused: all that the command line allows were accepted", class_word(class));
             }
             Note::Crowded(class) => {
                 warn!(rt; target: PROGRAM, "{}: a connection was refused: {MOST_AT_ONCE} are open", class_word(class));
@@ -96,7 +96,7 @@ impl Note {
                 warn!(rt; target: PROGRAM, "{}, client {client}: {end}", class_word(class));
             }
             Note::LeftOut(count) => {
-                warn!(rt; target: PROGRAM, "{count} log lines were left out: standard error did not take them");
+                warn!(rt; target: PROGRAM, "{count} log lines were left out: standard error did not accept them");
             }
         }
     }

@@ -38,7 +38,7 @@ const HALF: File<'static> = File {
     end: ScriptEnd::Done,
     passed: 1,
     failed: 1,
-    told: b"f:1: expected client 2, came client 1\n",
+    told: b"f:1: expected client 2, got client 1\n",
 };
 
 const FILES: [File<'static>; 9] = [
@@ -56,15 +56,15 @@ const FILES: [File<'static>; 9] = [
         passed: 1,
         failed: 2,
         told: b"\
-            f:1: expected client 2, came client 1\n\
-            f:2: expected done, came denied 22 NoHandleToClose 22\n",
+            f:1: expected client 2, got client 1\n\
+            f:2: expected done, got denied 22 NoHandleToClose 22\n",
     },
     File {
         text: b"limits 2 8 8 8 8 4 4 6 -> done\n  -> client 1",
         end: ScriptEnd::Done,
         passed: 0,
         failed: 2,
-        told: b"f:1: expected done, came nothing\nf:2: expected client 1, came nothing\n",
+        told: b"f:1: expected done, got nothing\nf:2: expected client 1, got nothing\n",
     },
     File {
         text: b"\
@@ -77,24 +77,24 @@ const FILES: [File<'static>; 9] = [
         passed: 1,
         failed: 4,
         told: b"\
-            f:2: expected denied 2, came denied 22 NoHandleToClose 22\n\
-            f:3: expected denied 22\\x20, came denied 22 NoHandleToClose 22\n\
-            f:4: expected denied 22\\r, came denied 22 NoHandleToClose 22\n\
-            f:5: expected denied, came denied 22 NoHandleToClose 22\n",
+            f:2: expected denied 2, got denied 22 NoHandleToClose 22\n\
+            f:3: expected denied 22\\x20, got denied 22 NoHandleToClose 22\n\
+            f:4: expected denied 22\\r, got denied 22 NoHandleToClose 22\n\
+            f:5: expected denied, got denied 22 NoHandleToClose 22\n",
     },
     File {
         text: b"open a card -> client 1 -> client 1\n",
         end: ScriptEnd::Done,
         passed: 0,
         failed: 1,
-        told: b"f:1: expected client 1 -> client 1, came client 1\n",
+        told: b"f:1: expected client 1 -> client 1, got client 1\n",
     },
     File {
         text: b"open a card -> client 2\na fly -> done\nclose a -> closed\n",
         end: ScriptEnd::Malformed(2),
         passed: 0,
         failed: 1,
-        told: b"f:1: expected client 2, came client 1\n",
+        told: b"f:1: expected client 2, got client 1\n",
     },
     File {
         text: b"open a card ->client 1\n",

@@ -2,3 +2,5 @@
 
 mod checks;
 mod device;
+mod journals;
+mod runs;

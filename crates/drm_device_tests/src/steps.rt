@@ -60,9 +60,9 @@ fn check_answer(
         Some(answer) => {
             let line = line_of(answer);
             let told = text_of(line.as_bytes()).trim_end();
-            assert!(rt; false, "{place}: expected {wanted}, came {told}");
+            assert!(rt; false, "{place}: expected {wanted}, got {told}");
         }
-        None => assert!(rt; false, "{place}: expected {wanted}, came nothing"),
+        None => assert!(rt; false, "{place}: expected {wanted}, got nothing"),
     }
 }
 

@@ -31,6 +31,26 @@ impl Scene<'_> {
 /// # Errors
 ///
 /// `AllocError` if memory is refused. There are then no lines.
+///
+/// # Examples
+///
+/// ```rust
+/// use drm_explanations::{explain, lines_of};
+/// use drm_modes::Topology;
+/// use drm_rights::{Ledger, Step};
+/// use drm_table::{Answer, Event, Opening};
+///
+/// let alloc = rt.alloc();
+/// let answer = Answer::Opened { client: 1 };
+/// let opened = Step { event: Event::Open(Opening::Render), answer };
+/// let Ok(ledger) = Ledger::new(alloc).note(opened) else { return };
+/// let Some(topology) = Topology::new(2, &[1, 2], &[3, 2], &[5, 6]) else { return };
+/// let mut labels = [0; 26];
+/// labels[0] = 1;
+/// let Ok(explanation) = explain(alloc, &ledger, &topology, &labels, None) else { return };
+/// let Ok(text) = lines_of(alloc, &explanation, &topology, &labels, None) else { return };
+/// assert!(rt; text.as_str().contains("a is client 1: a render client, opened at step 1"));
+/// ```
 pub fn lines_of(
     alloc: Global,
     explanation: &Explanation,
@@ -61,6 +81,15 @@ pub fn lines_of(
 }
 
 /// The subject of a line of an explanation (own). Clients and masters are numbers of steps.
+///
+/// # Examples
+///
+/// ```rust
+/// use drm_explanations::Subject;
+///
+/// let subject = Subject::Client(1);
+/// assert!(rt; subject != Subject::Device);
+/// ```
 #[derive(Clone, Copy, PartialEq, Eq, Debug)]
 pub enum Subject {
     /// The device's master.
@@ -84,6 +113,29 @@ pub enum Subject {
 /// # Errors
 ///
 /// `AllocError` if memory is refused. The text may then end with a front of the line.
+///
+/// # Examples
+///
+/// ```rust
+/// use drm_explanations::{Subject, explain, line_about};
+/// use drm_modes::Topology;
+/// use drm_rights::{Ledger, Step};
+/// use drm_table::{Answer, Event, Opening};
+///
+/// let alloc = rt.alloc();
+/// let answer = Answer::Opened { client: 1 };
+/// let opened = Step { event: Event::Open(Opening::Render), answer };
+/// let Ok(ledger) = Ledger::new(alloc).note(opened) else { return };
+/// let Some(topology) = Topology::new(2, &[1, 2], &[3, 2], &[5, 6]) else { return };
+/// let mut labels = [0; 26];
+/// labels[0] = 1;
+/// let Ok(explanation) = explain(alloc, &ledger, &topology, &labels, None) else { return };
+/// let mut text = String::new(alloc);
+/// let subject = Subject::Client(1);
+/// let told = line_about(alloc, &explanation, &topology, &labels, subject, &mut text);
+/// assert!(rt; told.is_ok());
+/// assert!(rt; text.as_str() == "a is client 1: a render client, opened at step 1\n");
+/// ```
 pub fn line_about(
     alloc: Global,
     explanation: &Explanation,
@@ -226,7 +278,7 @@ fn authenticated_line(
         }
         None => writeln!(
             text,
-            "{name} is not authenticated: it didn't open by root, is no master, and nobody named its magic (auth_magic)"
+            "{name} is not authenticated: it didn't open by root, is no master, and no client named its magic (auth_magic)"
         ),
     }
 }
@@ -302,7 +354,7 @@ fn universal_line(scene: Scene<'_>, row: &ClientRow, text: &mut String) -> Resul
     match call {
         "open" => writeln!(
             text,
-            "{name} has universal planes off: it opened so at step {step}"
+            "{name} has universal planes off: it opened without them at step {step}"
         ),
         _ => writeln!(
             text,
@@ -452,7 +504,7 @@ fn link_words(scene: Scene<'_>, link: &LinkRow, text: &mut String) -> Result<(),
     match published.by {
         PublishedBy::Name => write!(text, ", opened by {name} at step {step}"),
         PublishedBy::Token => write!(text, ", imported by {name} at step {step}"),
-        PublishedBy::Framebuffer => write!(text, ", given to {name} at step {step} ({call})"),
+        PublishedBy::Framebuffer => write!(text, ", returned to {name} at step {step} ({call})"),
     }
 }
 
@@ -562,6 +614,6 @@ fn lease_words(scene: Scene<'_>, row: &LeaseRow, text: &mut String) -> Result<()
             let redeemer = scene.name(client);
             write!(text, ", redeemed by {redeemer} at step {client}")
         }
-        None => text.push_str(", redeemed by nobody"),
+        None => text.push_str(", not redeemed"),
     }
 }

@@ -28,6 +28,16 @@ pub(crate) fn label_of(labels: &Labels, client: u64) -> Option<char> {
 }
 
 /// The name of a client: its label if it has one, or its number (own).
+///
+/// # Examples
+///
+/// ```rust
+/// use drm_explanations::Name;
+///
+/// let mut labels = [0; 26];
+/// labels[0] = 1;
+/// assert!(rt; Name::of(&labels, 1) != Name::of(&labels, 2));
+/// ```
 #[derive(Clone, Copy, PartialEq, Eq, Debug)]
 pub struct Name {
     client: u64,
@@ -36,6 +46,16 @@ pub struct Name {
 
 impl Name {
     /// Returns the name of a client, with these labels. Does not allocate.
+    ///
+    /// # Examples
+    ///
+    /// ```rust
+    /// use drm_explanations::Name;
+    ///
+    /// let mut labels = [0; 26];
+    /// labels[0] = 1;
+    /// assert!(rt; Name::of(&labels, 1).label() == Some('a'));
+    /// ```
     pub fn of(labels: &Labels, client: u64) -> Name {
         Name {
             client,
@@ -44,6 +64,16 @@ impl Name {
     }
 
     /// Returns the label that names the client, or `None`. Does not allocate.
+    ///
+    /// # Examples
+    ///
+    /// ```rust
+    /// use drm_explanations::Name;
+    ///
+    /// let mut labels = [0; 26];
+    /// labels[0] = 1;
+    /// assert!(rt; Name::of(&labels, 2).label().is_none());
+    /// ```
     pub fn label(&self) -> Option<char> {
         self.label
     }
@@ -71,6 +101,21 @@ fn word_of(number: u16) -> &'static str {
 
 /// Returns the step with this number, from 1, or `None`. The caller of an accepted opening is the client that it opens.
 /// Does not allocate.
+///
+/// # Examples
+///
+/// ```rust
+/// use drm_explanations::at;
+/// use drm_rights::{Ledger, Step};
+/// use drm_table::{Answer, Event, Opening};
+///
+/// let alloc = rt.alloc();
+/// let answer = Answer::Opened { client: 1 };
+/// let opened = Step { event: Event::Open(Opening::Render), answer };
+/// let Ok(ledger) = Ledger::new(alloc).note(opened) else { return };
+/// let Some(first) = at(ledger.steps(), 1) else { return };
+/// assert!(rt; first.client == 1 && first.call == "open");
+/// ```
 pub fn at(steps: &[Step], number: u64) -> Option<At>
     ensures step { IfSome result (λ told. told.step ≡ number) }
     ensures numbers { is_some result ≡ (nat_le 1 number && nat_le number (length steps.now)) }

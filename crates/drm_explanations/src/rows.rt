@@ -3,6 +3,15 @@
 use serde::Serialize;
 
 /// A step with its caller and its call, or with `open` or `close` (own).
+///
+/// # Examples
+///
+/// ```rust
+/// use drm_explanations::At;
+///
+/// let opened = At { step: 1, client: 1, call: "open" };
+/// assert!(rt; opened.call == "open");
+/// ```
 #[derive(Clone, Copy, PartialEq, Eq, Debug, Serialize)]
 pub struct At {
     /// The number of the step, from 1.
@@ -14,6 +23,16 @@ pub struct At {
 }
 
 /// The device's master (drm(7)).
+///
+/// # Examples
+///
+/// ```rust
+/// use drm_explanations::{At, DeviceRow};
+///
+/// let opened = At { step: 1, client: 1, call: "open" };
+/// let device = DeviceRow { master: Some(1), since: Some(opened) };
+/// assert!(rt; device.master == Some(1));
+/// ```
 #[derive(Clone, Copy, PartialEq, Eq, Debug, Serialize)]
 pub struct DeviceRow {
     /// The master, or `None` if there is none.
@@ -23,6 +42,15 @@ pub struct DeviceRow {
 }
 
 /// The kind of a client's opening (drm-uapi, render nodes; lease tokens are own).
+///
+/// # Examples
+///
+/// ```rust
+/// use drm_explanations::Node;
+///
+/// let node = Node::Render;
+/// assert!(rt; node != Node::Primary);
+/// ```
 #[derive(Clone, Copy, PartialEq, Eq, Debug, Serialize)]
 #[serde(rename_all = "snake_case")]
 pub enum Node {
@@ -32,6 +60,15 @@ pub enum Node {
 }
 
 /// The reason a client is authenticated (drm(7)).
+///
+/// # Examples
+///
+/// ```rust
+/// use drm_explanations::AuthenticatedBy;
+///
+/// let by = AuthenticatedBy::Root;
+/// assert!(rt; by != AuthenticatedBy::Master);
+/// ```
 #[derive(Clone, Copy, PartialEq, Eq, Debug, Serialize)]
 #[serde(rename_all = "snake_case")]
 pub enum AuthenticatedBy {
@@ -41,6 +78,16 @@ pub enum AuthenticatedBy {
 }
 
 /// The authentication of a client (drm(7)).
+///
+/// # Examples
+///
+/// ```rust
+/// use drm_explanations::{At, Authenticated, AuthenticatedBy};
+///
+/// let opened = At { step: 1, client: 1, call: "open" };
+/// let authenticated = Authenticated { by: AuthenticatedBy::Root, since: opened, magic: None };
+/// assert!(rt; authenticated.magic.is_none());
+/// ```
 #[derive(Clone, Copy, PartialEq, Eq, Debug, Serialize)]
 pub struct Authenticated {
     /// The reason.
@@ -61,6 +108,22 @@ pub struct UniversalRow {
 }
 
 /// The master state of a client (drm(7)).
+///
+/// # Examples
+///
+/// ```rust
+/// use drm_explanations::{At, StandingRow};
+///
+/// let opened = At { step: 1, client: 1, call: "open" };
+/// let standing = StandingRow {
+///     is_master: true,
+///     master: Some(1),
+///     owner: Some(1),
+///     current: true,
+///     since: opened,
+/// };
+/// assert!(rt; standing.current);
+/// ```
 #[derive(Clone, Copy, PartialEq, Eq, Debug, Serialize)]
 pub struct StandingRow {
     /// Whether the client has an own master.
@@ -76,6 +139,15 @@ pub struct StandingRow {
 }
 
 /// The kind of key under which an object was published (drm-gem(7), drm-mm, drm-uapi).
+///
+/// # Examples
+///
+/// ```rust
+/// use drm_explanations::PublishedBy;
+///
+/// let published_by = PublishedBy::Name;
+/// assert!(rt; published_by != PublishedBy::Token);
+/// ```
 #[derive(Clone, Copy, PartialEq, Eq, Debug, Serialize)]
 #[serde(rename_all = "snake_case")]
 pub enum PublishedBy {
@@ -85,6 +157,16 @@ pub enum PublishedBy {
 }
 
 /// A step that published an object (own).
+///
+/// # Examples
+///
+/// ```rust
+/// use drm_explanations::{At, PublishedBy, PublishedRow};
+///
+/// let opened = At { step: 1, client: 1, call: "open" };
+/// let published = PublishedRow { by: PublishedBy::Name, number: 1, at: opened };
+/// assert!(rt; published.number == 1);
+/// ```
 #[derive(Clone, Copy, PartialEq, Eq, Debug, Serialize)]
 pub struct PublishedRow {
     /// The kind of the key.
@@ -96,6 +178,16 @@ pub struct PublishedRow {
 }
 
 /// A link of a chain: a step that assigned a handle to a client (own).
+///
+/// # Examples
+///
+/// ```rust
+/// use drm_explanations::{At, LinkRow};
+///
+/// let opened = At { step: 1, client: 1, call: "open" };
+/// let link = LinkRow { published: None, handle: 1, given: opened };
+/// assert!(rt; link.published.is_none());
+/// ```
 #[derive(Clone, Copy, PartialEq, Eq, Debug, Serialize)]
 pub struct LinkRow {
     /// The step that published the object before, or `None` if this step created the object.
@@ -107,6 +199,15 @@ pub struct LinkRow {
 }
 
 /// The first links of a chain, which an earlier row has (own).
+///
+/// # Examples
+///
+/// ```rust
+/// use drm_explanations::FrontRow;
+///
+/// let front = FrontRow { client: 1, handle: 2, step: 3 };
+/// assert!(rt; front.handle == 2);
+/// ```
 #[derive(Clone, Copy, PartialEq, Eq, Debug, Serialize)]
 pub struct FrontRow {
     /// The client of the earlier row.
@@ -121,6 +222,17 @@ pub struct FrontRow {
 ///
 /// If a chain has more than four links, those that an earlier row has are left out, except the last four. `front` names
 /// that row.
+///
+/// # Examples
+///
+/// ```rust
+/// use drm_explanations::HandleRow;
+///
+/// let alloc = rt.alloc();
+/// let chain = Vec::new(alloc);
+/// let held = HandleRow { handle: 1, object: 2, front: None, chain };
+/// assert!(rt; held.object == 2);
+/// ```
 #[derive(PartialEq, Eq, Debug, Drop, Serialize)]
 pub struct HandleRow {
     /// The handle.
@@ -134,6 +246,26 @@ pub struct HandleRow {
 }
 
 /// A client (own). The row of a closed client has no rights and handles.
+///
+/// # Examples
+///
+/// ```rust
+/// use drm_explanations::{Node, explain};
+/// use drm_modes::Topology;
+/// use drm_rights::{Ledger, Step};
+/// use drm_table::{Answer, Event, Opening};
+///
+/// let alloc = rt.alloc();
+/// let answer = Answer::Opened { client: 1 };
+/// let opened = Step { event: Event::Open(Opening::Render), answer };
+/// let Ok(ledger) = Ledger::new(alloc).note(opened) else { return };
+/// let Some(topology) = Topology::new(2, &[1, 2], &[3, 2], &[5, 6]) else { return };
+/// let mut labels = [0; 26];
+/// labels[0] = 1;
+/// let Ok(explanation) = explain(alloc, &ledger, &topology, &labels, None) else { return };
+/// let Some(row) = explanation.client(1) else { return };
+/// assert!(rt; row.label == Some('a') && row.node == Node::Render);
+/// ```
 #[derive(PartialEq, Eq, Debug, Drop, Serialize)]
 pub struct ClientRow {
     /// The client.
@@ -159,6 +291,26 @@ pub struct ClientRow {
 }
 
 /// A lease (drm-uapi, leases). Its lessee is a master, named by the step that created it.
+///
+/// # Examples
+///
+/// ```rust
+/// use drm_explanations::{At, LeaseRow};
+///
+/// let opened = At { step: 1, client: 1, call: "open" };
+/// let alloc = rt.alloc();
+/// let lease = LeaseRow {
+///     master: 2,
+///     lessee_id: 1,
+///     lessor: Some(1),
+///     leased: opened,
+///     token: 1,
+///     mode_objects: Vec::new(alloc),
+///     redeemed_by: None,
+///     ended: None,
+/// };
+/// assert!(rt; lease.redeemed_by.is_none());
+/// ```
 #[derive(PartialEq, Eq, Debug, Drop, Serialize)]
 pub struct LeaseRow {
     /// The lessee, by the number of the step.
@@ -179,6 +331,25 @@ pub struct LeaseRow {
 }
 
 /// The rights that a history grants, and the steps that granted them (own).
+///
+/// # Examples
+///
+/// ```rust
+/// use drm_explanations::explain;
+/// use drm_modes::Topology;
+/// use drm_rights::{Ledger, Step};
+/// use drm_table::{Answer, Event, Opening};
+///
+/// let alloc = rt.alloc();
+/// let answer = Answer::Opened { client: 1 };
+/// let opened = Step { event: Event::Open(Opening::Render), answer };
+/// let Ok(ledger) = Ledger::new(alloc).note(opened) else { return };
+/// let Some(topology) = Topology::new(2, &[1, 2], &[3, 2], &[5, 6]) else { return };
+/// let mut labels = [0; 26];
+/// labels[0] = 1;
+/// let Ok(explanation) = explain(alloc, &ledger, &topology, &labels, None) else { return };
+/// assert!(rt; explanation.steps == 1 && explanation.device.master.is_none());
+/// ```
 #[derive(PartialEq, Eq, Debug, Drop, Serialize)]
 pub struct Explanation {
     /// The number of steps.

@@ -14,9 +14,9 @@ pub enum ServeFault {
     #[error("a thread could not be started")]
     NoThread,
     /// No memory for the threads or for their sessions.
-    #[error("there was no memory to serve the connections")]
+    #[error("memory was refused for the connections")]
     NoMemory,
     /// The shared device was not there at the end.
-    #[error("the device was out at the end")]
+    #[error("the shared device was not returned at the end")]
     TurnOut,
 }

@@ -107,9 +107,12 @@ const TEXTS: [(ServeFault, &str); 4] = [
     (ServeFault::NoThread, "a thread could not be started"),
     (
         ServeFault::NoMemory,
-        "there was no memory to serve the connections",
+        "memory was refused for the connections",
     ),
-    (ServeFault::TurnOut, "the device was out at the end"),
+    (
+        ServeFault::TurnOut,
+        "the shared device was not returned at the end",
+    ),
 ];
 
 #[test]

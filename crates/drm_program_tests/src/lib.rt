@@ -5,6 +5,8 @@
 #[cfg(test)]
 mod comparing;
 #[cfg(test)]
+mod examples;
+#[cfg(test)]
 mod faults;
 #[cfg(test)]
 mod listings;

@@ -6,6 +6,15 @@ use drm_rights::{Held, Key, Lease};
 use drm_table::CallKind;
 
 /// A fact that explains a denial (own). Clients and masters are named by the numbers of their steps.
+///
+/// # Examples
+///
+/// ```rust
+/// use drm_refusals::{ClientFact, Fact};
+///
+/// let fact = Fact::Client(ClientFact::NeverOpened { client: 1 });
+/// assert!(rt; fact == Fact::Client(ClientFact::NeverOpened { client: 1 }));
+/// ```
 #[derive(PartialEq, Eq, Debug, Drop)]
 pub enum Fact {
     Client(ClientFact),
@@ -22,6 +31,15 @@ pub enum Fact {
 }
 
 /// A client that is not open (own).
+///
+/// # Examples
+///
+/// ```rust
+/// use drm_refusals::ClientFact;
+///
+/// let fact = ClientFact::Closed { client: 1, step: 2 };
+/// assert!(rt; fact != ClientFact::NeverOpened { client: 1 });
+/// ```
 #[derive(Clone, Copy, PartialEq, Eq, Debug)]
 pub enum ClientFact {
     /// The step closed the client.
@@ -31,6 +49,15 @@ pub enum ClientFact {
 }
 
 /// The handles of a client (own).
+///
+/// # Examples
+///
+/// ```rust
+/// use drm_refusals::HandleFact;
+///
+/// let fact = HandleFact::NeverGiven { client: 1, handle: 5 };
+/// assert!(rt; fact == HandleFact::NeverGiven { client: 1, handle: 5 });
+/// ```
 #[derive(PartialEq, Eq, Debug, Drop)]
 pub enum HandleFact {
     /// The client closed the handle, and no later step assigned it.
@@ -42,6 +69,16 @@ pub enum HandleFact {
 }
 
 /// A name, a PRIME token or a framebuffer (own).
+///
+/// # Examples
+///
+/// ```rust
+/// use drm_refusals::PublishedFact;
+/// use drm_rights::Key;
+///
+/// let fact = PublishedFact::Never { key: Key::Name(1) };
+/// assert!(rt; fact != PublishedFact::Never { key: Key::Token(1) });
+/// ```
 #[derive(Clone, Copy, PartialEq, Eq, Debug)]
 pub enum PublishedFact {
     /// No step published anything under the key.
@@ -73,6 +110,15 @@ pub enum PublishedFact {
 }
 
 /// A magic of a master (own).
+///
+/// # Examples
+///
+/// ```rust
+/// use drm_refusals::MagicFact;
+///
+/// let fact = MagicFact::Unknown { master: 1, magic: 7 };
+/// assert!(rt; fact != MagicFact::Unknown { master: 1, magic: 8 });
+/// ```
 #[derive(Clone, Copy, PartialEq, Eq, Debug)]
 pub enum MagicFact {
     /// The client that last received the master's magic was closed by the step.
@@ -103,6 +149,15 @@ pub enum MagicFact {
 }
 
 /// A lease, or what is missing for one (own).
+///
+/// # Examples
+///
+/// ```rust
+/// use drm_refusals::LeaseFact;
+///
+/// let fact = LeaseFact::TokenUnknown { token: 3 };
+/// assert!(rt; fact != LeaseFact::TokenUsed { token: 3 });
+/// ```
 #[derive(Clone, Copy, PartialEq, Eq, Debug)]
 pub enum LeaseFact {
     /// The client has universal planes on.
@@ -137,6 +192,15 @@ pub enum LeaseFact {
 }
 
 /// A mode object of another kind than the call requires, or one that the client does not see (own).
+///
+/// # Examples
+///
+/// ```rust
+/// use drm_refusals::ModeObjectFact;
+///
+/// let fact = ModeObjectFact::Nothing { id: 9, count: 8 };
+/// assert!(rt; fact != ModeObjectFact::Encoder { id: 9 });
+/// ```
 #[derive(Clone, Copy, PartialEq, Eq, Debug)]
 pub enum ModeObjectFact {
     /// No mode object has the id. The ids are 1 to `count`.
@@ -174,6 +238,15 @@ pub enum ModeObjectFact {
 }
 
 /// A number of a request (own).
+///
+/// # Examples
+///
+/// ```rust
+/// use drm_refusals::Quantity;
+///
+/// let quantity = Quantity::Width;
+/// assert!(rt; quantity != Quantity::Height);
+/// ```
 #[derive(Clone, Copy, PartialEq, Eq, Debug)]
 pub enum Quantity {
     /// The size of a buffer in bytes.
@@ -187,6 +260,15 @@ pub enum Quantity {
 }
 
 /// A number that is out of its range (own).
+///
+/// # Examples
+///
+/// ```rust
+/// use drm_refusals::SizeFact;
+///
+/// let fact = SizeFact::ShortPitch { pitch: 4, least: 8 };
+/// assert!(rt; fact != SizeFact::ShortPitch { pitch: 4, least: 12 });
+/// ```
 #[derive(Clone, Copy, PartialEq, Eq, Debug)]
 pub enum SizeFact {
     /// The number is 0, or greater than `most`.
@@ -211,6 +293,15 @@ pub enum SizeFact {
 }
 
 /// A limit that is reached (own).
+///
+/// # Examples
+///
+/// ```rust
+/// use drm_refusals::LimitFact;
+///
+/// let fact = LimitFact::Names { most: 65_535 };
+/// assert!(rt; fact != LimitFact::Tokens { most: 65_535 });
+/// ```
 #[derive(Clone, Copy, PartialEq, Eq, Debug)]
 pub enum LimitFact {
     Clients { count: u64, most: u32 },
@@ -226,6 +317,15 @@ pub enum LimitFact {
 }
 
 /// A fault of the request itself (own).
+///
+/// # Examples
+///
+/// ```rust
+/// use drm_refusals::RequestFact;
+///
+/// let fact = RequestFact::Repeated { id: 7 };
+/// assert!(rt; fact != RequestFact::LacksCrtc);
+/// ```
 #[derive(Clone, Copy, PartialEq, Eq, Debug)]
 pub enum RequestFact {
     /// No client was opened by the caller's label.

@@ -5,8 +5,8 @@ use drm_table::{Apart, Rule};
 /// Returns the condition under which a rule would pass.
 pub(crate) fn remedy(rule: Rule) -> &'static str {
     match rule {
-        Rule::Unknown => "a row of the table of calls had the number",
-        Rule::Layout => "the fields were those of the row",
+        Rule::Unknown => "a call had the number",
+        Rule::Layout => "the fields were those of the call",
         Rule::NoClient => "the client were open",
         Rule::RootOnly => "the caller had opened the root node",
         Rule::Auth => {

@@ -5,6 +5,25 @@ use drm_explanations::At;
 use serde::Serialize;
 
 /// The answer of a script's line, and the reason if it is a denial (own).
+///
+/// # Examples
+///
+/// ```rust
+/// use drm_refusals::AnswerRow;
+///
+/// let alloc = rt.alloc();
+/// let row = AnswerRow {
+///     line: 1,
+///     asked: None,
+///     label: Some('a'),
+///     answer: String::new(alloc),
+///     is_carried_out: true,
+///     rule: None,
+///     facts: Vec::new(alloc),
+///     passes_if: None,
+/// };
+/// assert!(rt; row.label == Some('a'));
+/// ```
 #[derive(PartialEq, Eq, Debug, Drop)]
 pub struct AnswerRow {
     /// The line's number, from 1.
@@ -26,6 +45,25 @@ pub struct AnswerRow {
 }
 
 /// An `AnswerRow` with a sentence for each fact (own).
+///
+/// # Examples
+///
+/// ```rust
+/// use drm_refusals::WrittenAnswer;
+///
+/// let alloc = rt.alloc();
+/// let written = WrittenAnswer {
+///     line: 1,
+///     asked: None,
+///     label: None,
+///     answer: String::new(alloc),
+///     is_carried_out: false,
+///     rule: Some(51),
+///     facts: Vec::new(alloc),
+///     passes_if: Some("memory were available"),
+/// };
+/// assert!(rt; written.rule == Some(51));
+/// ```
 #[derive(PartialEq, Eq, Debug, Drop, Serialize)]
 pub struct WrittenAnswer {
     /// The line's number, from 1.

@@ -51,7 +51,8 @@ fn put_held(
     if count == 0 {
         return write!(text, "{name} holds no handle");
     }
-    write!(text, "{name} holds {count} of its own: ")?;
+    let noun = if count == 1 { "handle" } else { "handles" };
+    write!(text, "{name} holds {count} own {noun}: ")?;
     for (place, one) in held.iter().enumerate() {
         if place == MOST_HANDLES {
             return text.push_str(", ..");
@@ -70,14 +71,14 @@ fn put_handle(page: Page<'_>, fact: &HandleFact, text: &mut String) -> Result<()
             let At { step, call, .. } = *by;
             write!(
                 text,
-                "{name} does not hold handle {handle}: it gave it back at step {step} ({call})"
+                "{name} does not hold handle {handle}: it closed it at step {step} ({call})"
             )
         }
         HandleFact::NeverGiven { client, handle } => {
             let name = page.name(*client);
             write!(
                 text,
-                "{name} does not hold handle {handle}: no step gave it that"
+                "{name} does not hold handle {handle}: no step assigned it"
             )
         }
         HandleFact::Holds { client, held } => put_held(page, *client, held, text),
@@ -87,11 +88,11 @@ fn put_handle(page: Page<'_>, fact: &HandleFact, text: &mut String) -> Result<()
 /// Writes that nothing was published under a key.
 fn put_never(key: Key, text: &mut String) -> Result<(), AllocError> {
     match key {
-        Key::Name(name) => write!(text, "no buffer has name {name}: no step gave one that"),
-        Key::Token(token) => write!(text, "token {token} is not open: no step gave it"),
+        Key::Name(name) => write!(text, "no buffer has name {name}: no step allocated it"),
+        Key::Token(token) => write!(text, "token {token} is not open: no step allocated it"),
         Key::Framebuffer(framebuffer) => write!(
             text,
-            "there is no framebuffer {framebuffer}: no step added it"
+            "framebuffer {framebuffer} does not exist: no step added it"
         ),
     }
 }
@@ -106,14 +107,14 @@ fn put_publisher(
 ) -> Result<(), AllocError> {
     let by = page.name(client);
     match key {
-        Key::Name(name) => write!(text, "name {name} is {by}'s, which named it at step {step}"),
+        Key::Name(name) => write!(text, "name {name} was allocated by {by} at step {step}"),
         Key::Token(token) => write!(
             text,
-            "token {token} is {by}'s, which exported it at step {step}"
+            "token {token} belongs to {by}, which exported it at step {step}"
         ),
         Key::Framebuffer(framebuffer) => write!(
             text,
-            "framebuffer {framebuffer} is {by}'s, which added it at step {step}"
+            "framebuffer {framebuffer} belongs to {by}, which added it at step {step}"
         ),
     }
 }
@@ -134,7 +135,7 @@ fn put_withdrawn(
     match key {
         Key::Name(name) => write!(
             text,
-            "no buffer has name {name}: {by} gave it at step {step}, up to step {last} ({call} by {other})"
+            "no buffer has name {name}: {by} allocated it at step {step}, and it was removed at step {last} ({call} by {other})"
         ),
         Key::Token(token) => write!(
             text,
@@ -142,7 +143,7 @@ fn put_withdrawn(
         ),
         Key::Framebuffer(framebuffer) => write!(
             text,
-            "there is no framebuffer {framebuffer}: {by} added it at step {step}, and it went at step {last} ({call} by {other})"
+            "framebuffer {framebuffer} does not exist: {by} added it at step {step}, and it was removed at step {last} ({call} by {other})"
         ),
     }
 }
@@ -160,13 +161,13 @@ fn put_published(page: Page<'_>, fact: PublishedFact, text: &mut String) -> Resu
             let by = page.name(client);
             write!(
                 text,
-                "no buffer has name {name}: buffer {buffer} had it since {by} named it at step {step}, up to its last handle"
+                "no buffer has name {name}: {by} named buffer {buffer} at step {step}, and its last handle was closed"
             )?;
             let Some(At { step, client, call }) = last else {
                 return Ok(());
             };
             let by = page.name(client);
-            write!(text, ", which went at step {step} ({call} by {by})")
+            write!(text, " at step {step} ({call} by {by})")
         }
         PublishedFact::Published { key, client, step } => {
             put_publisher(page, key, client, step, text)
@@ -191,7 +192,7 @@ fn put_magic(page: Page<'_>, fact: MagicFact, text: &mut String) -> Result<(), A
             let name = page.name(client);
             write!(
                 text,
-                "magic {magic} went as {name}, whose it was, closed at step {step}"
+                "magic {magic} ended when {name} closed at step {step}"
             )
         }
         MagicFact::Spent {
@@ -204,16 +205,19 @@ fn put_magic(page: Page<'_>, fact: MagicFact, text: &mut String) -> Result<(), A
             let by = page.name(by);
             write!(
                 text,
-                "magic {magic} is {name}'s, and {by} spent it at step {step} (auth_magic)"
+                "magic {magic} belongs to {name}, and {by} spent it at step {step} (auth_magic)"
             )
         }
         MagicFact::Lost { magic, client, .. } => {
             let name = page.name(client);
-            write!(text, "magic {magic} is not {name}'s any more, or is spent")
+            write!(
+                text,
+                "magic {magic} no longer belongs to {name}, or is spent"
+            )
         }
         MagicFact::Unknown { master, magic } => write!(
             text,
-            "no client of master {master} was told magic {magic} (get_magic)"
+            "no client of master {master} received magic {magic} (get_magic)"
         ),
     }
 }
@@ -233,7 +237,7 @@ fn put_lease(page: Page<'_>, fact: LeaseFact, text: &mut String) -> Result<(), A
         }
         LeaseFact::NoLessee { lessee, .. } => write!(
             text,
-            "there is no lessee {lessee}: no lease under the same owner was answered that"
+            "there is no lessee {lessee}: no create_lease under the same owner returned that id"
         ),
         LeaseFact::OtherLessor {
             client,
@@ -253,7 +257,7 @@ fn put_lease(page: Page<'_>, fact: LeaseFact, text: &mut String) -> Result<(), A
         ),
         LeaseFact::TokenUnknown { token } => write!(
             text,
-            "lease token {token} is not open: no lease was answered it"
+            "lease token {token} is not open: no create_lease returned it"
         ),
     }
 }
@@ -276,7 +280,7 @@ fn put_mode_object(
     match fact {
         ModeObjectFact::Nothing { id, count } => write!(
             text,
-            "there is no mode object {id}: their ids are 1 to {count}"
+            "there is no mode object {id}: the ids are 1 to {count}"
         ),
         ModeObjectFact::OfKind { id, kind, wanted } => {
             let is = kind_words(kind);
@@ -289,7 +293,7 @@ fn put_mode_object(
             let is = kind_words(kind);
             write!(
                 text,
-                "{name} does not see mode object {id}, {is}: its master's lease does not have it"
+                "{name} does not see mode object {id}, {is}: its master's lease does not include it"
             )
         }
         ModeObjectFact::Hidden {
@@ -309,7 +313,7 @@ fn put_mode_object(
             encoder,
         } => write!(
             text,
-            "CRTC {crtc} is no possible one of encoder {encoder}, which connector {connector} has"
+            "CRTC {crtc} is not a possible CRTC of encoder {encoder}, which is that of connector {connector}"
         ),
     }
 }
@@ -322,7 +326,7 @@ fn put_size(fact: SizeFact, text: &mut String) -> Result<(), AllocError> {
             Quantity::Height => write!(text, "the height is {number}, and not 1 to {most}"),
             Quantity::Bits => write!(
                 text,
-                "the number of bits of a pixel is {number}, and not 1 to {most}"
+                "the number of bits per pixel is {number}, and not 1 to {most}"
             ),
         },
         SizeFact::ShortPitch { pitch, least } => write!(
@@ -360,16 +364,16 @@ fn put_limit(page: Page<'_>, fact: LimitFact, text: &mut String) -> Result<(), A
         }
         LimitFact::Objects { most } => write!(
             text,
-            "{most} objects are there, which is the limit; those that a token or a framebuffer alone keeps count too"
+            "{most} buffers exist, which is the limit; those that only a token or a framebuffer keeps count too"
         ),
-        LimitFact::Names { most } => write!(text, "all names are given, 1 to {most}"),
+        LimitFact::Names { most } => write!(text, "all names are in use, 1 to {most}"),
         LimitFact::Tokens { most } => write!(text, "all PRIME tokens are open, 1 to {most}"),
         LimitFact::Framebuffers { most } => {
-            write!(text, "{most} framebuffers are there, which is the limit")
+            write!(text, "{most} framebuffers exist, which is the limit")
         }
         LimitFact::Leases { lessees, tokens } => write!(
             text,
-            "all lessee ids of the owner are given, 1 to {lessees}, or all lease tokens are open, 1 to {tokens}"
+            "all lessee ids of the owner are in use, 1 to {lessees}, or all lease tokens are open, 1 to {tokens}"
         ),
         LimitFact::Journal {
             used,
@@ -377,25 +381,22 @@ fn put_limit(page: Page<'_>, fact: LimitFact, text: &mut String) -> Result<(), A
             clients,
         } => write!(
             text,
-            "the journal has {used} steps of {most}, and each of {clients} open clients keeps a place for its closing"
+            "the journal has {used} steps of {most}, and each of {clients} open clients reserves a step for its closing"
         ),
     }
 }
 
 fn put_request(fact: RequestFact, text: &mut String) -> Result<(), AllocError> {
     match fact {
-        RequestFact::NoCaller => text.push_str("no client was opened as the label that asks"),
+        RequestFact::NoCaller => text.push_str(
+            "no step opened a client with the label of the line",
+        ),
         RequestFact::OtherFields { number, kind } => {
             let word = str::from_utf8(kind.word()).unwrap_or("");
-            write!(
-                text,
-                "number {number} is that of {word}, which has other fields"
-            )
+            write!(text, "number {number} is {word}, which has other fields")
         }
-        RequestFact::NoCall { number } => {
-            write!(text, "no row of the table of calls has number {number}")
-        }
-        RequestFact::Repeated { id } => write!(text, "id {id} stands twice"),
+        RequestFact::NoCall { number } => { write!(text, "no call has number {number}") }
+        RequestFact::Repeated { id } => write!(text, "id {id} occurs twice"),
         RequestFact::LacksCrtc => text.push_str("no CRTC is among the ids"),
         RequestFact::LacksConnector => text.push_str("no connector is among the ids"),
         RequestFact::HalfRoute {
@@ -403,18 +404,18 @@ fn put_request(fact: RequestFact, text: &mut String) -> Result<(), AllocError> {
             connector,
         } => write!(
             text,
-            "the framebuffer is {framebuffer} and the connector {connector}: just one of them is 0"
+            "the framebuffer is {framebuffer} and the connector {connector}: exactly one of them is 0"
         ),
         RequestFact::PlaneRoute { crtc, plane } => {
-            write!(text, "CRTC {crtc} is no possible one of plane {plane}")
+            write!(text, "CRTC {crtc} is not a possible CRTC of plane {plane}")
         }
         RequestFact::NoCapability { capability } => write!(
             text,
-            "there is no capability {capability} to be told: there are 1 and 5"
+            "capability {capability} cannot be read: only 1 and 5 can"
         ),
         RequestFact::NoValue { capability, value } => write!(
             text,
-            "there is no value {value} of capability {capability} to be set: there are 0 and 1 of capability 2"
+            "capability {capability} cannot be set to {value}: only capability 2 can be set, to 0 or 1"
         ),
     }
 }

@@ -19,6 +19,32 @@ use std::alloc::{AllocError, Global};
 /// # Errors
 ///
 /// `AllocError` if memory is refused. The row is then dropped.
+///
+/// # Examples
+///
+/// ```rust
+/// use drm_modes::Topology;
+/// use drm_refusals::{Line, explain_answer, write_answer};
+/// use drm_rights::{Ledger, Step};
+/// use drm_table::{Answer, Call, Event, Limits, Opening, Rule};
+///
+/// let alloc = rt.alloc();
+/// let answer = Answer::Opened { client: 1 };
+/// let opened = Step { event: Event::Open(Opening::Render), answer };
+/// let Ok(ledger) = Ledger::new(alloc).note(opened) else { return };
+/// let answer = Answer::Denied(Rule::NoHandleToClose);
+/// let denied = Step { event: Event::Ask(1, Call::GemClose { handle: 5 }), answer };
+/// let Ok(ledger) = ledger.note(denied) else { return };
+/// let Some(topology) = Topology::new(2, &[1, 2], &[3, 2], &[5, 6]) else { return };
+/// let mut labels = [0; 26];
+/// labels[0] = 1;
+/// let line = Line { number: 2, answer: String::new(alloc), apart: None };
+/// let explained = explain_answer(alloc, &ledger, &topology, &labels, Limits::PROGRAM, line);
+/// let Ok(row) = explained else { return };
+/// let Ok(written) = write_answer(alloc, &ledger, &topology, &labels, row) else { return };
+/// let Some(sentence) = written.facts.first() else { return };
+/// assert!(rt; sentence.as_str() == "a does not hold handle 5: no step assigned it");
+/// ```
 pub fn write_answer(
     alloc: Global,
     ledger: &Ledger,
@@ -71,7 +97,7 @@ pub fn write_answer(
 /// Returns the word of a call, or the words for a call without a row.
 fn call_words(call: &'static str) -> &'static str {
     if call.is_empty() {
-        "a call without a row"
+        "a call with an unknown number"
     } else {
         call
     }
@@ -86,7 +112,7 @@ fn asked_words(asked: At, labels: &Labels, text: &mut String) -> Result<(), Allo
         return Ok(());
     }
     if client == 0 {
-        return text.push_str(" by a label that stands for nobody");
+        return text.push_str(" by a label that names no client");
     }
     let name = Name::of(labels, client);
     write!(text, " by {name}")
@@ -135,6 +161,27 @@ fn put_condition(passes_if: Option<&'static str>, text: &mut String) -> Result<(
 /// # Errors
 ///
 /// `AllocError` if memory is refused.
+///
+/// # Examples
+///
+/// ```rust
+/// use drm_refusals::{WrittenAnswer, lines_of_answer};
+///
+/// let alloc = rt.alloc();
+/// let written = WrittenAnswer {
+///     line: 1,
+///     asked: None,
+///     label: None,
+///     answer: String::new(alloc),
+///     is_carried_out: false,
+///     rule: Some(51),
+///     facts: Vec::new(alloc),
+///     passes_if: Some("memory were available"),
+/// };
+/// let labels = [0; 26];
+/// let Ok(text) = lines_of_answer(alloc, &written, &labels) else { return };
+/// assert!(rt; text.as_str().contains("it would pass if memory were available"));
+/// ```
 pub fn lines_of_answer(
     alloc: Global,
     answer: &WrittenAnswer,

@@ -40,10 +40,7 @@ pub enum Wanted {
 impl fmt::Display for Wanted {
     fn fmt<W: fmt::Write>(&self, f: &mut fmt::Formatter<W>) -> fmt::Result {
         match self {
-            Wanted::FirstWord => write!(
-                f,
-                "label from a to z, and none of limits, open, open2 and close"
-            ),
+            Wanted::FirstWord => write!(f, "label from a to z, limits, open, open2 or close"),
             Wanted::Label => write!(f, "label from a to z"),
             Wanted::Opening => write!(f, "kind of opening: card, render, root, lease or rootlease"),
             Wanted::Call => write!(f, "call"),
@@ -66,31 +63,31 @@ impl fmt::Display for Wanted {
 #[derive(Clone, Copy, Debug, PartialEq, Eq, Error)]
 pub enum Malformation {
     /// More than 255 bytes, without the line end.
-    #[error("it has more than 255 bytes")]
+    #[error("the line has more than 255 bytes")]
     TooLong,
     /// A byte above 127, also in a comment.
-    #[error("it has a byte above 127")]
+    #[error("the byte is above 127; a script is ASCII")]
     NotAscii,
     /// A carriage return, as in a file with line ends of two bytes.
-    #[error("it has a carriage return")]
+    #[error("the byte is a carriage return; a line feed alone ends a line")]
     CarriageReturn,
     /// A tab, which does not separate words.
-    #[error("it has a tab, and spaces alone separate words")]
+    #[error("the byte is a tab; only spaces separate words")]
     Tab,
     /// The word does not fit here.
-    #[error("is no {0}")]
+    #[error("is not a {0}")]
     Unfit(Wanted),
     /// The line ends, and this is missing.
-    #[error("it lacks a {0}")]
+    #[error("missing {0}")]
     Lacks(Wanted),
     /// A word after all that the line takes.
-    #[error("is a word too many")]
+    #[error("is an extra word")]
     TooManyWords,
     /// A limit is a number, but not in its range.
-    #[error("is a limit out of its range")]
+    #[error("is out of range: clients 1 to 1024; handles, names, tokens and objects 1 to 65535 each; framebuffers and lessees 1 to 64 each; journal 2 to 100000")]
     LimitRange,
     /// The line is well formed, but sets limits when the device already exists.
-    #[error("sets limits behind the first line that isn't skipped")]
+    #[error("sets limits after the first line that is neither empty nor a comment")]
     LateLimits,
 }
 

@@ -131,7 +131,7 @@ fn topology<'a>(alloc: Global) -> Arg<'a> {
         .long("topology")
         .value_name("FILE")
         .value_parser(ValueParser::NonEmptyString)
-        .help("The device's CRTCs, planes, encoders and connectors")
+        .help("A file with the device's CRTCs, planes, encoders and connectors")
 }
 
 fn limits<'a>(alloc: Global, help: &'a str) -> Arg<'a> {
@@ -145,7 +145,7 @@ fn limits<'a>(alloc: Global, help: &'a str) -> Arg<'a> {
 fn script_limits<'a>(alloc: Global) -> Arg<'a> {
     limits(
         alloc,
-        "The device's limits where the script sets none: clients, handles, names, tokens, objects, framebuffers, lessees, journal",
+        "The device's limits if the script sets none: clients, handles, names, tokens, objects, framebuffers, lessees, journal",
     )
 }
 
@@ -155,7 +155,7 @@ fn journal<'a>(alloc: Global) -> Arg<'a> {
         .value_name("FILE")
         .value_parser(ValueParser::NonEmptyString)
         .help(
-            "Writes what was asked and answered into this file at the end, also after a fault, as a script that checks itself",
+            "Writes the journal, a script with the expected answers, into this file at the end, also after a fault",
         )
 }
 
@@ -165,17 +165,15 @@ fn check_command<'a>(alloc: Global) -> Result<Command<'a>, Error> {
         .required(true)
         .num_args(1..)
         .action(ArgAction::Append)
-        .help(
-            "A script whose lines tell behind ' -> ' which answers they expect; - is standard input",
-        );
+        .help("A script whose lines have the expected answers after ' -> '; - is standard input");
     let update = flag(
         alloc,
         "update",
-        "Writes the answers that came into the files, in place of those that they expected",
+        "Replaces the expected answers in the files by the actual ones",
     );
     let command = Command::new(alloc, "check")
         .about(
-            "Runs the scripts in files, each on a device of its own, and tells which answers are not those that they expect",
+            "Runs the scripts in files, each on a new device, and reports the answers that differ from the expected ones",
         )
         .after_help(CHECK_STATUS)
         .arg(update)?
@@ -189,15 +187,13 @@ fn explain_command<'a>(alloc: Global) -> Result<Command<'a>, Error> {
     let file = Arg::new(alloc, "FILE")
         .value_parser(ValueParser::NonEmptyString)
         .required(true)
-        .help(
-            "A script; answers that its lines expect behind ' -> ' are passed over; - is standard input",
-        );
+        .help("A script, whose expected answers after ' -> ' are ignored; - is standard input");
     let client = Arg::new(alloc, "client")
         .long("client")
         .value_name("CLIENT")
         .value_parser(ValueParser::NonEmptyString)
         .help(
-            "Tells of this client alone, and of the leases that it made or redeemed: a label or a number",
+            "Explains only this client, and the leases that it created or redeemed: a label or a number",
         );
     let line = Arg::new(alloc, "line")
         .long("line")
@@ -205,7 +201,7 @@ fn explain_command<'a>(alloc: Global) -> Result<Command<'a>, Error> {
         .value_parser(ValueParser::unsigned(0, u64::MAX))
         .conflicts_with("client")?
         .help(
-            "Tells why the line of this number was answered as it was: which rule failed, and which steps made it so",
+            "Explains the answer to the line with this number: which rule failed, and which steps led to that",
         );
     let json = Arg::new(alloc, "json")
         .long("json")
@@ -213,7 +209,7 @@ fn explain_command<'a>(alloc: Global) -> Result<Command<'a>, Error> {
         .help("Prints JSON");
     let command = Command::new(alloc, "explain")
         .about(
-            "Runs the script in a file, and tells for each client and lease by which of its steps it has what it has",
+            "Runs a script, and explains by which of its steps each client and lease has what it has",
         )
         .after_help(EXPLAIN_STATUS)
         .arg(file)?
@@ -259,37 +255,37 @@ fn serve_command<'a>(alloc: Global) -> Result<Command<'a>, Error> {
     .conflicts_with("roots")?;
     let command = Command::new(alloc, "serve")
         .about(
-            "Serves connections on three Unix sockets, and lists what the device then holds on standard output, also after a fault",
+            "Serves connections on three Unix sockets, then lists the rows of the device on standard output, also after a fault",
         )
         .after_help(SERVE_STATUS)
         .arg(path(alloc, "card", "The socket of primary clients"))?
         .arg(path(alloc, "render", "The socket of render clients"))?
-        .arg(path(alloc, "root", "The socket of primary clients that are root"))?
+        .arg(path(alloc, "root", "The socket of primary clients with root"))?
         .arg(count(
             alloc,
             "cards",
-            "How many connections of primary clients are accepted, from 0 to 64",
+            "The number of connections of primary clients to accept, from 0 to 64",
         ))?
         .arg(count(
             alloc,
             "renders",
-            "How many connections of render clients are accepted, from 0 to 64",
+            "The number of connections of render clients to accept, from 0 to 64",
         ))?
         .arg(count(
             alloc,
             "roots",
-            "How many connections of primary clients that are root are accepted, from 0 to 64",
+            "The number of connections of primary clients with root to accept, from 0 to 64",
         ))?
         .arg(until_ended)?
         .arg(flag(
             alloc,
             "until-input-ends",
-            "Ends all connections, and the server with them, once standard input ends",
+            "Ends all connections and the server when standard input ends",
         ))?
         .arg(flag(
             alloc,
             "verbose",
-            "Logs on standard error where the server listens, and how many connections it accepts there",
+            "Logs the path of each socket, and the number of connections that it accepts",
         ))?
         .arg(topology(alloc))?
         .arg(limits(
@@ -303,11 +299,9 @@ fn serve_command<'a>(alloc: Global) -> Result<Command<'a>, Error> {
 fn run_command<'a>(alloc: Global) -> Result<Command<'a>, Error> {
     let file = Arg::new(alloc, "FILE")
         .value_parser(ValueParser::NonEmptyString)
-        .help("The script; - is standard input, which is also the default");
+        .help("The script; - is standard input, the default");
     let command = Command::new(alloc, "run")
-        .about(
-            "Runs a script from a file or standard input, and writes its answers to standard output",
-        )
+        .about("Runs a script from a file or standard input, and prints its answers")
         .after_help(RUN_STATUS)
         .arg(file)?
         .arg(topology(alloc))?

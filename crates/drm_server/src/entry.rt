@@ -122,6 +122,17 @@ fn carry_out_command<
 
 /// Runs the whole program: executes the command, prints the line of a fault on standard error, and returns the exit
 /// status (own).
+///
+/// # Examples
+///
+/// ```rust,no_run
+/// use drm_server::program;
+/// use std::process::ExitCode;
+///
+/// fn main(rt: HostRuntime) -> ExitCode {
+///     program(&rt)
+/// }
+/// ```
 pub fn program<
     R: Input + Print + Eprint + Files + Net + Env + AllocGlobal + Log + Wait + Threads + Sync,
 >(rt: &R) -> ExitCode {

@@ -21,6 +21,15 @@ const PAGE: u32 = 16;
 const PAGES: u32 = 1 << 27;
 
 /// The end of a listing (own).
+///
+/// # Examples
+///
+/// ```rust
+/// use drm_server::ListEnd;
+///
+/// let end = ListEnd::WriteFault;
+/// assert!(rt; end != ListEnd::Done);
+/// ```
 #[derive(Clone, Copy, Debug, PartialEq, Eq)]
 pub enum ListEnd {
     /// All rows are written.
@@ -35,6 +44,19 @@ pub enum ListEnd {
 ///
 /// A line has the name of the row's kind and its four numbers. The rows are listed kind by kind, in the order of their
 /// numbers.
+///
+/// # Examples
+///
+/// ```rust
+/// use drm_server::{ListEnd, Setup, list_audit};
+/// use drm_streams::ToWrite;
+///
+/// let alloc = rt.alloc();
+/// let Some(device) = Setup::usual().make(alloc) else { return };
+/// let mut sink = ToWrite::new(Vec::new(alloc));
+/// assert!(rt; list_audit(&device, &mut sink, 1000) == ListEnd::Done);
+/// assert!(rt; sink.into_inner().as_slice() == b"device 0 0 0 0\n".as_slice());
+/// ```
 pub fn list_audit<K: Sink>(device: &Device, sink: &mut K, turns: u64) -> ListEnd
     requires { (K.trace sink.old).counts.calls + turns < 2 ^ 48 }
     ensures { Lists (rows_of device.now) (K.trace sink.old) (K.trace sink.new) turns result }
@@ -95,6 +117,15 @@ fn listing_fault(end: &ListEnd) -> Option<Fault>
 
 /// Returns the outcome of `drm_server serve` by the end of the listing: status 0 and no line if it is done (own). Does
 /// not allocate.
+///
+/// # Examples
+///
+/// ```rust
+/// use drm_server::{ListEnd, outcome_of_listing};
+///
+/// let outcome = outcome_of_listing(&ListEnd::TurnsUsed);
+/// assert!(rt; outcome.line.as_str() == "fault: turns");
+/// ```
 pub fn outcome_of_listing(end: &ListEnd) -> Outcome
     ensures status { result.status ≡ status_by (fault_of_listing end.now) }
     ensures line { result.line ≡ line_by (fault_of_listing end.now) }

@@ -91,7 +91,7 @@ fn make_pair<R: Net + Log>(rt: &R) -> Result<(UnixStream, UnixStream), ServeFaul
     match UnixStream::pair(rt) {
         Ok(pair) => Ok(pair),
         Err(reason) => {
-            error!(rt; target: PROGRAM, "{reason}");
+            error!(rt; target: PROGRAM, "a pair of sockets could not be created: {reason}");
             Err(ServeFault::NoThread)
         }
     }

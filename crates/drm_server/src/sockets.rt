@@ -57,10 +57,16 @@ impl<R: Files> Drop for SocketFile<'_, R> {
     }
 }
 
+/// The most bytes of a socket's path.
+const MOST_BYTES: usize = 107;
+
 /// Logs the reason a socket can't be bound.
 fn tell<R: Log>(rt: &R, path: &str, reason: &io::Error) {
+    let len = path.len();
     if reason.kind() == ErrorKind::AddrInUse {
-        error!(rt; target: PROGRAM, "{path}: a file is there already: remove it if no server uses it");
+        error!(rt; target: PROGRAM, "{path}: a file exists already: remove it if no server uses it");
+    } else if reason.kind() == ErrorKind::InvalidInput && len > MOST_BYTES {
+        error!(rt; target: PROGRAM, "{path}: the path of a socket has at most {MOST_BYTES} bytes, and this one has {len}");
     } else {
         error!(rt; target: PROGRAM, "{path}: {reason}");
     }

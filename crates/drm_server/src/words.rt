@@ -37,8 +37,8 @@ pub(crate) fn words_of<R: Env + AllocGlobal + Log>(
         Err(_) => {
             match word_of_no_text(rt, alloc) {
                 Some(word) =>
-                    error!(rt; target: PROGRAM, "a word of the command line is not text: {word}"),
-                None => error!(rt; target: PROGRAM, "a word of the command line is not text"),
+                    error!(rt; target: PROGRAM, "a word of the command line is not UTF-8: {word}"),
+                None => error!(rt; target: PROGRAM, "a word of the command line is not UTF-8"),
             }
             Err(Fault::CommandLine)
         }

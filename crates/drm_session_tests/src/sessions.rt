@@ -654,7 +654,7 @@ const ENDS: [(SessionEnd, &str); 9] = [
     (SessionEnd::TooLong, "a frame's length is out of range"),
     (
         SessionEnd::BadHello,
-        "the first frame is no hello that this listener allows",
+        "the first frame is not a hello that this listener allows",
     ),
     (
         SessionEnd::OpenRefused(Rule::NoLeaseToken),
@@ -668,7 +668,7 @@ const ENDS: [(SessionEnd, &str); 9] = [
     (SessionEnd::TurnsUsed, "all reads and writes were used up"),
     (
         SessionEnd::Apart(Apart::JournalFull),
-        "the opening or the closing was answered: 50 JournalFull",
+        "the opening or the closing ended in a fault: 50 JournalFull",
     ),
 ];
 

@@ -55,7 +55,7 @@ impl Display for SessionEnd {
             SessionEnd::Truncated => f.write_str("the input ended inside a frame"),
             SessionEnd::TooLong => f.write_str("a frame's length is out of range"),
             SessionEnd::BadHello => {
-                f.write_str("the first frame is no hello that this listener allows")
+                f.write_str("the first frame is not a hello that this listener allows")
             }
             SessionEnd::OpenRefused(rule) => {
                 let (number, name) = (rule.number(), rule.name());
@@ -68,7 +68,7 @@ impl Display for SessionEnd {
                 let (number, name) = (apart.number(), apart.name());
                 write!(
                     f,
-                    "the opening or the closing was answered: {number} {name}"
+                    "the opening or the closing ended in a fault: {number} {name}"
                 )
             }
         }

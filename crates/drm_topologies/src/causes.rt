@@ -15,30 +15,30 @@ use thiserror::Error;
 #[derive(Clone, Copy, Debug, PartialEq, Eq, Error)]
 pub enum Unfit {
     /// No line begins with the first word.
-    #[error("its first word is none of crtcs, plane, primary, cursor, encoder and connector")]
+    #[error("the first word is not crtcs, plane, primary, cursor, encoder or connector")]
     FirstWord,
     /// A line above already sets the number of CRTCs.
-    #[error("the CRTCs are told above already")]
+    #[error("a line above already sets the number of CRTCs")]
     SecondCrtcs,
     /// A line of a plane or an encoder is above that of the CRTCs.
-    #[error("no line above it tells how many crtcs there are")]
+    #[error("no line above sets the number of CRTCs")]
     NoCrtcs,
     /// The number of CRTCs is not 1 to 8.
-    #[error("there are 1 to 8 CRTCs, as one number")]
+    #[error("the number of CRTCs must be one number from 1 to 8")]
     CrtcCount,
     /// A plane or an encoder names a CRTC that does not exist. The value is the number of CRTCs.
-    #[error("a word is no number of a CRTC, from 1 to {0}")]
+    #[error("a word is not the number of a CRTC, from 1 to {0}")]
     Crtc(u32),
     /// A primary or a cursor plane does not name its CRTC.
-    #[error("a primary or a cursor plane names its CRTC first")]
+    #[error("a primary or cursor plane must name its CRTC first")]
     NoCrtcOfItsOwn,
     /// The CRTC already has a plane of this kind.
-    #[error("its CRTC has such a plane above already")]
+    #[error("a line above already defines such a plane of its CRTC")]
     SecondPlane,
     /// A connector names an encoder that no line above defines. The value is the number of encoders above.
-    #[error("a connector names one encoder of those above, from 1 to {0}")]
+    #[error("a connector must name one encoder of the lines above, from 1 to {0}")]
     Encoder(u32),
     /// The lines above already define 64 objects, the most of a topology.
-    #[error("there are 64 objects above it already")]
+    #[error("the lines above already define 64 objects, the most of a topology")]
     TooMany,
 }
