@@ -114,8 +114,8 @@ class ShrinkingTests(FolderCase):
         script = self.folder / "script"
         script.write_text("# a comment\nlimits 4 8 8 8 8 4 4 4\nopen a card\n\n")
         for number, reason in [
-            (0, "no line 0: the script has 4 lines"),
-            (5, "no line 5: the script has 4 lines"),
+            (0, "there is no line 0: the script has 4 lines"),
+            (5, "there is no line 5: the script has 4 lines"),
             (1, "line 1 makes no request"),
             (2, "line 2 makes no request"),
             (4, "line 4 makes no request"),

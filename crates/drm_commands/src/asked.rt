@@ -91,6 +91,16 @@ pub struct Explaining<'a> {
 }
 
 /// The arguments of `drm_server shrink` (own).
+///
+/// # Examples
+///
+/// ```rust
+/// use drm_commands::{AskedDevice, Shrinking};
+///
+/// let device = AskedDevice { topology: None, limits: None };
+/// let shrinking = Shrinking { path: "/dev/null", device, line: 1 };
+/// assert!(rt; shrinking.line == 1);
+/// ```
 #[derive(Clone, Copy, Debug, PartialEq, Eq)]
 pub struct Shrinking<'a> {
     /// The file of the script.

@@ -94,7 +94,7 @@ fn text_of<R: Log>(
 /// Logs that a line can't be explained.
 fn no_answer<R: Log>(rt: &R, path: &str, number: u64, lines: u64) -> Fault {
     if number == 0 || number > lines {
-        error!(rt; target: PROGRAM, "{path}: there is no line {number}: the last line of the script is {lines}");
+        error!(rt; target: PROGRAM, "{path}: there is no line {number}: the script has {lines} lines");
     } else {
         error!(rt; target: PROGRAM, "{path}: line {number} makes no request");
     }

@@ -26,7 +26,7 @@ fn shrink_fault<R: Log>(rt: &R, shrinking: Shrinking<'_>, fault: ShrinkFault) ->
     let Shrinking { path, line, .. } = shrinking;
     match fault {
         ShrinkFault::NoLine(lines) => {
-            error!(rt; target: PROGRAM, "{path}: no line {line}: the script has {lines} lines");
+            error!(rt; target: PROGRAM, "{path}: there is no line {line}: the script has {lines} lines");
             Fault::CommandLine
         }
         ShrinkFault::NoAnswer => {
@@ -44,7 +44,11 @@ fn shrink_fault<R: Log>(rt: &R, shrinking: Shrinking<'_>, fault: ShrinkFault) ->
 /// Logs how far the search came.
 fn tell_search<R: Log>(rt: &R, shrinking: Shrinking<'_>, shrunk: &Shrunk) {
     let Shrinking { path, line, .. } = shrinking;
-    let Shrunk { lines, replayed, .. } = shrunk;
+    let Shrunk {
+        lines,
+        replayed,
+        ..
+    } = shrunk;
     if shrunk.is_minimal {
         info!(rt; target: PROGRAM, "{path}: {lines} of {line} lines are left; {replayed} lines were run");
     } else {
@@ -53,11 +57,7 @@ fn tell_search<R: Log>(rt: &R, shrinking: Shrinking<'_>, shrunk: &Shrunk) {
 }
 
 /// Returns the text of the file, or of standard input.
-fn text_of<R: Input + Files + Log>(
-    rt: &R,
-    alloc: Global,
-    path: &str,
-) -> Result<Vec<u8>, Fault> {
+fn text_of<R: Input + Files + Log>(rt: &R, alloc: Global, path: &str) -> Result<Vec<u8>, Fault> {
     if path == INPUT {
         return read_whole_from(rt, alloc, path, rt.reader());
     }
@@ -86,6 +86,17 @@ fn shrink_asked<R: Input + Files + Print + AllocGlobal + Log>(
 
 /// Prints a shorter script in which a line is answered the same, logs how far the search came, and returns the outcome
 /// of the program (own). Allocates the texts and a device for each trial.
+///
+/// # Examples
+///
+/// ```rust
+/// use drm_commands::{AskedDevice, Shrinking, shrink};
+///
+/// let alloc = rt.alloc();
+/// let device = AskedDevice { topology: None, limits: None };
+/// let shrinking = Shrinking { path: "/dev/null", device, line: 1 };
+/// assert!(rt; shrink(&rt, alloc, shrinking).status == 3);
+/// ```
 pub fn shrink<R: Input + Files + Print + AllocGlobal + Log>(
     rt: &R,
     alloc: Global,

@@ -4,3 +4,4 @@ mod checks;
 mod device;
 mod journals;
 mod runs;
+mod shrinking;

@@ -125,9 +125,15 @@ fn searches_that_end_early_keep_what_they_have(rt: HostRuntime) {
     let Ok(shrunk) = shrink_script(rt.alloc(), &Setup::usual(), text, 3, 0) else {
         rt.abort();
     };
-    let all = b"open a card -> client 1\na version -> version 1 0 0\nb version -> denied 3 NoClient 22\n";
+    let all =
+        b"open a card -> client 1\na version -> version 1 0 0\nb version -> denied 3 NoClient 22\n";
     same(&rt, &shrunk.text.as_slice(), &all.as_slice(), "text");
-    same(&rt, &(shrunk.lines, shrunk.replayed, shrunk.is_minimal), &(3, 0, false), "search");
+    same(
+        &rt,
+        &(shrunk.lines, shrunk.replayed, shrunk.is_minimal),
+        &(3, 0, false),
+        "search",
+    );
 }
 
 #[test]
@@ -138,7 +144,13 @@ fn lines_without_an_answer_are_refused(rt: HostRuntime) {
             Err(came) => same(&rt, &came, &fault, number),
         }
     }
-    let malformed = shrink_script(rt.alloc(), &Setup::usual(), b"open a card\nfly away\na version\n", 3, MOST);
+    let malformed = shrink_script(
+        rt.alloc(),
+        &Setup::usual(),
+        b"open a card\nfly away\na version\n",
+        3,
+        MOST,
+    );
     match malformed {
         Err(ShrinkFault::Malformed(2, _)) => {}
         _ => rt.abort(),

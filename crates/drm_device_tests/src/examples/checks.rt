@@ -2,9 +2,9 @@
 
 use drm_checks::{
     Report, Totals, UpdateFault, check_on, check_script, check_with_cause, is_met, parts_of,
-    put_answered, script_of, update_script, write_malformed, write_silent, write_totals,
+    put_answered, script_of, update_script, use_line, write_malformed, write_silent, write_totals,
 };
-use drm_runs::{ScriptEnd, Setup};
+use drm_runs::{Interpreter, ScriptEnd, Setup};
 use drm_streams::{FromRead, ToWrite};
 use drm_table::Answer;
 
@@ -59,6 +59,11 @@ fn values_from_is_met(rt: HostRuntime) {
         panic!(rt; "refused")
     };
     assert!(rt; fault != UpdateFault::NoMemory);
+    let mut interpreter = Interpreter::new(Setup::usual());
+    let Ok(came) = use_line(&mut interpreter, alloc, 1, b"open a card -> done") else {
+        panic!(rt; "refused")
+    };
+    assert!(rt; came == Some(Ok(Answer::Opened { client: 1 })));
     let mut text = Vec::new(alloc);
     let Ok(_put) = put_answered(&mut text, b"close a", &Ok(Answer::Closed)) else {
         panic!(rt; "refused")

@@ -2,15 +2,14 @@
 
 use drm_checks::Totals;
 use drm_commands::{
-    AskedDevice, Checking, Explaining, Fault, FaultLine, FilesRead, Outcome, Running, asked_device,
-    asked_limits, check, create_asked, explain_script, outcome_by, outcome_of, outcome_of_checks,
-    outcome_of_fault, read_asked, run, update, write_noted,
+    AskedDevice, Checking, Explaining, Fault, FaultLine, FilesRead, Outcome, Running, Shrinking,
+    asked_device, asked_limits, check, create_asked, explain_script, outcome_by, outcome_of,
+    outcome_of_checks, outcome_of_fault, read_asked, run, shrink, update, write_noted,
 };
 use drm_device::Limits;
 use drm_runs::ScriptEnd;
 
 #[test]
-#[tactic(auto, unfolding(drm_table::specs::Limits::are_in_range))]
 fn values(rt: HostRuntime) {
     let device = AskedDevice {
         topology: None,
@@ -45,18 +44,29 @@ fn values(rt: HostRuntime) {
         is_json: false,
     };
     assert!(rt; explaining.line.is_none());
-    assert!(rt; check(&rt, alloc, &checking).status == 0);
-    assert!(rt; asked_limits(&rt, None) == Ok(Limits::PROGRAM));
-    assert!(rt; asked_limits(&rt, Some("1 2 3")) == Err(Fault::CommandLine));
+    let shrinking = Shrinking {
+        path: "/dev/null",
+        device,
+        line: 1,
+    };
+    assert!(rt; shrinking.line == 1);
 }
 
 #[test]
 #[tactic(auto, unfolding(drm_table::specs::Limits::are_in_range))]
-fn values_from_topology_text(rt: HostRuntime) {
+fn values_from_check(rt: HostRuntime) {
+    let alloc = rt.alloc();
     let device = AskedDevice {
         topology: None,
         limits: None,
     };
+    let checking = Checking {
+        files: Vec::new(alloc),
+        device,
+    };
+    assert!(rt; check(&rt, alloc, &checking).status == 0);
+    assert!(rt; asked_limits(&rt, None) == Ok(Limits::PROGRAM));
+    assert!(rt; asked_limits(&rt, Some("1 2 3")) == Err(Fault::CommandLine));
     let Ok(text) = read_asked(&rt, device) else {
         panic!(rt; "refused")
     };
@@ -69,11 +79,16 @@ fn values_from_topology_text(rt: HostRuntime) {
         panic!(rt; "refused")
     };
     assert!(rt; text.is_some());
-    let alloc = rt.alloc();
     let Ok(device) = asked_device(&rt, alloc, None, Limits::PROGRAM) else {
         panic!(rt; "refused")
     };
     assert!(rt; device.journal().is_empty());
+}
+
+#[test]
+#[tactic(auto, unfolding(drm_table::specs::Limits::are_in_range))]
+fn values_from_explain_script(rt: HostRuntime) {
+    let alloc = rt.alloc();
     let device = AskedDevice {
         topology: None,
         limits: None,
@@ -86,11 +101,6 @@ fn values_from_topology_text(rt: HostRuntime) {
         is_json: false,
     };
     assert!(rt; explain_script(&rt, alloc, explaining).status == 0);
-}
-
-#[test]
-#[tactic(auto, unfolding(drm_table::specs::Limits::are_in_range))]
-fn values_from_journal_file(rt: HostRuntime) {
     let read = FilesRead {
         topology: None,
         script: None,
@@ -112,16 +122,12 @@ fn values_from_journal_file(rt: HostRuntime) {
         panic!(rt; "refused")
     };
     assert!(rt; journal.is_none());
-    let alloc = rt.alloc();
-    let read = FilesRead {
-        topology: None,
-        script: None,
-    };
-    let Ok(journal) = create_asked(&rt, None, read) else {
-        panic!(rt; "refused")
-    };
     let written = write_noted(&rt, alloc, journal, None, Limits::PROGRAM, &[]);
     assert!(rt; written.is_ok());
+}
+
+#[test]
+fn values_from_outcome(rt: HostRuntime) {
     let outcome = Outcome {
         status: 0,
         line: FaultLine::empty(),
@@ -129,10 +135,6 @@ fn values_from_journal_file(rt: HostRuntime) {
     assert!(rt; outcome.line.as_str().is_empty());
     let outcome = outcome_of_fault(Fault::Write);
     assert!(rt; outcome.status == 1 && outcome.line.as_str() == "fault: write");
-}
-
-#[test]
-fn values_from_outcome_by(rt: HostRuntime) {
     let outcome = outcome_by(None);
     assert!(rt; outcome.status == 0 && outcome.line.as_str().is_empty());
     let outcome = outcome_of(&ScriptEnd::Malformed(2));
@@ -150,6 +152,12 @@ fn values_from_outcome_by(rt: HostRuntime) {
         journal: None,
     };
     assert!(rt; run(&rt, alloc, running).status == 0);
+    let shrinking = Shrinking {
+        path: "/dev/null",
+        device,
+        line: 1,
+    };
+    assert!(rt; shrink(&rt, alloc, shrinking).status == 3);
     let checking = Checking {
         files: Vec::new(alloc),
         device,
