@@ -1,4 +1,4 @@
--- A client has universal planes on exactly if the history says so, and with them off it holds for overlay planes alone.
+-- A client has the capabilities on that the history says, and with universal planes off it is shown overlay planes alone.
 use Rattle.std.proofs.Common.{◌≡◌, ℕ, ◌+◌, ◌≤◌, ◌==◌, Bool, true, false, not, ◌&&◌, ◌||◌, List, ◌∷◌, Option, None, Some, refl, sym, ap, ◌∙◌, arith}
 use Rattle.std.specs.Prelude.{if◌then◌else◌}
 use Rattle.std.specs.List.{AllByRecursion}
@@ -17,7 +17,8 @@ use Rattle.drm_table.specs.declared.rules.Rule.{Rule}
 use Rattle.drm_modes.specs.Topology.{Topology, is_plane, is_encoder, plane_ids, is_primary_or_cursor}
 use Rattle.drm_lists.proofs.Edits.{either}
 use Rattle.drm_model.specs.Rows.{Rows, ClientRow, step_number, is_client, is_option, client_row, is_open}
-use Rattle.drm_model.specs.Sees.{controls, has_universal, sees, sees_plane, visible_planes}
+use Rattle.drm_model.specs.ClientCapabilities.{ClientCapabilities, no_capabilities, opening_capabilities, with_capability}
+use Rattle.drm_model.specs.Sees.{client_capabilities, controls, has_universal, sees, sees_plane, visible_planes}
 use Rattle.drm_model.specs.Magics.{caller_master, magic_client, is_current, is_master}
 use Rattle.drm_model.specs.Calls.{meaning}
 use Rattle.drm_model.specs.Verdict.{verdict}
@@ -27,7 +28,7 @@ use Rattle.drm_model.specs.Reply.{reply, reply_by, answer_of}
 use Rattle.drm_model.proofs.Leased.{rules_hold}
 use Rattle.drm_history.specs.History.{AnsweredEvent, next_number}
 use Rattle.drm_authority.specs.Effects.{effect, is_accepted}
-use Rattle.drm_authority.specs.Shown.{universal_by, is_universal_in, ShowsOverlays, KeepsToOverlays}
+use Rattle.drm_authority.specs.Shown.{capabilities_by, capabilities_in, is_universal_in, ShowsOverlays, KeepsToOverlays}
 use Rattle.drm_authority.proofs.Runs.{IsReached, replied, denied, carried}
 use Rattle.drm_authority.proofs.Rules.{caller_open}
 use Rattle.drm_authority.proofs.Effects.{denied_nothing}
@@ -37,7 +38,7 @@ use Rattle.drm_model.specs.Clients.{opened}
 use Rattle.drm_model.proofs.StepNumbers.{new_primary}
 
 abbrev pub CapableTold : List AnsweredEvent → ClientRow → Type 0
-CapableTold past row = row.universal ≡ is_universal_in past row.client
+CapableTold past row = row.capabilities ≡ capabilities_in past row.client
 
 abbrev pub CapablesTold : List AnsweredEvent → Rows → Type 0
 CapablesTold past w = AllByRecursion (CapableTold past) w.clients
@@ -52,49 +53,55 @@ aged past w r a = all_both (CapableTold past) (λ (row : ClientRow). row.client 
 
 module _ (past : List AnsweredEvent) (w : Rows) (r : IsReached past w) where
   -- an older client is unchanged where another opens
-  still : (universal : Bool) (row : ClientRow) → Aged past w row → row.universal ≡ (if next_number past == row.client then universal else is_universal_in past row.client)
-  still universal row h =
+  still : (set : ClientCapabilities) (row : ClientRow) → Aged past w row → row.capabilities ≡ (if next_number past == row.client then set else capabilities_in past row.client)
+  still set row h =
       let steps = r.steps in
       let older = h.1 in
-      h.0 ∙ sym (ap (λ b. if b then universal else is_universal_in past row.client) (flipped row.client (next_number past) (less-differ row.client (next_number past) (omega (arith, older, steps)))))
+      h.0 ∙ sym (ap (λ b. if b then set else capabilities_in past row.client) (flipped row.client (next_number past) (less-differ row.client (next_number past) (omega (arith, older, steps)))))
 
   -- a new one is as its opening says
-  new : (universal : Bool) (n : ℕ) → n ≡ step_number w → universal ≡ (if next_number past == n then universal else is_universal_in past n)
-  new universal n e =
+  new : (set : ClientCapabilities) (n : ℕ) → n ≡ step_number w → set ≡ (if next_number past == n then set else capabilities_in past n)
+  new set n e =
       let steps = r.steps in
       let same : (next_number past == n) ≡ true = ap (λ m. next_number past == m) (e ∙ ap (λ m. m + 1) steps) ∙ itself (next_number past) in
-      sym (ap (λ b. if b then universal else is_universal_in past n) same)
+      sym (ap (λ b. if b then set else capabilities_in past n) same)
     where
       itself : (m : ℕ) → (m == m) ≡ true
       itself m = grind (arith, nat_tests)
 
-  primary_universal : (root universal : Bool) (m : Option ℕ) → (primary_row w root universal m).universal ≡ universal
-  primary_universal root universal None = refl
-  primary_universal root universal (Some m) = refl
+  primary_capabilities : (root universal : Bool) (m : Option ℕ) → (primary_row w root universal m).capabilities ≡ opening_capabilities universal
+  primary_capabilities root universal None = refl
+  primary_capabilities root universal (Some m) = refl
 
   opened_primary : (root universal : Bool) → CapablesTold past w → CapablesTold (carried w (Open (Primary root universal)) ∷ past) (journaled (swept (changed w (Open (Primary root universal)))))
-  unfolding is_universal_in effect answer_of
+  unfolding capabilities_in effect answer_of
   opened_primary root universal a =
       let row = primary_row w root universal w.device_master in
-      clients_after w (CapableTold (carried w (Open (Primary root universal)) ∷ past)) (Open (Primary root universal)) (Aged past w) (still universal)
-      (primary_universal root universal w.device_master ∙ new universal row.client (new_primary w root universal w.device_master)) (aged past w r a)
+      clients_after w (CapableTold (carried w (Open (Primary root universal)) ∷ past)) (Open (Primary root universal)) (Aged past w) (still (opening_capabilities universal))
+      (primary_capabilities root universal w.device_master ∙ new (opening_capabilities universal) row.client (new_primary w root universal w.device_master)) (aged past w r a)
 
   opened_render : CapablesTold past w → CapablesTold (carried w (Open Render) ∷ past) (journaled (swept (changed w (Open Render))))
-  unfolding is_universal_in effect answer_of
-  opened_render a = clients_after w (CapableTold (carried w (Open Render) ∷ past)) (Open Render) (Aged past w) (still true) (new true (step_number w) refl) (aged past w r a)
+  unfolding capabilities_in effect answer_of
+  opened_render a = clients_after w (CapableTold (carried w (Open Render) ∷ past)) (Open Render) (Aged past w) (still (opening_capabilities true)) (new (opening_capabilities true) (step_number w) refl) (aged past w r a)
 
   opened_lease : (token : ℕ) (root universal : Bool) → CapablesTold past w → CapablesTold (carried w (Open (Lease token root universal)) ∷ past) (journaled (swept (changed w (Open (Lease token root universal)))))
-  unfolding is_universal_in effect answer_of
+  unfolding capabilities_in effect answer_of
   opened_lease token root universal a =
-      clients_after w (CapableTold (carried w (Open (Lease token root universal)) ∷ past)) (Open (Lease token root universal)) (Aged past w) (still universal) (new universal (step_number w) refl) (aged past w r a)
+      clients_after w (CapableTold (carried w (Open (Lease token root universal)) ∷ past)) (Open (Lease token root universal)) (Aged past w) (still (opening_capabilities universal)) (new (opening_capabilities universal) (step_number w) refl) (aged past w r a)
 
 -- SET_CLIENT_CAP
-capable : (past : List AnsweredEvent) (c : ℕ) (on : Bool) (row : ClientRow) → CapableTold past row →
-    (if is_client c row then record row { universal = on } else row).universal ≡ (if c == (if is_client c row then record row { universal = on } else row).client then on else is_universal_in past (if is_client c row then record row { universal = on } else row).client)
-capable past c on row h =
-    elim (is_client c row) as (λ b. is_client c row ≡ b → (if b then record row { universal = on } else row).universal ≡ (if c == (if b then record row { universal = on } else row).client then on else is_universal_in past (if b then record row { universal = on } else row).client)) [
-      | true ↦ λ e. sym (ap (λ b. if b then on else is_universal_in past row.client) (turned row.client c e))
-      | false ↦ λ e. h ∙ sym (ap (λ b. if b then on else is_universal_in past row.client) (flipped row.client c e))
+abbrev put : ℕ → Bool → ClientRow → ClientRow
+put cap on row = record row { capabilities = with_capability cap on row.capabilities }
+
+abbrev put_in : List AnsweredEvent → ℕ → ℕ → Bool → ℕ → ClientCapabilities
+put_in past c cap on d = if c == d then with_capability cap on (capabilities_in past d) else capabilities_in past d
+
+capable : (past : List AnsweredEvent) (c cap : ℕ) (on : Bool) (row : ClientRow) → CapableTold past row →
+    (if is_client c row then put cap on row else row).capabilities ≡ put_in past c cap on (if is_client c row then put cap on row else row).client
+capable past c cap on row h =
+    elim (is_client c row) as (λ b. is_client c row ≡ b → (if b then put cap on row else row).capabilities ≡ put_in past c cap on (if b then put cap on row else row).client) [
+      | true ↦ λ e. ap (with_capability cap on) h ∙ sym (ap (λ b. if b then with_capability cap on (capabilities_in past row.client) else capabilities_in past row.client) (turned row.client c e))
+      | false ↦ λ e. h ∙ sym (ap (λ b. if b then with_capability cap on (capabilities_in past row.client) else capabilities_in past row.client) (flipped row.client c e))
     ] refl
   where
     turned : (m n : ℕ) → (m == n) ≡ true → (n == m) ≡ true
@@ -107,18 +114,18 @@ mastering past w c false false row h =
     elim (is_client c row) as (λ b. CapableTold past (if b then record row { authenticated = true; once_master = true; is_master = true; master = Some (step_number w) } else row)) [ true ↦ h | false ↦ h ]
 
 asked : (past : List AnsweredEvent) (w : Rows) (c : ℕ) (call : Call) → CapablesTold past w → CapablesTold (carried w (Ask c call) ∷ past) (journaled (swept (changed w (Ask c call))))
-unfolding is_universal_in effect answer_of meaning
+unfolding capabilities_in effect answer_of meaning
 asked past w c Version a = clients_after w (CapableTold past) (Ask c Version) (CapableTold past) (λ row h. h) tt a
-asked past w c (SetClientCap cap value) a = clients_after w (CapableTold (carried w (Ask c (SetClientCap cap value)) ∷ past)) (Ask c (SetClientCap cap value)) (CapableTold past) (λ row h. capable past c (value == 1) row h) tt a
+asked past w c (SetClientCap cap value) a = clients_after w (CapableTold (carried w (Ask c (SetClientCap cap value)) ∷ past)) (Ask c (SetClientCap cap value)) (CapableTold past) (λ row h. capable past c cap (value == 1) row h) tt a
 asked past w c (AuthMagic magic) a = clients_after w (CapableTold past) (Ask c (AuthMagic magic)) (CapableTold past) (λ row h. either (CapableTold past) (is_option row.client (magic_client w (caller_master w c) magic)) (record row { authenticated = true }) row h h) tt a
 asked past w c SetMaster a = clients_after w (CapableTold past) (Ask c SetMaster) (CapableTold past) (λ row h. mastering past w c (is_current w c) (is_master w c) row h) tt a
 asked past w c call a = clients_after w (CapableTold past) (Ask c call) (CapableTold past) (λ row h. h) tt a
 
 closed : (past : List AnsweredEvent) (w : Rows) (c : ℕ) → CapablesTold past w → CapablesTold (carried w (Close c) ∷ past) (journaled (swept (changed w (Close c))))
-unfolding is_universal_in effect answer_of
+unfolding capabilities_in effect answer_of
 closed past w c a = clients_after w (CapableTold past) (Close c) (CapableTold past) (λ row h. h) tt a
 
--- If the history says which clients have universal planes on, that is still so after an accepted event.
+-- If the history says which capabilities each client has on, that is still so after an accepted event.
 pub capables_carried : (past : List AnsweredEvent) (w : Rows) (event : Event) → IsReached past w → CapablesTold past w → CapablesTold (carried w event ∷ past) (journaled (swept (changed w event)))
 capables_carried past w (Open (Primary root universal)) r a = opened_primary past w r root universal a
 capables_carried past w (Open Render) r a = opened_render past w r a
@@ -126,21 +133,25 @@ capables_carried past w (Open (Lease token root universal)) r a = opened_lease p
 capables_carried past w (Ask c call) r a = asked past w c call a
 capables_carried past w (Close c) r a = closed past w c a
 
--- If the history says which clients have universal planes on, that is still so after a denial.
+-- If the history says which capabilities each client has on, that is still so after a denial.
 pub capables_denied : (past : List AnsweredEvent) (w : Rows) (event : Event) (rule : Rule) → CapablesTold past w → CapablesTold (denied event rule ∷ past) (journaled w)
-unfolding is_universal_in
+unfolding capabilities_in
 capables_denied past w event rule a =
-    all_weaker (CapableTold past) (CapableTold (denied event rule ∷ past)) (λ row h. h ∙ sym (ap (λ d. universal_by d (next_number past) row.client (is_universal_in past row.client)) (denied_nothing event rule))) w.clients a
+    all_weaker (CapableTold past) (CapableTold (denied event rule ∷ past)) (λ row h. h ∙ sym (ap (λ d. capabilities_by d (next_number past) row.client (capabilities_in past row.client)) (denied_nothing event rule))) w.clients a
 
--- An open client has universal planes on exactly if the history says so.
-pub capable_told : (past : List AnsweredEvent) (w : Rows) → CapablesTold past w → (c : ℕ) → is_open w c ≡ true → has_universal w c ≡ is_universal_in past c
+-- An open client has the capabilities on that the history says.
+pub capable_told : (past : List AnsweredEvent) (w : Rows) → CapablesTold past w → (c : ℕ) → is_open w c ≡ true → client_capabilities w c ≡ capabilities_in past c
 capable_told past w a c opened = by (client_row w c) refl opened
   where
-    by : (o : Option ClientRow) → client_row w c ≡ o → is_some o ≡ true → option_map_or (λ (row : ClientRow). row.universal) o false ≡ is_universal_in past c
+    by : (o : Option ClientRow) → client_row w c ≡ o → is_some o ≡ true → option_map_or (λ (row : ClientRow). row.capabilities) o no_capabilities ≡ capabilities_in past c
     by None e k = absurd (let n : false ≡ true = k in cc)
     by (Some row) e k =
         let it = found (is_client c) (CapableTold past) row w.clients a e in
-        it.1 ∙ ap (is_universal_in past) (eqb-true row.client c it.0)
+        it.1 ∙ ap (capabilities_in past) (eqb-true row.client c it.0)
+
+-- An open client has universal planes on exactly if the history says so.
+pub universal_told : (past : List AnsweredEvent) (w : Rows) → CapablesTold past w → (c : ℕ) → is_open w c ≡ true → has_universal w c ≡ is_universal_in past c
+universal_told past w a c opened = ap (λ (k : ClientCapabilities). k.universal_planes) (capable_told past w a c opened)
 
 -- ---- what a client with universal planes off is answered
 
@@ -179,5 +190,5 @@ accepted t w c call None e f h = f e
 pub keeps_to_overlays : (past : List AnsweredEvent) (w : Rows) (event : Event) → CapablesTold past w → KeepsToOverlays w.topology (replied w event) past
 unfolding reply
 keeps_to_overlays past w (Open opening) a = tt
-keeps_to_overlays past w (Ask c call) a = λ off h. accepted w.topology w c call (verdict w (Ask c call)) refl (λ v. shows w c (capable_told past w a c (caller_open w c call v) ∙ off) call v) h
+keeps_to_overlays past w (Ask c call) a = λ off h. accepted w.topology w c call (verdict w (Ask c call)) refl (λ v. shows w c (universal_told past w a c (caller_open w c call v) ∙ off) call v) h
 keeps_to_overlays past w (Close c) a = tt

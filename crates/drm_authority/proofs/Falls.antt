@@ -78,9 +78,9 @@ without_up last true None owner h = h
 without_up last false master owner h = h
 
 transition_up : (d : Effect) (number : ℕ) (lease : ℕ → Option ℕ) (s : MasterState) → ((token : ℕ) → UpTo number (lease token)) → StandsUp number s → StandsUp number (transition d number lease s)
-transition_up (OpensPrimary root universal) number lease s up h = primary_up number s.owner s h.owner h
+transition_up (OpensPrimary root capabilities) number lease s up h = primary_up number s.owner s h.owner h
 transition_up OpensRender number lease s up h = record { owner = h.owner; master = client_up number number false None s (none_up number) h }
-transition_up (Redeems token root universal) number lease s up h = record { owner = h.owner; master = client_up number number true (lease token) s (up token) h }
+transition_up (Redeems token root capabilities) number lease s up h = record { owner = h.owner; master = client_up number number true (lease token) s (up token) h }
 transition_up (Closes c) number lease s up h = record { owner = without_up number (s.is_master c) (s.master c) s.owner h.owner; master = h.master }
 transition_up (SetsMaster c) number lease s up h = set_up number c (s.is_master c) s h
 transition_up DropsMaster number lease s up h = record { owner = none_up number; master = h.master }

@@ -89,7 +89,7 @@ ended_lessees_see_nothing h = at_each_step (Lending h.topology) (keeps_lending h
 
 -- ---- of capabilities
 
--- An open client has universal planes on exactly if the history says so.
+-- An open client has the capabilities on that the history says.
 pub capabilities_follow : (h : DeviceValue) → CapabilitiesFollow (rows_of h) (history_of h)
 capabilities_follow h c opened = capable_told (history_of h) (rows_of h) (lending h).2 c opened
 

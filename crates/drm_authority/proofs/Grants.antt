@@ -39,7 +39,7 @@ use Rattle.drm_authority.specs.Shown.{is_universal_in}
 use Rattle.drm_authority.proofs.Runs.{IsReached, denied, carried}
 use Rattle.drm_authority.proofs.Rules.{caller_open, closer_open, revoker_current}
 use Rattle.drm_authority.proofs.Effects.{denied_nothing}
-use Rattle.drm_authority.proofs.Capable.{CapablesTold, capables_carried, capables_denied, capable_told}
+use Rattle.drm_authority.proofs.Capable.{CapablesTold, capables_carried, capables_denied, universal_told}
 use Rattle.drm_authority.proofs.Stands.{row_stands, open_stands}
 use Rattle.drm_authority.proofs.Held.{is_there, is_lease_held, LeaseHeld, Held, lease_there, master_there, own_there, row_there}
 use Rattle.drm_authority.proofs.Lessors.{Descended, descended_denied, descended_carried, IdTold, own_told, lessor_same, under_same, owner_same}
@@ -219,7 +219,7 @@ module _ (t : Topology) (past : List AnsweredEvent) (w : Rows) (p : Descended pa
   lent_told ids x =
       among-append ids (brought_along w c ids) x
       ∙ ap (λ b. is_among ids x || b) (along w.topology (controls w c) ids x (has_universal w c))
-      ∙ (λ i. is_among ids x || (not (capable_told past w capable c opened i) && is_plane_of (top i) ids x && controlled_told x i))
+      ∙ (λ i. is_among ids x || (not (universal_told past w capable c opened i) && is_plane_of (top i) ids x && controlled_told x i))
 
 leased_told : (t : Topology) (past : List AnsweredEvent) (w : Rows) (c : ℕ) (ids : List ℕ) → IsReached past w → verdict w (Ask c (CreateLease ids)) ≡ None → Descended past w → CapablesTold past w → w.topology ≡ t → GrantsTold t past w → GrantsTold t (carried w (Ask c (CreateLease ids)) ∷ past) (journaled (swept (changed w (Ask c (CreateLease ids)))))
 unfolding granted ends swept changed effect answer_of meaning

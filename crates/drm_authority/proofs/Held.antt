@@ -20,7 +20,8 @@ use Rattle.drm_model.specs.Endings.{is_open_lease}
 use Rattle.drm_model.specs.Masters.{new_master, master_of}
 use Rattle.drm_model.specs.Leases.{ended, lease_master}
 use Rattle.drm_model.specs.Magics.{caller_master, magic_client, is_current, is_master, mastered, with_authenticated, with_master}
-use Rattle.drm_model.specs.Capabilities.{with_universal}
+use Rattle.drm_model.specs.ClientCapabilities.{with_capability}
+use Rattle.drm_model.specs.Capabilities.{with_client_capability}
 use Rattle.drm_model.specs.Clients.{opened, opened_primary, closed, ended_if, ended_own}
 use Rattle.drm_model.specs.Calls.{meaning}
 use Rattle.drm_model.specs.Verdict.{verdict}
@@ -161,7 +162,7 @@ set_there w c false false row h =
 client_there : (w : Rows) (event : Event) (row : ClientRow) → MasterThere (changed w event).masters row → MasterThere (changed w event).masters (client_after w event row)
 unfolding changed meaning
 client_there w (Ask c (AuthMagic magic)) row h = either (MasterThere w.masters) (is_option row.client (magic_client w (caller_master w c) magic)) (record row { authenticated = true }) row h h
-client_there w (Ask c (SetClientCap cap value)) row h = either (MasterThere w.masters) (is_client c row) (record row { universal = value == 1 }) row h h
+client_there w (Ask c (SetClientCap cap value)) row h = either (MasterThere w.masters) (is_client c row) (record row { capabilities = with_capability cap (value == 1) row.capabilities }) row h h
 client_there w (Ask c SetMaster) row h = set_there w c (is_current w c) (is_master w c) row h
 client_there w (Ask c call) row h = h
 client_there w (Open opening) row h = h
@@ -246,10 +247,10 @@ pub held_authenticated : (test : ClientRow → Bool) (rows : List ClientRow) (m 
 held_authenticated test rows m h =
     any_mapped (λ _. Unit {0}) (holds m) (holds m) _ (λ (row : ClientRow) _ e. either (λ (x : ClientRow). holds m x ≡ true) (test row) (record row { authenticated = true }) row e e) rows (all_each (λ (row : ClientRow). Unit {0}) (λ _. tt) rows) h
 
--- A client that holds a master still does if universal planes are set for some clients.
-pub held_capable : (test : ClientRow → Bool) (on : Bool) (rows : List ClientRow) (m : ℕ) → is_client_held rows m ≡ true → is_client_held (map (λ (row : ClientRow). if test row then record row { universal = on } else row) rows) m ≡ true
-held_capable test on rows m h =
-    any_mapped (λ _. Unit {0}) (holds m) (holds m) _ (λ (row : ClientRow) _ e. either (λ (x : ClientRow). holds m x ≡ true) (test row) (record row { universal = on }) row e e) rows (all_each (λ (row : ClientRow). Unit {0}) (λ _. tt) rows) h
+-- A client that holds a master still does if a capability is set for some clients.
+pub held_capable : (test : ClientRow → Bool) (cap : ℕ) (on : Bool) (rows : List ClientRow) (m : ℕ) → is_client_held rows m ≡ true → is_client_held (map (λ (row : ClientRow). if test row then record row { capabilities = with_capability cap on row.capabilities } else row) rows) m ≡ true
+held_capable test cap on rows m h =
+    any_mapped (λ _. Unit {0}) (holds m) (holds m) _ (λ (row : ClientRow) _ e. either (λ (x : ClientRow). holds m x ≡ true) (test row) (record row { capabilities = with_capability cap on row.capabilities }) row e e) rows (all_each (λ (row : ClientRow). Unit {0}) (λ _. tt) rows) h
 
 -- a client that is a master holds its own
 own_held : (w : Rows) (c : ℕ) → is_master w c ≡ true → IfSome (master_of w c) (λ m. is_client_held w.clients m ≡ true)
@@ -309,11 +310,11 @@ closed_device past w a c None e opened h = absurd (let n : false ≡ true = open
 closed_device past w a c (Some row) e opened h = let told = row_stands (master_state past) w c row a.clients e in close_device past w a c row.is_master row.master (sym told.0) (sym told.1) h
 
 asked_device : (past : List AnsweredEvent) (w : Rows) (c : ℕ) (call : Call) → verdict w (Ask c call) ≡ None → Held w → DeviceHeld (changed w (Ask c call))
-unfolding changed meaning with_object with_authenticated with_universal ended
+unfolding changed meaning with_object with_authenticated with_client_capability ended
 asked_device past w c SetMaster v h = set_device w c (is_current w c) (is_master w c) refl (caller_open w c SetMaster v) h
 asked_device past w c DropMaster v h = tt
 asked_device past w c (AuthMagic magic) v h = if_some (λ m. is_client_held w.clients m ≡ true) (λ m. is_client_held (changed w (Ask c (AuthMagic magic))).clients m ≡ true) (λ m e. held_authenticated (λ row. is_option row.client (magic_client w (caller_master w c) magic)) w.clients m e) w.device_master h.2
-asked_device past w c (SetClientCap cap value) v h = if_some (λ m. is_client_held w.clients m ≡ true) (λ m. is_client_held (changed w (Ask c (SetClientCap cap value))).clients m ≡ true) (λ m e. held_capable (is_client c) (value == 1) w.clients m e) w.device_master h.2
+asked_device past w c (SetClientCap cap value) v h = if_some (λ m. is_client_held w.clients m ≡ true) (λ m. is_client_held (changed w (Ask c (SetClientCap cap value))).clients m ≡ true) (λ m e. held_capable (is_client c) cap (value == 1) w.clients m e) w.device_master h.2
 asked_device past w c call v h = h.2
 
 -- After an accepted event a client holds the device's master, if the device has one.

@@ -13,6 +13,7 @@ use Rattle.drm_table.specs.declared.events.Event.TheVariants.{Open, Ask, Close}
 use Rattle.drm_table.specs.declared.events.Opening.TheVariants.{Primary, Render, Lease}
 use Rattle.drm_table.specs.declared.rules.Rule.{Rule}
 use Rattle.drm_model.specs.Rows.{Rows, ClientRow, step_number, is_option, is_client}
+use Rattle.drm_model.specs.ClientCapabilities.{with_capability}
 use Rattle.drm_model.specs.Magics.{caller_master, magic_client, is_current, is_master}
 use Rattle.drm_model.specs.Calls.{meaning}
 use Rattle.drm_model.specs.Verdict.{verdict}
@@ -41,12 +42,12 @@ AuthsTold past w = AllByRecursion (AuthTold past) w.clients
 -- ---- who opened as root
 
 root_by_born : (d : Effect) (n c : ℕ) → n < c → is_root_by d n c ≡ false
-root_by_born (OpensPrimary root universal) n c lt = ap (λ b. root && b) (less-differ n c lt) ∙ nothing_and root
+root_by_born (OpensPrimary root capabilities) n c lt = ap (λ b. root && b) (less-differ n c lt) ∙ nothing_and root
   where
     nothing_and : (b : Bool) → (b && false) ≡ false
     nothing_and true = refl
     nothing_and false = refl
-root_by_born (Redeems token root universal) n c lt = ap (λ b. root && b) (less-differ n c lt) ∙ nothing_and root
+root_by_born (Redeems token root capabilities) n c lt = ap (λ b. root && b) (less-differ n c lt) ∙ nothing_and root
   where
     nothing_and : (b : Bool) → (b && false) ≡ false
     nothing_and true = refl
@@ -188,7 +189,7 @@ module _ (past : List AnsweredEvent) (w : Rows) (r : IsReached past w) (a : Stan
   asked c (AuthMagic magic) v h = ask_auth c magic v h
   asked c (SetClientCap cap value) v h =
       clients_after w (AuthTold past) (Ask c (SetClientCap cap value)) (AuthTold past)
-      (λ row k. elim (is_client c row) as (λ b. AuthTold past (if b then record row { universal = value == 1 } else row)) [ true ↦ k | false ↦ k ]) tt h
+      (λ row k. elim (is_client c row) as (λ b. AuthTold past (if b then record row { capabilities = with_capability cap (value == 1) row.capabilities } else row)) [ true ↦ k | false ↦ k ]) tt h
   asked c call v h = clients_after w (AuthTold (carried w (Ask c call) ∷ past)) (Ask c call) (AuthTold past) (λ row k. k) tt h
 
   -- If the history says which clients are authenticated, that is still so after an accepted event.

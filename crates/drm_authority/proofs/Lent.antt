@@ -22,7 +22,7 @@ use Rattle.drm_model.specs.Endings.{is_open_lease}
 use Rattle.drm_model.specs.Masters.{master_row, lessor_of, is_under}
 use Rattle.drm_model.specs.Leases.{ended, lease_master, lessee_master, new_lessee, grant, leased}
 use Rattle.drm_model.specs.Magics.{caller_master, magic_client, is_current, is_master, mastered, with_authenticated}
-use Rattle.drm_model.specs.Capabilities.{with_universal}
+use Rattle.drm_model.specs.Capabilities.{with_client_capability}
 use Rattle.drm_model.specs.Clients.{opened, opened_primary, closed, ended_if, ended_own}
 use Rattle.drm_model.specs.Calls.{meaning}
 use Rattle.drm_model.specs.Verdict.{verdict}
@@ -127,10 +127,10 @@ lent_held w c (x ∷ xs) = (
 )
 
 asked_leases : (past : List AnsweredEvent) (w : Rows) (c : ℕ) (call : Call) → verdict w (Ask c call) ≡ None → StandsBy past w → Held w → LeasesHeld (changed w (Ask c call))
-unfolding LeasesHeld changed meaning with_object with_authenticated with_universal ended
+unfolding LeasesHeld changed meaning with_object with_authenticated with_client_capability ended
 asked_leases past w c Version v a h = h.3
 asked_leases past w c SetMaster v a h = set_leases past w a c (is_current w c) (is_master w c) (caller_open w c SetMaster v) refl h
-asked_leases past w c (SetClientCap cap value) v a h = more_held w (changed w (Ask c (SetClientCap cap value))) (λ m e. e) (λ m e. held_capable (is_client c) (value == 1) w.clients m e) h.3
+asked_leases past w c (SetClientCap cap value) v a h = more_held w (changed w (Ask c (SetClientCap cap value))) (λ m e. e) (λ m e. held_capable (is_client c) cap (value == 1) w.clients m e) h.3
 asked_leases past w c (AuthMagic magic) v a h = more_held w (changed w (Ask c (AuthMagic magic))) (λ m e. e) (λ m e. held_authenticated (λ row. is_option row.client (magic_client w (caller_master w c) magic)) w.clients m e) h.3
 asked_leases past w c (CreateLease ids) v a h =
     let more = record w { masters = w.masters ++ new_lessee w (caller_master w c) ∷ [] } in

@@ -157,11 +157,11 @@ module _ (past : List AnsweredEvent) (c : ℕ) (told : Becomes past c) (newborn 
         ] refl
 
   become_by : (d : Effect) → SetsOld d (next_number past) → BecomeBy past d c
-  become_by (OpensPrimary root universal) old =
+  become_by (OpensPrimary root capabilities) old =
       let is = primary_is (next_number past) c (owner_in past) (master_state past) in
       let so = opens (opened_primary (owner_in past) (next_number past)) in
       (is.0 ∙ so.0, is.1 ∙ so.1)
-  become_by (Redeems token root universal) old = opens (record { is_master = true; master = lease_in past token })
+  become_by (Redeems token root capabilities) old = opens (record { is_master = true; master = lease_in past token })
   become_by OpensRender old = opens opened_apart
   become_by (SetsMaster caller) old = sets caller old (is_master_in past caller) refl
   become_by Nothing old = stays
@@ -190,11 +190,11 @@ module _ (past : List AnsweredEvent) (c : ℕ) (late : next_number past < c) (no
     none_sets false = (ap (λ b. if b then true else is_master_in past c) not_caller ∙ none.0, ap (λ b. if b then Some (next_number past) else master_in past c) not_caller ∙ none.1, none_set)
 
   none_by : (d : Effect) → SetsOld d (next_number past) → NoneBy past d c
-  none_by (OpensPrimary root universal) old =
+  none_by (OpensPrimary root capabilities) old =
       let is = primary_is (next_number past) c (owner_in past) (master_state past) in
       let so = none_opens (opened_primary (owner_in past) (next_number past)) in
       (is.0 ∙ so.0, is.1 ∙ so.1, so.2)
-  none_by (Redeems token root universal) old = none_opens (record { is_master = true; master = lease_in past token })
+  none_by (Redeems token root capabilities) old = none_opens (record { is_master = true; master = lease_in past token })
   none_by OpensRender old = none_opens opened_apart
   none_by (SetsMaster caller) old = none_sets caller old (is_master_in past caller)
   none_by Nothing old = none_stays
@@ -254,7 +254,7 @@ unfolding master_state
 owner_is_left step past = by (effect step) refl
   where
     by : (d : Effect) → effect step ≡ d → (stands_by past d).owner ≡ owner_after d step past
-    by (OpensPrimary root universal) e =
+    by (OpensPrimary root capabilities) e =
         opened_owner past (master_state past) (next_number past) (owner_in past) refl
         ∙ sym (ap (λ d. option_or (owner_in past) ((stands_by past d).master (next_number past))) e)
     by (SetsMaster c) e = set_owner past (master_state past) (next_number past) c (is_master_in past c) ∙ sym (ap (λ d. option_or (owner_in past) ((stands_by past d).master c)) e)

@@ -15,6 +15,7 @@ use Rattle.drm_table.specs.declared.events.Opening.TheVariants.{Primary, Render,
 use Rattle.drm_table.specs.declared.rules.Rule.{Rule}
 use Rattle.drm_lists.proofs.Edits.{either}
 use Rattle.drm_model.specs.Rows.{Rows, ClientRow, MasterRow, step_number, is_option, is_client, client_row, is_open}
+use Rattle.drm_model.specs.ClientCapabilities.{with_capability}
 use Rattle.drm_model.specs.Buffers.{with_object}
 use Rattle.drm_model.specs.Masters.{is_owner, master_of, credentials_in}
 use Rattle.drm_model.specs.Leases.{ended, lease_master}
@@ -227,7 +228,7 @@ asked past w c (AuthMagic magic) r v a = record {
 asked past w c (SetClientCap cap value) r v a = record {
   owner = a.owner;
   clients = clients_after w (ClientStands (master_state past)) (Ask c (SetClientCap cap value)) (ClientStands (master_state past))
-      (λ row h. elim (is_client c row) as (λ b. ClientStands (master_state past) (if b then record row { universal = value == 1 } else row)) [ true ↦ h | false ↦ h ]) tt a.clients;
+      (λ row h. elim (is_client c row) as (λ b. ClientStands (master_state past) (if b then record row { capabilities = with_capability cap (value == 1) row.capabilities } else row)) [ true ↦ h | false ↦ h ]) tt a.clients;
 }
 asked past w c call r v a = record { owner = a.owner; clients = clients_after w (ClientStands (master_state past)) (Ask c call) (ClientStands (master_state past)) (λ row h. h) tt a.clients }
 

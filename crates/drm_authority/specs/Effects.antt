@@ -9,35 +9,36 @@ use Rattle.drm_table.specs.declared.events.Event.{Event}
 use Rattle.drm_table.specs.declared.events.Event.TheVariants.{Open, Ask, Close}
 use Rattle.drm_table.specs.declared.events.Opening.{Opening}
 use Rattle.drm_table.specs.declared.events.Opening.TheVariants.{Primary, Render, Lease}
+use Rattle.drm_model.specs.ClientCapabilities.{ClientCapabilities, opening_capabilities}
 use Rattle.drm_history.specs.History.{AnsweredEvent}
 
 -- a denial, and each call that has no case here, has no effect
 pub data Effect : Type 0 where
   Nothing : Effect
-  OpensPrimary : (root universal : Bool) → Effect
+  OpensPrimary : (root : Bool) (capabilities : ClientCapabilities) → Effect
   OpensRender : Effect
-  Redeems : (token : ℕ) (root universal : Bool) → Effect
+  Redeems : (token : ℕ) (root : Bool) (capabilities : ClientCapabilities) → Effect
   Closes : (client : ℕ) → Effect
   GetsMagic : (client magic : ℕ) → Effect
   Authenticates : (client magic : ℕ) → Effect
   SetsMaster : (client : ℕ) → Effect
-  SetsUniversal : (client : ℕ) (on : Bool) → Effect
+  SetsCapability : (client capability : ℕ) (on : Bool) → Effect
   DropsMaster : Effect
   Leases : (client : ℕ) (ids : List ℕ) (lessee token : ℕ) → Effect
   Revokes : (client lessee : ℕ) → Effect
 
 -- the effect of an accepted opening
 abbrev pub opening_effect : Opening → Effect
-opening_effect (Primary root universal) = OpensPrimary root universal
+opening_effect (Primary root universal) = OpensPrimary root (opening_capabilities universal)
 opening_effect Render = OpensRender
-opening_effect (Lease token root universal) = Redeems token root universal
+opening_effect (Lease token root universal) = Redeems token root (opening_capabilities universal)
 
 -- the effect of a call, by its answer
 abbrev pub call_effect : ℕ → Call → Answer → Effect
 call_effect c GetMagic (Number magic) = GetsMagic c magic
 call_effect c (AuthMagic magic) Done = Authenticates c magic
 call_effect c SetMaster Done = SetsMaster c
-call_effect c (SetClientCap cap value) Done = SetsUniversal c (value == 1)
+call_effect c (SetClientCap cap value) Done = SetsCapability c cap (value == 1)
 call_effect c DropMaster Done = DropsMaster
 call_effect c (CreateLease ids) (LeaseIs lessee token) = Leases c ids lessee token
 call_effect c (RevokeLease lessee) Done = Revokes c lessee

@@ -5,7 +5,7 @@ use Rattle.drm_lists.specs.Orders.{InOrder}
 use Rattle.drm_modes.specs.Topology.{Topology}
 use Rattle.drm_model.specs.Rows.{Rows, MasterRow, MagicRow, is_option, client_has, is_open}
 use Rattle.drm_model.specs.Masters.{master_of, owner_of}
-use Rattle.drm_model.specs.Sees.{is_granted, has_universal}
+use Rattle.drm_model.specs.Sees.{is_granted, client_capabilities}
 use Rattle.drm_model.specs.Magics.{is_master}
 use Rattle.drm_model.specs.Leases.{is_lessee_of}
 use Rattle.drm_history.specs.History.{AnsweredEvent}
@@ -14,7 +14,7 @@ use Rattle.drm_authority.specs.MasterState.{lease_in, owner_in, is_master_in, ma
 use Rattle.drm_authority.specs.Mastership.{has_become_master, master_since}
 use Rattle.drm_authority.specs.Lessees.{lessor_in, lessee_in, top_in, granted}
 use Rattle.drm_authority.specs.Magics.{magic_in, known}
-use Rattle.drm_authority.specs.Shown.{is_universal_in, KeepsToOverlays}
+use Rattle.drm_authority.specs.Shown.{capabilities_in, KeepsToOverlays}
 use Rattle.drm_authority.specs.Closings.{StaysClosed}
 use Rattle.drm_authority.specs.SeesNothing.{KeepsSeeingNothing}
 
@@ -62,9 +62,9 @@ GrantsFollow t w history = (m x : ℕ) → is_granted w m x ≡ granted t histor
 
 -- ---- of capabilities and magics
 
--- an open client has universal planes on exactly if the history says so
+-- an open client has the capabilities on that the history says
 abbrev pub CapabilitiesFollow : Rows → List AnsweredEvent → Type 0
-CapabilitiesFollow w history = (c : ℕ) → is_open w c ≡ true → has_universal w c ≡ is_universal_in history c
+CapabilitiesFollow w history = (c : ℕ) → is_open w c ≡ true → client_capabilities w c ≡ capabilities_in history c
 
 -- each magic, spent or not, is that of the last GET_MAGIC that answered its number under its master
 abbrev pub MagicsFollow : Rows → List AnsweredEvent → Type 0

@@ -17,8 +17,8 @@ magic_in (step ∷ past) m magic = magic_by (effect step) past m magic (magic_in
 
 -- whether the step opened the client as root
 abbrev pub is_root_by : Effect → ℕ → ℕ → Bool
-is_root_by (OpensPrimary root universal) number c = root && (number == c)
-is_root_by (Redeems token root universal) number c = root && (number == c)
+is_root_by (OpensPrimary root capabilities) number c = root && (number == c)
+is_root_by (Redeems token root capabilities) number c = root && (number == c)
 is_root_by _ number c = false
 
 -- whether the client opened as root

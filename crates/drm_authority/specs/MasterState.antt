@@ -48,9 +48,9 @@ owner_without false master owner = owner
 
 -- the state after an effect
 abbrev pub transition : Effect → ℕ → (ℕ → Option ℕ) → MasterState → MasterState
-transition (OpensPrimary root universal) number lease s = with_primary number s.owner s
+transition (OpensPrimary root capabilities) number lease s = with_primary number s.owner s
 transition OpensRender number lease s = with_client number false None s
-transition (Redeems token root universal) number lease s = with_client number true (lease token) s
+transition (Redeems token root capabilities) number lease s = with_client number true (lease token) s
 transition (Closes c) number lease s = record s { owner = owner_without (s.is_master c) (s.master c) s.owner }
 transition (SetsMaster c) number lease s = with_set number c (s.is_master c) s
 transition DropsMaster number lease s = record s { owner = None }

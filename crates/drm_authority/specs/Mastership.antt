@@ -23,8 +23,8 @@ opened_primary (Some owner) number = record { is_master = false; master = Some o
 
 -- a client that redeems a lease token is a master: the lessee of the last MODE_CREATE_LEASE before that answered the token
 abbrev pub opened_by : Effect → List AnsweredEvent → Opened
-opened_by (OpensPrimary root universal) past = opened_primary (owner_in past) (next_number past)
-opened_by (Redeems token root universal) past = record { is_master = true; master = lease_in past token }
+opened_by (OpensPrimary root capabilities) past = opened_primary (owner_in past) (next_number past)
+opened_by (Redeems token root capabilities) past = record { is_master = true; master = lease_in past token }
 opened_by _ past = opened_apart
 
 -- how the client was opened, by the step of its number
@@ -56,7 +56,7 @@ master_since history c =
 -- without one, the client's becomes the device's. DROP_MASTER leaves none, as does the closing of a client whose own
 -- master is the device's.
 abbrev pub owner_after : Effect → AnsweredEvent → List AnsweredEvent → Option ℕ
-owner_after (OpensPrimary root universal) step past = option_or (owner_in past) (master_in (step ∷ past) (next_number past))
+owner_after (OpensPrimary root capabilities) step past = option_or (owner_in past) (master_in (step ∷ past) (next_number past))
 owner_after (SetsMaster c) step past = option_or (owner_in past) (master_in (step ∷ past) c)
 owner_after DropsMaster step past = None
 owner_after (Closes c) step past = if is_master_in past c && option_map_or (λ m. is_option m (owner_in past)) (master_in past c) false then None else owner_in past

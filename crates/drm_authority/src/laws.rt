@@ -58,9 +58,9 @@ pub fn ended_lessees_see_nothing()
     ensures { (h : DeviceValue) → EndedLesseesSeeNothing (history_of h) }
 {}
 
-/// Capabilities follow from the history: an open client has universal planes on as its last SET_CLIENT_CAP that was carried out
-/// says, else as its opening does. With them off, no GETPLANE and SETPLANE of it that is carried out names a plane that is not an
-/// overlay plane, and its lists of planes have none.
+/// Capabilities follow from the history: an open client has each capability on as its last SET_CLIENT_CAP of it that was
+/// carried out says, else as its opening does. With universal planes off, no GETPLANE and SETPLANE of it that is carried
+/// out names a plane that is not an overlay plane, and its lists of planes have none.
 pub fn capabilities_follow_from_history()
     ensures clients { (h : DeviceValue) → CapabilitiesFollow (rows_of h) (history_of h) }
     ensures overlays { (h : DeviceValue) → OverlaysAlone h.topology (history_of h) }

@@ -32,7 +32,7 @@ not_there c (g ∷ gs) h = ap (λ b. is_some (cond b (Some g) (find (is_client c
 -- ---- the file of a new client
 
 abbrev opened : FileLists → ℕ → Bool → Bool → Bool → Bool → FileLists
-opened files number render root authenticated universal = record files { clients = files.clients ++ record { client = number; flags = record { render = render; root = root; authenticated = authenticated; universal = universal } } ∷ [] }
+opened files number render root authenticated universal = record files { clients = files.clients ++ record { client = number; flags = record (new_flags render root universal) { authenticated = authenticated } } ∷ [] }
 
 -- A new client's file is last, with the flags of its opening.
 pub opened_file : (files : FileLists) (number : ℕ) (render root universal : Bool) → AllByRecursion (λ (g : FileClient). g.client < number) files.clients → with_client files number (new_flags render root universal) ≡ opened files number render root root universal

@@ -3,4 +3,4 @@ pub mod Files
 pub mod Opened
 pub mod Closed
 pub mod Redeemed
-mod Universal
+mod Capable

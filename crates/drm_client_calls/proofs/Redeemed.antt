@@ -11,6 +11,7 @@ use Rattle.drm_lists.proofs.Found.{find-map, find-same, find_none, none_found}
 use Rattle.drm_lists.proofs.Rising.{found, all_found, all_found_apart}
 use Rattle.drm_masters.specs.declared.rows.Master.{Master}
 use Rattle.drm_files.specs.declared.rows.FileFlags.{FileFlags}
+use Rattle.drm_files.specs.Files.{new_flags}
 use Rattle.drm_masters.specs.Masters.{MasterSet, AreMasters, is_step_number, is_key, is_lessee, master_at, IsKeyOf}
 use Rattle.drm_masters.specs.Calls.{IsNewClient, lease_client, with_kept, redeemed}
 use Rattle.drm_masters.proofs.Newest.{newest_last, with_last_member}
@@ -19,6 +20,7 @@ use Rattle.drm_leases.proofs.Newest.{tokens_differ}
 use Rattle.drm_leases.specs.Leases.{AreLeases, is_token, is_token_of, token_of, token_master}
 use Rattle.drm_leases.specs.Calls.{without_token}
 use Rattle.drm_leases.specs.Agreed.{AreAgreed}
+use Rattle.drm_model.specs.ClientCapabilities.{opening_capabilities}
 use Rattle.drm_model.specs.Rows.{Rows, MasterRow, step_number, is_option}
 use Rattle.drm_model.specs.Clients.{opened_lease}
 use Rattle.drm_model.specs.Leases.{lease_master}
@@ -160,7 +162,7 @@ of_lessee tokens ms t m h e =
 -- ---- its client
 
 abbrev pub lease_flags : Bool → Bool → FileFlags
-lease_flags root universal = record { render = false; root = root; authenticated = true; universal = universal }
+lease_flags root universal = record (new_flags false root universal) { authenticated = true }
 
 -- the masters with the newest client, which redeemed a lessee
 abbrev pub redeemed_last : ℕ → ℕ → MasterSet → MasterSet
@@ -211,10 +213,10 @@ module _ (s : State) (t m : ℕ) (invariants : MeetsInvariants s) (is : token_ma
     number = eqb-true x.step_number m (found (is_step_number m) (λ _. Unit {0}) x s.masters.masters (all_each (λ _. Unit {0}) (λ _. tt) s.masters.masters) there).0
 
     client_is : (b : ℕ) (root universal : Bool) → w.steps + 1 ≡ b → client_row_by (record { client = b; flags = lease_flags root universal }) (Some (lease_client b m)) ≡
-        record { client = step_number w; render = false; root = root; authenticated = true; once_master = false; is_master = true; master = option_map (λ (r : MasterRow). r.master) (lease_master w t); universal = universal }
+        record { client = step_number w; render = false; root = root; authenticated = true; once_master = false; is_master = true; master = option_map (λ (r : MasterRow). r.master) (lease_master w t); capabilities = opening_capabilities universal }
     client_is b root universal e =
         let named : Some m ≡ option_map (λ (r : MasterRow). r.master) (lease_master w t) = ap Some (sym number) ∙ sym (ap (option_map (λ (r : MasterRow). r.master)) its_row) in
-        λ i. record { client = sym e i; render = false; root = root; authenticated = true; once_master = false; is_master = true; master = named i; universal = universal }
+        λ i. record { client = sym e i; render = false; root = root; authenticated = true; once_master = false; is_master = true; master = named i; capabilities = opening_capabilities universal }
 
     masters_now : map (λ (r : MasterRow). if is_option t r.lease_token then record r { lease_token = None } else r) w.masters ≡ map (master_row_of (without_token t s.leases).tokens) (released (λ n. n == m) s.masters.masters)
     masters_now =

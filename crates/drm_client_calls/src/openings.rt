@@ -2,7 +2,7 @@
 
 ghost use Rattle.std.specs.Prelude.{◌≡◌, ◌<◌, ◌∷◌, ◌++◌, [], true, length, OnOk, OnErr, if◌then◌else◌};
 ghost use Rattle.std.specs.List.{AllByRecursion};
-ghost use Rattle.drm_files.specs.Files.{client};
+ghost use Rattle.drm_files.specs.Files.{client, new_flags};
 ghost use Rattle.drm_table.specs.declared.events.Event.TheVariants.{Open};
 ghost use Rattle.drm_table.specs.declared.events.Opening.TheVariants.{Primary, Render, Lease};
 ghost use Rattle.drm_state.specs.Invariants.{MeetsInvariants, StepPrecondition};
@@ -123,7 +123,7 @@ fn open_file(
 ) -> Result<(), AllocError>
     requires newest { AllByRecursion (λ f. f.client < number) files.old.clients }
     requires room { length files.old.clients < files.old.limit }
-    ensures ok { OnOk result (files.new ≡ record files.old { clients = files.old.clients ++ client number (record { render = render; root = root; authenticated = if opener then true else root; universal = universal }) ∷ [] }) }
+    ensures ok { OnOk result (files.new ≡ record files.old { clients = files.old.clients ++ client number (record (new_flags render root universal) { authenticated = if opener then true else root }) ∷ [] }) }
     ensures err { OnErr result (files.new ≡ files.old) }
 {
     if let Err(_fault) = files.open(number, render, root, universal) {

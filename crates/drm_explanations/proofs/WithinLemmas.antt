@@ -12,13 +12,14 @@ use Rattle.drm_lists.proofs.Lists.{all_append}
 use Rattle.drm_history.specs.History.{AnsweredEvent, next_number}
 use Rattle.drm_authority.specs.Effects as told
 use Rattle.drm_authority.specs.Effects.{effect}
+use Rattle.drm_model.specs.ClientCapabilities.{cap_universal_planes}
 use Rattle.drm_model.specs.Rows.{is_option}
 use Rattle.drm_authority.specs.Magics.{is_named_by, is_named_in, is_root_by, is_root_in, magic_in}
 use Rattle.drm_authority.specs.MasterState as standings
 use Rattle.drm_authority.specs.MasterState.{caller_master_in, lease_in}
 use Rattle.drm_authority.specs.Lessees.{ends}
 use Rattle.drm_rights.specs.Leases.{ended_at, leases_in, new_lease}
-use Rattle.drm_rights.specs.Ledgers.{authenticated_by, authentication_of, authentications_in, capabilities_in, capability_of, is_named_noted, master_state_of, new_authentication, new_capability, new_master_state, noted, opened, standings_in}
+use Rattle.drm_rights.specs.Ledgers.{authenticated_by, authentication_of, authentications_in, capabilities_in, capability_of, capable, is_named_noted, master_state_of, new_authentication, new_capability, new_master_state, noted, opened, standings_in}
 use Rattle.drm_trails.specs.Steps.{entry_of, followed_by, history_of}
 use Rattle.drm_trails.specs.declared.steps.Step.{Step}
 use Rattle.drm_rights.specs.declared.notes.Authentication.{Authentication}
@@ -61,9 +62,9 @@ set_at true state n is = tt
 set_at false state n is = is
 
 new_state : (e : told.Effect) (n : ℕ) (lease : ℕ → Option ℕ) (s : standings.MasterState) → IfSome (new_master_state e n lease s) (λ (state : MasterState). state.step ≡ n)
-new_state (told.OpensPrimary root universal) n lease s = opened_at n s.owner
+new_state (told.OpensPrimary root capabilities) n lease s = opened_at n s.owner
 new_state told.OpensRender n lease s = refl
-new_state (told.Redeems token root universal) n lease s = refl
+new_state (told.Redeems token root capabilities) n lease s = refl
 new_state (told.SetsMaster c) n lease s = set_at (s.is_master c) (noted n c true (Some n)) n refl
 new_state _ n lease s = tt
 
@@ -84,10 +85,10 @@ state_within history c =
 -- ---- universal planes
 
 new_capable : (e : told.Effect) (n : ℕ) → IfSome (new_capability e n) (λ (k : Capability). k.step ≡ n)
-new_capable (told.OpensPrimary root universal) n = refl
+new_capable (told.OpensPrimary root capabilities) n = refl
 new_capable told.OpensRender n = refl
-new_capable (told.Redeems token root universal) n = refl
-new_capable (told.SetsUniversal c on) n = refl
+new_capable (told.Redeems token root capabilities) n = refl
+new_capable (told.SetsCapability c cap on) n = elim (cap == cap_universal_planes) as (λ b. IfSome (cond b (Some (capable n c on)) None) (λ (k : Capability). k.step ≡ n)) [ true ↦ refl | false ↦ tt ]
 new_capable _ n = tt
 
 capabilities_within : (history : List AnsweredEvent) → AllSteps (λ (k : Capability). k.step) (length history) (capabilities_in history)
@@ -170,8 +171,8 @@ and_right true b h = h
 and_right false b h = absurd (let e : false ≡ true = h in cc)
 
 root_at : (e : told.Effect) (n c : ℕ) → is_root_by e n c ≡ true → n ≡ c
-root_at (told.OpensPrimary root universal) n c h = eqb-true n c (and_right root (n == c) h)
-root_at (told.Redeems token root universal) n c h = eqb-true n c (and_right root (n == c) h)
+root_at (told.OpensPrimary root capabilities) n c h = eqb-true n c (and_right root (n == c) h)
+root_at (told.Redeems token root capabilities) n c h = eqb-true n c (and_right root (n == c) h)
 root_at _ n c h = absurd (let e : false ≡ true = h in cc)
 
 root_or : (past : List AnsweredEvent) (c : ℕ) (now before : Bool) → (now ≡ true → next_number past ≡ c) → (before ≡ true → IsStep (length past) c) → (now || before) ≡ true → IsStep (length past + 1) c

@@ -4,6 +4,8 @@ use Rattle.std.specs.List.{list_any, filter_map, AllByRecursion}
 use Rattle.std.specs.Option.{option_or, option_and_then, option_map_or}
 use Rattle.drm_index_array.specs.Least.{least, least_of}
 pub use Rattle.drm_index_array.specs.Rows.{placed, InOrder}
+use Rattle.drm_files.specs.declared.rows.ClientCapability.{ClientCapability}
+use Rattle.drm_files.specs.declared.rows.ClientCapability.TheVariants.{UniversalPlanes}
 use Rattle.drm_files.specs.declared.rows.FileFlags.{FileFlags}
 use Rattle.drm_files.specs.declared.rows.FileClient.{FileClient}
 use Rattle.drm_files.specs.declared.rows.FileHandle.{FileHandle}
@@ -69,9 +71,13 @@ new_flags render root universal = record { render = render; root = root; authent
 abbrev pub authenticated : FileClient → FileClient
 authenticated row = record row { flags = record row.flags { authenticated = true } }
 
--- its universal planes are on or off (drm-uapi, client capabilities)
-abbrev pub universal : Bool → FileClient → FileClient
-universal on row = record row { flags = record row.flags { universal = on } }
+-- the flags with a capability on or off (drm-uapi, client capabilities)
+abbrev pub capable : ClientCapability → Bool → FileFlags → FileFlags
+capable UniversalPlanes on flags = record flags { universal = on }
+
+-- the row of the client, with a capability on or off
+abbrev pub with_capable : ClientCapability → Bool → FileClient → FileClient
+with_capable capability on row = record row { flags = capable capability on row.flags }
 
 -- the handles of a client, rising
 abbrev pub handles_of : FileLists → ℕ → List ℕ
@@ -116,9 +122,13 @@ with_change change files c = record files { clients = map (λ row. if is_client 
 abbrev pub with_authenticated : FileLists → ℕ → FileLists
 with_authenticated files c = with_change authenticated files c
 
+-- the lists with a capability of the client on or off
+abbrev pub with_capability : FileLists → ℕ → ClientCapability → Bool → FileLists
+with_capability files c capability on = with_change (with_capable capability on) files c
+
 -- the lists with the client's universal planes on or off
 abbrev pub with_universal : FileLists → ℕ → Bool → FileLists
-with_universal files c on = with_change (universal on) files c
+with_universal files c on = with_capability files c UniversalPlanes on
 
 -- a handle of the client for the object
 abbrev pub is_handle_of : ℕ → ℕ → FileHandle → Bool

@@ -1,7 +1,7 @@
 //! The open clients and their handles.
 
 ghost use Rattle.std.specs.Prelude.{◌≡◌, ◌≤◌, ◌<◌, ◌↔◌, true, false, nat_le, length, find, is_some, OnOk, OnErr, IfOk, IfErr, IfNone, Some, None, option_map};
-ghost use Rattle.drm_files.specs.Files.{AreFiles, empty_files, is_client, is_handle, is_open_client, free_handle, with_client, without_client, left_by, with_handle_row, without_handle_row, with_authenticated, with_universal, new_flags, hold};
+ghost use Rattle.drm_files.specs.Files.{AreFiles, empty_files, is_client, is_handle, is_open_client, free_handle, with_client, without_client, left_by, with_handle_row, without_handle_row, with_authenticated, with_capability, with_universal, new_flags, hold};
 ghost use Rattle.drm_files.specs.FileFault.{IsFull};
 ghost use Rattle.std.specs.FinMap.{get};
 ghost use Rattle.drm_id_alloc.specs.Table.{with_entry};
@@ -11,7 +11,7 @@ use crate::faults::FileFault;
 use crate::orders::ExportOrders;
 use crate::primes::Prime;
 use crate::rest::FileRest;
-use crate::rows::FileFlags;
+use crate::rows::{ClientCapability, FileFlags};
 use drm_gem::ObjectKey;
 use drm_id_alloc::{AddFault, IdTable};
 use drm_index_array::IndexArray;
@@ -461,9 +461,38 @@ impl Files {
         requires open_client { is_open_client self.old client ≡ true }
         ensures { self.new ≡ with_universal self.old client on }
     {
+        self.set_capability(client, ClientCapability::UniversalPlanes, on);
+    }
+
+    /// Turns a capability of an open client on or off (drm-uapi, client capabilities). Does not allocate.
+    ///
+    /// # Examples
+    ///
+    /// ```rust
+    /// use drm_files::{ClientCapability, Files};
+    /// use drm_gem::ObjectKey;
+    ///
+    /// let alloc = rt.alloc();
+    /// let mut files = Files::new(alloc, 4, 100);
+    /// let Ok(()) = files.open(1, false, false, true) else { return };
+    /// let Ok(()) = files.open(2, true, false, false) else { return };
+    /// let mut rest = files.close(2);
+    /// let object = ObjectKey::from_number(7);
+    /// let Ok(handle) = files.add_handle(1, object, None) else { return };
+    /// assert!(rt; files.drop_handle(1, handle) == Some(object));
+    /// files.set_authenticated(1);
+    /// files.set_universal(1, false);
+    /// assert!(rt; matches!(files.flags_of(1), Some(flags) if !flags.universal));
+    /// files.set_capability(1, ClientCapability::UniversalPlanes, true);
+    /// assert!(rt; matches!(files.flags_of(1), Some(flags) if flags.universal));
+    /// ```
+    pub fn set_capability(&mut self, client: u32, capability: ClientCapability, on: bool)
+        requires open_client { is_open_client self.old client ≡ true }
+        ensures { self.new ≡ with_capability self.old client capability on }
+    {
         let Some(record) = self.clients.get_mut(client) else {
             unreachable!();
         };
-        record.flags.universal = on;
+        record.flags = record.flags.with_capability(capability, on);
     }
 }

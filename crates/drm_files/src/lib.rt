@@ -14,4 +14,4 @@ mod rows;
 pub use faults::FileFault;
 pub use files::Files;
 pub use rest::FileRest;
-pub use rows::{FileClient, FileFlags, FileHandle, FileRow};
+pub use rows::{ClientCapability, FileClient, FileFlags, FileHandle, FileRow};

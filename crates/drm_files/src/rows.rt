@@ -1,6 +1,28 @@
 //! The rows of open clients and their handles.
 
+ghost use Rattle.std.specs.Prelude.{◌≡◌};
+ghost use Rattle.drm_files.specs.Files as files;
+
 use drm_gem::ObjectKey;
+
+/// A capability that a client can turn on and off (drm-uapi, client capabilities).
+///
+/// # Examples
+///
+/// ```rust
+/// use drm_files::{ClientCapability, Files};
+///
+/// let alloc = rt.alloc();
+/// let mut files = Files::new(alloc, 4, 100);
+/// let Ok(()) = files.open(1, false, true, false) else { return };
+/// files.set_capability(1, ClientCapability::UniversalPlanes, true);
+/// assert!(rt; matches!(files.flags_of(1), Some(flags) if flags.universal));
+/// ```
+#[derive(Clone, Copy, PartialEq, Eq, Debug)]
+pub enum ClientCapability {
+    /// Primary and cursor planes are shown next to overlay planes (`DRM_CLIENT_CAP_UNIVERSAL_PLANES`).
+    UniversalPlanes,
+}
 
 /// The flags of a client (drm-uapi: primary and render nodes, authentication).
 ///
@@ -26,6 +48,20 @@ pub struct FileFlags {
     /// Whether it has universal planes on, and so sees primary and cursor planes as well as overlay planes (drm-uapi,
     /// client capabilities).
     pub universal: bool,
+}
+
+impl FileFlags {
+    /// Returns the flags with a capability on or off.
+    pub(crate) fn with_capability(self, capability: ClientCapability, on: bool) -> FileFlags
+        ensures { result ≡ files.capable capability on self }
+    {
+        match capability {
+            ClientCapability::UniversalPlanes => FileFlags {
+                universal: on,
+                ..self
+            },
+        }
+    }
 }
 
 /// An open client.

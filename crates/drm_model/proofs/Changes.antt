@@ -18,7 +18,8 @@ use Rattle.drm_model.specs.Leases.{ended, lease_master, new_lessee, new_lease_to
 use Rattle.drm_model.specs.Buffers.{buffer_size, dumb_size, with_object, with_stamp}
 use Rattle.drm_model.specs.Sharing.{name_of, free_name, named, named_object, new_token, with_export_order, exported_object, prime_handle, imported, is_token_of}
 use Rattle.drm_model.specs.Modes.{gives_handle, framebuffer_object, new_framebuffer, is_framebuffer_of}
-use Rattle.drm_model.specs.Capabilities.{with_universal}
+use Rattle.drm_model.specs.ClientCapabilities.{opening_capabilities, with_capability}
+use Rattle.drm_model.specs.Capabilities.{with_client_capability}
 use Rattle.drm_model.specs.Clients.{opened, opened_primary, closed, ended_own, ended_if}
 use Rattle.drm_model.specs.Calls.{meaning}
 use Rattle.drm_model.specs.Verdict.{verdict}
@@ -29,14 +30,14 @@ use Rattle.drm_model.specs.Run.{run}
 
 -- of the device's master, or the first of a new one
 abbrev pub primary_row : Rows → Bool → Bool → Option ℕ → ClientRow
-primary_row w root universal None = record { client = step_number w; render = false; root = root; authenticated = true; once_master = true; is_master = true; master = Some (step_number w); universal = universal }
-primary_row w root universal (Some m) = record { client = step_number w; render = false; root = root; authenticated = root; once_master = false; is_master = false; master = Some m; universal = universal }
+primary_row w root universal None = record { client = step_number w; render = false; root = root; authenticated = true; once_master = true; is_master = true; master = Some (step_number w); capabilities = opening_capabilities universal }
+primary_row w root universal (Some m) = record { client = step_number w; render = false; root = root; authenticated = root; once_master = false; is_master = false; master = Some m; capabilities = opening_capabilities universal }
 
 abbrev pub opened_row : Rows → Opening → ClientRow
 opened_row w (Primary root universal) = primary_row w root universal w.device_master
-opened_row w Render = record { client = step_number w; render = true; root = false; authenticated = false; once_master = false; is_master = false; master = None; universal = true }
+opened_row w Render = record { client = step_number w; render = true; root = false; authenticated = false; once_master = false; is_master = false; master = None; capabilities = opening_capabilities true }
 opened_row w (Lease token root universal) =
-    record { client = step_number w; render = false; root = root; authenticated = true; once_master = false; is_master = true; master = option_map (λ (row : MasterRow). row.master) (lease_master w token); universal = universal }
+    record { client = step_number w; render = false; root = root; authenticated = true; once_master = false; is_master = true; master = option_map (λ (row : MasterRow). row.master) (lease_master w token); capabilities = opening_capabilities universal }
 
 abbrev pub client_stays : Rows → Event → ClientRow → Bool
 client_stays w (Close c) row = not (row.client == c)
@@ -51,7 +52,7 @@ set_row w c false false row = if is_client c row then record row { authenticated
 abbrev pub client_after : Rows → Event → ClientRow → ClientRow
 client_after w (Ask c (AuthMagic magic)) row = if is_option row.client (magic_client w (caller_master w c) magic) then record row { authenticated = true } else row
 client_after w (Ask c SetMaster) row = set_row w c (is_current w c) (is_master w c) row
-client_after w (Ask c (SetClientCap cap value)) row = if is_client c row then record row { universal = value == 1 } else row
+client_after w (Ask c (SetClientCap cap value)) row = if is_client c row then record row { capabilities = with_capability cap (value == 1) row.capabilities } else row
 client_after w _ row = row
 
 abbrev pub new_client_row : Rows → Event → Option ClientRow
@@ -312,7 +313,7 @@ module _ (w : Rows) where
   -- ---- each event
 
   asked : (c : ℕ) (call : Call) → (meaning w c call).rows ≡ edited_rows w (Ask c call) (meaning w c call).rows
-  unfolding meaning ended with_object with_stamp with_export_order with_authenticated with_spent with_universal
+  unfolding meaning ended with_object with_stamp with_export_order with_authenticated with_spent with_client_capability
   asked c GetMagic = λ i. record (left_alone i) { magics = gets c (magic_of w c) i }
   asked c (AuthMagic magic) = λ i. record (left_alone i) { clients = mapped (client_after w (Ask c (AuthMagic magic))) w.clients i; magics = mapped (magic_after w (Ask c (AuthMagic magic))) w.magics i }
   asked c SetMaster = sets c (is_current w c) (is_master w c)

@@ -13,6 +13,7 @@ use Rattle.drm_table.specs.declared.events.Opening.TheVariants.{Primary, Render,
 use Rattle.drm_model.specs.StepNumbers.{IsMadeClient, IsMadeMaster, WereMade}
 use Rattle.drm_model.specs.Rows.{Rows, ClientRow, MasterRow, ObjectRow, step_number, empty_rows, is_option, is_client, client_row}
 use Rattle.drm_model.specs.Masters.{master_of, master_row, lessor_of}
+use Rattle.drm_model.specs.ClientCapabilities.{with_capability}
 use Rattle.drm_model.specs.Magics.{caller_master, magic_client, is_current, is_master, mastered}
 use Rattle.drm_model.specs.Leases.{ended, lease_master}
 use Rattle.drm_model.specs.Buffers.{with_object}
@@ -72,7 +73,7 @@ set-made w c false false row h = either (IsMadeClient (step_number w)) (is_clien
 client-made : (w : Rows) (event : Event) (row : ClientRow) → IsMadeClient (step_number w) row → IsMadeClient (step_number w) (client_after w event row)
 client-made w (Ask c (AuthMagic magic)) row h = either (IsMadeClient (step_number w)) (is_option row.client (magic_client w (caller_master w c) magic)) (record row { authenticated = true }) row h h
 client-made w (Ask c SetMaster) row h = set-made w c (is_current w c) (is_master w c) row h
-client-made w (Ask c (SetClientCap cap value)) row h = either (IsMadeClient (step_number w)) (is_client c row) (record row { universal = value == 1 }) row h h
+client-made w (Ask c (SetClientCap cap value)) row h = either (IsMadeClient (step_number w)) (is_client c row) (record row { capabilities = with_capability cap (value == 1) row.capabilities }) row h h
 client-made w (Ask c call) row h = h
 client-made w (Open opening) row h = h
 client-made w (Close c) row h = h

@@ -10,6 +10,7 @@ use Rattle.drm_table.specs.declared.events.Event.TheVariants.{Open, Ask, Close}
 use Rattle.drm_table.specs.declared.events.Opening.TheVariants.{Primary, Render, Lease}
 use Rattle.drm_model.specs.StepNumbers.{MadeInTurn, StepNumbersRise}
 use Rattle.drm_model.specs.Rows.{Rows, ClientRow, MasterRow, ObjectRow, step_number, empty_rows, is_option, is_client, object_of}
+use Rattle.drm_model.specs.ClientCapabilities.{with_capability}
 use Rattle.drm_model.specs.Magics.{caller_master, magic_client, is_current, is_master}
 use Rattle.drm_model.specs.Change.{after, changed, swept, journaled}
 use Rattle.drm_model.specs.Run.{rows_of, DeviceValue}
@@ -60,7 +61,7 @@ set-same w c false false row = either (λ (x : ClientRow). x.client ≡ row.clie
 pub client-same : (w : Rows) (event : Event) (row : ClientRow) → (client_after w event row).client ≡ row.client
 client-same w (Ask c (AuthMagic magic)) row = either (λ (x : ClientRow). x.client ≡ row.client) (is_option row.client (magic_client w (caller_master w c) magic)) (record row { authenticated = true }) row refl refl
 client-same w (Ask c SetMaster) row = set-same w c (is_current w c) (is_master w c) row
-client-same w (Ask c (SetClientCap cap value)) row = either (λ (x : ClientRow). x.client ≡ row.client) (is_client c row) (record row { universal = value == 1 }) row refl refl
+client-same w (Ask c (SetClientCap cap value)) row = either (λ (x : ClientRow). x.client ≡ row.client) (is_client c row) (record row { capabilities = with_capability cap (value == 1) row.capabilities }) row refl refl
 client-same w (Ask c call) row = refl
 client-same w (Open opening) row = refl
 client-same w (Close c) row = refl

@@ -22,7 +22,7 @@ use Rattle.drm_table.specs.Table.{kind_row, call_row, call_with, call_kind_of, c
 use Rattle.drm_model.specs.Audit.{audit_rows, audit_page}
 use Rattle.drm_model.specs.Buffers.{dumb_pitch, dumb_size, buffer_size, with_object, with_stamp}
 use Rattle.drm_model.specs.Calls.{meaning}
-use Rattle.drm_model.specs.Capabilities.{with_universal}
+use Rattle.drm_model.specs.Capabilities.{with_client_capability}
 use Rattle.drm_model.specs.Change.{changed, swept, after}
 use Rattle.drm_model.specs.Clients.{opening_checks, opened, closed}
 use Rattle.drm_model.specs.Leases.{ended}
@@ -73,7 +73,7 @@ planes_seen_and_brought_along-steps =
     []
 
 pub planes_seen_and_brought_along : Gives program_limits planes_seen_and_brought_along-steps
-unfolding first_passing least chain_within sorted_by numbers_from answer_kind_row told answer_with answer_kind_of kind_number kind_of kind_name are_in_range rule_of_number apart_of_number kind_row call_row call_with call_kind_of call_kind_of_word row_of call_number flags_of audit_rows audit_page dumb_pitch dumb_size buffer_size with_object with_stamp meaning with_universal changed swept after opening_checks opened closed ended with_spent with_authenticated with_master count_in answer_of reply results no_room run rows_of controls sees with_export_order prime_handle admission_checks checks verdict
+unfolding first_passing least chain_within sorted_by numbers_from answer_kind_row told answer_with answer_kind_of kind_number kind_of kind_name are_in_range rule_of_number apart_of_number kind_row call_row call_with call_kind_of call_kind_of_word row_of call_number flags_of audit_rows audit_page dumb_pitch dumb_size buffer_size with_object with_stamp meaning with_client_capability changed swept after opening_checks opened closed ended with_spent with_authenticated with_master count_in answer_of reply results no_room run rows_of controls sees with_export_order prime_handle admission_checks checks verdict
 planes_seen_and_brought_along = refl
 
 abbrev planes_brought_along_are_leased_out-steps : List (Event × Result Answer Apart)
@@ -86,7 +86,7 @@ planes_brought_along_are_leased_out-steps =
     []
 
 pub planes_brought_along_are_leased_out : Gives program_limits planes_brought_along_are_leased_out-steps
-unfolding first_passing least chain_within sorted_by numbers_from answer_kind_row told answer_with answer_kind_of kind_number kind_of kind_name are_in_range rule_of_number apart_of_number kind_row call_row call_with call_kind_of call_kind_of_word row_of call_number flags_of audit_rows audit_page dumb_pitch dumb_size buffer_size with_object with_stamp meaning with_universal changed swept after opening_checks opened closed ended with_spent with_authenticated with_master count_in answer_of reply results no_room run rows_of controls sees with_export_order prime_handle admission_checks checks verdict
+unfolding first_passing least chain_within sorted_by numbers_from answer_kind_row told answer_with answer_kind_of kind_number kind_of kind_name are_in_range rule_of_number apart_of_number kind_row call_row call_with call_kind_of call_kind_of_word row_of call_number flags_of audit_rows audit_page dumb_pitch dumb_size buffer_size with_object with_stamp meaning with_client_capability changed swept after opening_checks opened closed ended with_spent with_authenticated with_master count_in answer_of reply results no_room run rows_of controls sees with_export_order prime_handle admission_checks checks verdict
 planes_brought_along_are_leased_out = refl
 
 abbrev universal_planes_of_each_client-steps : List (Event × Result Answer Apart)
@@ -108,5 +108,5 @@ universal_planes_of_each_client-steps =
     []
 
 pub universal_planes_of_each_client : Gives program_limits universal_planes_of_each_client-steps
-unfolding first_passing least chain_within sorted_by numbers_from answer_kind_row told answer_with answer_kind_of kind_number kind_of kind_name are_in_range rule_of_number apart_of_number kind_row call_row call_with call_kind_of call_kind_of_word row_of call_number flags_of audit_rows audit_page dumb_pitch dumb_size buffer_size with_object with_stamp meaning with_universal changed swept after opening_checks opened closed ended with_spent with_authenticated with_master count_in answer_of reply results no_room run rows_of controls sees with_export_order prime_handle admission_checks checks verdict
+unfolding first_passing least chain_within sorted_by numbers_from answer_kind_row told answer_with answer_kind_of kind_number kind_of kind_name are_in_range rule_of_number apart_of_number kind_row call_row call_with call_kind_of call_kind_of_word row_of call_number flags_of audit_rows audit_page dumb_pitch dumb_size buffer_size with_object with_stamp meaning with_client_capability changed swept after opening_checks opened closed ended with_spent with_authenticated with_master count_in answer_of reply results no_room run rows_of controls sees with_export_order prime_handle admission_checks checks verdict
 universal_planes_of_each_client = refl

@@ -26,7 +26,7 @@ abbrev pub client_flags : Rows → ClientRow → ℕ
 client_flags w row =
     flag row.render 1 + flag row.root 2 + flag row.authenticated 4 + flag row.once_master 8 + flag row.is_master 16
     + flag (option_map_or (λ (magic : MagicRow). magic.spent) (magic_row w row.client) false) 32
-    + flag (not row.universal) 64
+    + flag (not row.capabilities.universal_planes) 64
 
 -- the row of a client: client, flags, master, magic
 abbrev pub client_audit : Rows → ClientRow → AuditRow

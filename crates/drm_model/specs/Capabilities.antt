@@ -4,6 +4,7 @@ use Rattle.drm_table.specs.declared.answers.Answer.{Answer}
 use Rattle.drm_table.specs.declared.answers.Answer.TheVariants.{Version, Number}
 use Rattle.drm_table.specs.declared.rules.Rule.TheVariants.{BadCap}
 use Rattle.drm_table.specs.Permit.{check}
+use Rattle.drm_model.specs.ClientCapabilities.{is_capability, with_capability}
 use Rattle.drm_model.specs.Rows.{Rows, ClientRow, is_client}
 use Rattle.drm_model.specs.Meaning.{Meaning, nothing}
 
@@ -22,13 +23,13 @@ get_cap w cap = record (nothing w) {
   answer = Number (if cap == 1 then 1 else 3);
 }
 
--- the client has universal planes on or off
-unfoldable pub with_universal : ℕ → Bool → List ClientRow → List ClientRow
-with_universal c on clients = map (λ (row : ClientRow). if is_client c row then record row { universal = on } else row) clients
+-- the clients, with one capability of one of them on or off
+unfoldable pub with_client_capability : ℕ → ℕ → Bool → List ClientRow → List ClientRow
+with_client_capability c cap on clients = map (λ (row : ClientRow). if is_client c row then record row { capabilities = with_capability cap on row.capabilities } else row) clients
 
--- SET_CLIENT_CAP: universal planes (DRM_CLIENT_CAP_UNIVERSAL_PLANES, 2) alone, off by 0 and on by 1
+-- SET_CLIENT_CAP: a capability, off by 0 and on by 1
 abbrev pub set_client_cap : Rows → ℕ → ℕ → ℕ → Meaning
 set_client_cap w c cap value = record (nothing w) {
-  checks = check BadCap ((cap == 2) && nat_le value 1) ∷ [];
-  rows = record w { clients = with_universal c (value == 1) w.clients };
+  checks = check BadCap (is_capability cap && nat_le value 1) ∷ [];
+  rows = record w { clients = with_client_capability c cap (value == 1) w.clients };
 }

@@ -7,6 +7,7 @@ use Rattle.drm_table.specs.declared.events.Opening.TheVariants.{Primary, Render,
 use Rattle.drm_table.specs.declared.rules.Rule.TheVariants.{NoLeaseToken, Full}
 use Rattle.drm_table.specs.Permit.{Check, check}
 use Rattle.drm_model.specs.Rows.{Rows, ClientRow, MasterRow, step_number, without, is_option, client_row, has_client_room}
+use Rattle.drm_model.specs.ClientCapabilities.{opening_capabilities}
 use Rattle.drm_model.specs.Masters.{new_master}
 use Rattle.drm_model.specs.Leases.{lease_master, ended}
 
@@ -21,13 +22,13 @@ abbrev pub founded : Rows → Bool → Bool → Rows
 founded w root universal = record w {
   masters = w.masters ++ new_master (step_number w) ∷ [];
   device_master = Some (step_number w);
-  clients = w.clients ++ record { client = step_number w; render = false; root = root; authenticated = true; once_master = true; is_master = true; master = Some (step_number w); universal = universal } ∷ [];
+  clients = w.clients ++ record { client = step_number w; render = false; root = root; authenticated = true; once_master = true; is_master = true; master = Some (step_number w); capabilities = opening_capabilities universal } ∷ [];
 }
 
 -- a client of the device's master, which isn't one itself; root is authenticated from its opening (own)
 abbrev pub joined : Rows → Bool → Bool → ℕ → Rows
 joined w root universal m = record w {
-  clients = w.clients ++ record { client = step_number w; render = false; root = root; authenticated = root; once_master = false; is_master = false; master = Some m; universal = universal } ∷ [];
+  clients = w.clients ++ record { client = step_number w; render = false; root = root; authenticated = root; once_master = false; is_master = false; master = Some m; capabilities = opening_capabilities universal } ∷ [];
 }
 
 -- the first primary client of a device without a master founds one (drm(7))
@@ -38,14 +39,14 @@ opened_primary w root universal (Some m) = joined w root universal m
 -- a render client has no master (drm-uapi), and universal planes on (own)
 abbrev pub opened_render : Rows → Rows
 opened_render w = record w {
-  clients = w.clients ++ record { client = step_number w; render = true; root = false; authenticated = false; once_master = false; is_master = false; master = None; universal = true } ∷ [];
+  clients = w.clients ++ record { client = step_number w; render = true; root = false; authenticated = false; once_master = false; is_master = false; master = None; capabilities = opening_capabilities true } ∷ [];
 }
 
 -- the token is spent, and the client is a master of the lessee
 abbrev pub opened_lease : Rows → ℕ → Bool → Bool → Rows
 opened_lease w token root universal = record w {
   masters = map (λ (row : MasterRow). if is_option token row.lease_token then record row { lease_token = None } else row) w.masters;
-  clients = w.clients ++ record { client = step_number w; render = false; root = root; authenticated = true; once_master = false; is_master = true; master = option_map (λ (row : MasterRow). row.master) (lease_master w token); universal = universal } ∷ [];
+  clients = w.clients ++ record { client = step_number w; render = false; root = root; authenticated = true; once_master = false; is_master = true; master = option_map (λ (row : MasterRow). row.master) (lease_master w token); capabilities = opening_capabilities universal } ∷ [];
 }
 
 -- what an accepted opening does

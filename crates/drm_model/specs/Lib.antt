@@ -1,4 +1,5 @@
 pub mod Numbers
+pub mod ClientCapabilities
 pub mod Rows
 pub mod Parts
 pub mod StepNumbers

@@ -6,8 +6,9 @@ use Rattle.drm_lists.specs.Numbers.{is_among}
 use Rattle.drm_table.specs.declared.limits.Limits.{Limits}
 use Rattle.drm_index_array.specs.Least.{least}
 use Rattle.drm_modes.specs.Topology.{Topology}
+use Rattle.drm_model.specs.ClientCapabilities.{ClientCapabilities}
 
--- an open client; a render client's master is none (drm-uapi: primary and render nodes, universal planes)
+-- an open client; a render client's master is none (drm-uapi: primary and render nodes, client capabilities)
 pub record ClientRow : Type 0 where
   pub client : ℕ
   pub render : Bool
@@ -16,7 +17,7 @@ pub record ClientRow : Type 0 where
   pub once_master : Bool
   pub is_master : Bool
   pub master : Option ℕ
-  pub universal : Bool
+  pub capabilities : ClientCapabilities
 
 -- a master; a lessee has a lessor, and the lease token where no client redeemed it (drm-uapi, leases; the token own)
 pub record MasterRow : Type 0 where

@@ -2,11 +2,12 @@
 -- that show it.
 use Rattle.std.specs.Prelude.{ℕ, ◌==◌, Bool, false, not, ◌&&◌, ◌||◌, List, Option, None, Some, map, filter}
 use Rattle.std.specs.List.{list_any}
-use Rattle.std.specs.Option.{is_some}
+use Rattle.std.specs.Option.{is_some, option_map_or}
 use Rattle.drm_modes.specs.LeaseRules as rules
 use Rattle.drm_modes.specs.Topology.{crtc_ids, plane_ids, connector_ids, is_crtc, is_plane, is_connector, mask_over}
 use Rattle.drm_model.specs.Numbers.{rising}
-use Rattle.drm_model.specs.Rows.{Rows, GrantRow, FramebufferRow, client_has}
+use Rattle.drm_model.specs.ClientCapabilities.{ClientCapabilities, no_capabilities}
+use Rattle.drm_model.specs.Rows.{Rows, ClientRow, GrantRow, FramebufferRow, client_row}
 use Rattle.drm_model.specs.Masters.{master_of, lessor_of}
 
 -- whether the lease of a master has the mode object
@@ -22,9 +23,13 @@ master_controls w (Some m) x = not (is_some (lessor_of w.masters m)) || is_grant
 unfoldable pub controls : Rows → ℕ → ℕ → Bool
 controls w c x = master_controls w (master_of w c) x
 
+-- the capabilities that an open client has on
+abbrev pub client_capabilities : Rows → ℕ → ClientCapabilities
+client_capabilities w c = option_map_or (λ (row : ClientRow). row.capabilities) (client_row w c) no_capabilities
+
 -- whether the client has universal planes on
 abbrev pub has_universal : Rows → ℕ → Bool
-has_universal w c = client_has (λ row. row.universal) w c
+has_universal w c = (client_capabilities w c).universal_planes
 
 -- whether the client sees a fixed mode object
 unfoldable pub sees : Rows → ℕ → ℕ → Bool

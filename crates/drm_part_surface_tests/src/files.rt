@@ -1,6 +1,8 @@
 //! The surface of `drm_files`.
 
-use drm_files::{FileClient, FileFault, FileFlags, FileHandle, FileRest, FileRow, Files};
+use drm_files::{
+    ClientCapability, FileClient, FileFault, FileFlags, FileHandle, FileRest, FileRow, Files,
+};
 use drm_gem::ObjectKey;
 use drm_table::ShownList;
 use std::alloc::Global;
@@ -17,6 +19,7 @@ pub fn changes() {
     let _set_prime: fn(&mut Files, u32, u32, u32) = Files::set_prime;
     let _set_authenticated: fn(&mut Files, u32) = Files::set_authenticated;
     let _set_universal: fn(&mut Files, u32, bool) = Files::set_universal;
+    let _set_capability: fn(&mut Files, u32, ClientCapability, bool) = Files::set_capability;
 }
 
 /// The calls that read them.

@@ -63,9 +63,9 @@ redeems number lessee (Some m) older =
 
 newest : (past : List AnsweredEvent) (lessee : ℕ) (d : told.Effect) (s : standings.MasterState) →
     client_of (find (is_redemption lessee) (option_to_list (new_master_state d (next_number past) (lease_in past) s))) ≡ redeemed_by d past lessee
-newest past lessee (told.OpensPrimary root universal) s = no_client (opened (next_number past) s.owner) _ (not_opened (next_number past) lessee s.owner)
+newest past lessee (told.OpensPrimary root capabilities) s = no_client (opened (next_number past) s.owner) _ (not_opened (next_number past) lessee s.owner)
 newest past lessee told.OpensRender s = no_client (noted (next_number past) (next_number past) false None) _ (not_joined (next_number past) (next_number past) lessee None)
-newest past lessee (told.Redeems token root universal) s =
+newest past lessee (told.Redeems token root capabilities) s =
     let older = λ (m : ℕ) (e : lease_in past token ≡ Some m). flipped m (next_number past) (less-differ m (next_number past) (let old = lease_up past token m e in omega (arith, old))) in
     ap (λ b. client_of (cond b (Some (noted (next_number past) (next_number past) true (lease_in past token))) None)) (redeems (next_number past) lessee (lease_in past token) older)
     ∙ of (is_option lessee (lease_in past token))

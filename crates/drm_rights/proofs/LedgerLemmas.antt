@@ -9,7 +9,9 @@ use Rattle.drm_authority.specs.MasterState as standings
 use Rattle.drm_authority.specs.MasterState.{owner_in, is_master_in, master_in, caller_master_in, lease_in, put, master_state, transition, with_primary, with_set}
 use Rattle.drm_authority.specs.Lessees.{ended_by}
 use Rattle.drm_authority.specs.Magics.{magic_in, magic_by, is_root_in, is_root_by, is_named_in, is_named_by}
-use Rattle.drm_authority.specs.Shown.{is_universal_in, universal_by}
+use Rattle.drm_model.specs.ClientCapabilities.{ClientCapabilities, cap_universal_planes, opening_capabilities, with_capability}
+use Rattle.drm_authority.specs.Shown as shown
+use Rattle.drm_authority.specs.Shown.{capabilities_by}
 use Rattle.drm_model.specs.Rows.{is_option}
 use Rattle.drm_rights.specs.Leases.{new_lease, leases_in, end_with, ends_in}
 use Rattle.drm_rights.specs.Ledgers.{IsLedger, master_state_of, magic_of, is_master_noted, master_noted, client_noted, is_named_noted, is_root_noted, capability_of, is_universal_noted, noted, opened, capable, new_master_state, new_magic, authenticated_by, new_authentication, new_root, new_capability, is_same_master, owner_since_in, standings_in, authentications_in, capabilities_in}
@@ -71,9 +73,9 @@ stands_set notes number c false s k = stands_put notes (noted number c true (Som
 -- With one more step, the notes of masters say what the history does.
 pub stands_after : (notes : List MasterState) (d : told.Effect) (number : ℕ) (lease : ℕ → Option ℕ) (s : standings.MasterState) → Stands notes s.is_master s.master →
     Stands (notes ++ option_to_list (new_master_state d number lease s)) (transition d number lease s).is_master (transition d number lease s).master
-stands_after notes (told.OpensPrimary root universal) number lease s k = stands_opened notes number s.owner s k
+stands_after notes (told.OpensPrimary root capabilities) number lease s k = stands_opened notes number s.owner s k
 stands_after notes told.OpensRender number lease s k = stands_put notes (noted number number false None) s.is_master s.master k
-stands_after notes (told.Redeems token root universal) number lease s k = stands_put notes (noted number number true (lease token)) s.is_master s.master k
+stands_after notes (told.Redeems token root capabilities) number lease s k = stands_put notes (noted number number true (lease token)) s.is_master s.master k
 stands_after notes (told.SetsMaster c) number lease s k = stands_set notes number c (s.is_master c) s k
 stands_after notes _ number lease s k = stands_still notes s.is_master s.master k
 
@@ -123,8 +125,8 @@ roots_by notes false number c = ap (λ l. is_root_noted l c) (append-none notes)
 
 -- With one more step, the notes of root openings say what the history does.
 pub roots_after : (notes : List ℕ) (d : told.Effect) (number c : ℕ) (older : Bool) → is_root_noted notes c ≡ older → is_root_noted (notes ++ option_to_list (new_root d number)) c ≡ (is_root_by d number c || older)
-roots_after notes (told.OpensPrimary root universal) number c older k = roots_by notes root number c ∙ ap (λ b. (root && (number == c)) || b) k
-roots_after notes (told.Redeems token root universal) number c older k = roots_by notes root number c ∙ ap (λ b. (root && (number == c)) || b) k
+roots_after notes (told.OpensPrimary root capabilities) number c older k = roots_by notes root number c ∙ ap (λ b. (root && (number == c)) || b) k
+roots_after notes (told.Redeems token root capabilities) number c older k = roots_by notes root number c ∙ ap (λ b. (root && (number == c)) || b) k
 roots_after notes _ number c older k = ap (λ l. is_root_noted l c) (append-none notes) ∙ k
 
 -- ---- capabilities
@@ -137,19 +139,38 @@ capability_put : (notes : List Capability) (note : Capability) (c : ℕ) → is_
 capability_put notes note c =
     ap (λ o. option_map_or (λ (k : Capability). k.universal) o false) (find-newest (λ (k : Capability). k.client == c) notes note) ∙ if-universal (note.client == c) note (capability_of notes c)
 
+planes_by : (b : Bool) (new older : ClientCapabilities) → cond b new.universal_planes older.universal_planes ≡ (cond b new older).universal_planes
+planes_by true new older = refl
+planes_by false new older = refl
+
+same_by : {X : Type 0} (b : Bool) (x : X) → x ≡ cond b x x
+same_by true x = refl
+same_by false x = refl
+
+universal_opened : (notes : List Capability) (number c : ℕ) (set older : ClientCapabilities) → is_universal_noted notes c ≡ older.universal_planes →
+    is_universal_noted (notes ++ capable number number set.universal_planes ∷ []) c ≡ (cond (number == c) set older).universal_planes
+universal_opened notes number c set older k =
+    capability_put notes (capable number number set.universal_planes) c ∙ ap (cond (number == c) set.universal_planes) k ∙ planes_by (number == c) set older
+
+universal_set : (notes : List Capability) (number client c : ℕ) (on : Bool) (older : ClientCapabilities) (is : Bool) → is_universal_noted notes c ≡ older.universal_planes →
+    is_universal_noted (notes ++ option_to_list (cond is (Some (capable number client on)) None)) c ≡ cond (client == c) (cond is on older.universal_planes) older.universal_planes
+universal_set notes number client c on older true k = capability_put notes (capable number client on) c ∙ ap (cond (client == c) on) k
+universal_set notes number client c on older false k = ap (λ l. is_universal_noted l c) (append-none notes) ∙ k ∙ same_by (client == c) older.universal_planes
+
 -- With one more step, the notes of universal planes say what the history does.
-pub capabilities_after : (notes : List Capability) (d : told.Effect) (number c : ℕ) (older : Bool) → is_universal_noted notes c ≡ older → is_universal_noted (notes ++ option_to_list (new_capability d number)) c ≡ universal_by d number c older
-capabilities_after notes (told.OpensPrimary root universal) number c older k = capability_put notes (capable number number universal) c ∙ ap (λ b. cond (number == c) universal b) k
-capabilities_after notes told.OpensRender number c older k = capability_put notes (capable number number true) c ∙ ap (λ b. cond (number == c) true b) k
-capabilities_after notes (told.Redeems token root universal) number c older k = capability_put notes (capable number number universal) c ∙ ap (λ b. cond (number == c) universal b) k
-capabilities_after notes (told.SetsUniversal client on) number c older k = capability_put notes (capable number client on) c ∙ ap (λ b. cond (client == c) on b) k
+pub capabilities_after : (notes : List Capability) (d : told.Effect) (number c : ℕ) (older : ClientCapabilities) → is_universal_noted notes c ≡ older.universal_planes → is_universal_noted (notes ++ option_to_list (new_capability d number)) c ≡ (capabilities_by d number c older).universal_planes
+capabilities_after notes (told.OpensPrimary root capabilities) number c older k = universal_opened notes number c capabilities older k
+capabilities_after notes told.OpensRender number c older k = universal_opened notes number c (opening_capabilities true) older k
+capabilities_after notes (told.Redeems token root capabilities) number c older k = universal_opened notes number c capabilities older k
+capabilities_after notes (told.SetsCapability client cap on) number c older k =
+    universal_set notes number client c on older (cap == cap_universal_planes) k ∙ planes_by (client == c) (with_capability cap on older) older
 capabilities_after notes _ number c older k = ap (λ l. is_universal_noted l c) (append-none notes) ∙ k
 
 -- ---- a step more
 
 -- A history without steps has an empty ledger.
 pub no_ledger : IsLedger [] None 0 [] [] [] [] [] [] []
-unfolding master_state owner_since_in standings_in authentications_in capabilities_in leases_in ends_in magic_in is_named_in is_root_in is_universal_in
+unfolding master_state owner_since_in standings_in authentications_in capabilities_in leases_in ends_in magic_in is_named_in is_root_in shown.capabilities_in
 no_ledger = record {
   owners = refl;
   since = refl;
@@ -177,7 +198,7 @@ pub ledger_after : (past : List AnsweredEvent) (step : AnsweredEvent) (owner own
     (authentications ++ option_to_list (new_authentication (effect step) (next_number past) (caller_master_in past) (magic_in past)))
     (roots ++ option_to_list (new_root (effect step) (next_number past)))
     (capabilities ++ option_to_list (new_capability (effect step) (next_number past)))
-unfolding master_state owner_since_in standings_in authentications_in capabilities_in leases_in ends_in magic_in is_named_in is_root_in is_universal_in
+unfolding master_state owner_since_in standings_in authentications_in capabilities_in leases_in ends_in magic_in is_named_in is_root_in shown.capabilities_in
 ledger_after past step owner owner' owner_since since' standings' leases ends magics authentications roots capabilities k its_owner its_since =
     let number = next_number past in
     let stand = stands_after standings' (effect step) number (lease_in past) (master_state past) (record { are_masters = k.are_masters; masters = k.masters }) in
@@ -194,7 +215,7 @@ ledger_after past step owner owner' owner_since since' standings' leases ends ma
       authenticated = ap (λ l. l ++ option_to_list (new_authentication (effect step) number (caller_master_in past) (magic_in past))) k.authenticated;
       opened_as_root = λ c. roots_after roots (effect step) number c (is_root_in past c) (k.opened_as_root c);
       capable = ap (λ l. l ++ option_to_list (new_capability (effect step) number)) k.capable;
-      universals = λ c. capabilities_after capabilities (effect step) number c (is_universal_in past c) (k.universals c);
+      universals = λ c. capabilities_after capabilities (effect step) number c (shown.capabilities_in past c) (k.universals c);
     }
 
 -- A ledger of a history carries over to equal notes.

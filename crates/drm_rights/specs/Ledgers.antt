@@ -3,6 +3,7 @@ use Rattle.std.specs.Prelude.{◌≡◌, ℕ, ◌==◌, Bool, true, false, not, 
 use Rattle.std.specs.List.{list_any}
 use Rattle.std.specs.Option.{option_map_or, option_or}
 use Rattle.drm_modes.specs.Topology.{Topology}
+use Rattle.drm_model.specs.ClientCapabilities.{cap_universal_planes}
 use Rattle.drm_model.specs.Rows.{is_option}
 use Rattle.drm_history.specs.History.{AnsweredEvent, next_number}
 use Rattle.drm_authority.specs.Effects as told
@@ -67,9 +68,9 @@ opened number (Some owner) = noted number number false (Some owner)
 
 -- the entry of a step for the client whose master state it changes
 abbrev pub new_master_state : told.Effect → ℕ → (ℕ → Option ℕ) → standings.MasterState → Option MasterState
-new_master_state (told.OpensPrimary root universal) number lease s = Some (opened number s.owner)
+new_master_state (told.OpensPrimary root capabilities) number lease s = Some (opened number s.owner)
 new_master_state told.OpensRender number lease s = Some (noted number number false None)
-new_master_state (told.Redeems token root universal) number lease s = Some (noted number number true (lease token))
+new_master_state (told.Redeems token root capabilities) number lease s = Some (noted number number true (lease token))
 new_master_state (told.SetsMaster c) number lease s = if s.is_master c then None else Some (noted number c true (Some number))
 new_master_state _ number lease s = None
 
@@ -90,8 +91,8 @@ new_authentication _ number own client = None
 
 -- the client that a step opens as root
 abbrev pub new_root : told.Effect → ℕ → Option ℕ
-new_root (told.OpensPrimary root universal) number = if root then Some number else None
-new_root (told.Redeems token root universal) number = if root then Some number else None
+new_root (told.OpensPrimary root capabilities) number = if root then Some number else None
+new_root (told.Redeems token root capabilities) number = if root then Some number else None
 new_root _ number = None
 
 -- the capability of a client from a step on
@@ -100,10 +101,10 @@ capable number c universal = record { step = number; client = c; universal = uni
 
 -- the entry of a step that sets universal planes
 abbrev pub new_capability : told.Effect → ℕ → Option Capability
-new_capability (told.OpensPrimary root universal) number = Some (capable number number universal)
+new_capability (told.OpensPrimary root capabilities) number = Some (capable number number capabilities.universal_planes)
 new_capability told.OpensRender number = Some (capable number number true)
-new_capability (told.Redeems token root universal) number = Some (capable number number universal)
-new_capability (told.SetsUniversal c on) number = Some (capable number c on)
+new_capability (told.Redeems token root capabilities) number = Some (capable number number capabilities.universal_planes)
+new_capability (told.SetsCapability c cap on) number = if cap == cap_universal_planes then Some (capable number c on) else None
 new_capability _ number = None
 
 -- ---- the entries of a history, the oldest first
@@ -144,7 +145,7 @@ is_redemption lessee s = (s.step == s.client) && (s.is_master && (is_option less
 
 -- the client that a step opens by the token of a lessee
 abbrev pub redeemed_by : told.Effect → List AnsweredEvent → ℕ → Option ℕ
-redeemed_by (told.Redeems token root universal) past lessee = if is_option lessee (lease_in past token) then Some (next_number past) else None
+redeemed_by (told.Redeems token root capabilities) past lessee = if is_option lessee (lease_in past token) then Some (next_number past) else None
 redeemed_by _ past lessee = None
 
 -- the client that redeemed the lease of a lessee, named by the step that opened it

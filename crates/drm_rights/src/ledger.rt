@@ -1147,6 +1147,9 @@ fn root_by(effect: Effect, number: u64) -> Option<u64>
     if root { Some(number) } else { None }
 }
 
+/// The number of `DRM_CLIENT_CAP_UNIVERSAL_PLANES` (drm-uapi).
+const UNIVERSAL_PLANES: u64 = 2;
+
 /// Returns the capability of a client from a step on.
 fn capable(number: u64, client: u64, universal: bool) -> Capability
     ensures { result ≡ ledgers.capable number client universal }
@@ -1158,7 +1161,7 @@ fn capable(number: u64, client: u64, universal: bool) -> Capability
     }
 }
 
-/// Returns the capability that a step sets, by an opening or by SET_CLIENT_CAP, which sets no other.
+/// Returns whether a step turns universal planes on or off, by an opening or by SET_CLIENT_CAP.
 fn capability_by(effect: Effect, number: u64) -> Option<Capability>
     ensures { (ids : List ℕ) → result ≡ new_capability (effect_of ids effect) number }
 {
@@ -1166,7 +1169,17 @@ fn capability_by(effect: Effect, number: u64) -> Option<Capability>
         Effect::OpensPrimary { universal, .. } => Some(capable(number, number, universal)),
         Effect::OpensRender => Some(capable(number, number, true)),
         Effect::Redeems { universal, .. } => Some(capable(number, number, universal)),
-        Effect::SetsUniversal { client, on } => Some(capable(number, client, on)),
+        Effect::SetsCapability {
+            client,
+            capability,
+            on,
+        } => {
+            if capability == UNIVERSAL_PLANES {
+                Some(capable(number, client, on))
+            } else {
+                None
+            }
+        }
         _ => None,
     }
 }

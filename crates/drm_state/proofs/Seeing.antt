@@ -14,6 +14,7 @@ use Rattle.drm_modes.specs.Topology.{is_crtc, is_plane, is_connector, is_encoder
 use Rattle.drm_modes.specs.Modes as modes
 use Rattle.drm_modes.specs.Modes.{framebuffer_before, is_made_by}
 use Rattle.drm_model.specs.Rows.{Rows, ClientRow, GrantRow, FramebufferRow, client_row}
+use Rattle.drm_model.specs.ClientCapabilities.{no_capabilities}
 use Rattle.drm_model.specs.Masters.{master_of, lessor_of}
 use Rattle.drm_model.specs.Sees as model
 use Rattle.drm_state.specs.declared.state.State.{State}
@@ -54,7 +55,7 @@ module _ (s : State) (w : Rows) (k : PrimaryCaller) (is : IsPrimaryCaller s k) (
       ∙ ap (λ o. not (is_some o) || leases.is_granted s.leases.grants k.member.master x) (lessors_are s.leases.tokens s.masters.masters k.member.master)
 
   pub universal_is : model.has_universal w k.client ≡ k.flags.universal
-  universal_is = ap (λ o. option_map_or (λ (row : ClientRow). row.universal) o false) row_here
+  universal_is = ap (λ o. (option_map_or (λ (row : ClientRow). row.capabilities) o no_capabilities).universal_planes) row_here
 
   pub seen_is : (x : ℕ) → model.sees w k.client x ≡ sees s k x
   unfolding model.sees

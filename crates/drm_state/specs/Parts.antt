@@ -4,12 +4,16 @@ use Rattle.std.specs.List.{filter_map}
 use Rattle.std.specs.Option.{option_map, option_map_or, option_and_then}
 use Rattle.drm_gem.specs.declared.object.Object.{Object}
 use Rattle.drm_gem.specs.Objects.{is_key}
+use Rattle.drm_files.specs.declared.rows.ClientCapability.{ClientCapability}
+use Rattle.drm_files.specs.declared.rows.ClientCapability.TheVariants.{UniversalPlanes}
+use Rattle.drm_files.specs.declared.rows.FileFlags.{FileFlags}
 use Rattle.drm_files.specs.declared.rows.FileClient.{FileClient}
 use Rattle.drm_files.specs.declared.rows.FileHandle.{FileHandle}
 use Rattle.drm_files.specs.Files as files
 use Rattle.drm_share.specs.declared.rows.SharedName.{SharedName}
 use Rattle.drm_share.specs.declared.rows.SharedToken.{SharedToken}
 use Rattle.drm_share.specs.Tokens.{TokenList, is_exported_by}
+use Rattle.drm_model.specs.ClientCapabilities.{ClientCapabilities, cap_universal_planes}
 use Rattle.drm_model.specs.Rows.{ClientRow, MasterRow, MagicRow, HandleRow, ObjectRow, NameRow, TokenRow, GrantRow, FramebufferRow, ShownRow}
 use Rattle.drm_modes.specs.declared.rows.Framebuffer.{Framebuffer}
 use Rattle.drm_modes.specs.declared.rows.Shown.{Shown}
@@ -25,6 +29,14 @@ use Rattle.drm_leases.specs.Tokens.{LeaseToken}
 use Rattle.drm_leases.specs.Leases.{LeaseSet, Lending, token_of}
 use Rattle.drm_state.specs.declared.state.State.{State}
 
+-- the number of a capability (drm-uapi)
+abbrev pub capability_number : ClientCapability → ℕ
+capability_number UniversalPlanes = cap_universal_planes
+
+-- the capabilities of a client with these flags
+abbrev pub capabilities_of : FileFlags → ClientCapabilities
+capabilities_of flags = record { universal_planes = flags.universal }
+
 -- a render client does not belong to masters
 abbrev pub client_row_by : FileClient → Option Member → ClientRow
 client_row_by f m = record {
@@ -35,7 +47,7 @@ client_row_by f m = record {
   once_master = option_map_or (λ (x : Member). x.once_master) m false;
   is_master = option_map_or (λ (x : Member). x.is_master) m false;
   master = option_map (λ (x : Member). x.master) m;
-  universal = f.flags.universal;
+  capabilities = capabilities_of f.flags;
 }
 
 -- the row of an open client

@@ -6,6 +6,7 @@ use Rattle.drm_table.specs.declared.answers.Answer.TheVariants.{Done, Opened, Le
 use Rattle.drm_table.specs.declared.calls.Call.TheVariants.{CreateLease}
 use Rattle.drm_table.specs.declared.events.Event.{Event}
 use Rattle.drm_table.specs.declared.events.Event.TheVariants.{Ask}
+use Rattle.drm_model.specs.ClientCapabilities.{opening_capabilities}
 use Rattle.drm_authority.specs.Effects as told
 use Rattle.drm_trails.specs.declared.effects.Effect.{Effect}
 use Rattle.drm_trails.specs.declared.effects.Effect.TheVariants as effects
@@ -13,14 +14,14 @@ use Rattle.drm_trails.specs.declared.effects.Effect.TheVariants as effects
 -- the effect of the definitions, with these ids in a lease
 abbrev pub effect_of : List ℕ → Effect → told.Effect
 effect_of ids effects.Nothing = told.Nothing
-effect_of ids (effects.OpensPrimary root universal) = told.OpensPrimary root universal
+effect_of ids (effects.OpensPrimary root universal) = told.OpensPrimary root (opening_capabilities universal)
 effect_of ids effects.OpensRender = told.OpensRender
-effect_of ids (effects.Redeems token root universal) = told.Redeems token root universal
+effect_of ids (effects.Redeems token root universal) = told.Redeems token root (opening_capabilities universal)
 effect_of ids (effects.Closes client) = told.Closes client
 effect_of ids (effects.GetsMagic client magic) = told.GetsMagic client magic
 effect_of ids (effects.Authenticates client magic) = told.Authenticates client magic
 effect_of ids (effects.SetsMaster client) = told.SetsMaster client
-effect_of ids (effects.SetsUniversal client on) = told.SetsUniversal client on
+effect_of ids (effects.SetsCapability client capability on) = told.SetsCapability client capability on
 effect_of ids effects.DropsMaster = told.DropsMaster
 effect_of ids (effects.Leases client lessee token) = told.Leases client ids lessee token
 effect_of ids (effects.Revokes client lessee) = told.Revokes client lessee

@@ -49,8 +49,9 @@ pub enum Effect {
     SetsMaster {
         client: u64,
     },
-    SetsUniversal {
+    SetsCapability {
         client: u64,
+        capability: u64,
         on: bool,
     },
     DropsMaster,
@@ -131,9 +132,17 @@ fn call_effect(client: u64, call: &Call, answer: &Answer) -> Effect
             if_done(answer, Effect::Authenticates { client, magic })
         }
         Call::SetMaster => if_done(answer, Effect::SetsMaster { client }),
-        Call::SetClientCap { value, .. } => {
+        Call::SetClientCap { cap, value } => {
+            let capability = *cap;
             let on = *value == 1;
-            if_done(answer, Effect::SetsUniversal { client, on })
+            if_done(
+                answer,
+                Effect::SetsCapability {
+                    client,
+                    capability,
+                    on,
+                },
+            )
         }
         Call::DropMaster => if_done(answer, Effect::DropsMaster),
         Call::CreateLease { .. } => lease_effect(client, answer),

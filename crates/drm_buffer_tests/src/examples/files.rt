@@ -1,6 +1,6 @@
 //! The examples of `drm_files`, made by `tools/doc_examples` of its doc comments.
 
-use drm_files::{FileClient, FileFault, FileFlags, FileHandle, FileRow, Files};
+use drm_files::{ClientCapability, FileClient, FileFault, FileFlags, FileHandle, FileRow, Files};
 use drm_gem::ObjectKey;
 
 #[test]
@@ -8,6 +8,12 @@ fn values(rt: HostRuntime) {
     let alloc = rt.alloc();
     let mut files = Files::new(alloc, 0, 100);
     assert!(rt; files.open(1, false, false, true) == Err(FileFault::Full));
+    let mut files = Files::new(alloc, 4, 100);
+    let Ok(()) = files.open(1, false, true, false) else {
+        panic!(rt; "refused")
+    };
+    files.set_capability(1, ClientCapability::UniversalPlanes, true);
+    assert!(rt; matches!(files.flags_of(1), Some(flags) if flags.universal));
     let mut files = Files::new(alloc, 4, 100);
     let Ok(()) = files.open(1, false, true, true) else {
         panic!(rt; "refused")
@@ -72,6 +78,9 @@ fn files(rt: HostRuntime) {
     assert!(rt; matches!(files.flags_of(1), Some(flags) if flags.authenticated));
     files.set_universal(1, false);
     assert!(rt; matches!(files.flags_of(1), Some(flags) if !flags.universal));
+    assert!(rt; matches!(files.flags_of(1), Some(flags) if !flags.universal));
+    files.set_capability(1, ClientCapability::UniversalPlanes, true);
+    assert!(rt; matches!(files.flags_of(1), Some(flags) if flags.universal));
 }
 
 #[test]

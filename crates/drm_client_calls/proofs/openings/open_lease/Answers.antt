@@ -19,6 +19,7 @@ use Rattle.drm_leases.specs.Leases.{LeaseSet, Lending, AreLeases, is_lease_of, k
 use Rattle.drm_leases.specs.Agreed.{IsAgreed}
 use Rattle.drm_leases.proofs.Keyed.{keyed_step_number, lent_key, token_lent}
 use Rattle.drm_leases.specs.Calls.{without_token}
+use Rattle.drm_model.specs.ClientCapabilities.{opening_capabilities}
 use Rattle.drm_model.specs.Rows.{Rows, MasterRow, has_client_room, step_number}
 use Rattle.drm_model.specs.Verdict.{verdict}
 use Rattle.drm_model.specs.Leases.{lease_master}
@@ -41,7 +42,7 @@ accepted w token root universal leased room = opening_verdict w (Lease token roo
 
 longer : (w : Rows) (token : ℕ) (root universal : Bool) → length w.clients < length (opened_lease w token root universal).clients
 longer w token root universal =
-    omega (arith, length-append w.clients (record { client = step_number w; render = false; root = root; authenticated = true; once_master = false; is_master = true; master = option_map (λ (row : MasterRow). row.master) (lease_master w token); universal = universal } ∷ []))
+    omega (arith, length-append w.clients (record { client = step_number w; render = false; root = root; authenticated = true; once_master = false; is_master = true; master = option_map (λ (row : MasterRow). row.master) (lease_master w token); capabilities = opening_capabilities universal } ∷ []))
 
 -- the lessee of a token is there
 lessee_there : (ms : List Master) (m : ℕ) → is_lessee ms m ≡ true → master_at ms m ≡ None → ⊥

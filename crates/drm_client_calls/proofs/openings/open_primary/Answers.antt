@@ -5,6 +5,7 @@ use Rattle.drm_table.specs.declared.events.Event.TheVariants.{Open}
 use Rattle.drm_table.specs.declared.events.Opening.TheVariants.{Primary}
 use Rattle.drm_table.specs.declared.rules.Rule.TheVariants.{Full}
 use Rattle.drm_files.specs.declared.rows.FileFlags.{FileFlags}
+use Rattle.drm_model.specs.ClientCapabilities.{opening_capabilities}
 use Rattle.drm_model.specs.Rows.{Rows, ClientRow, MasterRow, has_client_room, step_number}
 use Rattle.drm_model.specs.Verdict.{verdict}
 use Rattle.drm_model.specs.Clients.{opening_checks, opened, opened_primary}
@@ -16,7 +17,7 @@ use Rattle.drm_masters.proofs.Newest.{newest_absent, newest_unused, newest_last,
 use Rattle.drm_state.specs.Refinement.{Refines, Represents}
 use Rattle.std.specs.Prelude.{if◌then◌else◌}
 use Rattle.std.specs.Option.{is_none, is_some}
-use Rattle.drm_files.specs.Files.{is_open_client, without_client}
+use Rattle.drm_files.specs.Files.{is_open_client, new_flags, without_client}
 use Rattle.drm_state.specs.declared.state.State.{State}
 use Rattle.drm_state.specs.Invariants.{MeetsInvariants, IsLater, AreOfLessees, AreKeptBy}
 use Rattle.drm_state.proofs.Members.{found_last}
@@ -33,11 +34,11 @@ unfolding opening_checks
 accepted w root universal room = opening_verdict w (Primary root universal) ∙ rw room refl
 
 longer : (w : Rows) (root universal : Bool) (m : Option ℕ) → length w.clients < length (opened_primary w root universal m).clients
-longer w root universal None = omega (arith, length-append w.clients (record { client = step_number w; render = false; root = root; authenticated = true; once_master = true; is_master = true; master = Some (step_number w); universal = universal } ∷ []))
-longer w root universal (Some m) = omega (arith, length-append w.clients (record { client = step_number w; render = false; root = root; authenticated = root; once_master = false; is_master = false; master = Some m; universal = universal } ∷ []))
+longer w root universal None = omega (arith, length-append w.clients (record { client = step_number w; render = false; root = root; authenticated = true; once_master = true; is_master = true; master = Some (step_number w); capabilities = opening_capabilities universal } ∷ []))
+longer w root universal (Some m) = omega (arith, length-append w.clients (record { client = step_number w; render = false; root = root; authenticated = root; once_master = false; is_master = false; master = Some m; capabilities = opening_capabilities universal } ∷ []))
 
 abbrev flags : Bool → Bool → Bool → FileFlags
-flags root universal opener = record { render = false; root = root; authenticated = if opener then true else root; universal = universal }
+flags root universal opener = record (new_flags false root universal) { authenticated = if opener then true else root }
 
 pub returns-then-is_full-clause-refines : goal.returns-then-is_full-clause-refines
 unfolding Refines opening_checks
@@ -113,13 +114,13 @@ returns-clause-invariants c =
 -- and it represents the rows of an opening
 rows_by : (s : State) (w : Rows) (b : ℕ) (root universal opener : Bool) (new : MasterSet) (d : Option ℕ) → MeetsInvariants s → IsLater s b → w.steps + 1 ≡ b → opener ≡ is_none d → masters.Opened s.masters b b d new → Represents s w → Represents (joined s b (flags root universal opener) new s.leases) (opened_primary w root universal d)
 rows_by s w b root universal opener new None t later is f h r =
-    let row : ClientRow = record { client = step_number w; render = false; root = root; authenticated = true; once_master = true; is_master = true; master = Some (step_number w); universal = universal } in
+    let row : ClientRow = record { client = step_number w; render = false; root = root; authenticated = true; once_master = true; is_master = true; master = Some (step_number w); capabilities = opening_capabilities universal } in
     let master : MasterRow = record { master = step_number w; lessor = None; lessee_id = 0; lease_token = None } in
     subst (λ n. Represents (joined s b (flags root universal n) new s.leases) (opened_primary w root universal None)) (sym f)
     (subst (λ v. Represents (joined s b (flags root universal true) v s.leases) (opened_primary w root universal None)) (sym (new_opener s.masters new b h.0 (newer s b t later) later.masters h.2))
     (opener_represents s w (flags root universal true) (masters.owner b b) (masters.founded_master h.0 b) row master t later refl (ap (λ n. record row { client = n; master = Some n }) (sym is)) (λ i. record { master = sym is i; lessor = None; lessee_id = 0; lease_token = fresh_token b s.leases.tokens later.leases.tokens i }) r))
 rows_by s w b root universal opener new (Some m) t later is f h r =
-    let row : ClientRow = record { client = step_number w; render = false; root = root; authenticated = root; once_master = false; is_master = false; master = Some m; universal = universal } in
+    let row : ClientRow = record { client = step_number w; render = false; root = root; authenticated = root; once_master = false; is_master = false; master = Some m; capabilities = opening_capabilities universal } in
     subst (λ n. Represents (joined s b (flags root universal n) new s.leases) (opened_primary w root universal (Some m))) (sym f)
     (subst (λ v. Represents (joined s b (flags root universal false) v s.leases) (opened_primary w root universal (Some m))) (sym (new_guest s.masters new b m (newer s b t later) h))
     (non_master_represents s w (flags root universal false) (masters.non_master b m) row t later refl (ap (λ n. record row { client = n }) (sym is)) r))

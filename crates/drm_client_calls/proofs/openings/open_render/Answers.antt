@@ -5,6 +5,8 @@ use Rattle.drm_table.specs.declared.events.Event.TheVariants.{Open}
 use Rattle.drm_table.specs.declared.events.Opening.TheVariants.{Render}
 use Rattle.drm_table.specs.declared.rules.Rule.TheVariants.{Full}
 use Rattle.drm_files.specs.declared.rows.FileFlags.{FileFlags}
+use Rattle.drm_files.specs.Files.{new_flags}
+use Rattle.drm_model.specs.ClientCapabilities.{opening_capabilities}
 use Rattle.drm_model.specs.Rows.{Rows, ClientRow, has_client_room, step_number}
 use Rattle.drm_model.specs.Verdict.{verdict}
 use Rattle.drm_model.specs.Clients.{opening_checks, opened}
@@ -16,10 +18,10 @@ use Rattle.drm_state.proofs.Refinements.{denied, carried_on, refused, opening_ve
 use Rattle.drm_client_calls.proofs.openings.open_render.Goals as goal
 
 abbrev row : Rows → ClientRow
-row w = record { client = step_number w; render = true; root = false; authenticated = false; once_master = false; is_master = false; master = None; universal = true }
+row w = record { client = step_number w; render = true; root = false; authenticated = false; once_master = false; is_master = false; master = None; capabilities = opening_capabilities true }
 
 abbrev flags : FileFlags
-flags = record { render = true; root = false; authenticated = false; universal = true }
+flags = new_flags true false true
 
 accepted : (w : Rows) → has_client_room w ≡ true → verdict w (Open Render) ≡ None
 unfolding opening_checks

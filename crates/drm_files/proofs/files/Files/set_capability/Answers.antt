@@ -1,9 +1,9 @@
 use Rattle.std.proofs.Common.{refl, ap, sym, ◌∙◌}
 use Rattle.drm_files.specs.declared.files.FileRecord.{FileRecord}
-use Rattle.drm_files.specs.Files.{FileLists, universal, with_universal}
+use Rattle.drm_files.specs.Files.{FileLists, client, with_capable, with_capability}
 use Rattle.drm_files.proofs.Calls.{changed}
 use Rattle.drm_files.proofs.RecordFacts.{nobody, AreRecords-insert}
-use Rattle.drm_files.proofs.files.Files.set_universal.Goals as goal
+use Rattle.drm_files.proofs.files.Files.set_capability.Goals as goal
 
 pub unreachable-requires : goal.unreachable-requires
 unreachable-requires c =
@@ -20,6 +20,6 @@ pub returns : goal.returns
 returns c =
     let inside = c.self.inside in
     let old = c.in-Some.record.now in
-    let new : FileRecord = record { flags = record old.flags { universal = c.args.on }; handles = old.handles; orders = old.orders } in
-    changed inside.open_limit inside.last_handle inside.clients.items c.args.client (universal c.args.on) old new (sym c.in-Some.ensures.value) (λ k. refl) refl
-    ∙ ap (λ (l : FileLists). with_universal l c.args.client c.args.on) c.self.view_is
+    let new : FileRecord = record { flags = c.with_capability-record.result; handles = old.handles; orders = old.orders } in
+    changed inside.open_limit inside.last_handle inside.clients.items c.args.client (with_capable c.args.capability c.args.on) old new (sym c.in-Some.ensures.value) (λ k. ap (client k) c.with_capability-record.ensures) refl
+    ∙ ap (λ (l : FileLists). with_capability l c.args.client c.args.capability c.args.on) c.self.view_is
