@@ -41,7 +41,7 @@ fn shrink_fault<R: Log>(rt: &R, shrinking: Shrinking<'_>, fault: ShrinkFault) ->
     }
 }
 
-/// Logs how far the search came.
+/// Logs the result of the search.
 fn tell_search<R: Log>(rt: &R, shrinking: Shrinking<'_>, shrunk: &Shrunk) {
     let Shrinking { path, line, .. } = shrinking;
     let Shrunk {
@@ -84,7 +84,7 @@ fn shrink_asked<R: Input + Files + Print + AllocGlobal + Log>(
     Ok(())
 }
 
-/// Prints a shorter script in which a line is answered the same, logs how far the search came, and returns the outcome
+/// Prints a shorter script in which a line is answered the same, logs the result of the search, and returns the outcome
 /// of the program (own). Allocates the texts and a device for each trial.
 ///
 /// # Examples

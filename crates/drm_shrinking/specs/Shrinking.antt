@@ -30,8 +30,8 @@ pub record LineAt (text : List ℕ) (number : ℕ) (before : List (List ℕ)) (l
   pub lines : lines_of text ≡ before ++ line ∷ others
   pub number_is : number ≡ length before + 1
 
--- Some of the lines before the one with this number were used, so many, and then that one, with this answer. The text
--- has the used lines with their answers.
+-- Some of the lines before the one with this number were used, and then that one, with this answer. The text has the
+-- used lines with their answers, and the count is that of the lines before the last.
 pub record IsReplay (setting : Setting) (text : List ℕ) (number : ℕ) (written : List ℕ) (count : ℕ) (answer : Result Answer Apart) : Type 0 where
   pub before : List (List ℕ)
   pub last : List ℕ
@@ -45,8 +45,8 @@ pub record IsReplay (setting : Setting) (text : List ℕ) (number : ℕ) (writte
   pub answered : Uses device labels (script_part last) (answer ∷ []) device' labels'
   pub written_is : written ≡ front ++ ended (with_answer (script_part last) (Some answer))
 
--- The line with this number has an answer after all lines before it. After some of them it has the same, and this is the
--- text of those and of the line, so many together, with their answers.
+-- The line with this number has an answer after all lines before it. After some of them it has the same. The text has
+-- those and the line, with their answers, and the count is that of all of these.
 pub record Shrinks (setting : Setting) (text : List ℕ) (number : ℕ) (shrunk : List ℕ) (lines : ℕ) : Type 0 where
   pub whole : List ℕ
   pub count : ℕ
@@ -59,7 +59,7 @@ pub record Shrinks (setting : Setting) (text : List ℕ) (number : ℕ) (shrunk 
   pub lines_are : lines ≡ kept + 1
   pub same_answer : answer_line same ≡ answer_line answer
 
--- there are so many lines, and none has this number
+-- this is the number of lines, and none has the requested number
 abbrev pub HasNoLine : List ℕ → ℕ → ℕ → Type 0
 HasNoLine text number lines = (lines ≡ length (lines_of text)) × ((number ≡ 0) ⊎ (lines < number))
 

@@ -18,7 +18,7 @@ use std::alloc::AllocError;
 /// ```
 #[derive(Clone, Copy, Debug, PartialEq, Eq)]
 pub enum ShrinkFault {
-    /// No line has the number. The script has so many lines.
+    /// No line has the number. The script has this number of lines.
     NoLine(u64),
     /// The line has no answer: it is empty, a comment, or sets limits.
     NoAnswer,

@@ -51,7 +51,7 @@ fn leave_out_clients(trials: &mut Trials<'_>) -> Result<(), AllocError> {
     Ok(())
 }
 
-/// Tries without each run of so many kept lines. The first run is shorter if the runs are shifted.
+/// Tries without each run of kept lines of this size. The first run is shorter if the runs are shifted.
 fn pass(trials: &mut Trials<'_>, size: usize, is_shifted: bool) -> Result<bool, AllocError>
     requires { 0 < size }
 {
@@ -95,7 +95,7 @@ fn leave_out_lines(trials: &mut Trials<'_>) -> Result<(), AllocError> {
     Ok(())
 }
 
-/// Returns the lines before a line that its answer depends on, as far as so many run lines show it.
+/// Returns the lines before a line that its answer depends on, as far as `most` run lines show it.
 pub(crate) fn search(
     alloc: Global,
     setup: &Setup,

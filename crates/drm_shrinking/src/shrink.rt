@@ -39,7 +39,7 @@ pub struct Shrunk {
 ///
 /// The lines after it are left out, and of those before it whole clients, runs of lines and single lines, as long as the
 /// answer stays. The device begins with this topology and these default limits. Expected answers are ignored. The same
-/// text gives the same result. The search ends once it has run `most` lines, or a few more, and returns the script that
+/// text leads to the same result. The search ends once it has run `most` lines, or a few more, and returns the script that
 /// it has then. Allocates the texts and a device for each trial.
 ///
 /// # Errors

@@ -128,7 +128,8 @@ impl<'a> Trials<'a> {
         Ok(kept)
     }
 
-    /// Runs the kept lines and the last one on a new device. Returns whether the last one has the wanted answer.
+    /// Runs the kept lines and the last one on a new device. Returns whether the last one has the same answer as
+    /// after all lines.
     fn is_answered(&mut self) -> Result<bool, AllocError> {
         let mut interpreter = Interpreter::new(self.setup.clone()?);
         let mut outcome = Ok(Answer::Done);
