@@ -1,6 +1,6 @@
 //! The lines of a script up to one, run on a new device, with some of them left out.
 
-ghost use Rattle.std.specs.Prelude.{◌≡◌, ◌++◌, ◌+◌, true, length, OnOk, IfOk, IfErr};
+ghost use Rattle.std.specs.Prelude.{◌≡◌, ◌++◌, ◌+◌, ◌<◌, true, length, OnOk, IfOk, IfErr};
 ghost use Rattle.drm_runs.specs.Lines.{ended};
 ghost use Rattle.drm_checks.specs.Updates.{with_answer};
 ghost use Rattle.drm_shrinking.specs.Shrinking.{HasShrinkFault, IsReplay};
@@ -60,6 +60,7 @@ pub(crate) fn replay(
     kept: &[bool],
 ) -> Result<Replayed, ShrinkFault>
     ensures replay { IfOk result (λ replay. IsReplay setup.now text.now number replay.text.items replay.count replay.answer) }
+    ensures few { IfOk result (λ replay. replay.count < number) }
     ensures whole { IfOk result (λ replay. length kept.now ≡ 0 → number ≡ replay.count + 1) }
     ensures fault { IfErr result (λ fault. HasShrinkFault setup.now text.now number fault) }
 {

@@ -1,5 +1,9 @@
 //! The lines of a script that a search leaves out or keeps, and trials without some of them.
 
+ghost use Rattle.std.specs.Prelude.{◌≡◌};
+ghost use Rattle.std.specs.Str.{bytes_eq};
+ghost use Rattle.drm_script.specs.Lines.{answer_line};
+
 use drm_checks::script_of;
 use drm_runs::{Interpreter, LineResult, Setup};
 use drm_script::{Command, Label, Reading, first_line, line_of, read_line};
@@ -60,7 +64,9 @@ fn line_from(alloc: Global, script: &[u8]) -> Result<(Line, Fate), AllocError> {
 }
 
 /// Returns whether the lines of two answers are the same.
-pub(crate) fn is_same(a: &Result<Answer, Apart>, b: &Result<Answer, Apart>) -> bool {
+pub(crate) fn is_same(a: &Result<Answer, Apart>, b: &Result<Answer, Apart>) -> bool
+    ensures { result ≡ bytes_eq (answer_line a.now) (answer_line b.now) }
+{
     line_of(a).as_bytes() == line_of(b).as_bytes()
 }
 

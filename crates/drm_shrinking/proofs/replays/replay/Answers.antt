@@ -1,4 +1,5 @@
 use Rattle.std.proofs.Common.{List, ℕ, ◌++◌, length, ap, ◌∙◌}
+use Rattle.std.proofs.lemmas.Bool.{ne_eqb}
 use Rattle.std.proofs.lemmas.Result.{err_from_is_err_and}
 use Rattle.drm_runs.specs.Lines.{ended}
 use Rattle.drm_runs.specs.Interpreter.{at_start}
@@ -30,5 +31,5 @@ lines-preserved c =
           (w.in_ok-put.ensures ∙ ap (λ (s : List ℕ). c.lines.written.items ++ ended (with_answer s w.in_ok-came.came)) w.script_of.ensures))
       | else-is_last+else-is_kept w ↦
           joined_so_far w.interpreter-is (ap (λ t. t.items) w.written-is) w.count-is
-          (one_left_out c.lines.invariant l.result.0.now l.result.1.now first w.is_kept.result w.is_kept.ensures w.if-is_kept.false w.if-is_last.false)
+          (one_left_out c.lines.invariant l.result.0.now l.result.1.now first w.is_kept.result w.is_kept.ensures w.if-is_kept.false (ne_eqb _ _ w.if-is_last.false))
     ]
