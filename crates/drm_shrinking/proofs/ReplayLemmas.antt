@@ -1,5 +1,5 @@
 -- The lines of a replay, one after the other.
-use Rattle.std.proofs.Common.{◌≡◌, ℕ, zero, suc, ◌+◌, ◌<◌, ◌≤◌, ◌==◌, List, [], ◌∷◌, ◌++◌, ◌⊎◌, inl, inr, length, refl, sym, ap, subst, ◌∙◌, arith, Some, None, Option, Result, Ok, Err, Bool, true, false, append_assoc, append-nil}
+use Rattle.std.proofs.Common.{◌≡◌, ℕ, zero, suc, ◌+◌, ◌<◌, ◌≤◌, ◌==◌, List, [], ◌∷◌, ◌++◌, ◌⊎◌, inl, inr, length, refl, sym, ap, subst, ◌∙◌, arith, Some, None, Option, Result, Ok, Err, Bool, true, false, append_assoc}
 use Rattle.std.proofs.lemmas.List.{length_push}
 use Rattle.std.proofs.lemmas.Bool.Decides.{nat_tests}
 use Rattle.drm_table.specs.declared.answers.Answer.{Answer}
@@ -13,9 +13,8 @@ use Rattle.drm_checks.specs.Updates.{IsUnfit, UsesLine, with_answer}
 use Rattle.drm_checks.specs.declared.update.UpdateFault.{UpdateFault}
 use Rattle.drm_checks.specs.declared.update.UpdateFault.TheVariants as updates
 use Rattle.drm_checks.proofs.UpdateLemmas.{FirstLine, shorter}
-use Rattle.drm_shrinking.specs.Shrinking.{Selected, LineAt, IsReplay, IsUnanswered, HasUnfit, HasNoLine, HasShrinkFault, fault_of}
+use Rattle.drm_shrinking.specs.Shrinking.{Selected, LineAt, HasUnfit, HasShrinkFault, fault_of}
 use Rattle.drm_shrinking.specs.Shrinking.Selected.{start, used, left_out}
-use Rattle.drm_shrinking.specs.declared.faults.ShrinkFault.{ShrinkFault}
 
 -- the lines so far, and what is left of the text
 pub record ReplaySoFar (setting : Setting) (text rest written : List ℕ) (number before count kept : ℕ) (interpreter : InterpreterState) : Type 0 where
@@ -94,40 +93,6 @@ module _ {setting : Setting} {text rest written : List ℕ} {number before count
       all = λ none. let a = always none in absurd (cc);
     }
 
-    -- The line of the number ends the replay with its answer.
-    pub ends_replay : (next : InterpreterState) (answer : Result Answer Apart) (grown : List ℕ) → before + 1 ≡ number → UsesLine interpreter next (before + 1) first (Ok (Some answer))
-        → grown ≡ written ++ ended (with_answer (script_part first) (Some answer)) → IsReplay setting text number grown count answer
-    ends_replay next answer grown e u g = record {
-      before = so.lines;
-      last = first;
-      at = subst (λ n. LineAt text n so.lines first) e here;
-      front = written;
-      device = interpreter.device;
-      device' = next.device;
-      labels = interpreter.labels;
-      labels' = next.labels;
-      selected = so.selected;
-      answered = u.1;
-      written_is = g;
-    }
-
-    -- All lines before it were used if none is marked.
-    pub all_used : before + 1 ≡ number → kept ≡ 0 → number ≡ count + 1
-    all_used e none = let a = so.all none in omega (arith, a, e)
-
-    -- The line of the number may have no answer.
-    pub no_answer : (next : InterpreterState) → before + 1 ≡ number → UsesLine interpreter next (before + 1) first (Ok None) → IsUnanswered setting text number
-    no_answer next e u = record {
-      before = so.lines;
-      last = first;
-      at = subst (λ n. LineAt text n so.lines first) e here;
-      device = interpreter.device;
-      device' = next.device;
-      labels = interpreter.labels;
-      labels' = next.labels;
-      nothing = u.1;
-    }
-
     -- A replay stops at a line that can't be used, or without memory.
     pub fault_of_use : (next : InterpreterState) (fault : UpdateFault) → UsesLine interpreter next (before + 1) first (Err fault) → HasShrinkFault setting text number (fault_of fault)
     fault_of_use next (updates.Malformed told cause) u = subst (HasUnfit setting text) (sym u.0) (record {
@@ -142,10 +107,6 @@ module _ {setting : Setting} {text rest written : List ℕ} {number before count
       cause = u.1;
     })
     fault_of_use next updates.NoMemory u = tt
-
-  -- At the end of the text no line had the number.
-  pub no_line : rest ≡ [] → HasNoLine text number before
-  no_line e = (so.counted ∙ ap length (sym (so.whole ∙ ap (λ (r : List ℕ). so.lines ++ lines_of r) e ∙ append-nil so.lines)), so.not_yet)
 
 -- The same after values that are equal.
 pub joined_so_far : {setting : Setting} {text rest written written' : List ℕ} {number before count count' kept : ℕ} {interpreter interpreter' : InterpreterState}
