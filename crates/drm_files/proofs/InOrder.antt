@@ -354,7 +354,7 @@ with_room m object absent d = (
 )
 
 -- A copied option has a value if and only if the option has one.
-pub copied_there : (o : Option (Bor Neighbours)) → is_some (option_copied o) ≡ is_some o
+pub copied_there : {X : Type 0} → (o : Option (Bor X)) → is_some (option_copied o) ≡ is_some o
 copied_there None = refl
 copied_there (Some x) = refl
 

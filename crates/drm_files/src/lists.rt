@@ -1,8 +1,9 @@
 //! Lists of the clients and of their handles.
 
-ghost use Rattle.std.specs.Prelude.{◌≡◌, ◌++◌, List, true, filter, nat_le, take, slice_get, IfOk, IfErr, Some};
+ghost use Rattle.std.specs.Prelude.{◌≡◌, ◌≤◌, ◌++◌, ℕ, List, IsTrue, true, false, filter, nat_le, take, slice_get, IfOk, IfErr, IfNone, Some};
 ghost use Rattle.std.specs.FinMap as map;
 ghost use Rattle.drm_index_array.specs.Keys.{keys_from};
+ghost use Rattle.drm_index_array.specs.Least.{least};
 ghost use Rattle.drm_files.specs.Files.{is_open_client, handles_of, nth_row};
 ghost use Rattle.drm_files.specs.Records.{rows_in};
 ghost use Rattle.drm_files.specs.declared.rows.FileHandle.{FileHandle};
@@ -139,7 +140,7 @@ fn shown_handles(table: &IdTable<Held>, from: u32) -> ShownList
     let mut list = ShownList::new();
     let mut at = from;
     for _turn in 0..64u32 {
-        let Some(handle) = table.next(at) else {
+        let Some(handle) = handle_from(table, at) else {
             return list;
         };
         list.push(handle);
@@ -149,6 +150,20 @@ fn shown_handles(table: &IdTable<Held>, from: u32) -> ShownList
         at = above;
     }
     list
+}
+
+// The lowest handle of a table from a number on. The number itself is tried first: handles are given from the lowest on,
+// so in a list the next handle mostly is the next number.
+fn handle_from(table: &IdTable<Held>, from: u32) -> Option<u32>
+    ensures least { result ≡ least (map.contains_key table.now.slots) from u32.MAX }
+    ensures none_above { IfNone result ((k : ℕ) → from ≤ k → map.contains_key table.now.slots k ≡ false) }
+    ensures bound { (k : ℕ) → IsTrue (map.contains_key table.now.slots k) → k ≤ u32.MAX }
+{
+    let _handles = table.len();
+    if table.get(from).is_some() {
+        return Some(from);
+    }
+    table.next(from)
 }
 
 // The handle at a position among those of one client, or how far after the last of them the position is.

@@ -302,10 +302,6 @@ module _ {T : Type 0} (items : MarkedMap T) (v : Indexed T) (view_is : array_of 
   pub rooted_lent : (count : ℕ) → IsRooted items count → (w : T) → IsRooted (set_value items i w) count
   rooted_lent count rooted w = record { counted = rooted.counted ∙ sym (len-set_value items i w); fit = λ k there. rooted.fit k (sym (keys-set_value w k) ∙ there) }
 
-  -- A write through a lent value leaves the tree nonempty.
-  pub used_lent : 0 < map.len items → (w : T) → 0 < map.len (set_value items i w)
-  used_lent used w = omega (arith, used, len-set_value items i w)
-
   -- Two readings of a lent value that agree if there is one, and without a borrow, are equal.
   pub lent_there : {D : Type 0} (r : Option (MutBor T)) → option_copied_mut r ≡ get items i → (f h : T → D) (a b : D) → (IsSome (get items i) → (x : T) → f x ≡ h x) → a ≡ b → read_of (ghost_name_of r) f a ≡ read_of (ghost_name_of r) h b
   lent_there None found f h a b fs same = ap inr same

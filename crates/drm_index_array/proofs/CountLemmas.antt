@@ -1,21 +1,25 @@
 -- How many entries lie below a node, slot by slot.
-use Rattle.std.proofs.Common.{◌≡◌, ℕ, ◌+◌, ◌-◌, ◌*◌, ◌/◌, ◌%◌, ◌^◌, ◌<◌, ◌≤◌, Bool, true, cond, ltb, List, length, get_or, set, Box, Global, None, is_some, refl, sym, ap, ◌∙◌, subst, arith}
+use Rattle.std.proofs.Common.{◌≡◌, ℕ, ◌+◌, ◌-◌, ◌*◌, ◌/◌, ◌%◌, ◌^◌, ◌<◌, ◌≤◌, Bool, true, false, not, zero, suc, cond, ltb, List, length, get_or, set, Box, Global, None, is_some, refl, sym, ap, ◌∙◌, subst, arith}
 use Rattle.std.specs.FinMap as map
 use Rattle.std.proofs.lemmas.List.{get_or-set_same, get_or-set_other, get_or_read}
 use Rattle.std.proofs.lemmas.Nat.{div-add-mod', pow-add, pow_pos}
 use Rattle.std.proofs.Math.Nat.{mod-lt, mul-le-mul_right}
 use Rattle.drm_index_array.specs.Position.{passing, IsAtPosition}
-use Rattle.drm_index_array.specs.Tree.{Tree, width, span}
+use Rattle.drm_index_array.specs.Tree.{Tree, width, span, is_sought}
 use Rattle.drm_index_array.specs.Slots.{Fits as SlotFits, slot, look, below, entries_below, view_of, IsSound, IsNode}
 use Rattle.drm_index_array.specs.declared.words.Words.{Words}
 use Rattle.drm_index_array.specs.declared.tree.Entry.{Entry}
 use Rattle.drm_index_array.specs.declared.tree.Node.{Node}
 use Rattle.drm_index_array.specs.declared.tree.Slot.{Slot}
 use Rattle.drm_index_array.specs.declared.tree.Slot.TheVariants.{Vacant, Value, Child}
-use Rattle.drm_index_array.proofs.PlaceLemmas.{passing-split, passing-moved, passing-none, len_counted}
+use Rattle.drm_index_array.proofs.PlaceLemmas.{passing-split, passing-moved, passing-none, passing-all, len_counted}
 use Rattle.drm_index_array.proofs.RootLemmas.{view_few}
 use Rattle.drm_index_array.proofs.TableLemmas.{get-table, get-table_past}
-use Rattle.drm_index_array.proofs.SlotLemmas.{value_in, index_in_span, child_span, slot_fits}
+use Rattle.drm_index_array.proofs.SlotLemmas.{value_in, index_in_span, child_span, slot_fits, told}
+use Rattle.drm_index_array.proofs.NextLemmas.{none_of}
+use Rattle.drm_index_array.proofs.WordLemmas.{not-not}
+use Rattle.drm_index_array.specs.Word.{tells_of}
+use Rattle.drm_index_array.specs.declared.words.Sought.TheVariants.{Vacant as Free}
 
 zero_more : (r : ℕ) → r ≡ 0 + r
 zero_more r = omega arith
@@ -174,6 +178,34 @@ module _ {T : Type 0} {height : ℕ} {slots : List (Slot T)} {v : Tree T} (words
       child_missed within missed =
           let count : passing (λ k. map.contains_key b.value.items k) 0 (span b.value.height) ≡ entries_below height (Child b) = ap (passing (λ k. map.contains_key b.value.items k) 0) wide in
           omega (arith, below_is s (Child b) read is left within, missed, count)
+
+-- slots that are full, from the first on
+module _ {T : Type 0} {height : ℕ} {slots : List (Slot T)} {v : Tree T} (words : Words) (sound : IsSound height slots words) (view_is : view_of height slots ≡ v) (n : ℕ) (few : n ≤ 64) (full : (i : ℕ) → i < n → tells_of words Free i ≡ false) where
+  -- Each index below a full slot has an entry.
+  full_there : (i : ℕ) → i < n → (r : ℕ) → r < width v.height → map.contains_key v.items (i * width v.height + r) ≡ true
+  full_there i lt r within =
+      let none = none_of (λ k. is_sought Free (map.get v.items k)) (i * width v.height + 0) (i * width v.height + (width v.height - 1)) (sym (told height slots words v sound view_is Free i (omega arith)) ∙ full i lt) in
+      sym (not-not _) ∙ ap not (none (i * width v.height + r) (omega arith) (omega (arith, within)))
+
+  -- As many indices before a slot have an entry as there are, if each slot before it is full.
+  pub full_passed : (at : ℕ) → at ≤ n → passing (λ k. map.contains_key v.items k) 0 (at * width v.height) ≡ at * width v.height
+  full_passed zero le = none_passed (λ k. map.contains_key v.items k) (width v.height) ∙ zero_times
+    where
+      zero_times : 0 ≡ 0 * width v.height
+      zero_times = omega arith
+  full_passed (suc at) le =
+      let p = λ (k : ℕ). map.contains_key v.items k in
+      let here : passing p (at * width v.height) (width v.height) ≡ width v.height = passing-all p (at * width v.height) (width v.height) (full_there at (omega arith)) in
+      let next : (at + 1) * width v.height ≡ at * width v.height + width v.height = omega arith in
+      let more : suc at ≡ at + 1 = omega arith in
+      rw more (slots_passed p (width v.height) at ∙ omega (arith, here, next, full_passed at (omega arith)))
+
+  -- The position of an index is the index itself, if each slot before its slot is full.
+  pub full_before : (q at rest : ℕ) → at ≤ n → at ≡ q / width height → rest ≡ q % width height → passing (λ k. map.contains_key v.items k) 0 (at * width v.height) + rest ≡ q
+  full_before q at rest le at_is rest_is =
+      let same : height ≡ v.height = ap (λ (t : Tree T). t.height) view_is in
+      let parts : at * width v.height + rest ≡ q = rw (← same) (rw (at_is, rest_is) (div-add-mod' q (width height))) in
+      omega (arith, full_passed at le, parts)
 
 -- a node's count, once a slot is written over
 module _ {T : Type 0} {height : ℕ} {slots : List (Slot T)} {at : ℕ} (words : Words) (count : ℕ) (node : IsNode height slots words count) (lt : at < 64) (was : Slot T) (was_is : slot slots at ≡ was) (n : ℕ) (n_is : (h : ℕ) → SlotFits h was → n ≡ entries_below h was) where

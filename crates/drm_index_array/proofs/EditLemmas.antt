@@ -1,5 +1,5 @@
 -- One slot of a node written over.
-use Rattle.std.proofs.Common.{◌≡◌, ℕ, zero, suc, ◌+◌, ◌*◌, ◌/◌, ◌%◌, ◌<◌, ◌≤◌, IsTrue, true, false, cond, eqb, ltb, List, [], ◌∷◌, length, get_or, set, Box, Global, Option, Some, None, is_some, refl, sym, ap, ◌∙◌, subst, inl, inr, arith, Result, Ok, Err, OnOk, OnErr}
+use Rattle.std.proofs.Common.{◌≡◌, ℕ, zero, suc, ◌+◌, ◌*◌, ◌/◌, ◌%◌, ◌<◌, ◌≤◌, IsTrue, true, false, cond, eqb, ltb, List, [], ◌∷◌, length, get_or, set, Box, Global, Option, Some, None, is_some, refl, sym, ap, ◌∙◌, subst, inl, inr, arith, Result, Ok, Err, OnErr}
 use Rattle.std.specs.Ordering.{nat_cmp}
 use Rattle.std.specs.FinMap as map
 use Rattle.std.proofs.lemmas.Bool.{cases_eq, cases_lt, eq-eqb, ne_eqb, lt-ltb, le-ltb, false≢true}
@@ -17,7 +17,6 @@ use Rattle.drm_index_array.specs.declared.tree.Node.{Node}
 use Rattle.drm_index_array.specs.declared.tree.Slot.{Slot}
 use Rattle.drm_index_array.specs.declared.tree.Slot.TheVariants.{Vacant, Child}
 use Rattle.drm_index_array.proofs.TableLemmas.{get-table_within, get-table_past}
-use Rattle.drm_index_array.specs.Edit.{filled_by}
 use Rattle.drm_index_array.proofs.SlotLemmas.{Spot, slot_fits, rest_in_range}
 
 AllFit-set : {T : Type 0} (height : ℕ) (slots : List (Slot T)) (at : ℕ) (s : Slot T) → AllFit height slots → SlotFits height s → AllFit height (set slots at s)
@@ -46,11 +45,6 @@ pub used_more : {T : Type 0} (old now : MarkedMap T) (q : ℕ) (v : T) → now �
 used_more old now q v is =
     let tied : eqb q q ≡ true = eq-eqb q q refl in
     used_key now q (ap (λ m. map.contains_key m q) is ∙ ap is_some (get-insert old q (unmarked v) q) ∙ ap (λ b. is_some (cond b (Some (unmarked v)) (map.get old q))) tied)
-
--- A map that was not empty is not empty after an insertion, whether it succeeds or fails.
-pub used_filled : {T E : Type 0} (old now : MarkedMap T) (q : ℕ) (v : T) (done : Result (Unit {0}) E) → OnOk done (now ≡ map.insert old q (unmarked v)) → OnErr done (now ≡ old) → 0 < map.len old → 0 < map.len now
-used_filled old now q v (Ok _) ok err used = used_more old now q v ok
-used_filled old now q v (Err _) ok err used = subst (λ m. 0 < map.len m) (sym err) used
 
 module _ {T : Type 0} {height : ℕ} {slots : List (Slot T)} {q at rest : ℕ} {v : Tree T} (here : Spot height slots q at rest v) (s : Slot T) where
   -- A sound node stays sound after a slot is written, if its words are written for the slot.
@@ -151,23 +145,8 @@ some_left n none =
 pub read_set : {T : Type 0} (slots : List (Slot T)) (at : ℕ) (s now : Slot T) → at < length slots → now ≡ get_or (set slots at s) at now → now ≡ s
 read_set slots at s now lt read = get_or_read (set slots at s) at now (omega (arith, length-set slots at s)) read Vacant ∙ get_or-set_same slots at s Vacant lt
 
--- how an insertion leaves a tree
-module _ {T : Type 0} {E : Type 0} (old now : MarkedMap T) (q : ℕ) (v : T) where
-  -- If an insertion succeeds, the map has the new entry, unmarked, and is otherwise unchanged.
-  pub filled_ok : (done : Result (Unit {0}) E) → ((k : ℕ) → map.get now k ≡ cond (eqb k q) (filled_by done v (map.get old q)) (map.get old k)) → OnOk done (now ≡ map.insert old q (unmarked v))
-  filled_ok (Ok _) gets = same_by_gets now (map.insert old q (unmarked v)) (λ k. gets k ∙ sym (get-insert old q (unmarked v) k))
-  filled_ok (Err _) gets = tt
-
-  -- If an insertion fails, the map is unchanged.
-  pub filled_err : (done : Result (Unit {0}) E) → ((k : ℕ) → map.get now k ≡ cond (eqb k q) (filled_by done v (map.get old q)) (map.get old k)) → OnErr done (now ≡ old)
-  filled_err (Ok _) gets = tt
-  filled_err (Err _) gets = same_by_gets now old (λ k. gets k ∙ elim (cases_eq k q) as (λ _. cond (eqb k q) (map.get old q) (map.get old k) ≡ map.get old k) [
-    | inl same ↦ rw (eq-eqb k q same) (ap (map.get old) (sym same))
-    | inr apart ↦ rw (ne_eqb k q apart) refl
-  ])
-
 -- What follows from a fact about a failure is also a fact about it.
-pub on_err_map : {E : Type 0} {P Q : Type 0} (done : Result (Unit {0}) E) → (P → Q) → OnErr done P → OnErr done Q
+pub on_err_map : {A E : Type 0} {P Q : Type 0} (done : Result A E) → (P → Q) → OnErr done P → OnErr done Q
 on_err_map (Ok _) f p = tt
 on_err_map (Err _) f p = f p
 

@@ -1,6 +1,6 @@
 -- Maps by numbers and lists of rows over their entries: orders of numbers, insertions, removals, and rows that change
 -- together.
-use Rattle.std.proofs.Common.{◌≡◌, ℕ, ◌<◌, ◌==◌, Bool, true, false, cond, T, List, [], ◌∷◌, map, filter, Option, Some, None, refl, sym, ap, ◌∙◌, nat_cmp, is_lt, arith}
+use Rattle.std.proofs.Common.{◌≡◌, ℕ, ◌<◌, ◌==◌, true, false, cond, T, List, [], ◌∷◌, map, Some, None, refl, sym, ap, ◌∙◌, nat_cmp, is_lt, arith}
 use Rattle.std.specs.Prelude.{nat_lt}
 use Rattle.std.specs.List.{AllByRecursion}
 use Rattle.std.specs.Ordering.{eq_by_cmp}

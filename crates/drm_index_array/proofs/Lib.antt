@@ -11,6 +11,7 @@ mod NextLemmas
 mod NodeLemmas
 mod CountLemmas
 mod EditLemmas
+mod FillLemmas
 mod EmptyLemmas
 mod LendLemmas
 mod RootLemmas

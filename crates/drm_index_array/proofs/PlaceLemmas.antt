@@ -47,6 +47,18 @@ passing-none p from (suc n) none =
     next : (r : ℕ) → from + 1 + r ≡ from + (r + 1)
     next r = omega arith
 
+-- If each number of a range passes, as many pass as there are.
+pub passing-all : (p : ℕ → Bool) (from n : ℕ) → ((r : ℕ) → r < n → p (from + r) ≡ true) → passing p from n ≡ n
+unfolding passing
+passing-all p from zero all = refl
+passing-all p from (suc n) all =
+    let start : from ≡ from + 0 = omega arith in
+    let here : p from ≡ true = ap p start ∙ all 0 (omega arith) in
+    rw here (omega (arith, passing-all p (from + 1) n (λ r lt. ap p (next r) ∙ all (r + 1) (omega arith))))
+  where
+    next : (r : ℕ) → from + 1 + r ≡ from + (r + 1)
+    next r = omega arith
+
 module _ {X : Type 0} (m : map.FinMap nat_cmp X) where
   abbrev there : ℕ → Bool
   there k = map.contains_key m k

@@ -14,7 +14,7 @@ use Rattle.drm_index_array.specs.declared.tree.Slot.{Slot}
 use Rattle.drm_index_array.proofs.Least.{least_some, least_none, least_is_none}
 use Rattle.drm_index_array.proofs.MarkedLemmas.{same_by_gets, get-insert, get-remove}
 use Rattle.drm_index_array.proofs.TableLemmas.{get-table_past, len-table}
-use Rattle.std.proofs.lemmas.Option.{same_Some, none-some}
+use Rattle.std.proofs.lemmas.Option.{none-some}
 
 module _ {T : Type 0} (height : ℕ) (slots : List (Slot T)) (v : Tree T) (view_is : view_of height slots ≡ v) where
   -- A node has no entry past its span.

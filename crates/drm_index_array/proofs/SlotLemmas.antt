@@ -4,7 +4,6 @@ use Rattle.std.specs.FinMap as map
 use Rattle.std.proofs.lemmas.List.{get_or_read}
 use Rattle.std.proofs.lemmas.Nat.{pow_pos, pow-add, div-mul-add, mod-mul-add}
 use Rattle.std.proofs.Math.Nat.{mod-lt, div-lt_iff_lt-mul, pow-le-pow_right, mul-le-mul_right}
-use Rattle.std.proofs.Common.{Box, Global}
 use Rattle.drm_index_array.specs.Tree.{Tree, width, span, is_sought}
 use Rattle.drm_index_array.specs.Slots.{Fits as SlotFits, AllFit, slot, look, below, view_of, IsSound}
 use Rattle.drm_index_array.specs.Word.{tells_of}
@@ -12,9 +11,8 @@ use Rattle.drm_index_array.specs.Least.{least}
 use Rattle.drm_index_array.specs.declared.words.Sought.{Sought}
 use Rattle.drm_index_array.proofs.NextLemmas.{least_moved, is_some-option_map}
 use Rattle.drm_index_array.specs.declared.words.Words.{Words}
-use Rattle.drm_index_array.specs.declared.tree.Node.{Node}
 use Rattle.drm_index_array.specs.declared.tree.Slot.{Slot}
-use Rattle.drm_index_array.specs.declared.tree.Slot.TheVariants.{Vacant, Child}
+use Rattle.drm_index_array.specs.declared.tree.Slot.TheVariants.{Vacant}
 use Rattle.drm_index_array.proofs.TableLemmas.{get-table_within}
 
 -- An index within the span lies in one of the 64 slots.
@@ -89,31 +87,13 @@ module _ {T : Type 0} {height : ℕ} {slots : List (Slot T)} {q at rest : ℕ} {
         view_is = view_is;
       }
 
+  -- The same, if the division is by the width of a level that is the node's.
+  pub level_spot : (words : Words) → IsSound height slots words → (level known : ℕ) → level ≡ known → v.height ≡ known → at ≡ q / width level → rest ≡ q % width level → view_of height slots ≡ v → q < span v.height → Spot height slots q at rest v
+  level_spot words sound level known level_is known_is at_is rest_is view_is lt =
+      let same : level ≡ height = level_is ∙ sym known_is ∙ sym (ap (λ (t : Tree T). t.height) view_is) in
+      spot words sound (at_is ∙ ap (λ h. q / width h) same) (rest_is ∙ ap (λ h. q % width h) same) view_is lt
+
   module _ (here : Spot height slots q at rest v) where
     -- A slot that is read is the one at its place.
     pub slot_is : (s t : Slot T) → s ≡ get_or slots at s → s ≡ t → slot slots at ≡ t
     slot_is s t read is = sym (get_or_read slots at s here.in_range read Vacant) ∙ is
-
-    -- The entry below a slot that is read is the node's entry at the index.
-    pub value_at : (s t : Slot T) → s ≡ get_or slots at s → s ≡ t → below t rest ≡ map.get v.items q
-    value_at s t read is =
-        ap (λ r. below t r) here.rest_is
-        ∙ ap (λ s. below s (q % width height)) (sym (ap (slot slots) (sym here.at_is) ∙ slot_is s t read is))
-        ∙ sym (get-table_within (span height) (look height slots) q here.within)
-        ∙ ap (λ (t : Tree T). map.get t.items q) here.view_is
-
-    height_is : height ≡ v.height
-    height_is = ap (λ (t : Tree T). t.height) here.view_is
-
-    module _ (s : Slot T) (b : Box (Node T) Global) (read : s ≡ get_or slots at s) (is : s ≡ Child b) where
-      -- A subtree is one level lower than its node.
-      pub child_height : b.value.height + 1 ≡ height
-      child_height = subst (SlotFits height) (slot_is s (Child b) read is) (slot_fits height slots here.all_fit at)
-
-      -- A subtree is lower than its node.
-      pub child_falls : b.value.height < v.height
-      child_falls = omega (arith, child_height, height_is)
-
-      -- The index below a slot lies within the span of the subtree there.
-      pub rest_below : rest < span b.value.height
-      rest_below = rw (here.rest_is, child_span b.value.height height child_height) (rest_in_range height q)

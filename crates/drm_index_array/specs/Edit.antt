@@ -1,6 +1,6 @@
 -- The entry at the index of an edit, before and after it (own).
-use Rattle.std.specs.Prelude.{Result, Ok, Err, Some, Option, None, option_map}
-use Rattle.drm_index_array.specs.Marked.{Marked, unmarked, with_mark}
+use Rattle.std.specs.Prelude.{Option, None, option_map}
+use Rattle.drm_index_array.specs.Marked.{Marked, with_mark}
 use Rattle.drm_index_array.specs.declared.tree.Edit.{Edit}
 use Rattle.drm_index_array.specs.declared.tree.Edit.TheVariants.{Remove, Write}
 
@@ -13,8 +13,3 @@ module _ {T : Type 0} where
   abbrev pub taken_by : Edit → Option (Marked T) → Option T
   taken_by Remove o = option_map (λ s. s.value) o
   taken_by (Write m b) o = None
-
-  -- the entry at the index of an insertion, by its result
-  abbrev pub filled_by : {E : Type 0} → Result (Unit {0}) E → T → Option (Marked T) → Option (Marked T)
-  filled_by (Ok _) v o = Some (unmarked v)
-  filled_by (Err _) v o = o

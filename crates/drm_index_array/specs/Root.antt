@@ -1,5 +1,5 @@
 -- A tree, or none (own).
-use Rattle.std.specs.Prelude.{◌≡◌, ℕ, ◌<◌, ◌≤◌, IsTrue, Option, Some, None, Box}
+use Rattle.std.specs.Prelude.{◌≡◌, ℕ, ◌≤◌, IsTrue, Option, Some, None, Box}
 use Rattle.std.proofs.Common.{Global}
 use Rattle.std.specs.FinMap as map
 use Rattle.drm_index_array.specs.Marked.{MarkedMap}
@@ -11,11 +11,6 @@ module _ {T : Type 0} where
   abbrev pub items_of : Option (Box (Node T) Global) → MarkedMap T
   items_of None = map.empty
   items_of (Some b) = b.value.items
-
-  -- a tree that exists is not empty
-  abbrev pub IsUsedRoot : Option (Box (Node T) Global) → Type 0
-  IsUsedRoot None = Unit {0}
-  IsUsedRoot (Some b) = 0 < map.len b.value.items
 
   -- no index from n on has an entry
   abbrev pub IsPast : Tree T → ℕ → Type 0
@@ -29,4 +24,3 @@ pub record IsRooted {T : Type 0} (items : MarkedMap T) (count : ℕ) : Type 0 wh
 -- the facts about the root of an array
 pub record IsArray {T : Type 0} (root : Option (Box (Node T) Global)) (count : ℕ) : Type 0 where
   pub rooted : IsRooted (items_of root) count
-  pub used : IsUsedRoot root

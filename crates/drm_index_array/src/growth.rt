@@ -5,7 +5,7 @@ ghost use Rattle.std.specs.FinMap as map;
 ghost use Rattle.drm_index_array.specs.Marked.{get, unmarked};
 ghost use Rattle.drm_index_array.specs.InsertFault.{value_of, IsTaken};
 ghost use Rattle.drm_index_array.specs.Tree.{width, span};
-ghost use Rattle.drm_index_array.specs.Root.{items_of, IsUsedRoot, IsPast};
+ghost use Rattle.drm_index_array.specs.Root.{items_of, IsPast};
 
 use crate::faults::InsertFault;
 use crate::tree::{Edit, Node};
@@ -127,8 +127,6 @@ pub fn inserted<T: Drop>(
     value: T,
 ) -> (Option<Box<Node<T>>>, Result<(), InsertFault<T>>)
     requires index { index < 2 ^ 36 }
-    requires used { IsUsedRoot root }
-    ensures used { IsUsedRoot result.0 }
     ensures ok { OnOk result.1 (items_of result.0 ≡ map.insert (items_of root) index (unmarked value)) }
     ensures err { OnErr result.1 (result.0 ≡ root) }
     ensures returned { IfErr result.1 (λ fault. value_of fault ≡ value) }
@@ -143,8 +141,16 @@ pub fn inserted<T: Drop>(
         };
     };
     if root.covers(index) {
-        let done = root.insert(alloc, index, value);
-        return (Some(root), done);
+        return match root.insert(alloc, index, value) {
+            Ok(_is_full) => (Some(root), Ok(())),
+            Err(fault) => (Some(root), Err(fault)),
+        };
+    }
+    if root.is_empty() {
+        return match sole(alloc, index, value) {
+            Ok(root) => (Some(root), Ok(())),
+            Err(value) => (Some(root), Err(InsertFault::NoMemory(value))),
+        };
     }
     match grown(alloc, root, index, value) {
         Ok(root) => (Some(root), Ok(())),
@@ -152,11 +158,9 @@ pub fn inserted<T: Drop>(
     }
 }
 
-/// Returns the tree with no entry at the index, and its old value. Does not allocate, and a tree that became empty is
-/// dropped.
+/// Returns the tree with no entry at the index, and its old value. Does not allocate. A tree that became empty is
+/// dropped if it has more than one level; a lone node is kept for the next entry.
 pub fn removed<T: Drop>(root: Option<Box<Node<T>>>, index: u64) -> (Option<Box<Node<T>>>, Option<T>)
-    requires used { IsUsedRoot root }
-    ensures used { IsUsedRoot result.0 }
     ensures items { items_of result.0 ≡ map.remove (items_of root) index }
     ensures value { result.1 ≡ get (items_of root) index }
     ensures kept { IfNone result.1 (map.remove (items_of root) index ≡ items_of root) }
@@ -168,7 +172,7 @@ pub fn removed<T: Drop>(root: Option<Box<Node<T>>>, index: u64) -> (Option<Box<N
         return (Some(root), None);
     }
     let value = root.edit(index, Edit::Remove);
-    if root.is_empty() {
+    if root.height() > 0 && root.is_empty() {
         return (None, value);
     }
     (Some(root), value)

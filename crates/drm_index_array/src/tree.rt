@@ -9,7 +9,8 @@ ghost use Rattle.drm_index_array.specs.Marked.{mark_of, with_mark, unmarked};
 ghost use Rattle.drm_index_array.specs.InsertFault.{value_of, IsTaken};
 ghost use Rattle.drm_index_array.specs.Tree.{width, span, is_sought};
 ghost use Rattle.drm_index_array.specs.Slots.{marked, option_marked, Fits, IsUsed, InSlot, below, entries_below, has_below};
-ghost use Rattle.drm_index_array.specs.Edit.{edited_by, filled_by, taken_by};
+ghost use Rattle.drm_index_array.specs.declared.words.Sought.TheVariants.{Vacant as Free};
+ghost use Rattle.drm_index_array.specs.Edit.{edited_by, taken_by};
 ghost use Rattle.std.specs.Option.{option_copied_mut};
 
 use crate::faults::InsertFault;
@@ -232,15 +233,27 @@ impl<T> Node<T> {
         self.count == 0
     }
 
+    /// Returns whether each index below the node has an entry.
+    fn is_full(&self) -> bool
+        ensures { result ≡ not (is_some (least (λ i. is_sought Free (map.get self.now.items i)) 0 (span self.now.height - 1))) }
+    {
+        !self.any(Sought::Vacant)
+    }
+
     /// Returns the entry at the index, if there is one.
     pub fn find(&self, index: u64) -> Option<&Entry<T>>
         ensures entry { option_marked (option_copied result) ≡ map.get self.now.items index }
         ensures within { OnSome result (index < span self.now.height) }
     {
-        if !self.covers(index) {
-            return None;
+        match self.level_of(index) {
+            0 => self.get::<Lowest>(0, index),
+            1 => self.get::<Above<Lowest>>(1, index),
+            2 => self.get::<Above<Above<Lowest>>>(2, index),
+            3 => self.get::<Above<Above<Above<Lowest>>>>(3, index),
+            4 => self.get::<Above<Above<Above<Above<Lowest>>>>>(4, index),
+            5 => self.get::<Above<Above<Above<Above<Above<Lowest>>>>>>(5, index),
+            _ => None,
         }
-        self.get(index)
     }
 
     /// Returns the lowest index not below `from` that is sought, of those that lie below the node.
@@ -267,16 +280,16 @@ impl<T> Node<T> {
         }
     }
 
-    fn get(&self, index: u64) -> Option<&Entry<T>>
-        requires { index < span self.now.height }
+    /// Returns the same, in a node of this level that covers the index.
+    fn get<L: Level>(&self, level: u32, index: u64) -> Option<&Entry<T>>
+        requires level { level ≡ L.height }
+        requires low { level ≤ 5 }
+        requires height { self.now.height ≡ L.height }
+        requires index { index < span self.now.height }
         ensures { option_marked (option_copied result) ≡ map.get self.now.items index }
     {
-        let (at, rest) = parts(self.height, index);
-        match &self.slots[at] {
-            Slot::Vacant => None,
-            Slot::Value(entry) => Some(entry),
-            Slot::Child(child) => child.get(rest),
-        }
+        let (at, rest) = parts(level, index);
+        L::find(&self.slots[at], level, rest)
     }
 
     /// Returns the lowest index not below `from` that is sought.
@@ -354,6 +367,9 @@ impl<T> Node<T> {
         ensures within { IfSome result (λ found. found.1 < passing (map.contains_key self.now.items) (found.0 * width self.now.height) (width self.now.height)) }
         ensures past { IfNone result (passing (map.contains_key self.now.items) 0 (span self.now.height) ≤ position) }
     {
+        if let Some(found) = self.slot_behind_full(position) {
+            return Some(found);
+        }
         let mut left = position;
         for at in 0..64usize {
             let here = count_below(&self.slots[at]);
@@ -363,6 +379,23 @@ impl<T> Node<T> {
             left -= here;
         }
         None
+    }
+
+    /// Returns the same if each slot before it is full, and maybe none otherwise. No slot is visited but this one.
+    fn slot_behind_full(&self, position: usize) -> Option<(usize, usize)>
+        ensures slot { IfSome result (λ found. found.0 < 64) }
+        ensures before { IfSome result (λ found. passing (map.contains_key self.now.items) 0 (found.0 * width self.now.height) + found.1 ≡ position) }
+        ensures within { IfSome result (λ found. found.1 < passing (map.contains_key self.now.items) (found.0 * width self.now.height) (width self.now.height)) }
+    {
+        let (at, left) = parts(self.height, position as u64);
+        let left = left as usize;
+        if at >= 64 || at > self.words.full_slots() {
+            return None;
+        }
+        if left >= count_below(&self.slots[at]) {
+            return None;
+        }
+        Some((at, left))
     }
 
     /// Returns whether some index is sought.
@@ -380,10 +413,8 @@ impl<T: Drop> Node<T> {
         requires { height ≤ 5 }
         ensures { IfOk result (λ node. node ≡ record { height = height; items = map.empty }) }
     {
-        let mut slots = Vec::with_capacity(alloc, 64)?;
-        for _turn in 0..64u32 {
-            slots.push(Slot::Vacant)?;
-        }
+        let mut slots = Vec::new(alloc);
+        slots.resize_with(64, || Slot::Vacant)?;
         Ok(Node {
             height,
             slots,
@@ -392,26 +423,58 @@ impl<T: Drop> Node<T> {
         })
     }
 
-    /// Adds an entry with no mark at an index that has none, or returns the value.
-    #[cycle(fill)]
-    pub fn insert(&mut self, alloc: Global, index: u64, value: T) -> Result<(), InsertFault<T>>
+    /// Adds an entry with no mark at an index that has none, and returns whether each index below the node has an entry
+    /// now; or returns the value.
+    pub fn insert(&mut self, alloc: Global, index: u64, value: T) -> Result<bool, InsertFault<T>>
         requires { index < span self.old.height }
         ensures height { self.new.height ≡ self.old.height }
-        ensures items { (k : ℕ) → map.get self.new.items k ≡ (if k == index then filled_by result value (map.get self.old.items index) else map.get self.old.items k) }
         ensures ok { OnOk result (self.new.items ≡ map.insert self.old.items index (unmarked value)) }
+        ensures full { IfOk result (λ is_full. is_full ≡ not (is_some (least (λ i. is_sought Free (map.get self.new.items i)) 0 (span self.new.height - 1)))) }
         ensures err { OnErr result (self.new ≡ self.old) }
         ensures returned { IfErr result (λ fault. value_of fault ≡ value) }
         ensures absent { OnOk result (map.get self.old.items index ≡ None) }
         ensures taken { IfErr result (λ fault. IsTaken fault ↔ IsSome (map.get self.old.items index)) }
     {
-        let (at, rest) = parts(self.height, index);
-        let slot = mem::replace(&mut self.slots[at], Slot::Vacant);
-        let others = self.count - count_below(&slot);
-        let (slot, done) = filled(alloc, slot, self.height, rest, value);
-        self.count = others + count_below(&slot);
-        self.slots[at] = slot;
-        self.words = refreshed(&self.words, self.height, &self.slots[at], at);
-        done
+        match self.height {
+            0 => self.fill::<Lowest>(alloc, 0, index, value),
+            1 => self.fill::<Above<Lowest>>(alloc, 1, index, value),
+            2 => self.fill::<Above<Above<Lowest>>>(alloc, 2, index, value),
+            3 => self.fill::<Above<Above<Above<Lowest>>>>(alloc, 3, index, value),
+            4 => self.fill::<Above<Above<Above<Above<Lowest>>>>>(alloc, 4, index, value),
+            5 => self.fill::<Above<Above<Above<Above<Above<Lowest>>>>>>(alloc, 5, index, value),
+            _ => unreachable!(),
+        }
+    }
+
+    /// Adds an entry as `insert` does, in a node of this level.
+    fn fill<L: Level>(
+        &mut self,
+        alloc: Global,
+        level: u32,
+        index: u64,
+        value: T,
+    ) -> Result<bool, InsertFault<T>>
+        requires level { level ≡ L.height }
+        requires low { level ≤ 5 }
+        requires height { self.old.height ≡ L.height }
+        requires index { index < span self.old.height }
+        ensures height { self.new.height ≡ self.old.height }
+        ensures ok { OnOk result (self.new.items ≡ map.insert self.old.items index (unmarked value)) }
+        ensures full { IfOk result (λ is_full. is_full ≡ not (is_some (least (λ i. is_sought Free (map.get self.new.items i)) 0 (span self.new.height - 1)))) }
+        ensures err { OnErr result (self.new ≡ self.old) }
+        ensures returned { IfErr result (λ fault. value_of fault ≡ value) }
+        ensures absent { OnOk result (map.get self.old.items index ≡ None) }
+        ensures taken { IfErr result (λ fault. IsTaken fault ↔ IsSome (map.get self.old.items index)) }
+    {
+        let (at, rest) = parts(level, index);
+        let is_full = match L::fill(alloc, &mut self.slots[at], level, rest, value) {
+            Ok(is_full) => is_full,
+            Err(fault) => return Err(fault),
+        };
+        self.words.add(at, is_full);
+        self.count += 1;
+        let has_vacant = first_one(self.words.word(Sought::Vacant), 0).is_some();
+        Ok(!has_vacant)
     }
 
     /// Puts a subtree into the first slot.
@@ -447,55 +510,30 @@ impl<T: Drop> Node<T> {
     }
 }
 
-/// Returns the slot with an entry added at an index below it, and the result. All nodes that the entry needs are
-/// created before the first is linked.
-#[cycle(fill)]
-fn filled<T: Drop>(
+/// Returns a node of this level with one entry, with no mark. If memory is refused, it returns the value.
+fn planted<L: Level, T: Drop>(
     alloc: Global,
-    slot: Slot<T>,
-    height: u32,
-    rest: u64,
+    level: u32,
+    index: u64,
     value: T,
-) -> (Slot<T>, Result<(), InsertFault<T>>)
-    requires low { height ≤ 5 }
-    requires fits { Fits height slot }
-    requires used { IsUsed slot }
-    requires rest { rest < width height }
-    ensures fits { Fits height result.0 }
-    ensures used { IsUsed result.0 }
-    ensures below { (r : ℕ) → r < width height → below result.0 r ≡ (if r == rest then filled_by result.1 value (below slot rest) else below slot r) }
-    ensures returned { IfErr result.1 (λ fault. value_of fault ≡ value) }
-    ensures absent { OnOk result.1 (below slot rest ≡ None) }
-    ensures taken { IfErr result.1 (λ fault. IsTaken fault ↔ IsSome (below slot rest)) }
+) -> Result<Box<Node<T>>, T>
+    requires level { level ≡ L.height }
+    requires low { level ≤ 5 }
+    requires index { index < span L.height }
+    ensures height { IfOk result (λ node. node.value.height ≡ L.height) }
+    ensures items { IfOk result (λ node. node.value.items ≡ map.insert map.empty index (unmarked value)) }
+    ensures returned { IfErr result (λ v. v ≡ value) }
 {
-    match slot {
-        Slot::Value(entry) => (Slot::Value(entry), Err(InsertFault::Taken(value))),
-        Slot::Child(mut child) => {
-            let done = child.insert(alloc, rest, value);
-            (Slot::Child(child), done)
-        }
-        Slot::Vacant => {
-            if height == 0 {
-                let entry = Entry {
-                    value,
-                    m0: false,
-                    m1: false,
-                    m2: false,
-                };
-                return (Slot::Value(entry), Ok(()));
-            }
-            let Ok(child) = Node::new(alloc, height - 1) else {
-                return (Slot::Vacant, Err(InsertFault::NoMemory(value)));
-            };
-            let Ok(mut child) = Box::new(alloc, child) else {
-                return (Slot::Vacant, Err(InsertFault::NoMemory(value)));
-            };
-            match child.insert(alloc, rest, value) {
-                Ok(()) => (Slot::Child(child), Ok(())),
-                Err(fault) => (Slot::Vacant, Err(fault)),
-            }
-        }
+    let Ok(node) = Node::new(alloc, level) else {
+        return Err(value);
+    };
+    let Ok(mut node) = Box::new(alloc, node) else {
+        return Err(value);
+    };
+    if let Err(fault) = node.fill::<L>(alloc, level, index, value) {
+        return Err(fault.into_value());
     }
+    Ok(node)
 }
 
 /// Returns the slot, once the entry at an index below it was edited, and the value that was taken out.
@@ -530,7 +568,8 @@ fn edited<T: Drop>(slot: Slot<T>, height: u32, rest: u64, edit: Edit) -> (Slot<T
 }
 
 /// The height of the node that a slot is in, as a type. A function that calls itself cannot lend a `&mut` on, but a
-/// function of one level can lend it on to that of the level below.
+/// function of one level can lend it on to that of the level below. A look-up and an insertion go by levels, too, so that
+/// a compiler can inline them.
 trait Level {
     ghost use Rattle.std.specs.Prelude.{ℕ};
     ghost use Rattle.std.specs.Borrow.{sem};
@@ -544,6 +583,36 @@ trait Level {
         requires rest { rest < width height }
         ensures* writes_back { sem 𝓛 (lends_slot T.row slot.entry rest result) }
         ensures value { option_copied_mut result ≡ option_map (λ s. s.value) (below slot.old rest) };
+
+    /// Returns the entry at an index below the slot, if there is one.
+    fn find<T>(slot: &Slot<T>, level: u32, rest: u64) -> Option<&Entry<T>>
+        requires level { level ≡ height }
+        requires low { level ≤ 5 }
+        requires fits { Fits height slot.now }
+        requires rest { rest < width height }
+        ensures { option_marked (option_copied result) ≡ below slot.now rest };
+
+    /// Adds an entry with no mark at an index below the slot that has none, and returns whether no index below the slot
+    /// is vacant; or returns the value. All nodes that the entry needs are created before the first is linked.
+    fn fill<T: Drop>(
+        alloc: Global,
+        slot: &mut Slot<T>,
+        level: u32,
+        rest: u64,
+        value: T,
+    ) -> Result<bool, InsertFault<T>>
+        requires level { level ≡ height }
+        requires low { level ≤ 5 }
+        requires fits { Fits height slot.old }
+        requires rest { rest < width height }
+        ensures fits { Fits height slot.new }
+        ensures used { OnOk result (IsUsed slot.new) }
+        ensures below { OnOk result ((r : ℕ) → r < width height → below slot.new r ≡ (if r == rest then Some (unmarked value) else below slot.old r)) }
+        ensures full { IfOk result (λ is_full. is_full ≡ not (has_below height slot.new Free)) }
+        ensures err { OnErr result (slot.new ≡ slot.old) }
+        ensures returned { IfErr result (λ fault. value_of fault ≡ value) }
+        ensures absent { OnOk result (below slot.old rest ≡ None) }
+        ensures taken { IfErr result (λ fault. IsTaken fault ↔ IsSome (below slot.old rest)) };
 }
 
 /// The slots of values.
@@ -563,6 +632,35 @@ impl Level for Lowest {
             _ => None,
         }
     }
+
+    fn find<T>(slot: &Slot<T>, _level: u32, _rest: u64) -> Option<&Entry<T>> {
+        match slot {
+            Slot::Value(entry) => Some(entry),
+            _ => None,
+        }
+    }
+
+    fn fill<T: Drop>(
+        _alloc: Global,
+        slot: &mut Slot<T>,
+        _level: u32,
+        _rest: u64,
+        value: T,
+    ) -> Result<bool, InsertFault<T>> {
+        match slot {
+            Slot::Value(_) => Err(InsertFault::Taken(value)),
+            Slot::Child(_) => unreachable!(),
+            Slot::Vacant => {
+                *slot = Slot::Value(Entry {
+                    value,
+                    m0: false,
+                    m1: false,
+                    m2: false,
+                });
+                Ok(true)
+            }
+        }
+    }
 }
 
 impl<L: Level> Level for Above<L> {
@@ -572,6 +670,34 @@ impl<L: Level> Level for Above<L> {
         match slot {
             Slot::Child(child) => child.lend::<L>(rest),
             _ => None,
+        }
+    }
+
+    fn find<T>(slot: &Slot<T>, level: u32, rest: u64) -> Option<&Entry<T>> {
+        match slot {
+            Slot::Child(child) => child.get::<L>(level - 1, rest),
+            _ => None,
+        }
+    }
+
+    fn fill<T: Drop>(
+        alloc: Global,
+        slot: &mut Slot<T>,
+        level: u32,
+        rest: u64,
+        value: T,
+    ) -> Result<bool, InsertFault<T>> {
+        match slot {
+            Slot::Child(child) => child.fill::<L>(alloc, level - 1, rest, value),
+            Slot::Value(_) => unreachable!(),
+            Slot::Vacant => match planted::<L, T>(alloc, level - 1, rest, value) {
+                Ok(child) => {
+                    let is_full = child.is_full();
+                    *slot = Slot::Child(child);
+                    Ok(is_full)
+                }
+                Err(value) => Err(InsertFault::NoMemory(value)),
+            },
         }
     }
 }

@@ -1,6 +1,8 @@
 //! Words of 64 bits, one for each slot of a node.
 
-ghost use Rattle.std.specs.Prelude.{◌≡◌, ℕ, ◌<◌, ◌==◌, if◌then◌else◌};
+ghost use Rattle.std.specs.Prelude.{◌≡◌, ℕ, ◌<◌, ◌==◌, ◌≤◌, if◌then◌else◌, not, true, false};
+ghost use Rattle.drm_index_array.specs.declared.marks.Mark.{Mark};
+ghost use Rattle.drm_index_array.specs.declared.words.Sought.TheVariants.{Taken, Vacant, Marked};
 ghost use Rattle.drm_index_array.specs.Least.{least};
 ghost use Rattle.drm_index_array.specs.Word.{has_bit, tells_of, AreWords};
 
@@ -44,6 +46,31 @@ impl Words {
             m0: 0,
             m1: 0,
             m2: 0,
+        }
+    }
+
+    /// Notes an entry with no mark below a slot that had one index more vacant, and whether the slot is full.
+    pub fn add(&mut self, at: usize, full: bool)
+        requires words { AreWords self.old }
+        requires slot { at < 64 }
+        ensures words { AreWords self.new }
+        ensures taken { (i : ℕ) → i < 64 → tells_of self.new Taken i ≡ (if i == at then true else tells_of self.old Taken i) }
+        ensures vacant { (i : ℕ) → i < 64 → tells_of self.new Vacant i ≡ (if i == at then not full else tells_of self.old Vacant i) }
+        ensures marked { (m : Mark) (i : ℕ) → tells_of self.new (Marked m) i ≡ tells_of self.old (Marked m) i }
+    {
+        self.present = with_bit(self.present, at, true);
+        self.full = with_bit(self.full, at, full);
+    }
+
+    /// Returns the number of slots before the first with a vacant index below it.
+    pub fn full_slots(&self) -> usize
+        requires { AreWords self.now }
+        ensures few { result ≤ 64 }
+        ensures full { (i : ℕ) → i < result → tells_of self.now Vacant i ≡ false }
+    {
+        match first_one(self.word(Sought::Vacant), 0) {
+            Some(at) => at as usize,
+            None => 64,
         }
     }
 

@@ -26,7 +26,7 @@ returns-then-not-covers-clause-kept g c =
 pub returns-then-is_empty-clause-items : goal.returns-then-is_empty-clause-items
 returns-then-is_empty-clause-items g c =
     let items = rw c.deref_mut.ensures.value at c.edit-value.ensures.items in
-    let empty = map.empty_of_len _ (rw c.deref-2.ensures at (c.is_empty.ensures.0 c.if-is_empty.true)) in
+    let empty = map.empty_of_len _ (rw c.deref-then-height-gt0.ensures at (c.is_empty.ensures.0 c.if-is_empty.true)) in
     rw c.in-Some.is (sym empty ∙ removed_by _ _ c.args.index items)
 
 pub returns-then-is_empty-clause-kept : goal.returns-then-is_empty-clause-kept

@@ -1,7 +1,7 @@
 use Rattle.std.proofs.Common.{◌≡◌, ap, sym, ◌∙◌, subst, inr}
 use Rattle.drm_index_array.specs.Marked.{array_of}
 use Rattle.drm_index_array.specs.Root.{items_of, IsRooted}
-use Rattle.drm_index_array.proofs.ArrayLemmas.{item_at, no_item, array_lent, rooted_lent, used_lent, lent_there}
+use Rattle.drm_index_array.proofs.ArrayLemmas.{item_at, no_item, array_lent, rooted_lent, lent_there}
 use Rattle.drm_index_array.proofs.array.IndexArray.get_mut.Goals as goal
 
 pub invariant_of-self-lent : goal.invariant_of-self-lent
@@ -10,8 +10,7 @@ invariant_of-self-lent g c =
     let at = ap items_of c.in-Some.is in
     let view = ap array_of (sym at) ∙ c.self.view_is in
     let rooted = subst (λ m. IsRooted m c.self.inside.count) at c.self.invariant.rooted in
-    let used = rw c.in-Some.is at c.self.invariant.used in
-    rw (c.in-Some.is, old) (λ _. (λ w. record { rooted = rooted_lent _ _ view c.args.index _ rooted w; used = used_lent _ _ view c.args.index used w }, record { rooted = rooted; used = used }))
+    rw (c.in-Some.is, old) (λ _. (λ w. record { rooted = rooted_lent _ _ view c.args.index _ rooted w }, record { rooted = rooted }))
 
 pub returns-in-Some : goal.returns-in-Some
 returns-in-Some g c =

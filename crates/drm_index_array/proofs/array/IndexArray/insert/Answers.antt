@@ -12,7 +12,7 @@ pub invariant_of-self-2 : goal.invariant_of-self-2
 invariant_of-self-2 g c =
     let is = rw (c.in_default.is, c.take.ensures.value) at c.inserted-root.ensures.ok in
     let absent = rw (c.in_default.is, c.take.ensures.value) at c.inserted-root.ensures.absent in
-    record { rooted = rooted_more _ _ c.self.view_is c.args.index c.args.value _ is absent _ c.self.invariant.rooted (omega arith); used = c.inserted-root.ensures.used }
+    record { rooted = rooted_more _ _ c.self.view_is c.args.index c.args.value _ is absent _ c.self.invariant.rooted (omega arith) }
 
 pub returns-clause-ok : goal.returns-clause-ok
 returns-clause-ok g c =

@@ -14,7 +14,7 @@ pub invariant_of-self : goal.invariant_of-self
 invariant_of-self g c =
     let items = rw c.take.ensures.value at c.removed-root.ensures.items in
     let kept = rw (c.in_default.is, c.take.ensures.value) at c.removed-root.ensures.kept in
-    record { rooted = rooted_same _ _ c.self.view_is c.args.index _ items _ c.self.invariant.rooted kept; used = c.removed-root.ensures.used }
+    record { rooted = rooted_same _ _ c.self.view_is c.args.index _ items _ c.self.invariant.rooted kept }
 
 pub returns-in_default-clause-absent : goal.returns-in_default-clause-absent
 returns-in_default-clause-absent g c =
@@ -32,7 +32,7 @@ pub invariant_of-self-2 : goal.invariant_of-self-2
 invariant_of-self-2 g c =
     let items = rw c.take.ensures.value at c.removed-root.ensures.items in
     let found = rw (c.in-Some.is, c.take.ensures.value) at c.removed-root.ensures.value in
-    record { rooted = rooted_less _ _ c.self.view_is c.args.index _ items c.in-Some.value found _ c.self.invariant.rooted; used = c.removed-root.ensures.used }
+    record { rooted = rooted_less _ _ c.self.view_is c.args.index _ items c.in-Some.value found _ c.self.invariant.rooted }
 
 pub returns-clause-value : goal.returns-clause-value
 returns-clause-value g c = (rw (c.in-Some.is, c.take.ensures.value) at c.removed-root.ensures.value) ∙ item_at _ _ c.self.view_is c.args.index

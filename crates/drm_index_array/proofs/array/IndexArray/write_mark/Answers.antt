@@ -1,4 +1,4 @@
-use Rattle.std.proofs.Common.{ap, sym, ◌∙◌, refl, subst, IsSome, arith}
+use Rattle.std.proofs.Common.{ap, sym, ◌∙◌, refl, subst, IsSome}
 use Rattle.std.proofs.lemmas.Bool.{false≢true}
 use Rattle.drm_index_array.specs.Marked.{array_of}
 use Rattle.drm_index_array.specs.Root.{items_of, IsRooted}
@@ -21,7 +21,7 @@ invariant_of-self-2 g c =
     let view = ap array_of (sym at) ∙ c.self.view_is in
     let was = subst (λ m. IsRooted m c.self.inside.count) at c.self.invariant.rooted in
     let rooted = rooted_written _ _ view c.args.index c.args.mark c.args.on _ items _ was in
-    record { rooted = rooted; used = omega (arith, rw c.in-Some.is at c.self.invariant.used, was.counted, rooted.counted) }
+    record { rooted = rooted }
 
 pub returns-clause-result : goal.returns-clause-result
 returns-clause-result g c =
