@@ -258,6 +258,29 @@ class ToolsTests(FolderCase):
         rules.write_text(text.replace("use drm_table::Rule;", "use drm_table::{Answer, Rule};", 1))
         expect_end(run(tool, "--check"), 1, "", "other imports than it uses: drm_table::Rule\n")
 
+    def test_examples_that_no_test_runs(self):
+        """One that is not to be run is an example, and stands in no test."""
+        folder = self.folder
+        tool = examples_in(folder, 40)
+        rules = folder / "crates/drm_table/src/rules.rt"
+        text = rules.read_text()
+        expect("status", run(tool).returncode, 0)
+        counted = run(tool, "--count").stdout
+        module = folder / "crates/drm_example_tests/src/examples/table.rt"
+        expect("a test of rules", "fn rule(" in module.read_text(), True)
+        rules.write_text(text.replace("```rust", "```rust,no_run"))
+        ran = run(tool)
+        expect("status and output", (ran.returncode, "no example" in ran.stdout), (0, False))
+        expect("a test of rules", "fn rule(" in module.read_text(), False)
+        expect("what is counted", run(tool, "--count").stdout, counted)
+
+    def test_examples_are_counted(self):
+        head, *rows, last = run(REPOSITORY / "tools/doc_examples", "--count").stdout.splitlines()
+        expect("head", head, "examples  items crate")
+        counts = [(int(row.split()[0]), int(row.split()[1])) for row in rows]
+        sums = [str(sum(column)) for column in zip(*counts)]
+        expect("sums", last.split(), [*sums, "in", "all"])
+
     def test_error_numbers_are_those_of_this_system(self):
         found = table()["errnos"]
         expect("error numbers", found, {name: getattr(errno, name) for name in found})
