@@ -5,7 +5,7 @@ use Rattle.drm_table.specs.declared.events.Event.{Event}
 use Rattle.drm_table.specs.declared.events.Event.TheVariants.{Open, Ask, Close}
 use Rattle.drm_table.specs.declared.rules.Rule.{Rule}
 use Rattle.drm_authority.specs.Effects.{Nothing, effect}
-use Rattle.drm_authority.proofs.Runs.{denied}
+use Rattle.drm_authority.proofs.AlwaysHolds.{denied}
 
 -- A denied event has no effect.
 pub denied_nothing : (event : Event) (rule : Rule) → effect (denied event rule) ≡ Nothing

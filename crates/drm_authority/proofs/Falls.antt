@@ -41,8 +41,10 @@ or_up last (Some n) y h k = h
 
 -- ---- leases
 
-leased_up : (d : Effect) (token number : ℕ) (older : Option ℕ) → UpTo number older → UpTo number (leased_by d token number older)
-leased_up (Leases c ids lessee answered) token number older h = if_up number (answered == token) (Some number) older (some_up number number (omega arith)) h
+leased_up : (d : Effect) (token number : ℕ) (older : Option ℕ) → UpTo number older
+    → UpTo number (leased_by d token number older)
+leased_up (Leases c ids lessee answered) token number older h =
+    if_up number (answered == token) (Some number) older (some_up number number (omega arith)) h
 leased_up Nothing token number older h = h
 leased_up _ token number older h = h
 
@@ -59,29 +61,41 @@ record StandsUp (last : ℕ) (s : MasterState) : Type 0 where
   master : (c : ℕ) → UpTo last (s.master c)
 
 later_stands : (last : ℕ) (s : MasterState) → StandsUp last s → StandsUp (last + 1) s
-later_stands last s h = record { owner = later_up last s.owner h.owner; master = λ c. later_up last (s.master c) (h.master c) }
+later_stands last s h =
+    record { owner = later_up last s.owner h.owner; master = λ c. later_up last (s.master c) (h.master c) }
 
-client_up : (last c : ℕ) (is_master : Bool) (master : Option ℕ) (s : MasterState) → UpTo last master → StandsUp last s → (d : ℕ) → UpTo last ((with_client c is_master master s).master d)
+client_up : (last c : ℕ) (is_master : Bool) (master : Option ℕ) (s : MasterState) → UpTo last master → StandsUp last s
+    → (d : ℕ) → UpTo last ((with_client c is_master master s).master d)
 client_up last c is_master master s up h d = if_up last (d == c) master (s.master d) up (h.master d)
 
-primary_up : (c : ℕ) (owner : Option ℕ) (s : MasterState) → UpTo c owner → StandsUp c s → StandsUp c (with_primary c owner s)
-primary_up c None s up h = record { owner = some_up c c (omega arith); master = client_up c c true (Some c) s (some_up c c (omega arith)) h }
+primary_up : (c : ℕ) (owner : Option ℕ) (s : MasterState) → UpTo c owner → StandsUp c s
+    → StandsUp c (with_primary c owner s)
+primary_up c None s up h =
+    record { owner = some_up c c (omega arith); master = client_up c c true (Some c) s (some_up c c (omega arith)) h }
 primary_up c (Some m) s up h = record { owner = h.owner; master = client_up c c false (Some m) s up h }
 
-set_up : (number c : ℕ) (is_master : Bool) (s : MasterState) → StandsUp number s → StandsUp number (with_set number c is_master s)
+set_up : (number c : ℕ) (is_master : Bool) (s : MasterState) → StandsUp number s
+    → StandsUp number (with_set number c is_master s)
 set_up number c true s h = record { owner = or_up number s.owner (s.master c) h.owner (h.master c); master = h.master }
-set_up number c false s h = record { owner = or_up number s.owner (Some number) h.owner (some_up number number (omega arith)); master = client_up number c true (Some number) s (some_up number number (omega arith)) h }
+set_up number c false s h =
+    record
+    { owner = or_up number s.owner (Some number) h.owner (some_up number number (omega arith)); master = client_up number c true (Some number) s (some_up number number (omega arith)) h }
 
-without_up : (last : ℕ) (is_master : Bool) (master owner : Option ℕ) → UpTo last owner → UpTo last (owner_without is_master master owner)
+without_up : (last : ℕ) (is_master : Bool) (master owner : Option ℕ) → UpTo last owner
+    → UpTo last (owner_without is_master master owner)
 without_up last true (Some m) owner h = if_up last (is_option m owner) None owner (none_up last) h
 without_up last true None owner h = h
 without_up last false master owner h = h
 
-transition_up : (d : Effect) (number : ℕ) (lease : ℕ → Option ℕ) (s : MasterState) → ((token : ℕ) → UpTo number (lease token)) → StandsUp number s → StandsUp number (transition d number lease s)
+transition_up : (d : Effect) (number : ℕ) (lease : ℕ → Option ℕ) (s : MasterState)
+    → ((token : ℕ) → UpTo number (lease token)) → StandsUp number s → StandsUp number (transition d number lease s)
 transition_up (OpensPrimary root capabilities) number lease s up h = primary_up number s.owner s h.owner h
-transition_up OpensRender number lease s up h = record { owner = h.owner; master = client_up number number false None s (none_up number) h }
-transition_up (Redeems token root capabilities) number lease s up h = record { owner = h.owner; master = client_up number number true (lease token) s (up token) h }
-transition_up (Closes c) number lease s up h = record { owner = without_up number (s.is_master c) (s.master c) s.owner h.owner; master = h.master }
+transition_up OpensRender number lease s up h =
+    record { owner = h.owner; master = client_up number number false None s (none_up number) h }
+transition_up (Redeems token root capabilities) number lease s up h =
+    record { owner = h.owner; master = client_up number number true (lease token) s (up token) h }
+transition_up (Closes c) number lease s up h =
+    record { owner = without_up number (s.is_master c) (s.master c) s.owner h.owner; master = h.master }
 transition_up (SetsMaster c) number lease s up h = set_up number c (s.is_master c) s h
 transition_up DropsMaster number lease s up h = record { owner = none_up number; master = h.master }
 transition_up Nothing number lease s up h = h
@@ -91,7 +105,10 @@ master_state_up : (past : List AnsweredEvent) → StandsUp (length past) (master
 unfolding master_state
 master_state_up [] = record { owner = none_up 0; master = λ c. none_up 0 }
 master_state_up (step ∷ past) =
-    let up = transition_up (effect step) (next_number past) (lease_in past) (master_state past) (λ token. later_up (length past) (lease_in past token) (lease_up past token)) (later_stands (length past) (master_state past) (master_state_up past)) in
+    let up =
+    transition_up (effect step) (next_number past) (lease_in past) (master_state past)
+    (λ token. later_up (length past) (lease_in past token) (lease_up past token))
+    (later_stands (length past) (master_state past) (master_state_up past)) in
     record { owner = λ m e. let le = up.owner m e in omega (arith, le); master = λ c m e. let le = up.master c m e in omega (arith, le) }
 
 -- The master of a client is of a step that was made.
@@ -126,18 +143,25 @@ lessee_born (step ∷ past) n m e =
     ]) refl e
 
 -- One more step leaves the lessor of each earlier master.
-pub lessor_still : (step : AnsweredEvent) (past : List AnsweredEvent) (m : ℕ) → m ≤ length past → lessor_in (step ∷ past) m ≡ lessor_in past m
+pub lessor_still : (step : AnsweredEvent) (past : List AnsweredEvent) (m : ℕ) → m ≤ length past
+    → lessor_in (step ∷ past) m ≡ lessor_in past m
 unfolding lessor_in
-lessor_still step past m old = ap (λ b. if b then lessor_by (effect step) (master_state past) else lessor_in past m) (less-differ m (next_number past) (omega (arith, old)))
+lessor_still step past m old =
+    ap (λ b. if b then lessor_by (effect step) (master_state past) else lessor_in past m)
+    (less-differ m (next_number past) (omega (arith, old)))
 
-chain_still : (step : AnsweredEvent) (past : List AnsweredEvent) (s m : ℕ) → m ≤ length past → chain_within s (lessor_in (step ∷ past)) m ≡ chain_within s (lessor_in past) m
+chain_still : (step : AnsweredEvent) (past : List AnsweredEvent) (s m : ℕ) → m ≤ length past
+    → chain_within s (lessor_in (step ∷ past)) m ≡ chain_within s (lessor_in past) m
 chain_still step past s m old =
-    same_chain (λ n. n ≤ length past) (lessor_in past) (lessor_in (step ∷ past)) (λ n k. lessor_still step past n k) (λ n l k e. let lt = lessor_falls past n l e in omega (arith, lt, k)) s m old
+    same_chain (λ n. n ≤ length past) (lessor_in past) (lessor_in (step ∷ past)) (λ n k. lessor_still step past n k)
+    (λ n l k e. let lt = lessor_falls past n l e in omega (arith, lt, k)) s m old
 
 -- One more step leaves the top of each earlier master's chain.
-pub top_still : (step : AnsweredEvent) (past : List AnsweredEvent) (m : ℕ) → m ≤ length past → top_in (step ∷ past) m ≡ top_in past m
+pub top_still : (step : AnsweredEvent) (past : List AnsweredEvent) (m : ℕ) → m ≤ length past
+    → top_in (step ∷ past) m ≡ top_in past m
 top_still step past m old = ap (last_of m) (chain_still step past m m old)
 
 -- One more step leaves which masters an earlier master is under.
-pub under_still : (step : AnsweredEvent) (past : List AnsweredEvent) (top m : ℕ) → m ≤ length past → is_under_in (step ∷ past) top m ≡ is_under_in past top m
+pub under_still : (step : AnsweredEvent) (past : List AnsweredEvent) (top m : ℕ) → m ≤ length past
+    → is_under_in (step ∷ past) top m ≡ is_under_in past top m
 under_still step past top m old = ap (λ chain. is_among chain top) (chain_still step past m m old)

@@ -13,7 +13,7 @@ use Rattle.std.proofs.lemmas.Map.Steps.{le-length_from_below}
 use Rattle.drm_lists.specs.Numbers.{is_among}
 use Rattle.drm_lists.specs.Orders.{InOrder}
 use Rattle.drm_lists.proofs.Lists.{all_weaker, all_mapped, filter-shorter, some_passing, list_any-map, list_any_agree}
-use Rattle.drm_lists.proofs.Found.{is_some-find, none_found}
+use Rattle.drm_lists.proofs.FoundInLists.{is_some-find, none_found}
 use Rattle.drm_lists.proofs.Numbers.{flipped, same_either}
 use Rattle.drm_index_array.proofs.Least.{least_none}
 use Rattle.drm_model.specs.Rows.{Rows, ClientRow, MagicRow, is_client, is_open, magic_row}
@@ -35,33 +35,51 @@ abbrev pub AreApart : MagicRow → MagicRow → Type 0
 AreApart x y = (x.client == y.client) ≡ false
 
 abbrev pub MagicsFit : Rows → Type 0
-MagicsFit w = InOrder AreApart w.magics × AllByRecursion (ClientOpen w.clients) w.magics × (length w.clients ≤ w.limits.clients)
+MagicsFit w =
+    InOrder AreApart w.magics × AllByRecursion (ClientOpen w.clients) w.magics × (length w.clients ≤ w.limits.clients)
 
-clients_distinct : (rows : List MagicRow) → InOrder AreApart rows → IsDistinct ◌==◌ (map (λ (row : MagicRow). row.client) rows)
+clients_distinct : (rows : List MagicRow) → InOrder AreApart rows
+    → IsDistinct ◌==◌ (map (λ (row : MagicRow). row.client) rows)
 unfolding IsDistinct
 clients_distinct [] h = tt
-clients_distinct (row ∷ rows) h = IsDistinct-cons ◌==◌ row.client (map (λ (row : MagicRow). row.client) rows) (all_mapped (λ y. (row.client == y) ≡ false) (λ (row : MagicRow). row.client) rows h.0) (clients_distinct rows h.1)
+clients_distinct (row ∷ rows) h =
+    IsDistinct-cons ◌==◌ row.client (map (λ (row : MagicRow). row.client) rows)
+    (all_mapped (λ y. (row.client == y) ≡ false) (λ (row : MagicRow). row.client) rows h.0) (clients_distinct rows h.1)
 
 module _ (w : Rows) (fit : MagicsFit w) (c : ℕ) (opened : is_open w c ≡ true) (none : magic_row w c ≡ None) where
   other_clients : AllByRecursion (λ y. (c == y) ≡ false) (map (λ (row : MagicRow). row.client) w.magics)
-  other_clients = all_mapped (λ y. (c == y) ≡ false) (λ (row : MagicRow). row.client) w.magics (all_weaker (λ (row : MagicRow). (row.client == c) ≡ false) (λ (row : MagicRow). (c == row.client) ≡ false) (λ row e. flipped row.client c e) w.magics (none_found (λ (row : MagicRow). row.client == c) w.magics none))
+  other_clients =
+      all_mapped (λ y. (c == y) ≡ false) (λ (row : MagicRow). row.client) w.magics
+      (all_weaker (λ (row : MagicRow). (row.client == c) ≡ false) (λ (row : MagicRow). (c == row.client) ≡ false) (λ row e. flipped row.client c e) w.magics (none_found (λ (row : MagicRow). row.client == c) w.magics none))
 
   -- a client that is open is among the clients
-  client_among : (q d : ℕ) → (q == d) ≡ true → list_any (is_client d) w.clients ≡ true → is_member ◌==◌ (map (λ (row : ClientRow). row.client) w.clients) q ≡ true
-  client_among q d e h = list_any-map (λ y. q == y) (λ (row : ClientRow). row.client) w.clients ∙ list_any_agree (λ (row : ClientRow). q == row.client) (is_client d) (λ row. same_either q row.client ∙ ap (λ n. row.client == n) (eqb-true q d e)) w.clients ∙ h
+  client_among : (q d : ℕ) → (q == d) ≡ true → list_any (is_client d) w.clients ≡ true
+      → is_member ◌==◌ (map (λ (row : ClientRow). row.client) w.clients) q ≡ true
+  client_among q d e h =
+      list_any-map (λ y. q == y) (λ (row : ClientRow). row.client) w.clients
+      ∙ list_any_agree (λ (row : ClientRow). q == row.client) (is_client d)
+      (λ row. same_either q row.client ∙ ap (λ n. row.client == n) (eqb-true q d e)) w.clients
+      ∙ h
 
-  each_among : (q : ℕ) → is_member ◌==◌ (c ∷ map (λ (row : MagicRow). row.client) w.magics) q ≡ true → is_member ◌==◌ (map (λ (row : ClientRow). row.client) w.clients) q ≡ true
+  each_among : (q : ℕ) → is_member ◌==◌ (c ∷ map (λ (row : MagicRow). row.client) w.magics) q ≡ true
+      → is_member ◌==◌ (map (λ (row : ClientRow). row.client) w.clients) q ≡ true
   each_among q h =
       (elim (q == c) as (λ b. (q == c) ≡ b → (b || list_any (λ y. q == y) (map (λ (row : MagicRow). row.client) w.magics)) ≡ true → is_member ◌==◌ (map (λ (row : ClientRow). row.client) w.clients) q ≡ true) [
         | true ↦ λ e k. client_among q c e (sym (is_some-find (is_client c) w.clients) ∙ opened)
         | false ↦ λ e k.
-            let it = some_passing (λ (row : MagicRow). q == row.client) (ClientOpen w.clients) w.magics fit.1 (sym (list_any-map (λ y. q == y) (λ (row : MagicRow). row.client) w.magics) ∙ k) in
+            let it =
+            some_passing (λ (row : MagicRow). q == row.client) (ClientOpen w.clients) w.magics fit.1
+            (sym (list_any-map (λ y. q == y) (λ (row : MagicRow). row.client) w.magics) ∙ k) in
             client_among q it.0.client it.1 it.2
       ]) refl h
 
   few_magics : length w.magics + 1 ≤ length w.clients
   few_magics =
-      let few = length-le_from_is_member numbers_equal (c ∷ map (λ (row : MagicRow). row.client) w.magics) (map (λ (row : ClientRow). row.client) w.clients) (IsDistinct-cons ◌==◌ c (map (λ (row : MagicRow). row.client) w.magics) other_clients (clients_distinct w.magics fit.0)) each_among in
+      let few =
+      length-le_from_is_member numbers_equal (c ∷ map (λ (row : MagicRow). row.client) w.magics)
+      (map (λ (row : ClientRow). row.client) w.clients)
+      (IsDistinct-cons ◌==◌ c (map (λ (row : MagicRow). row.client) w.magics) other_clients (clients_distinct w.magics fit.0))
+      each_among in
       let magics = length-map w.magics (λ (row : MagicRow). row.client) in
       let clients = length-map w.clients (λ (row : ClientRow). row.client) in
       omega (arith, few, magics, clients)
@@ -89,13 +107,18 @@ module _ (w : Rows) (fit : MagicsFit w) (c : ℕ) (opened : is_open w c ≡ true
       by (Some n) e = refl
       by None e =
           let all = least_none (λ number. not (is_among (magics_under w m) number)) 1 w.limits.clients e in
-          let long = le-length_from_below (0 ∷ magics_under w m) (w.limits.clients + 1) (λ q lt. at q lt (q == 0) refl all) in
+          let long =
+          le-length_from_below (0 ∷ magics_under w m) (w.limits.clients + 1) (λ q lt. at q lt (q == 0) refl all) in
           let few = under_few m in
           absurd (omega (arith, long, few))
         where
-          at : (q : ℕ) → q < w.limits.clients + 1 → (b : Bool) → (q == 0) ≡ b → ((k : ℕ) → 1 ≤ k → k ≤ w.limits.clients → not (is_among (magics_under w m) k) ≡ false) → (b || list_any (λ x. q == x) (magics_under w m)) ≡ true
+          at : (q : ℕ) → q < w.limits.clients + 1 → (b : Bool) → (q == 0) ≡ b
+              → ((k : ℕ) → 1 ≤ k → k ≤ w.limits.clients → not (is_among (magics_under w m) k) ≡ false)
+              → (b || list_any (λ x. q == x) (magics_under w m)) ≡ true
           at q lt true e all = refl
-          at q lt false e all = list_any_agree (λ x. q == x) (λ x. x == q) (λ x. same_either q x) (magics_under w m) ∙ taken q (all q (positive q e) (omega (arith, lt)))
+          at q lt false e all =
+              list_any_agree (λ x. q == x) (λ x. x == q) (λ x. same_either q x) (magics_under w m)
+              ∙ taken q (all q (positive q e) (omega (arith, lt)))
             where
               positive : (q : ℕ) → (q == 0) ≡ false → 1 ≤ q
               positive zero e = absurd (let n : true ≡ false = e in cc)

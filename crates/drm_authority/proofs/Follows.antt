@@ -15,22 +15,22 @@ use Rattle.drm_model.specs.Run.{Answers, DeviceValue, journaled_events, rows_of,
 use Rattle.drm_model.proofs.StepNumbers.{step_numbers_rise}
 use Rattle.drm_model.proofs.Runs.{answers-run}
 use Rattle.drm_history.specs.History.{AnsweredEvent, history_of, with_journaled}
-use Rattle.drm_history.proofs.Histories.{history_of_answers}
+use Rattle.drm_history.proofs.AnsweredJournals.{history_of_answers}
 use Rattle.drm_authority.specs.MasterState.{master_state}
 use Rattle.drm_authority.specs.Lessees.{top_in, granted}
 use Rattle.drm_authority.specs.Magics.{magic_in, is_named_in, known}
 use Rattle.drm_authority.specs.Shown.{KeepsToOverlays}
 use Rattle.drm_authority.specs.SeesNothing.{KeepsSeeingNothing}
 use Rattle.drm_authority.specs.Laws.{AuthorityFollows, CapabilitiesFollow, OverlaysAlone, OwnerFollows, OwnersFollow, ClientsFollow, LeaseTokensFollow, LessorsFollow, LesseesFollow, GrantsFollow, EndedLesseesSeeNothing, MagicsFollow, AuthenticationFollows, MastersDiffer, HasOtherToken, HasOtherId, IsOtherMagic}
-use Rattle.drm_authority.proofs.Runs.{Keeps, replied, by_verdict, at_all_times, at_each_step}
+use Rattle.drm_authority.proofs.AlwaysHolds.{Keeps, replied, by_verdict, at_all_times, at_each_step}
 use Rattle.drm_authority.proofs.Capable.{capable_told, keeps_to_overlays}
 use Rattle.drm_authority.proofs.Stands.{open_stands}
-use Rattle.drm_authority.proofs.Held.{is_there, row_there}
-use Rattle.drm_authority.proofs.Lessors.{Descended, IdTold, owner_same}
-use Rattle.drm_authority.proofs.Grants.{Lending, lending_denied, lending_carried}
+use Rattle.drm_authority.proofs.NamedMasters.{is_there, row_there}
+use Rattle.drm_authority.proofs.LessorsAndIds.{Descended, IdTold, owner_same}
+use Rattle.drm_authority.proofs.GrantsOfHistory.{Lending, lending_denied, lending_carried}
 use Rattle.drm_authority.proofs.SeesNothing.{keeps_seeing_nothing}
-use Rattle.drm_authority.proofs.Named.{Magical, MagicTold, magical_denied, magical_carried}
-use Rattle.drm_authority.proofs.Closed.{closings_are_for_good}
+use Rattle.drm_authority.proofs.NamedMagics.{Magical, MagicTold, magical_denied, magical_carried}
+use Rattle.drm_authority.proofs.ClosedForGood.{closings_are_for_good}
 use Rattle.drm_authority.proofs.Mastership.{masters_become}
 use Rattle.drm_authority.proofs.Differ.{in_order_so, IsOlder, IdOwned, other_token, other_id, other_magic}
 use Rattle.drm_authority.proofs.Tokens.{TokenTold}
@@ -73,7 +73,9 @@ pub owners_follow : (h : DeviceValue) → OwnersFollow (rows_of h) (history_of h
 owners_follow h =
     let p = descended h in
     let w = rows_of h in
-    all_weaker (λ (row : MasterRow). is_there w.masters row.master ≡ true) (λ (row : MasterRow). owner_of w.masters row.master ≡ top_in (history_of h) row.master) (λ row there. owner_same (history_of h) w p.1 p.0.1 row.master there) w.masters (row_there w.masters)
+    all_weaker (λ (row : MasterRow). is_there w.masters row.master ≡ true)
+    (λ (row : MasterRow). owner_of w.masters row.master ≡ top_in (history_of h) row.master)
+    (λ row there. owner_same (history_of h) w p.1 p.0.1 row.master there) w.masters (row_there w.masters)
 
 -- Each lessee's id is that of the last MODE_CREATE_LEASE that answered it below the same owner.
 pub lessees_follow : (h : DeviceValue) → LesseesFollow (rows_of h) (history_of h)
@@ -85,7 +87,9 @@ grants_follow h = (lending h).1
 
 -- In any history a client whose lease ended is answered nothing of CRTCs, connectors and planes.
 pub ended_lessees_see_nothing : (h : DeviceValue) → EndedLesseesSeeNothing (history_of h)
-ended_lessees_see_nothing h = at_each_step (Lending h.topology) (keeps_lending h.topology) KeepsSeeingNothing (λ past w event r p. keeps_seeing_nothing h.topology past w event p) h (lending_start h)
+ended_lessees_see_nothing h =
+    at_each_step (Lending h.topology) (keeps_lending h.topology) KeepsSeeingNothing
+    (λ past w event r p. keeps_seeing_nothing h.topology past w event p) h (lending_start h)
 
 -- ---- of capabilities
 
@@ -97,7 +101,8 @@ capabilities_follow h c opened = capable_told (history_of h) (rows_of h) (lendin
 pub overlays_alone : (h : DeviceValue) → OverlaysAlone h.topology (history_of h)
 overlays_alone h =
     at_each_step (Lending h.topology) (keeps_lending h.topology) (KeepsToOverlays h.topology)
-    (λ past w event r p. subst (λ t. KeepsToOverlays t (replied w event) past) p.3 (keeps_to_overlays past w event p.2)) h (lending_start h)
+    (λ past w event r p. subst (λ t. KeepsToOverlays t (replied w event) past) p.3 (keeps_to_overlays past w event p.2))
+    h (lending_start h)
 
 -- ---- of magics
 
@@ -118,13 +123,17 @@ authentic h =
 
 -- Each magic is that of the last GET_MAGIC that answered its number under its master.
 pub magics_follow : (h : DeviceValue) → MagicsFollow (rows_of h) (history_of h)
-magics_follow h = all_weaker (MagicTold (history_of h)) (λ (row : MagicRow). magic_in (history_of h) row.master row.number ≡ Some row.client) (λ row told. told.0) (rows_of h).magics (authentic h).1.1
+magics_follow h =
+    all_weaker (MagicTold (history_of h))
+    (λ (row : MagicRow). magic_in (history_of h) row.master row.number ≡ Some row.client) (λ row told. told.0)
+    (rows_of h).magics (authentic h).1.1
 
 -- An open client is authenticated exactly if the history says so.
 pub authentication_follows : (h : DeviceValue) → AuthenticationFollows (rows_of h) (history_of h)
 authentication_follows h c opened = by (client_row (rows_of h) c) refl opened
   where
-    by : (o : Option ClientRow) → client_row (rows_of h) c ≡ o → is_some o ≡ true → option_map_or (λ (row : ClientRow). row.authenticated) o false ≡ known (history_of h) c
+    by : (o : Option ClientRow) → client_row (rows_of h) c ≡ o → is_some o ≡ true
+        → option_map_or (λ (row : ClientRow). row.authenticated) o false ≡ known (history_of h) c
     by None e k = absurd (let n : false ≡ true = k in cc)
     by (Some row) e k =
         let it = found (is_client c) (AuthTold (history_of h)) row (rows_of h).clients (authentic h).2 e in
@@ -151,12 +160,15 @@ authority_follows h = record {
 }
 
 -- Whatever a device answers to events, its rows follow from the history of its answers.
-pub authority_of_answers : (topology : Topology) (limits : Limits) (events : List Event) (results : List (Result Answer Apart)) (v : Rows) → Answers (empty_rows topology limits) events results v → AuthorityFollows topology v (with_journaled [] events results)
+pub authority_of_answers : (topology : Topology) (limits : Limits) (events : List Event) (results : List (Result Answer Apart)) (v : Rows)
+    → Answers (empty_rows topology limits) events results v
+    → AuthorityFollows topology v (with_journaled [] events results)
 unfolding rows_of
 authority_of_answers topology limits events results v k =
     let h : DeviceValue = record { topology = topology; limits = limits; journal = journaled_events events results } in
     let its_rows : rows_of h ≡ v = sym (answers-run (empty_rows topology limits) events results v k) in
-    subst (λ (x : Rows × List AnsweredEvent). AuthorityFollows topology x.0 x.1) (λ i. (its_rows i, history_of_answers h events results v k refl i)) (authority_follows h)
+    subst (λ (x : Rows × List AnsweredEvent). AuthorityFollows topology x.0 x.1)
+    (λ i. (its_rows i, history_of_answers h events results v k refl i)) (authority_follows h)
 
 -- ---- no two the same
 
@@ -166,8 +178,12 @@ masters_differ h =
     let w = rows_of h in
     let rise = (step_numbers_rise h).1.0 in
     record {
-      tokens = in_order_so (TokenTold past) IsOlder HasOtherToken (other_token past) w.masters (lease_tokens_follow h) rise;
+      tokens =
+          in_order_so (TokenTold past) IsOlder HasOtherToken (other_token past) w.masters (lease_tokens_follow h) rise;
       ids = in_order_so (IdOwned past w.masters) IsOlder (HasOtherId w.masters) (other_id past w.masters) w.masters
-          (all_both (IdTold past) (λ (row : MasterRow). owner_of w.masters row.master ≡ top_in past row.master) (IdOwned past w.masters) (λ row told owned. (told, owned)) w.masters (lessees_follow h) (owners_follow h)) rise;
-      magics = in_order_so (λ (row : MagicRow). magic_in past row.master row.number ≡ Some row.client) AreApart IsOtherMagic (other_magic past) w.magics (magics_follow h) (authentic h).1.0.0;
+          (all_both (IdTold past) (λ (row : MasterRow). owner_of w.masters row.master ≡ top_in past row.master) (IdOwned past w.masters) (λ row told owned. (told, owned)) w.masters (lessees_follow h) (owners_follow h))
+          rise;
+      magics =
+          in_order_so (λ (row : MagicRow). magic_in past row.master row.number ≡ Some row.client) AreApart IsOtherMagic
+          (other_magic past) w.magics (magics_follow h) (authentic h).1.0.0;
     }

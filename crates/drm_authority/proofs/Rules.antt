@@ -10,10 +10,11 @@ use Rattle.drm_table.specs.declared.events.Event.TheVariants.{Ask, Close}
 use Rattle.drm_model.specs.Rows.{Rows, is_open}
 use Rattle.drm_model.specs.Magics.{is_current}
 use Rattle.drm_model.specs.Verdict.{verdict, checks, admission_checks}
-use Rattle.drm_model.proofs.Leased.{all_hold}
+use Rattle.drm_model.proofs.FewLeased.{all_hold}
 
 -- An event that is carried out passed each of its checks.
-pub each_holds : (w : Rows) (event : Event) → verdict w event ≡ None → AllByRecursion (λ (x : Check). x.holds ≡ true) (checks w event)
+pub each_holds : (w : Rows) (event : Event) → verdict w event ≡ None
+    → AllByRecursion (λ (x : Check). x.holds ≡ true) (checks w event)
 unfolding verdict
 each_holds w event h = all_hold (checks w event) h
 
@@ -40,12 +41,15 @@ wanted : (flag current : Bool) → flag ≡ true → (not flag || current) ≡ t
 wanted true current e h = h
 wanted false current e h = absurd (let n : false ≡ true = e in cc)
 
-caller_current : (w : Rows) (c : ℕ) (call : Call) → has_flag (flags_of call) master ≡ true → verdict w (Ask c call) ≡ None → is_current w c ≡ true
+caller_current : (w : Rows) (c : ℕ) (call : Call) → has_flag (flags_of call) master ≡ true
+    → verdict w (Ask c call) ≡ None → is_current w c ≡ true
 unfolding checks admission_checks
-caller_current w c call flag h = wanted (has_flag (flags_of call) master) (is_current w c) flag (each_holds w (Ask c call) h).1.1.1.1.1.0
+caller_current w c call flag h =
+    wanted (has_flag (flags_of call) master) (is_current w c) flag (each_holds w (Ask c call) h).1.1.1.1.1.0
 
 -- A client that creates a lease is current.
-pub lessor_current : (w : Rows) (c : ℕ) (ids : List ℕ) → verdict w (Ask c (CreateLease ids)) ≡ None → is_current w c ≡ true
+pub lessor_current : (w : Rows) (c : ℕ) (ids : List ℕ) → verdict w (Ask c (CreateLease ids)) ≡ None
+    → is_current w c ≡ true
 lessor_current w c ids h = caller_current w c (CreateLease ids) (create_lease_flags ids) h
 
 -- A client that revokes a lease is current.

@@ -42,7 +42,9 @@ pub record MastersBecome (history : List AnsweredEvent) (c : ℕ) : Type 0 where
 
 -- each open lease token is that of the last lease that answered it
 abbrev pub LeaseTokensFollow : Rows → List AnsweredEvent → Type 0
-LeaseTokensFollow w history = AllByRecursion (λ (row : MasterRow). IfSome row.lease_token (λ token. lease_in history token ≡ Some row.master)) w.masters
+LeaseTokensFollow w history =
+    AllByRecursion (λ (row : MasterRow). IfSome row.lease_token (λ token. lease_in history token ≡ Some row.master))
+    w.masters
 
 -- each master has the lessor that the history says
 abbrev pub LessorsFollow : Rows → List AnsweredEvent → Type 0
@@ -50,11 +52,15 @@ LessorsFollow w history = AllByRecursion (λ (row : MasterRow). row.lessor ≡ l
 
 -- the owner of each master is the top of its chain of lessors by the history
 abbrev pub OwnersFollow : Rows → List AnsweredEvent → Type 0
-OwnersFollow w history = AllByRecursion (λ (row : MasterRow). owner_of w.masters row.master ≡ top_in history row.master) w.masters
+OwnersFollow w history =
+    AllByRecursion (λ (row : MasterRow). owner_of w.masters row.master ≡ top_in history row.master) w.masters
 
 -- each lessee's id is that of the last lease that answered it to a client with the lessee's top
 abbrev pub LesseesFollow : Rows → List AnsweredEvent → Type 0
-LesseesFollow w history = AllByRecursion (λ (row : MasterRow). IfSome row.lessor (λ _. lessee_in history (top_in history row.master) row.lessee_id ≡ Some row.master)) w.masters
+LesseesFollow w history =
+    AllByRecursion
+    (λ (row : MasterRow). IfSome row.lessor (λ _. lessee_in history (top_in history row.master) row.lessee_id ≡ Some row.master))
+    w.masters
 
 -- the grants are those of the history
 abbrev pub GrantsFollow : Topology → Rows → List AnsweredEvent → Type 0
@@ -68,11 +74,13 @@ CapabilitiesFollow w history = (c : ℕ) → is_open w c ≡ true → client_cap
 
 -- each magic, spent or not, is that of the last GET_MAGIC that answered its number under its master
 abbrev pub MagicsFollow : Rows → List AnsweredEvent → Type 0
-MagicsFollow w history = AllByRecursion (λ (row : MagicRow). magic_in history row.master row.number ≡ Some row.client) w.magics
+MagicsFollow w history =
+    AllByRecursion (λ (row : MagicRow). magic_in history row.master row.number ≡ Some row.client) w.magics
 
 -- an open client is authenticated exactly if the history says so
 abbrev pub AuthenticationFollows : Rows → List AnsweredEvent → Type 0
-AuthenticationFollows w history = (c : ℕ) → is_open w c ≡ true → client_has (λ row. row.authenticated) w c ≡ known history c
+AuthenticationFollows w history =
+    (c : ℕ) → is_open w c ≡ true → client_has (λ row. row.authenticated) w c ≡ known history c
 
 -- ---- of each step
 

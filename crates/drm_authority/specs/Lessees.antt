@@ -18,7 +18,8 @@ lessor_by _ s = None
 -- the lessor of a master: the master of the caller of its step, where that is MODE_CREATE_LEASE
 unfoldable pub lessor_in : List AnsweredEvent → ℕ → Option ℕ
 lessor_in [] m = None
-lessor_in (step ∷ past) m = if m == next_number past then lessor_by (effect step) (master_state past) else lessor_in past m
+lessor_in (step ∷ past) m =
+    if m == next_number past then lessor_by (effect step) (master_state past) else lessor_in past m
 
 -- the top of a master's chain of lessors
 abbrev pub top_in : List AnsweredEvent → ℕ → ℕ
@@ -77,4 +78,6 @@ is_lent t _ past x has = false
 -- whether a lease has the mode object: its step is MODE_CREATE_LEASE that lends it, and no later one ended it
 unfoldable pub granted : Topology → List AnsweredEvent → ℕ → ℕ → Bool
 granted t [] m x = false
-granted t (step ∷ past) m x = if m == next_number past then is_lent t (effect step) past x (λ n. granted t past n x) else not (ends step past m) && granted t past m x
+granted t (step ∷ past) m x =
+    if m == next_number past then is_lent t (effect step) past x (λ n. granted t past n x) else not (ends step past m)
+    && granted t past m x

@@ -50,13 +50,15 @@ has_become_master history c = (opened_in history c).is_master || is_some (first_
 -- one that it joined
 abbrev pub master_since : List AnsweredEvent → ℕ → Option ℕ
 master_since history c =
-    if (opened_in history c).is_master then (opened_in history c).master else option_or (first_set history c) (opened_in history c).master
+    if (opened_in history c).is_master then (opened_in history c).master else option_or (first_set history c)
+    (opened_in history c).master
 
 -- The device's master after the last step. An opening of a primary node and SET_MASTER keep the one that exists;
 -- without one, the client's becomes the device's. DROP_MASTER leaves none, as does the closing of a client whose own
 -- master is the device's.
 abbrev pub owner_after : Effect → AnsweredEvent → List AnsweredEvent → Option ℕ
-owner_after (OpensPrimary root capabilities) step past = option_or (owner_in past) (master_in (step ∷ past) (next_number past))
+owner_after (OpensPrimary root capabilities) step past =
+    option_or (owner_in past) (master_in (step ∷ past) (next_number past))
 owner_after (SetsMaster c) step past = option_or (owner_in past) (master_in (step ∷ past) c)
 owner_after DropsMaster step past = None
 owner_after (Closes c) step past = if is_master_in past c && option_map_or (λ m. is_option m (owner_in past)) (master_in past c) false then None else owner_in past

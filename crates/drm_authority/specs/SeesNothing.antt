@@ -21,7 +21,8 @@ SeesNothing (GetConnector connector) answer = ⊥
 SeesNothing (GetPlane plane) answer = ⊥
 SeesNothing (SetPlane plane crtc framebuffer) answer = ⊥
 SeesNothing (CreateLease ids) answer = ⊥
-SeesNothing GetResources answer = (encoders : List ℕ) × (framebuffers : List ℕ) × (answer ≡ Resources [] [] encoders framebuffers)
+SeesNothing GetResources answer =
+    (encoders : List ℕ) × (framebuffers : List ℕ) × (answer ≡ Resources [] [] encoders framebuffers)
 SeesNothing GetPlaneResources answer = answer ≡ ListIs []
 SeesNothing GetLease answer = answer ≡ ListIs []
 SeesNothing (GetEncoder encoder) answer = answer ≡ Number 0
@@ -29,7 +30,9 @@ SeesNothing _ answer = Unit {0}
 
 -- the step's call sees nothing if the client's master is a lessee whose lease ended
 abbrev pub SeesNothingFor : Event → Answer → List AnsweredEvent → Type 0
-SeesNothingFor (Ask c call) answer past = (m lessor : ℕ) → master_in past c ≡ Some m → lessor_in past m ≡ Some lessor → has_ended past m ≡ true → is_accepted answer ≡ true → SeesNothing call answer
+SeesNothingFor (Ask c call) answer past =
+    (m lessor : ℕ) → master_in past c ≡ Some m → lessor_in past m ≡ Some lessor → has_ended past m ≡ true → is_accepted
+    answer ≡ true → SeesNothing call answer
 SeesNothingFor (Open opening) answer past = Unit {0}
 SeesNothingFor (Close c) answer past = Unit {0}
 

@@ -40,7 +40,8 @@ ShowsOverlays t _ answer = Unit {0}
 
 -- the step's answer has only overlay planes if its client has universal planes off
 abbrev pub OverlaysFor : Topology → Event → Answer → List AnsweredEvent → Type 0
-OverlaysFor t (Ask c call) answer past = is_universal_in past c ≡ false → is_accepted answer ≡ true → ShowsOverlays t call answer
+OverlaysFor t (Ask c call) answer past =
+    is_universal_in past c ≡ false → is_accepted answer ≡ true → ShowsOverlays t call answer
 OverlaysFor t (Open opening) answer past = Unit {0}
 OverlaysFor t (Close c) answer past = Unit {0}
 

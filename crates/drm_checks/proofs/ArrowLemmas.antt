@@ -7,9 +7,11 @@ otherwise : {X : Type 0} (b : Bool) (x y : X) → b ≡ false → (if b then x e
 otherwise true x y h = absurd (cc)
 otherwise false x y h = refl
 
-arrow_behind : (text rest : List ℕ) (place : ℕ) → 0 < length text → drop 1 text ≡ rest → begins_with_arrow text ≡ false → arrow_from place text ≡ arrow_from (place + 1) rest
+arrow_behind : (text rest : List ℕ) (place : ℕ) → 0 < length text → drop 1 text ≡ rest → begins_with_arrow text ≡ false
+    → arrow_from place text ≡ arrow_from (place + 1) rest
 arrow_behind [] rest place some e h = absurd (omega (arith, some))
-arrow_behind (b ∷ bs) rest place some e h = otherwise (begins_with_arrow (b ∷ bs)) (Some place) (arrow_from (place + 1) bs) h ∙ ap (arrow_from (place + 1)) e
+arrow_behind (b ∷ bs) rest place some e h =
+    otherwise (begins_with_arrow (b ∷ bs)) (Some place) (arrow_from (place + 1) bs) h ∙ ap (arrow_from (place + 1)) e
 
 -- A search for ` -> ` that does not find it at a place continues at the next place.
 pub arrow_next : (line : List ℕ) (place : ℕ) → place < length line → begins_with_arrow (drop place line) ≡ false

@@ -34,24 +34,33 @@ few true d = omega arith
 few false d = omega arith
 
 -- A line meets its expectation or adds one difference, or neither.
-pub one_at_most : (n : ℕ) (expected : Option (List ℕ)) (came : Option (Result Answer Apart)) → met expected came + length (unmet n expected came) ≤ 1
+pub one_at_most : (n : ℕ) (expected : Option (List ℕ)) (came : Option (Result Answer Apart))
+    → met expected came + length (unmet n expected came) ≤ 1
 one_at_most n None came = omega arith
-one_at_most n (Some expected) came = few (is_met expected came) (record { number = n; expected = expected; came = came })
+one_at_most n (Some expected) came =
+    few (is_met expected came) (record { number = n; expected = expected; came = came })
 
 -- ---- telling that stops in the last difference
 
-cut-found : (file : File) (n : ℕ) (ds : List Difference) (b : Bool) (d : Difference) → d.number ≡ n → (sent unsent : List ℕ) → differences_text file (if b then [] else d ∷ []) ≡ sent ++ unsent → 0 < length unsent
+cut-found : (file : File) (n : ℕ) (ds : List Difference) (b : Bool) (d : Difference) → d.number ≡ n
+    → (sent unsent : List ℕ) → differences_text file (if b then [] else d ∷ []) ≡ sent ++ unsent → 0 < length unsent
     → IsCutInLast file n (ds ++ (if b then [] else d ∷ [])) (differences_text file ds ++ sent)
-cut-found file n ds true d is sent unsent e more = absurd (let none = ap (λ (l : List ℕ). length l) e in let all = length-append sent unsent in omega (arith, none, all, more))
+cut-found file n ds true d is sent unsent e more =
+    absurd
+    (let none = ap (λ (l : List ℕ). length l) e in let all = length-append sent unsent in omega (arith, none, all, more))
 cut-found file n ds false d is sent unsent e more =
     record { before = ds; last = d; sent = sent; unsent = unsent; whole = refl; number = is; parts = sym (append-nil (text_of file d)) ∙ e; more = more; text = refl }
 
 -- A report that stops within the last difference has written all the ones before.
-pub cut-last : (file : File) (n : ℕ) (ds : List Difference) (expected : Option (List ℕ)) (came : Option (Result Answer Apart)) (sent unsent : List ℕ) → differences_text file (unmet n expected came) ≡ sent ++ unsent → 0 < length unsent
+pub cut-last : (file : File) (n : ℕ) (ds : List Difference) (expected : Option (List ℕ)) (came : Option (Result Answer Apart)) (sent unsent : List ℕ)
+    → differences_text file (unmet n expected came) ≡ sent ++ unsent → 0 < length unsent
     → IsCutInLast file n (ds ++ unmet n expected came) (differences_text file ds ++ sent)
-cut-last file n ds None came sent unsent e more = absurd (let none = ap (λ (l : List ℕ). length l) e in let all = length-append sent unsent in omega (arith, none, all, more))
+cut-last file n ds None came sent unsent e more =
+    absurd
+    (let none = ap (λ (l : List ℕ). length l) e in let all = length-append sent unsent in omega (arith, none, all, more))
 cut-last file n ds (Some expected) came sent unsent e more =
-    cut-found file n ds (is_met expected came) (record { number = n; expected = expected; came = came }) refl sent unsent e more
+    cut-found file n ds (is_met expected came) (record { number = n; expected = expected; came = came }) refl sent
+    unsent e more
 
 some_end : (a b : ScriptEnd) → Some a ≡ Some b → a ≡ b
 some_end a b e = cc
@@ -86,11 +95,13 @@ module _ {setting : Setting} {s0 s : SourceTrace} {k0 k : SinkTrace} {read : Lis
   }
 
   -- A check without a further line ends with its counts so far.
-  pub check_ends : (end : ScriptEnd) → IsEndOfLines end s0 s old.turns read lines → ChecksOn setting file s0 s k0 k turns (report_with end old.passed old.failed)
+  pub check_ends : (end : ScriptEnd) → IsEndOfLines end s0 s old.turns read lines
+      → ChecksOn setting file s0 s k0 k turns (report_with end old.passed old.failed)
   check_ends ends.Done h = ended ends.Done [] h.0 (refl, h.1, refl)
   check_ends (ends.Malformed number) h =
       let t = h.5 in
-      ended (ends.Malformed number) h.1 (inl h.2) (h.0, record { bad = h.3; behind = h.4; parts = t.whole; bare = t.bare; end_condition = inr t.long; short = omega (arith, t.behind) }, refl)
+      ended (ends.Malformed number) h.1 (inl h.2)
+      (h.0, record { bad = h.3; behind = h.4; parts = t.whole; bare = t.bare; end_condition = inr t.long; short = omega (arith, t.behind) }, refl)
   check_ends ends.ReadFault h = ended ends.ReadFault h.0 (inl h.1) (h.2, h.3, refl)
   check_ends ends.TurnsUsed h = ended ends.TurnsUsed h.0 (inl h.1) (omega (arith, cost, h.3), inl (h.2, refl))
   check_ends ends.WriteFault h = absurd h
@@ -102,10 +113,12 @@ module _ {setting : Setting} {s0 s : SourceTrace} {k0 k : SinkTrace} {read : Lis
     numbered = h.so_far.number ∙ length_push lines state.held
 
     -- it can't be used
-    unused : (end : ScriptEnd) → Stands old new k k' → Ends end (s0.counts.ends < s.counts.ends) s0 s k0 k turns (length lines) old.interpreter.device (state.held ++ h.behind) (differences_text file differences) file differences
+    unused : (end : ScriptEnd) → Stands old new k k'
+        → Ends end (s0.counts.ends < s.counts.ends) s0 s k0 k turns (length lines) old.interpreter.device (state.held ++ h.behind) (differences_text file differences) file differences
         → ChecksOn setting file s0 s k0 k' turns (report_with end new.passed new.failed)
     unused end st e =
-        subst (λ (x : SinkTrace). ChecksOn setting file s0 s k0 x turns (report_with end new.passed new.failed)) (sym st.unwritten)
+        subst (λ (x : SinkTrace). ChecksOn setting file s0 s k0 x turns (report_with end new.passed new.failed))
+        (sym st.unwritten)
         (subst (λ (p : ℕ). ChecksOn setting file s0 s k0 k turns (report_with end p new.failed)) (sym st.passed)
         (subst (λ (f : ℕ). ChecksOn setting file s0 s k0 k turns (report_with end old.passed f)) (sym st.failed) (ended end (state.held ++ h.behind) (inl h.whole) e)))
 
@@ -115,7 +128,9 @@ module _ {setting : Setting} {s0 s : SourceTrace} {k0 k : SinkTrace} {read : Lis
 
       grown : Checked setting (lines ++ state.held ∷ []) new.passed (differences ++ found) new.interpreter.device new.interpreter.labels
       grown =
-          subst (λ (p : ℕ). Checked setting (lines ++ state.held ∷ []) p (differences ++ found) new.interpreter.device new.interpreter.labels) (sym u.passed)
+          subst
+          (λ (p : ℕ). Checked setting (lines ++ state.held ∷ []) p (differences ++ found) new.interpreter.device new.interpreter.labels)
+          (sym u.passed)
           (subst (λ (m : ℕ). Checked setting (lines ++ state.held ∷ []) (old.passed + met (expected_part state.held) u.came) (differences ++ unmet m (expected_part state.held) u.came) new.interpreter.device new.interpreter.labels) (sym numbered)
           (line state.held u.came checked h.bare u.uses))
 
@@ -123,9 +138,11 @@ module _ {setting : Setting} {s0 s : SourceTrace} {k0 k : SinkTrace} {read : Lis
       grown_count = let a = u.failed in let b = length-append differences found in omega (arith, a, b, counted)
 
       -- a front of the difference was reported
-      cut_front : (p : PartialWriteCost k k' (differences_text file found) old.turns new.turns) → IsCutInLast file (length (lines ++ state.held ∷ [])) (differences ++ found) (differences_text file differences ++ p.front)
+      cut_front : (p : PartialWriteCost k k' (differences_text file found) old.turns new.turns)
+          → IsCutInLast file (length (lines ++ state.held ∷ [])) (differences ++ found) (differences_text file differences ++ p.front)
       cut_front p =
-          subst (λ (m : ℕ). IsCutInLast file m (differences ++ found) (differences_text file differences ++ p.front)) h.so_far.number
+          subst (λ (m : ℕ). IsCutInLast file m (differences ++ found) (differences_text file differences ++ p.front))
+          h.so_far.number
           (cut-last file state.number differences (expected_part state.held) u.came p.front p.rest p.parts p.more)
 
       cut_by : (end : ScriptEnd) (p : PartialWriteCost k k' (differences_text file found) old.turns new.turns)
@@ -148,18 +165,22 @@ module _ {setting : Setting} {s0 s : SourceTrace} {k0 k : SinkTrace} {read : Lis
         ends = e;
       }
 
-      stopped_used : (end : ScriptEnd) (w : Written) → WritesOut w k k' (differences_text file found) old.turns new.turns → Some end ≡ end_of_writing w
+      stopped_used : (end : ScriptEnd) (w : Written)
+          → WritesOut w k k' (differences_text file found) old.turns new.turns → Some end ≡ end_of_writing w
           → ChecksOn setting file s0 s k0 k' turns (report_with end new.passed new.failed)
       stopped_used end written.Whole w e = absurd (cc)
       stopped_used end written.Fault w e =
-          subst (λ (x : ScriptEnd). ChecksOn setting file s0 s k0 k' turns (report_with x new.passed new.failed)) (sym (some_end end ends.WriteFault e))
+          subst (λ (x : ScriptEnd). ChecksOn setting file s0 s k0 k' turns (report_with x new.passed new.failed))
+          (sym (some_end end ends.WriteFault e))
           (cut_by ends.WriteFault w.0 ((let a = took.counts.faults in let b = w.1 in omega (arith, a, b)), cut_front w.0, h.short_pending))
       stopped_used end written.TurnsUsed w e =
-          subst (λ (x : ScriptEnd). ChecksOn setting file s0 s k0 k' turns (report_with x new.passed new.failed)) (sym (some_end end ends.TurnsUsed e))
+          subst (λ (x : ScriptEnd). ChecksOn setting file s0 s k0 k' turns (report_with x new.passed new.failed))
+          (sym (some_end end ends.TurnsUsed e))
           (cut_by ends.TurnsUsed w.0 ((let a = w.0.pays.cost in let b = w.1 in omega (arith, a, b, cost)), inr (cut_front w.0, h.short_pending)))
 
       -- After one more line was checked, each line so far was checked.
-      pub so_far_used : WriteCost k k' (differences_text file found) old.turns new.turns → SoFar setting file s0 s k0 k' turns (record { lines = state; checker = new })
+      pub so_far_used : WriteCost k k' (differences_text file found) old.turns new.turns
+          → SoFar setting file s0 s k0 k' turns (record { lines = state; checker = new })
       so_far_used p = record {
         read = read;
         lines = lines ++ state.held ∷ [];
@@ -172,9 +193,12 @@ module _ {setting : Setting} {s0 s : SourceTrace} {k0 k : SinkTrace} {read : Lis
       }
 
     -- A check ends at a line that stops it, with the counts of the lines so far.
-    pub stopped : (end : ScriptEnd) → ChecksLine old new file state k k' (Some end) → ChecksOn setting file s0 s k0 k' turns (report_with end new.passed new.failed)
+    pub stopped : (end : ScriptEnd) → ChecksLine old new file state k k' (Some end)
+        → ChecksOn setting file s0 s k0 k' turns (report_with end new.passed new.failed)
     stopped end (used u) = stopped_used u end u.written u.writes u.end_is
     stopped (ends.Malformed number) (bad m st) =
-        unused (ends.Malformed state.number) st (numbered, record { bad = state.held; behind = h.behind; parts = refl; bare = h.bare; end_condition = inl (m, h.until); short = h.short_behind }, refl)
+        unused (ends.Malformed state.number) st
+        (numbered, record { bad = state.held; behind = h.behind; parts = refl; bare = h.bare; end_condition = inl (m, h.until); short = h.short_behind }, refl)
     stopped ends.NoMemory (unmade none wants st) =
-        unused ends.NoMemory st (record { next = state.held; behind = h.behind; parts = refl; bare = h.bare; until = h.until; none = none; wants = wants; short = h.short_behind }, refl)
+        unused ends.NoMemory st
+        (record { next = state.held; behind = h.behind; parts = refl; bare = h.bare; until = h.until; none = none; wants = wants; short = h.short_behind }, refl)

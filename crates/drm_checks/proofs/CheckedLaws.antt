@@ -21,7 +21,8 @@ bare_before None text bare = bare
 bare_before (Some place) text bare = IsBare-take place text bare
 
 -- The lines of a checked file, without their expectations, are a script with results.
-pub script_of : {setting : Setting} {lines : List (List ℕ)} {passed : ℕ} {differences : List Difference} {device : Place} {labels : List ℕ} → Checked setting lines passed differences device labels
+pub script_of : {setting : Setting} {lines : List (List ℕ)} {passed : ℕ} {differences : List Difference} {device : Place} {labels : List ℕ}
+    → Checked setting lines passed differences device labels
     → (results : List (Result Answer Apart)) × Script setting (map script_part lines) results device labels
 script_of start = ([], script_start)
 script_of {setting} (line {lines = lines} {device' = device} {labels' = labels} next came c bare uses) =

@@ -27,18 +27,21 @@ abbrev pub with_turns : Checker → ℕ → Checker
 with_turns old has = record { interpreter = old.interpreter; passed = old.passed; failed = old.failed; turns = has }
 
 -- A check that begins has checked no line.
-pub first_so_far : (setting : Setting) (file : File) (check : Check) (source : SourceTrace) (sink : SinkTrace) (turns : ℕ) → check ≡ first_check setting turns → SoFar setting file source source sink sink turns check
+pub first_so_far : (setting : Setting) (file : File) (check : Check) (source : SourceTrace) (sink : SinkTrace) (turns : ℕ)
+    → check ≡ first_check setting turns → SoFar setting file source source sink sink turns check
 first_so_far setting file check source sink turns e =
     subst (SoFar setting file source source sink sink turns) (sym e)
     (record { read = []; lines = []; differences = []; has_read = no_lines_read source; took = Took-none sink; cost = refl; checked = checked_start; counted = refl })
 
-pays_of : (w : Written) (k k' : SinkTrace) (text : List ℕ) (had has : ℕ) → WritesOut w k k' text had has → None ≡ end_of_writing w → WriteCost k k' text had has
+pays_of : (w : Written) (k k' : SinkTrace) (text : List ℕ) (had has : ℕ) → WritesOut w k k' text had has
+    → None ≡ end_of_writing w → WriteCost k k' text had has
 pays_of written.Whole k k' text had has w h = w
 pays_of written.Fault k k' text had has w h = absurd (cc)
 pays_of written.TurnsUsed k k' text had has w h = absurd (cc)
 
 -- a line that lets the check go on
-wholly : (old new : Checker) (file : File) (lines : LinesState) (k k' : SinkTrace) → ChecksLine old new file lines k k' None
+wholly : (old new : Checker) (file : File) (lines : LinesState) (k k' : SinkTrace)
+    → ChecksLine old new file lines k k' None
     → (u : UsedLine old new file lines k k' None) × WriteCost k k' (differences_text file (unmet lines.number (expected_part lines.held) u.came)) old.turns new.turns
 wholly old new file lines k k' (used u) = (u, pays_of u.written k k' _ _ _ u.writes u.end_is)
 
@@ -48,10 +51,12 @@ module _ (file : File) (old : Check) (lines : LinesState) (source source' : Sour
       → Advances old (record { lines = lines; checker = with_turns old.checker has }) file source source' sink sink (Some end)
   advances_end end r setting start first turns so =
       let all = r.reaches start so.read so.lines so.has_read in
-      check_ends file turns (with_turns old.checker has) all.1.given so.took (let a = r.cost in let b = so.cost in omega (arith, a, b)) so.checked so.counted end all.1.why
+      check_ends file turns (with_turns old.checker has) all.1.given so.took
+      (let a = r.cost in let b = so.cost in omega (arith, a, b)) so.checked so.counted end all.1.why
 
   module _ (r : ReadsNext old.lines lines source source' old.checker.turns has None) (new : Checker) (sink' : SinkTrace) where
-    goes_on : ChecksLine (with_turns old.checker has) new file lines sink sink' None → GoesOn file old (record { lines = lines; checker = new }) source source' sink sink'
+    goes_on : ChecksLine (with_turns old.checker has) new file lines sink sink' None
+        → GoesOn file old (record { lines = lines; checker = new }) source source' sink sink'
     goes_on c =
         let w = wholly (with_turns old.checker has) new file lines sink sink' c in
         let u = w.0 in
@@ -60,9 +65,12 @@ module _ (file : File) (old : Check) (lines : LinesState) (source source' : Sour
         let spent = r.cost in
         let counted = r.onward refl in
         let one = one_at_most lines.number (expected_part lines.held) u.came in record {
-          so_far = λ (setting : Setting) (start : SourceTrace) (first : SinkTrace) (turns : ℕ) (so : SoFar setting file start source first sink turns old).
+          so_far =
+              λ (setting : Setting) (start : SourceTrace) (first : SinkTrace) (turns : ℕ)
+              (so : SoFar setting file start source first sink turns old).
               let all = r.reaches start so.read so.lines so.has_read in
-              so_far_used file turns (with_turns old.checker has) all.1.so_far.given so.took (let b = so.cost in omega (arith, spent, b)) so.checked so.counted all.1 new sink' u w.1;
+              so_far_used file turns (with_turns old.checker has) all.1.so_far.given so.took
+              (let b = so.cost in omega (arith, spent, b)) so.checked so.counted all.1 new sink' u w.1;
           number = counted.0;
           passed = omega (arith, one, u.passed);
           failed = omega (arith, one, u.failed);
@@ -72,15 +80,21 @@ module _ (file : File) (old : Check) (lines : LinesState) (source source' : Sour
         }
 
     -- A check that read and checked one more line advances by it.
-    pub advances_used : (end : Option ScriptEnd) → ChecksLine (with_turns old.checker has) new file lines sink sink' end → Advances old (record { lines = lines; checker = new }) file source source' sink sink' end
+    pub advances_used : (end : Option ScriptEnd) → ChecksLine (with_turns old.checker has) new file lines sink sink' end
+        → Advances old (record { lines = lines; checker = new }) file source source' sink sink' end
     advances_used None c = goes_on c
-    advances_used (Some end) c = λ (setting : Setting) (start : SourceTrace) (first : SinkTrace) (turns : ℕ) (so : SoFar setting file start source first sink turns old).
+    advances_used (Some end) c =
+        λ (setting : Setting) (start : SourceTrace) (first : SinkTrace) (turns : ℕ)
+        (so : SoFar setting file start source first sink turns old).
         let all = r.reaches start so.read so.lines so.has_read in
-        stopped file turns (with_turns old.checker has) all.1.so_far.given so.took (let a = r.cost in let b = so.cost in omega (arith, a, b)) so.checked so.counted all.1 new sink' end c
+        stopped file turns (with_turns old.checker has) all.1.so_far.given so.took
+        (let a = r.cost in let b = so.cost in omega (arith, a, b)) so.checked so.counted all.1 new sink' end c
 
 -- A check of a file ends the same under an equal name and end.
-pub ends_as : {setting : Setting} {file named : File} {s0 s : SourceTrace} {k0 k : SinkTrace} {turns passed failed : ℕ} {told end : ScriptEnd} → told ≡ end → named ≡ file
-    → ChecksOn setting named s0 s k0 k turns (report_with end passed failed) → ChecksOn setting file s0 s k0 k turns (report_with told passed failed)
+pub ends_as : {setting : Setting} {file named : File} {s0 s : SourceTrace} {k0 k : SinkTrace} {turns passed failed : ℕ} {told end : ScriptEnd}
+    → told ≡ end → named ≡ file
+    → ChecksOn setting named s0 s k0 k turns (report_with end passed failed)
+    → ChecksOn setting file s0 s k0 k turns (report_with told passed failed)
 ends_as {setting} {file} {named} {s0} {s} {k0} {k} {turns} {passed} {failed} {told} {end} same files c =
     subst (λ (x : ScriptEnd). ChecksOn setting file s0 s k0 k turns (report_with x passed failed)) (sym same)
     (subst (λ (f : File). ChecksOn setting f s0 s k0 k turns (report_with end passed failed)) files c)

@@ -32,8 +32,10 @@ pub record FirstLine (text first behind : List ℕ) : Type 0 where
   pub more : 0 < length text
 
 -- A text that is not empty has a first line and all that follows.
-pub first_of : (text first behind : List ℕ) (empty : Bool) → empty ≡ (length text == 0) → empty ≡ false → first ≡ line_before (position is_line_end text) text
-    → behind ≡ text_behind (position is_line_end text) text → (text ≢ [] → lines_of text ≡ first ∷ lines_of behind) → FirstLine text first behind
+pub first_of : (text first behind : List ℕ) (empty : Bool) → empty ≡ (length text == 0) → empty ≡ false
+    → first ≡ line_before (position is_line_end text) text
+    → behind ≡ text_behind (position is_line_end text) text → (text ≢ [] → lines_of text ≡ first ∷ lines_of behind)
+    → FirstLine text first behind
 first_of text first behind empty is filled front rest lines =
     let some : 0 < length text = grind (arith, nat_tests) in record {
       front = front;
@@ -60,10 +62,13 @@ pub record UpdatedSoFar (setting : Setting) (text rest updated : List ℕ) (numb
   pub bounded : number + length rest ≤ length text
 
 -- An update that begins has used no line.
-pub none_so_far : (setting : Setting) (text updated : List ℕ) (interpreter : InterpreterState) → interpreter ≡ at_start setting → updated ≡ [] → UpdatedSoFar setting text text updated 0 interpreter
+pub none_so_far : (setting : Setting) (text updated : List ℕ) (interpreter : InterpreterState)
+    → interpreter ≡ at_start setting → updated ≡ [] → UpdatedSoFar setting text text updated 0 interpreter
 none_so_far setting text updated interpreter at none = record {
   lines = [];
-  used = subst (λ (i : InterpreterState). Updated setting [] updated i.device i.labels) (sym at) (subst (λ (u : List ℕ). Updated setting [] u (at_start setting).device (at_start setting).labels) (sym none) start);
+  used =
+      subst (λ (i : InterpreterState). Updated setting [] updated i.device i.labels) (sym at)
+      (subst (λ (u : List ℕ). Updated setting [] u (at_start setting).device (at_start setting).labels) (sym none) start);
   whole = refl;
   counted = refl;
   bounded = omega arith;
@@ -72,12 +77,17 @@ none_so_far setting text updated interpreter at none = record {
 module _ {setting : Setting} {text rest updated : List ℕ} {number : ℕ} {interpreter : InterpreterState} (so : UpdatedSoFar setting text rest updated number interpreter) where
   module _ (first behind : List ℕ) (f : FirstLine rest first behind) (next : InterpreterState) where
     -- After one more line was used, each line so far is used and put as it became.
-    pub one_more : (came : Option (Result Answer Apart)) (grown : List ℕ) → UsesLine interpreter next (number + 1) first (Ok came) → grown ≡ updated ++ ended (updated_line first came)
+    pub one_more : (came : Option (Result Answer Apart)) (grown : List ℕ)
+        → UsesLine interpreter next (number + 1) first (Ok came) → grown ≡ updated ++ ended (updated_line first came)
         → UpdatedSoFar setting text behind grown (number + 1) next
     one_more came grown u e = record {
       lines = so.lines ++ first ∷ [];
-      used = subst (λ (t : List ℕ). Updated setting (so.lines ++ first ∷ []) t next.device next.labels) (sym e) (line first came so.used (bare f) u.0 u.1);
-      whole = so.whole ∙ ap (λ (ls : List (List ℕ)). so.lines ++ ls) f.lines ∙ sym (append_assoc so.lines (first ∷ []) (lines_of behind));
+      used =
+          subst (λ (t : List ℕ). Updated setting (so.lines ++ first ∷ []) t next.device next.labels) (sym e)
+          (line first came so.used (bare f) u.0 u.1);
+      whole =
+          so.whole ∙ ap (λ (ls : List (List ℕ)). so.lines ++ ls) f.lines
+          ∙ sym (append_assoc so.lines (first ∷ []) (lines_of behind));
       counted = (let a = so.counted in let b = length_push so.lines first in omega (arith, a, b));
       bounded = (let a = so.bounded in let b = shorter f in omega (arith, a, b));
     }
@@ -97,6 +107,7 @@ module _ {setting : Setting} {text rest updated : List ℕ} {number : ℕ} {inte
     }
 
     -- An update stops at a line out of place or without memory.
-    pub fault_of_line : (fault : UpdateFault) → UsesLine interpreter next (number + 1) first (Err fault) → HasFault setting text fault
+    pub fault_of_line : (fault : UpdateFault) → UsesLine interpreter next (number + 1) first (Err fault)
+        → HasFault setting text fault
     fault_of_line (faults.Malformed told cause) u = subst (HasUnfitLine setting text) (sym u.0) (unfit_line u.1)
     fault_of_line faults.NoMemory u = tt

@@ -52,6 +52,9 @@ pub record Stands (old new : Checker) (sink sink' : SinkTrace) : Type 0 where
 
 -- the result of the check of one line
 pub data ChecksLine (old new : Checker) (file : File) (lines : LinesState) (sink sink' : SinkTrace) : Option ScriptEnd → Type 0 where
-  used : {end : Option ScriptEnd} → UsedLine old new file lines sink sink' end → ChecksLine old new file lines sink sink' end
-  bad : IsMisplaced old.interpreter.device (script_part lines.held) → Stands old new sink sink' → ChecksLine old new file lines sink sink' (Some (ends.Malformed lines.number))
-  unmade : IsNowhere old.interpreter.device → WantsDevice (script_part lines.held) → Stands old new sink sink' → ChecksLine old new file lines sink sink' (Some ends.NoMemory)
+  used : {end : Option ScriptEnd} → UsedLine old new file lines sink sink' end
+      → ChecksLine old new file lines sink sink' end
+  bad : IsMisplaced old.interpreter.device (script_part lines.held) → Stands old new sink sink'
+      → ChecksLine old new file lines sink sink' (Some (ends.Malformed lines.number))
+  unmade : IsNowhere old.interpreter.device → WantsDevice (script_part lines.held) → Stands old new sink sink'
+      → ChecksLine old new file lines sink sink' (Some ends.NoMemory)

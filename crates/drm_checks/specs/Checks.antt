@@ -21,7 +21,8 @@ use Rattle.drm_checks.specs.declared.check.Report.{Report}
 pub data Checked (setting : Setting) : List (List ℕ) → ℕ → List Difference → Place → List ℕ → Type 0 where
   start : Checked setting [] 0 [] (Planned setting) unbound
   line : {lines : List (List ℕ)} {passed : ℕ} {differences : List Difference} {device device' : Place} {labels labels' : List ℕ} (next : List ℕ) (came : Option (Result Answer Apart))
-      → Checked setting lines passed differences device labels → IsBare next → Uses device labels (script_part next) (results_of came) device' labels'
+      → Checked setting lines passed differences device labels → IsBare next
+      → Uses device labels (script_part next) (results_of came) device' labels'
       → Checked setting (lines ++ next ∷ []) (passed + met (expected_part next) came) (differences ++ unmet (length lines + 1) (expected_part next) came) device' labels'
 
 -- A line that can't be used. Either the input or the line ended after it and its script part can't be used, or its
@@ -60,8 +61,10 @@ pub record IsCutInLast (file : File) (n : ℕ) (differences : List Difference) (
 
 -- Each end with its cause. The arguments include the number of lines that were checked, the text read after them, and
 -- the differences.
-abbrev pub Ends : ScriptEnd → Type 0 → SourceTrace → SourceTrace → SinkTrace → SinkTrace → ℕ → ℕ → Place → List ℕ → List ℕ → File → List Difference → Type 0
-Ends ends.Done ended source source' sink sink' turns n device rest written file differences = (rest ≡ []) × ended × (written ≡ differences_text file differences)
+abbrev pub Ends : ScriptEnd → Type 0 → SourceTrace → SourceTrace → SinkTrace → SinkTrace → ℕ → ℕ → Place → List ℕ
+    → List ℕ → File → List Difference → Type 0
+Ends ends.Done ended source source' sink sink' turns n device rest written file differences =
+    (rest ≡ []) × ended × (written ≡ differences_text file differences)
 Ends (ends.Malformed number) ended source source' sink sink' turns n device rest written file differences =
     (number ≡ n + 1) × IsUnusable ended device rest × (written ≡ differences_text file differences)
 Ends ends.ReadFault ended source source' sink sink' turns n device rest written file differences =
@@ -70,8 +73,10 @@ Ends ends.WriteFault ended source source' sink sink' turns n device rest written
     (sink.counts.faults < sink'.counts.faults) × IsCutInLast file n differences written × (length rest ≤ 256)
 Ends ends.TurnsUsed ended source source' sink sink' turns n device rest written file differences =
     (source'.counts.calls + sink'.counts.calls ≡ source.counts.calls + sink.counts.calls + turns)
-    × ((IsPart rest × (written ≡ differences_text file differences)) ⊎ (IsCutInLast file n differences written × (length rest ≤ 256)))
-Ends ends.NoMemory ended source source' sink sink' turns n device rest written file differences = IsUnmade ended device rest × (written ≡ differences_text file differences)
+    ×
+    ((IsPart rest × (written ≡ differences_text file differences)) ⊎ (IsCutInLast file n differences written × (length rest ≤ 256)))
+Ends ends.NoMemory ended source source' sink sink' turns n device rest written file differences =
+    IsUnmade ended device rest × (written ≡ differences_text file differences)
 
 -- A check on a device that begins so: what it read and wrote, its cost, the lines that it used with their expectations,
 -- and the cause of its end.
@@ -93,9 +98,13 @@ pub record ChecksOn (setting : Setting) (file : File) (source source' : SourceTr
 
 -- a check on a device of the test topology, with the program's limits by default, that names no command
 abbrev pub Checks : List ℕ → SourceTrace → SourceTrace → SinkTrace → SinkTrace → ℕ → Report → Type 0
-Checks name source source' sink sink' turns report = ChecksOn usual (record { name = name; command = [] }) source source' sink sink' turns report
+Checks name source source' sink sink' turns report =
+    ChecksOn usual (record { name = name; command = [] }) source source' sink sink' turns report
 
 -- A checked file gets the answers that the script of its lines without expectations gets.
 abbrev pub CheckedFilesAreScripts : Type 0
-CheckedFilesAreScripts = (setting : Setting) (lines : List (List ℕ)) (passed : ℕ) (differences : List Difference) (device : Place) (labels : List ℕ)
-    → Checked setting lines passed differences device labels → (results : List (Result Answer Apart)) × Script setting (map script_part lines) results device labels
+CheckedFilesAreScripts =
+    (setting : Setting) (lines : List (List ℕ)) (passed : ℕ) (differences : List Difference) (device : Place)
+    (labels : List ℕ)
+    → Checked setting lines passed differences device labels
+    → (results : List (Result Answer Apart)) × Script setting (map script_part lines) results device labels

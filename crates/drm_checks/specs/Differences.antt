@@ -54,8 +54,10 @@ why_text command number None = []
 why_text command number (Some answer) = command_text command number
 
 -- the difference, and the command that explains it
-abbrev pub difference_text : (file : File) (number : ℕ) (expected : List ℕ) (came : Option (Result Answer Apart)) → List ℕ
-difference_text file number expected came = line_text file.name number expected came ++ why_text file.command number came
+abbrev pub difference_text : (file : File) (number : ℕ) (expected : List ℕ) (came : Option (Result Answer Apart))
+    → List ℕ
+difference_text file number expected came =
+    line_text file.name number expected came ++ why_text file.command number came
 
 -- the text of a difference in a file
 abbrev pub text_of : File → Difference → List ℕ
@@ -73,4 +75,5 @@ met (Some expected) came = if is_met expected came then 1 else 0
 -- the expectations of a line that are not met
 abbrev pub unmet : ℕ → Option (List ℕ) → Option (Result Answer Apart) → List Difference
 unmet number None came = []
-unmet number (Some expected) came = if is_met expected came then [] else record { number = number; expected = expected; came = came } ∷ []
+unmet number (Some expected) came =
+    if is_met expected came then [] else record { number = number; expected = expected; came = came } ∷ []

@@ -36,7 +36,8 @@ pub record IsCountable (check : Check) (source : SourceTrace) (sink : SinkTrace)
 
 -- One more line was checked.
 pub record GoesOn (file : File) (old new : Check) (source source' : SourceTrace) (sink sink' : SinkTrace) : Type 0 where
-  pub so_far : (setting : Setting) (start : SourceTrace) (first : SinkTrace) (turns : ℕ) → SoFar setting file start source first sink turns old → SoFar setting file start source' first sink' turns new
+  pub so_far : (setting : Setting) (start : SourceTrace) (first : SinkTrace) (turns : ℕ)
+      → SoFar setting file start source first sink turns old → SoFar setting file start source' first sink' turns new
   pub number : new.lines.number ≡ old.lines.number + 1
   pub passed : new.checker.passed ≤ old.checker.passed + 1
   pub failed : new.checker.failed ≤ old.checker.failed + 1
@@ -49,7 +50,10 @@ abbrev pub report_of : Check → ScriptEnd → Report
 report_of check end = record { end = end; passed = check.checker.passed; failed = check.checker.failed }
 
 -- A check that had not ended continues, or has ended.
-abbrev pub Advances : Check → Check → File → SourceTrace → SourceTrace → SinkTrace → SinkTrace → Option ScriptEnd → Type 0
+abbrev pub Advances : Check → Check → File → SourceTrace → SourceTrace → SinkTrace → SinkTrace → Option ScriptEnd
+    → Type 0
 Advances old new file source source' sink sink' None = GoesOn file old new source source' sink sink'
 Advances old new file source source' sink sink' (Some end) =
-    (setting : Setting) (start : SourceTrace) (first : SinkTrace) (turns : ℕ) → SoFar setting file start source first sink turns old → ChecksOn setting file start source' first sink' turns (report_of new end)
+    (setting : Setting) (start : SourceTrace) (first : SinkTrace) (turns : ℕ)
+    → SoFar setting file start source first sink turns old
+    → ChecksOn setting file start source' first sink' turns (report_of new end)

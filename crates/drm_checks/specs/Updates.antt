@@ -21,7 +21,8 @@ answered_line script answer = script ++ (codes " -> " ++ answer_words answer)
 -- the line of a script with the answer, if there is one and both fit into 255 bytes; else without it
 abbrev pub with_answer : List ℕ → Option (Result Answer Apart) → List ℕ
 with_answer script None = script
-with_answer script (Some answer) = if nat_le (length (answered_line script answer)) 255 then answered_line script answer else script
+with_answer script (Some answer) =
+    if nat_le (length (answered_line script answer)) 255 then answered_line script answer else script
 
 -- a line is unchanged if it expects nothing, or its expectation is met
 abbrev pub stays : Option (List ℕ) → Option (Result Answer Apart) → Bool
@@ -37,12 +38,14 @@ updated_line line came = if stays (expected_part line) came then line else with_
 pub data Updated (setting : Setting) : List (List ℕ) → List ℕ → Place → List ℕ → Type 0 where
   start : Updated setting [] [] (Planned setting) unbound
   line : {lines : List (List ℕ)} {updated : List ℕ} {device device' : Place} {labels labels' : List ℕ} (next : List ℕ) (came : Option (Result Answer Apart))
-      → Updated setting lines updated device labels → IsBare next → length next ≤ 255 → Uses device labels (script_part next) (results_of came) device' labels'
+      → Updated setting lines updated device labels → IsBare next → length next ≤ 255
+      → Uses device labels (script_part next) (results_of came) device' labels'
       → Updated setting (lines ++ next ∷ []) (updated ++ ended (updated_line next came)) device' labels'
 
 -- All lines of the text were used, and this is the new text.
 abbrev pub Updates : Setting → List ℕ → List ℕ → Type 0
-Updates setting text updated = (device : Place) × (labels : List ℕ) × Updated setting (lines_of text) updated device labels
+Updates setting text updated =
+    (device : Place) × (labels : List ℕ) × Updated setting (lines_of text) updated device labels
 
 -- a line that can't be used: it is too long, or its script part can't be used there
 abbrev pub IsUnfit : Place → List ℕ → Type 0
@@ -67,8 +70,10 @@ HasFault setting text (faults.Malformed number cause) = HasUnfitLine setting tex
 HasFault setting text faults.NoMemory = Unit {0}
 
 -- the result of the line with this number
-abbrev pub UsesLine : InterpreterState → InterpreterState → ℕ → List ℕ → Result (Option (Result Answer Apart)) UpdateFault → Type 0
-UsesLine old new number next (Ok came) = (length next ≤ 255) × Uses old.device old.labels (script_part next) (results_of came) new.device new.labels
+abbrev pub UsesLine : InterpreterState → InterpreterState → ℕ → List ℕ
+    → Result (Option (Result Answer Apart)) UpdateFault → Type 0
+UsesLine old new number next (Ok came) =
+    (length next ≤ 255) × Uses old.device old.labels (script_part next) (results_of came) new.device new.labels
 UsesLine old new number next (Err (faults.Malformed told cause)) = (told ≡ number) × IsUnfit old.device next
 UsesLine old new number next (Err faults.NoMemory) = Unit {0}
 

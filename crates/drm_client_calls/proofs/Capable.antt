@@ -3,7 +3,7 @@ use Rattle.std.proofs.Common.{◌≡◌, ℕ, ◌==◌, Bool, true, false, List,
 use Rattle.std.specs.Prelude.{if◌then◌else◌}
 use Rattle.std.specs.Option.{is_some, option_map}
 use Rattle.drm_lists.proofs.Lists.{all_weaker, all_each, all_mapped}
-use Rattle.drm_lists.proofs.Found.{find-map, find-same, is_some-map}
+use Rattle.drm_lists.proofs.FoundInLists.{find-map, find-same, is_some-map}
 use Rattle.drm_files.specs.declared.rows.FileClient.{FileClient}
 use Rattle.drm_files.specs.Files as files
 use Rattle.drm_files.specs.declared.rows.ClientCapability.{ClientCapability}
@@ -24,7 +24,8 @@ use Rattle.drm_state.proofs.Represented.{clients_are, members_open, clients_have
 -- ---- each capability
 
 -- a client of any capability has its master
-still_has : (v : MasterSet) (k : ClientCapability) (on : Bool) (f : FileClient) → HasMaster v f → HasMaster v (with_capable k on f)
+still_has : (v : MasterSet) (k : ClientCapability) (on : Bool) (f : FileClient) → HasMaster v f
+    → HasMaster v (with_capable k on f)
 still_has v UniversalPlanes on f h = h
 
 -- the row of a client has the capability on or off exactly if its flags have it
@@ -43,7 +44,8 @@ module _ (k : ClientCapability) (on : Bool) where
 
   open_client_yet : (fs : FileLists) (c n : ℕ) → is_open_client (with_capability fs c k on) n ≡ is_open_client fs n
   open_client_yet fs c n =
-      ap is_some (find-map (files.is_client n) (put c) fs.clients ∙ ap (option_map (put c)) (find-same (λ f. files.is_client n (put c f)) (files.is_client n) fs.clients (all_each (λ f. files.is_client n (put c f) ≡ files.is_client n f) (λ f. ap (λ m. m == n) (put_client c f)) fs.clients)))
+      ap is_some
+      (find-map (files.is_client n) (put c) fs.clients ∙ ap (option_map (put c)) (find-same (λ f. files.is_client n (put c f)) (files.is_client n) fs.clients (all_each (λ f. files.is_client n (put c f) ≡ files.is_client n f) (λ f. ap (λ m. m == n) (put_client c f)) fs.clients)))
       ∙ is_some-map (put c) (find (files.is_client n) fs.clients)
 
 module _ (s : State) (c : ℕ) (k : ClientCapability) (on : Bool) where
@@ -53,7 +55,10 @@ module _ (s : State) (c : ℕ) (k : ClientCapability) (on : Bool) where
   -- A client's capability on or off keeps all invariants.
   pub shown_invariants : MeetsInvariants s → (invariant : Invariant) → meets_invariant invariant shown
   unfolding meets_invariant
-  shown_invariants t MembersOpen = all_weaker (λ (z : Member). is_open_client s.files z.client ≡ true) (λ (z : Member). is_open_client (with_capability s.files c k on) z.client ≡ true) (λ z e. open_client_yet k on s.files c z.client ∙ e) s.masters.members (members_open s t)
+  shown_invariants t MembersOpen =
+      all_weaker (λ (z : Member). is_open_client s.files z.client ≡ true)
+      (λ (z : Member). is_open_client (with_capability s.files c k on) z.client ≡ true)
+      (λ z e. open_client_yet k on s.files c z.client ∙ e) s.masters.members (members_open s t)
   shown_invariants t ClientsHave =
       all_mapped (HasMaster s.masters) (put k on c) s.files.clients
       (all_weaker (HasMaster s.masters) (λ f. HasMaster s.masters (put k on c f)) (λ f h. elim (f.client == c) as (λ b. HasMaster s.masters (if b then with_capable k on f else f)) [ true ↦ still_has s.masters k on f h | false ↦ h ]) s.files.clients (clients_have s t))
@@ -62,23 +67,29 @@ module _ (s : State) (c : ℕ) (k : ClientCapability) (on : Bool) where
   abbrev put_row : ClientRow → ClientRow
   put_row row = record row { capabilities = capabilities.with_capability (capability_number k) on row.capabilities }
 
-  one : (f : FileClient) → (if f.client == c then put_row (client_row_of s.masters.members f) else client_row_of s.masters.members f) ≡ client_row_of s.masters.members (put k on c f)
+  one : (f : FileClient)
+      → (if f.client == c then put_row (client_row_of s.masters.members f) else client_row_of s.masters.members f) ≡ client_row_of s.masters.members (put k on c f)
   one f =
       elim (f.client == c) as (λ b. (if b then put_row (client_row_of s.masters.members f) else client_row_of s.masters.members f) ≡ client_row_of s.masters.members (if b then with_capable k on f else f)) [
         | true ↦ row_put k on f (member_of s.masters.members f.client)
         | false ↦ refl
       ]
 
-  each : (fs : List FileClient) → map (λ (row : ClientRow). if row.client == c then put_row row else row) (map (client_row_of s.masters.members) fs) ≡ map (client_row_of s.masters.members) (map (put k on c) fs)
+  each : (fs : List FileClient)
+      → map (λ (row : ClientRow). if row.client == c then put_row row else row) (map (client_row_of s.masters.members) fs) ≡ map (client_row_of s.masters.members) (map (put k on c) fs)
   each [] = refl
   each (f ∷ fs) = λ i. one f i ∷ each fs i
 
-  clients_now : (w : Rows) → Represents s w → model.with_client_capability c (capability_number k) on w.clients ≡ clients_of shown
+  clients_now : (w : Rows) → Represents s w
+      → model.with_client_capability c (capability_number k) on w.clients ≡ clients_of shown
   unfolding model.with_client_capability
-  clients_now w h = ap (map (λ (row : ClientRow). if row.client == c then put_row row else row)) (clients_are s w h) ∙ each s.files.clients
+  clients_now w h =
+      ap (map (λ (row : ClientRow). if row.client == c then put_row row else row)) (clients_are s w h)
+      ∙ each s.files.clients
 
   -- A client's capability on or off represents the rows with the same change.
-  pub shown_represents : (w : Rows) → Represents s w → (part : Part) → represents_part part shown (record w { clients = model.with_client_capability c (capability_number k) on w.clients })
+  pub shown_represents : (w : Rows) → Represents s w → (part : Part)
+      → represents_part part shown (record w { clients = model.with_client_capability c (capability_number k) on w.clients })
   unfolding represents_part
   shown_represents w h Clients = clients_now w h
   shown_represents w h part = h part

@@ -1,6 +1,6 @@
 pub mod Fewer
 pub mod Files
 pub mod Opened
-pub mod Closed
+pub mod LeftAfterClosing
 pub mod Redeemed
 mod Capable

@@ -17,7 +17,7 @@ use Rattle.drm_share.specs.Names.{AreNames, name_before}
 use Rattle.drm_share.specs.Tokens.{AreTokens, token_before}
 use Rattle.drm_lists.specs.Numbers.{is_among, count}
 use Rattle.drm_lists.proofs.Lists.{map-map, all_weaker}
-use Rattle.drm_lists.proofs.Found.{all_at}
+use Rattle.drm_lists.proofs.FoundInLists.{all_at}
 use Rattle.drm_lists.proofs.Numbers.{among-left, among-right, among-more, count_of, count-append}
 use Rattle.drm_lists.proofs.Orders.{RisesTo, sorted-as_is, sorted-same, same-map, in_order_map, in_order_weaker}
 use Rattle.drm_table.specs.declared.audits.AuditRow.{AuditRow}
@@ -29,7 +29,7 @@ use Rattle.drm_files.specs.Files.{handle_before}
 use Rattle.drm_model.specs.Rows.{Rows, TokenRow, FramebufferRow}
 use Rattle.drm_model.specs.StepNumbers.{MadeInTurn}
 use Rattle.drm_model.specs.Audit.{audit_row, or_zero, is_before, client_audit, master_audit, object_audit, handle_audit, name_audit, token_audit, framebuffer_audit, grant_audit, shown_audit, handle_count, reference_count, audit_rows, rising_rows}
-use Rattle.drm_model.proofs.Orders.{is_row, order_of_rows}
+use Rattle.drm_model.proofs.AuditOrder.{is_row, order_of_rows}
 use Rattle.drm_masters.specs.declared.rows.Master.{Master}
 use Rattle.drm_leases.specs.declared.rows.Grant.{Grant}
 use Rattle.drm_leases.specs.Leases.{grant_before}
@@ -44,35 +44,54 @@ before-less : (x y : AuditRow) → x.a < y.a → is_before x y ≡ true
 before-less x y h = grind (arith, nat_tests)
 
 -- rows whose numbers rise
-by_number : {X : Type 0} (f : X → AuditRow) (rows : List X) (last : ℕ) → MadeInTurn (λ x. (f x).a) last rows → rising_rows (map f rows) ≡ map f rows
-by_number f rows last h = sorted-as_is is_before (map f rows) (in_order_map (λ x y. is_before x y ≡ true) f rows (in_order_weaker _ _ (λ x y k. before-less (f x) (f y) k) rows h.0))
+by_number : {X : Type 0} (f : X → AuditRow) (rows : List X) (last : ℕ) → MadeInTurn (λ x. (f x).a) last rows
+    → rising_rows (map f rows) ≡ map f rows
+by_number f rows last h =
+    sorted-as_is is_before (map f rows)
+    (in_order_map (λ x y. is_before x y ≡ true) f rows (in_order_weaker _ _ (λ x y k. before-less (f x) (f y) k) rows h.0))
 
 -- An audit of clients lists the rows of the state, in the order of their numbers.
-pub client_rows : (s : State) (steps : ℕ) (w : Rows) → RepresentsAfter s steps w → rising_rows (audit_rows w kinds.Client) ≡ map (λ f. client_audit w (client_row_of s.masters.members f)) s.files.clients
+pub client_rows : (s : State) (steps : ℕ) (w : Rows) → RepresentsAfter s steps w
+    → rising_rows (audit_rows w kinds.Client) ≡ map (λ f. client_audit w (client_row_of s.masters.members f)) s.files.clients
 unfolding audit_rows
-client_rows s steps w h = by_number (client_audit w) w.clients w.steps h.step_numbers.0 ∙ ap (map (client_audit w)) (clients_are s w h.rows) ∙ map-map (client_audit w) (client_row_of s.masters.members) s.files.clients
+client_rows s steps w h =
+    by_number (client_audit w) w.clients w.steps h.step_numbers.0 ∙ ap (map (client_audit w)) (clients_are s w h.rows)
+    ∙ map-map (client_audit w) (client_row_of s.masters.members) s.files.clients
 
 -- An audit of masters lists the rows of the state, in the order of their numbers.
-pub master_rows : (s : State) (steps : ℕ) (w : Rows) → RepresentsAfter s steps w → rising_rows (audit_rows w kinds.Master) ≡ map (λ (x : Master). master_audit (master_row_of s.leases.tokens x)) s.masters.masters
+pub master_rows : (s : State) (steps : ℕ) (w : Rows) → RepresentsAfter s steps w
+    → rising_rows (audit_rows w kinds.Master) ≡ map (λ (x : Master). master_audit (master_row_of s.leases.tokens x)) s.masters.masters
 unfolding audit_rows
-master_rows s steps w h = by_number master_audit w.masters w.steps h.step_numbers.1 ∙ ap (map master_audit) (masters_are s w h.rows) ∙ map-map master_audit (master_row_of s.leases.tokens) s.masters.masters
+master_rows s steps w h =
+    by_number master_audit w.masters w.steps h.step_numbers.1 ∙ ap (map master_audit) (masters_are s w h.rows)
+    ∙ map-map master_audit (master_row_of s.leases.tokens) s.masters.masters
 
-object_rows : (s : State) (steps : ℕ) (w : Rows) → RepresentsAfter s steps w → rising_rows (audit_rows w kinds.Object) ≡ map (λ (x : Object). object_audit w (object_row_of x)) s.objects.objects
+object_rows : (s : State) (steps : ℕ) (w : Rows) → RepresentsAfter s steps w
+    → rising_rows (audit_rows w kinds.Object) ≡ map (λ (x : Object). object_audit w (object_row_of x)) s.objects.objects
 unfolding audit_rows
-object_rows s steps w h = by_number (object_audit w) w.objects w.steps h.step_numbers.2 ∙ ap (map (object_audit w)) (objects_are s w h.rows) ∙ map-map (object_audit w) object_row_of s.objects.objects
+object_rows s steps w h =
+    by_number (object_audit w) w.objects w.steps h.step_numbers.2 ∙ ap (map (object_audit w)) (objects_are s w h.rows)
+    ∙ map-map (object_audit w) object_row_of s.objects.objects
 
 -- The row of an audit at a place is that of the item there.
-pub row_of_item : {X : Type 0} (f : X → AuditRow) (xs : List X) (rows : List AuditRow) (position : ℕ) (found : Option X) → rows ≡ map f xs → found ≡ slice_get xs position → option_map f found ≡ slice_get rows position
-row_of_item f xs rows position found e h = ap (option_map f) h ∙ sym (slice_get-map f xs position) ∙ ap (λ ys. slice_get ys position) (sym e)
+pub row_of_item : {X : Type 0} (f : X → AuditRow) (xs : List X) (rows : List AuditRow) (position : ℕ) (found : Option X)
+    → rows ≡ map f xs → found ≡ slice_get xs position → option_map f found ≡ slice_get rows position
+row_of_item f xs rows position found e h =
+    ap (option_map f) h ∙ sym (slice_get-map f xs position) ∙ ap (λ ys. slice_get ys position) (sym e)
 
 references_counted : (w : Rows) (n : ℕ) → reference_count w n ≡ count (references w) n
 references_counted w n =
-    ap (λ m. m + length (filter (λ (row : FramebufferRow). row.object == n) w.framebuffers)) (count_of (λ (row : TokenRow). row.object) n w.tokens)
-    ∙ ap (λ m. count (map (λ (row : TokenRow). row.object) w.tokens) n + m) (count_of (λ (row : FramebufferRow). row.object) n w.framebuffers)
-    ∙ sym (count-append (map (λ (row : TokenRow). row.object) w.tokens) (map (λ (row : FramebufferRow). row.object) w.framebuffers) n)
+    ap (λ m. m + length (filter (λ (row : FramebufferRow). row.object == n) w.framebuffers))
+    (count_of (λ (row : TokenRow). row.object) n w.tokens)
+    ∙ ap (λ m. count (map (λ (row : TokenRow). row.object) w.tokens) n + m)
+    (count_of (λ (row : FramebufferRow). row.object) n w.framebuffers)
+    ∙ sym
+    (count-append (map (λ (row : TokenRow). row.object) w.tokens) (map (λ (row : FramebufferRow). row.object) w.framebuffers) n)
 
 -- what refers to an object is what it counts
-object_is : (s : State) (w : Rows) (position : ℕ) (x : Object) (steps : ℕ) → MeetsInvariants s → RepresentsAfter s steps w → slice_get s.objects.objects position ≡ Some x → audit_row x.step_number x.size x.holds x.refs ≡ object_audit w (object_row_of x)
+object_is : (s : State) (w : Rows) (position : ℕ) (x : Object) (steps : ℕ) → MeetsInvariants s
+    → RepresentsAfter s steps w → slice_get s.objects.objects position ≡ Some x
+    → audit_row x.step_number x.size x.holds x.refs ≡ object_audit w (object_row_of x)
 object_is s w position x steps t h e =
     let keys = keys_of s.files.holds in
     let refs = referring_keys s in
@@ -80,24 +99,41 @@ object_is s w position x steps t h e =
     let counts = all_at (Counts keys refs) s.objects.objects position x invariants.counted e in
     let numbers = λ (some : List ℕ) (sub : (n : ℕ) → is_among some n ≡ true → is_among (keys ++ refs) n ≡ true).
     all_at (λ (x : Object). count (map (step_number_at s.objects.objects) some) x.step_number ≡ count some x.key) s.objects.objects position x (count_numbers keys refs s.objects.objects invariants some sub) e in
-    let holds : handle_count w x.step_number ≡ x.holds = holds_counted w.holds s.objects.objects s.files.holds x.step_number (holds_are s w h.rows) ∙ numbers keys (λ n k. among-left keys refs n k) ∙ sym counts.0 in
-    let others : reference_count w x.step_number ≡ x.refs = references_counted w x.step_number ∙ references_by w s.objects.objects s.tokens.tokens s.modes.framebuffers (tokens_are s w h.rows) (framebuffers_are s w h.rows) (λ n. n == x.step_number) ∙ numbers refs (λ n k. among-right keys refs n k) ∙ sym counts.1 in
-    ap (λ m. audit_row x.step_number x.size m x.refs) (sym holds) ∙ ap (audit_row x.step_number x.size (handle_count w x.step_number)) (sym others)
+    let holds : handle_count w x.step_number ≡ x.holds =
+    holds_counted w.holds s.objects.objects s.files.holds x.step_number (holds_are s w h.rows)
+    ∙ numbers keys (λ n k. among-left keys refs n k) ∙ sym counts.0 in
+    let others : reference_count w x.step_number ≡ x.refs =
+    references_counted w x.step_number
+    ∙ references_by w s.objects.objects s.tokens.tokens s.modes.framebuffers (tokens_are s w h.rows)
+    (framebuffers_are s w h.rows) (λ n. n == x.step_number)
+    ∙ numbers refs (λ n k. among-right keys refs n k) ∙ sym counts.1 in
+    ap (λ m. audit_row x.step_number x.size m x.refs) (sym holds)
+    ∙ ap (audit_row x.step_number x.size (handle_count w x.step_number)) (sym others)
 
 -- The row of an audit at an object's place has its size and its counts.
-pub object_row_at : (s : State) (w : Rows) (position : ℕ) (found : Option Object) (steps : ℕ) → MeetsInvariants s → RepresentsAfter s steps w → found ≡ slice_get s.objects.objects position →
-    option_map (λ (x : Object). audit_row x.step_number x.size x.holds x.refs) found ≡ slice_get (rising_rows (audit_rows w kinds.Object)) position
-object_row_at s w position None steps t h e = row_of_item (λ (x : Object). object_audit w (object_row_of x)) s.objects.objects _ position None (object_rows s steps w h) e
-object_row_at s w position (Some x) steps t h e = ap Some (object_is s w position x steps t h (sym e)) ∙ row_of_item (λ (x : Object). object_audit w (object_row_of x)) s.objects.objects _ position (Some x) (object_rows s steps w h) e
+pub object_row_at : (s : State) (w : Rows) (position : ℕ) (found : Option Object) (steps : ℕ) → MeetsInvariants s
+    → RepresentsAfter s steps w → found ≡ slice_get s.objects.objects position →
+    option_map (λ (x : Object). audit_row x.step_number x.size x.holds x.refs) found ≡ slice_get
+    (rising_rows (audit_rows w kinds.Object)) position
+object_row_at s w position None steps t h e =
+    row_of_item (λ (x : Object). object_audit w (object_row_of x)) s.objects.objects _ position None
+    (object_rows s steps w h) e
+object_row_at s w position (Some x) steps t h e =
+    ap Some (object_is s w position x steps t h (sym e))
+    ∙ row_of_item (λ (x : Object). object_audit w (object_row_of x)) s.objects.objects _ position (Some x)
+    (object_rows s steps w h) e
 
 -- rows told by items in their order
-rising_by : {X R : Type 0} (audit : R → AuditRow) (row : X → R) (before : X → X → Type 0) → ((x y : X) → before x y → RisesTo is_before (audit (row x)) (audit (row y))) → (rows : List R) (xs : List X) → InOrder before xs → SameRows rows (map row xs) → rising_rows (map audit rows) ≡ map audit (map row xs)
+rising_by : {X R : Type 0} (audit : R → AuditRow) (row : X → R) (before : X → X → Type 0)
+    → ((x y : X) → before x y → RisesTo is_before (audit (row x)) (audit (row y))) → (rows : List R) (xs : List X)
+    → InOrder before xs → SameRows rows (map row xs) → rising_rows (map audit rows) ≡ map audit (map row xs)
 rising_by audit row before rises rows xs order same =
     sorted-same is_before is_row order_of_rows (map audit rows) (map audit (map row xs))
     (subst (InOrder (RisesTo is_before)) (sym (map-map audit row xs)) (in_order_map (RisesTo is_before) (λ x. audit (row x)) xs (in_order_weaker _ _ rises xs order)))
     (same-map audit rows (map row xs) same)
 
-as_order : {X : Type 0} (before : X → X → Bool) → (xs : List X) → rows.InOrder before xs → InOrder (λ x y. before x y ≡ true) xs
+as_order : {X : Type 0} (before : X → X → Bool) → (xs : List X) → rows.InOrder before xs
+    → InOrder (λ x y. before x y ≡ true) xs
 as_order before [] h = tt
 as_order before (x ∷ xs) h = (h.0, as_order before xs h.1)
 
@@ -108,40 +144,53 @@ hold-rises : (s : State) (x y : FileHandle) → handle_before x y ≡ true → R
 hold-rises s x y h = (grind (arith, nat_tests), grind (arith, nat_tests))
 
 -- An audit of handles lists the rows of the state, by client and handle.
-pub hold_rows : (s : State) (steps : ℕ) (w : Rows) → MeetsInvariants s → RepresentsAfter s steps w → rising_rows (audit_rows w kinds.Hold) ≡ map handle_audit (holds_of s)
+pub hold_rows : (s : State) (steps : ℕ) (w : Rows) → MeetsInvariants s → RepresentsAfter s steps w
+    → rising_rows (audit_rows w kinds.Hold) ≡ map handle_audit (holds_of s)
 unfolding audit_rows
 hold_rows s steps w t h =
-    rising_by handle_audit (handle_row_of s.objects.objects) (λ x y. handle_before x y ≡ true) (hold-rises s) w.holds s.files.holds (holds_rise s t) (holds_are s w h.rows)
+    rising_by handle_audit (handle_row_of s.objects.objects) (λ x y. handle_before x y ≡ true) (hold-rises s) w.holds
+    s.files.holds (holds_rise s t) (holds_are s w h.rows)
 
-name-rises : (s : State) (x y : SharedName) → name_before x y ≡ true → RisesTo is_before (name_audit (name_row_of s.objects.objects x)) (name_audit (name_row_of s.objects.objects y))
+name-rises : (s : State) (x y : SharedName) → name_before x y ≡ true
+    → RisesTo is_before (name_audit (name_row_of s.objects.objects x)) (name_audit (name_row_of s.objects.objects y))
 name-rises s x y h = (grind (arith, nat_tests), grind (arith, nat_tests))
 
 -- An audit of names lists the rows of the state, in the order of their numbers.
-pub name_rows : (s : State) (steps : ℕ) (w : Rows) → AreNames s.names → RepresentsAfter s steps w → rising_rows (audit_rows w kinds.Name) ≡ map name_audit (names_of s)
+pub name_rows : (s : State) (steps : ℕ) (w : Rows) → AreNames s.names → RepresentsAfter s steps w
+    → rising_rows (audit_rows w kinds.Name) ≡ map name_audit (names_of s)
 unfolding audit_rows
 name_rows s steps w are h =
-    rising_by name_audit (name_row_of s.objects.objects) (λ x y. name_before x y ≡ true) (name-rises s) w.names s.names.names (as_order name_before s.names.names are.names_rise) (names_are s w h.rows)
+    rising_by name_audit (name_row_of s.objects.objects) (λ x y. name_before x y ≡ true) (name-rises s) w.names
+    s.names.names (as_order name_before s.names.names are.names_rise) (names_are s w h.rows)
 
-token-rises : (s : State) (x y : SharedToken) → token_before x y ≡ true → RisesTo is_before (token_audit (token_row_of s.objects.objects x)) (token_audit (token_row_of s.objects.objects y))
+token-rises : (s : State) (x y : SharedToken) → token_before x y ≡ true
+    → RisesTo is_before (token_audit (token_row_of s.objects.objects x)) (token_audit (token_row_of s.objects.objects y))
 token-rises s x y h = (grind (arith, nat_tests), grind (arith, nat_tests))
 
 -- An audit of tokens lists the rows of the state, in the order of their numbers.
-pub token_rows : (s : State) (steps : ℕ) (w : Rows) → AreTokens s.tokens → RepresentsAfter s steps w → rising_rows (audit_rows w kinds.Token) ≡ map token_audit (tokens_of s)
+pub token_rows : (s : State) (steps : ℕ) (w : Rows) → AreTokens s.tokens → RepresentsAfter s steps w
+    → rising_rows (audit_rows w kinds.Token) ≡ map token_audit (tokens_of s)
 unfolding audit_rows
 token_rows s steps w are h =
-    rising_by token_audit (token_row_of s.objects.objects) (λ x y. token_before x y ≡ true) (token-rises s) w.tokens s.tokens.tokens (as_order token_before s.tokens.tokens are.tokens_rise) (tokens_are s w h.rows)
+    rising_by token_audit (token_row_of s.objects.objects) (λ x y. token_before x y ≡ true) (token-rises s) w.tokens
+    s.tokens.tokens (as_order token_before s.tokens.tokens are.tokens_rise) (tokens_are s w h.rows)
 
-framebuffer-rises : (s : State) (x y : Framebuffer) → framebuffer_before x y ≡ true → RisesTo is_before (framebuffer_audit (framebuffer_row_of s.objects.objects x)) (framebuffer_audit (framebuffer_row_of s.objects.objects y))
+framebuffer-rises : (s : State) (x y : Framebuffer) → framebuffer_before x y ≡ true
+    → RisesTo is_before (framebuffer_audit (framebuffer_row_of s.objects.objects x)) (framebuffer_audit (framebuffer_row_of s.objects.objects y))
 framebuffer-rises s x y h = (grind (arith, nat_tests), grind (arith, nat_tests))
 
 -- An audit of framebuffers lists the rows of the state, in the order of their ids.
-pub framebuffer_rows : (s : State) (steps : ℕ) (w : Rows) → MeetsInvariants s → RepresentsAfter s steps w → rising_rows (audit_rows w kinds.Framebuffer) ≡ map framebuffer_audit (framebuffers_of s)
+pub framebuffer_rows : (s : State) (steps : ℕ) (w : Rows) → MeetsInvariants s → RepresentsAfter s steps w
+    → rising_rows (audit_rows w kinds.Framebuffer) ≡ map framebuffer_audit (framebuffers_of s)
 unfolding audit_rows
 framebuffer_rows s steps w t h =
-    rising_by framebuffer_audit (framebuffer_row_of s.objects.objects) (λ x y. framebuffer_before x y ≡ true) (framebuffer-rises s) w.framebuffers s.modes.framebuffers (as_order framebuffer_before s.modes.framebuffers (modes_so s t).framebuffers_rise) (framebuffers_are s w h.rows)
+    rising_by framebuffer_audit (framebuffer_row_of s.objects.objects) (λ x y. framebuffer_before x y ≡ true)
+    (framebuffer-rises s) w.framebuffers s.modes.framebuffers
+    (as_order framebuffer_before s.modes.framebuffers (modes_so s t).framebuffers_rise) (framebuffers_are s w h.rows)
 
 -- what is shown rises by what shows it
-lit_above : (x y : ℕ) → x ≤ y → (scanouts : List ℕ) → AllByRecursion (λ (row : Shown). x ≤ row.engine) (lit_rows y scanouts)
+lit_above : (x y : ℕ) → x ≤ y → (scanouts : List ℕ)
+    → AllByRecursion (λ (row : Shown). x ≤ row.engine) (lit_rows y scanouts)
 lit_above x y h [] = tt
 lit_above x y h (f ∷ fs) =
     let rest = lit_above x (y + 1) (omega (arith, h)) fs in
@@ -155,69 +204,98 @@ lit_rise x (f ∷ fs) =
       | false ↦ (all_weaker (λ (row : Shown). x + 1 ≤ row.engine) (λ (row : Shown). x < row.engine) (λ row h. omega (arith, h)) (lit_rows (x + 1) fs) (lit_above (x + 1) (x + 1) (omega arith) fs), lit_rise (x + 1) fs)
     ]
 
-shown-rises : (x y : Shown) → x.engine < y.engine → RisesTo is_before (shown_audit (shown_row_of x)) (shown_audit (shown_row_of y))
+shown-rises : (x y : Shown) → x.engine < y.engine
+    → RisesTo is_before (shown_audit (shown_row_of x)) (shown_audit (shown_row_of y))
 shown-rises x y h = (grind (arith, nat_tests), grind (arith, nat_tests))
 
 -- An audit of what is shown lists the rows of the state, by CRTC or plane.
-pub shown_audits : (s : State) (steps : ℕ) (w : Rows) → RepresentsAfter s steps w → rising_rows (audit_rows w kinds.Shown) ≡ map shown_audit (shown_of s)
+pub shown_audits : (s : State) (steps : ℕ) (w : Rows) → RepresentsAfter s steps w
+    → rising_rows (audit_rows w kinds.Shown) ≡ map shown_audit (shown_of s)
 unfolding audit_rows
-shown_audits s steps w h = rising_by shown_audit shown_row_of (λ x y. x.engine < y.engine) shown-rises w.shown (shown_rows s.modes) (lit_rise 1 s.modes.scanouts) (shown_are s w h.rows)
+shown_audits s steps w h =
+    rising_by shown_audit shown_row_of (λ x y. x.engine < y.engine) shown-rises w.shown (shown_rows s.modes)
+    (lit_rise 1 s.modes.scanouts) (shown_are s w h.rows)
 
-grant-rises : (g h : Grant) → grant_before g h → RisesTo is_before (grant_audit (grant_row_of g)) (grant_audit (grant_row_of h))
+grant-rises : (g h : Grant) → grant_before g h
+    → RisesTo is_before (grant_audit (grant_row_of g)) (grant_audit (grant_row_of h))
 grant-rises g h (inl lt) = (grind (arith, nat_tests), grind (arith, nat_tests))
 grant-rises g h (inr k) = let same = k.0 in let lt = k.1 in (grind (arith, nat_tests), grind (arith, nat_tests))
 
 -- An audit of grants lists the rows of the state, by lessee and mode object.
-pub grant_rows : (s : State) (steps : ℕ) (w : Rows) → MeetsInvariants s → RepresentsAfter s steps w → rising_rows (audit_rows w kinds.Grant) ≡ map grant_audit (grants_of s)
+pub grant_rows : (s : State) (steps : ℕ) (w : Rows) → MeetsInvariants s → RepresentsAfter s steps w
+    → rising_rows (audit_rows w kinds.Grant) ≡ map grant_audit (grants_of s)
 unfolding audit_rows
-grant_rows s steps w t h = rising_by grant_audit grant_row_of grant_before grant-rises w.grants s.leases.grants (leases_so s t).grants_rise (grants_are s w h.rows)
+grant_rows s steps w t h =
+    rising_by grant_audit grant_row_of grant_before grant-rises w.grants s.leases.grants (leases_so s t).grants_rise
+    (grants_are s w h.rows)
 
 -- An audit of the device has one row: its master, the last tokens and the number of steps.
-pub device_rows : (s : State) (steps : ℕ) (w : Rows) → RepresentsAfter s steps w → rising_rows (audit_rows w kinds.Device) ≡ audit_row (or_zero s.masters.device_master) (or_zero s.tokens.last_given) (or_zero s.leases.last_given) steps ∷ []
+pub device_rows : (s : State) (steps : ℕ) (w : Rows) → RepresentsAfter s steps w
+    → rising_rows (audit_rows w kinds.Device) ≡ audit_row (or_zero s.masters.device_master) (or_zero s.tokens.last_given) (or_zero s.leases.last_given) steps ∷ []
 unfolding audit_rows sorted_by
-device_rows s steps w h = rw (device_master_is s w h.rows, last_token_is s w h.rows, last_lease_token_is s w h.rows, h.steps_are) refl
+device_rows s steps w h =
+    rw (device_master_is s w h.rows, last_token_is s w h.rows, last_lease_token_is s w h.rows, h.steps_are) refl
 
 -- ---- of a handle at a place
 
 -- The key of the handle at a place is among the keys that handles name.
-pub among_at : (hs : List FileHandle) (i : ℕ) (x : FileHandle) → slice_get hs i ≡ Some x → is_among (keys_of hs) x.object ≡ true
+pub among_at : (hs : List FileHandle) (i : ℕ) (x : FileHandle) → slice_get hs i ≡ Some x
+    → is_among (keys_of hs) x.object ≡ true
 among_at [] i x h = absurd (let e : None ≡ Some x = h in cc)
 among_at (y ∷ ys) zero x h = let same : y ≡ x = let e : Some y ≡ Some x = h in cc in or_left (y.object == x.object) _ (eq-eqb y.object x.object (ap (λ (z : FileHandle). z.object) same))
 among_at (y ∷ ys) (suc i) x h = among-more (keys_of ys) y.object x.object (among_at ys i x h)
 
-step_number_of : (o : Option Object) (n : ℕ) → option_map (λ (x : Object). x.step_number) o ≡ Some n → option_map_or (λ (x : Object). x.step_number) o 0 ≡ n
+step_number_of : (o : Option Object) (n : ℕ) → option_map (λ (x : Object). x.step_number) o ≡ Some n
+    → option_map_or (λ (x : Object). x.step_number) o 0 ≡ n
 step_number_of None n h = absurd (let e : None ≡ Some n = h in cc)
 step_number_of (Some x) n h = let e : Some x.step_number ≡ Some n = h in cc
 
 -- The row of an audit at a handle's place is that of the handle.
-pub hold_there : (objects : List Object) (hs : List FileHandle) (i : ℕ) (x : FileHandle) (n position : ℕ) → slice_get hs i ≡ Some x → option_map (λ (x : Object). x.step_number) (find (is_key x.object) objects) ≡ Some n → position ≡ or_zero x.export_order →
+pub hold_there : (objects : List Object) (hs : List FileHandle) (i : ℕ) (x : FileHandle) (n position : ℕ)
+    → slice_get hs i ≡ Some x → option_map (λ (x : Object). x.step_number) (find (is_key x.object) objects) ≡ Some n
+    → position ≡ or_zero x.export_order →
     Some (audit_row x.client x.handle n position) ≡ slice_get (map handle_audit (map (handle_row_of objects) hs)) i
 hold_there objects hs i x n position e k p =
-    ap (λ m. Some (audit_row x.client x.handle m position)) (sym (step_number_of (find (is_key x.object) objects) n k)) ∙ ap (λ d. Some (audit_row x.client x.handle (step_number_at objects x.object) d)) p
-    ∙ sym (slice_get-map handle_audit (map (handle_row_of objects) hs) i ∙ ap (option_map handle_audit) (slice_get-map (handle_row_of objects) hs i ∙ ap (option_map (handle_row_of objects)) e))
+    ap (λ m. Some (audit_row x.client x.handle m position)) (sym (step_number_of (find (is_key x.object) objects) n k))
+    ∙ ap (λ d. Some (audit_row x.client x.handle (step_number_at objects x.object) d)) p
+    ∙ sym
+    (slice_get-map handle_audit (map (handle_row_of objects) hs) i ∙ ap (option_map handle_audit) (slice_get-map (handle_row_of objects) hs i ∙ ap (option_map (handle_row_of objects)) e))
 
 -- ---- the same for names, tokens, framebuffers, shown rows and grants: the audit's row at a place is that of the item
 
-pub name_there : (objects : List Object) (ns : List SharedName) (i : ℕ) (x : SharedName) (n : ℕ) → slice_get ns i ≡ Some x → option_map (λ (x : Object). x.step_number) (find (is_key x.object) objects) ≡ Some n →
+pub name_there : (objects : List Object) (ns : List SharedName) (i : ℕ) (x : SharedName) (n : ℕ)
+    → slice_get ns i ≡ Some x → option_map (λ (x : Object). x.step_number) (find (is_key x.object) objects) ≡ Some n →
     Some (audit_row x.name n 0 0) ≡ slice_get (map name_audit (map (name_row_of objects) ns)) i
 name_there objects ns i x n e k =
     ap (λ m. Some (audit_row x.name m 0 0)) (sym (step_number_of (find (is_key x.object) objects) n k))
-    ∙ sym (slice_get-map name_audit (map (name_row_of objects) ns) i ∙ ap (option_map name_audit) (slice_get-map (name_row_of objects) ns i ∙ ap (option_map (name_row_of objects)) e))
+    ∙ sym
+    (slice_get-map name_audit (map (name_row_of objects) ns) i ∙ ap (option_map name_audit) (slice_get-map (name_row_of objects) ns i ∙ ap (option_map (name_row_of objects)) e))
 
-pub token_there : (objects : List Object) (ts : List SharedToken) (i : ℕ) (x : SharedToken) (n : ℕ) → slice_get ts i ≡ Some x → option_map (λ (x : Object). x.step_number) (find (is_key x.object) objects) ≡ Some n →
+pub token_there : (objects : List Object) (ts : List SharedToken) (i : ℕ) (x : SharedToken) (n : ℕ)
+    → slice_get ts i ≡ Some x → option_map (λ (x : Object). x.step_number) (find (is_key x.object) objects) ≡ Some n →
     Some (audit_row x.token x.client n 0) ≡ slice_get (map token_audit (map (token_row_of objects) ts)) i
 token_there objects ts i x n e k =
     ap (λ m. Some (audit_row x.token x.client m 0)) (sym (step_number_of (find (is_key x.object) objects) n k))
-    ∙ sym (slice_get-map token_audit (map (token_row_of objects) ts) i ∙ ap (option_map token_audit) (slice_get-map (token_row_of objects) ts i ∙ ap (option_map (token_row_of objects)) e))
+    ∙ sym
+    (slice_get-map token_audit (map (token_row_of objects) ts) i ∙ ap (option_map token_audit) (slice_get-map (token_row_of objects) ts i ∙ ap (option_map (token_row_of objects)) e))
 
-pub framebuffer_there : (objects : List Object) (fs : List Framebuffer) (i : ℕ) (x : Framebuffer) (n : ℕ) → slice_get fs i ≡ Some x → option_map (λ (x : Object). x.step_number) (find (is_key x.object) objects) ≡ Some n →
-    Some (audit_row x.framebuffer x.client n 0) ≡ slice_get (map framebuffer_audit (map (framebuffer_row_of objects) fs)) i
+pub framebuffer_there : (objects : List Object) (fs : List Framebuffer) (i : ℕ) (x : Framebuffer) (n : ℕ)
+    → slice_get fs i ≡ Some x → option_map (λ (x : Object). x.step_number) (find (is_key x.object) objects) ≡ Some n →
+    Some (audit_row x.framebuffer x.client n 0) ≡ slice_get
+    (map framebuffer_audit (map (framebuffer_row_of objects) fs)) i
 framebuffer_there objects fs i x n e k =
     ap (λ m. Some (audit_row x.framebuffer x.client m 0)) (sym (step_number_of (find (is_key x.object) objects) n k))
-    ∙ sym (slice_get-map framebuffer_audit (map (framebuffer_row_of objects) fs) i ∙ ap (option_map framebuffer_audit) (slice_get-map (framebuffer_row_of objects) fs i ∙ ap (option_map (framebuffer_row_of objects)) e))
+    ∙ sym
+    (slice_get-map framebuffer_audit (map (framebuffer_row_of objects) fs) i ∙ ap (option_map framebuffer_audit) (slice_get-map (framebuffer_row_of objects) fs i ∙ ap (option_map (framebuffer_row_of objects)) e))
 
-pub shown_there : (xs : List Shown) (i : ℕ) (x : Shown) → slice_get xs i ≡ Some x → Some (audit_row x.engine x.framebuffer 0 0) ≡ slice_get (map shown_audit (map shown_row_of xs)) i
-shown_there xs i x e = sym (slice_get-map shown_audit (map shown_row_of xs) i ∙ ap (option_map shown_audit) (slice_get-map shown_row_of xs i ∙ ap (option_map shown_row_of) e))
+pub shown_there : (xs : List Shown) (i : ℕ) (x : Shown) → slice_get xs i ≡ Some x
+    → Some (audit_row x.engine x.framebuffer 0 0) ≡ slice_get (map shown_audit (map shown_row_of xs)) i
+shown_there xs i x e =
+    sym
+    (slice_get-map shown_audit (map shown_row_of xs) i ∙ ap (option_map shown_audit) (slice_get-map shown_row_of xs i ∙ ap (option_map shown_row_of) e))
 
-pub grant_there : (xs : List Grant) (i : ℕ) (x : Grant) → slice_get xs i ≡ Some x → Some (audit_row x.master x.mode_object 0 0) ≡ slice_get (map grant_audit (map grant_row_of xs)) i
-grant_there xs i x e = sym (slice_get-map grant_audit (map grant_row_of xs) i ∙ ap (option_map grant_audit) (slice_get-map grant_row_of xs i ∙ ap (option_map grant_row_of) e))
+pub grant_there : (xs : List Grant) (i : ℕ) (x : Grant) → slice_get xs i ≡ Some x
+    → Some (audit_row x.master x.mode_object 0 0) ≡ slice_get (map grant_audit (map grant_row_of xs)) i
+grant_there xs i x e =
+    sym
+    (slice_get-map grant_audit (map grant_row_of xs) i ∙ ap (option_map grant_audit) (slice_get-map grant_row_of xs i ∙ ap (option_map grant_row_of) e))

@@ -35,8 +35,8 @@ use Rattle.drm_model.specs.Change.{after}
 use Rattle.drm_model.specs.Run.{FoundRoom, places_left, run, rows_of, journaled_in, no_room, start_of}
 use Rattle.drm_model.proofs.StepNumbers.{step_numbers_rise}
 use Rattle.drm_model.specs.StepNumbers.{GrantsMade}
-use Rattle.drm_model.proofs.Counts.{few_rows}
-use Rattle.drm_model.proofs.Grants.{grants_made}
+use Rattle.drm_model.proofs.FewAdded.{few_rows}
+use Rattle.drm_model.proofs.GrantedMasters.{grants_made}
 use Rattle.drm_model.proofs.Journals.{found_room_push, rows_journaled, after-topology, after-steps, rows_of-topology, rows_of-limits, rows_of-steps, room_after}
 use Rattle.drm_device.specs.declared.device.Device.TheInside.{Inside}
 use Rattle.drm_masters.specs.declared.rows.Master.{Master}
@@ -57,7 +57,8 @@ use Rattle.drm_state.proofs.Refinements.{represented_count}
 use Rattle.drm_state.proofs.Lookups.{is_open_is}
 
 -- The state of a device represents the rows of its history.
-pub stands : (d : Inside) (n : ℕ) → IsDevice d → n ≡ vec_len d.journal → RepresentsAt d.state (n + 1) (rows_of (value_of d))
+pub stands : (d : Inside) (n : ℕ) → IsDevice d → n ≡ vec_len d.journal
+    → RepresentsAt d.state (n + 1) (rows_of (value_of d))
 stands d n h e = record {
   rows = h.rows;
   step_numbers = step_numbers_rise (value_of d);
@@ -65,62 +66,79 @@ stands d n h e = record {
 }
 
 -- The journal has a place for the closing of each open client.
-pub fits : (d : Inside) → IsDevice d → (rows_of (value_of d)).steps + length (rows_of (value_of d)).clients ≤ (rows_of (value_of d)).limits.journal
+pub fits : (d : Inside) → IsDevice d
+    → (rows_of (value_of d)).steps + length (rows_of (value_of d)).clients ≤ (rows_of (value_of d)).limits.journal
 fits d h =
     let steps = rows_of-steps (value_of d) in
     let count = represented_count d.state (rows_of (value_of d)) h.rows in
-    let limit : (rows_of (value_of d)).limits.journal ≡ d.limits.journal = ap (λ (l : Limits). l.journal) (rows_of-limits (value_of d)) in
+    let limit : (rows_of (value_of d)).limits.journal ≡ d.limits.journal =
+    ap (λ (l : Limits). l.journal) (rows_of-limits (value_of d)) in
     omega (arith, h.places, d.journal.ok.0)
 
 -- After an event that found room the journal has a place for the closing of each open client.
-pub fits_after : (d : Inside) (event : Event) → IsDevice d → no_room (rows_of (value_of d)) event ≡ false → vec_len d.journal + 1 + length (after (rows_of (value_of d)) event).clients ≤ d.limits.journal
+pub fits_after : (d : Inside) (event : Event) → IsDevice d → no_room (rows_of (value_of d)) event ≡ false
+    → vec_len d.journal + 1 + length (after (rows_of (value_of d)) event).clients ≤ d.limits.journal
 fits_after d event h room =
     let enough = room_after (rows_of (value_of d)) event (fits d h) room in
     let next = after-steps (rows_of (value_of d)) event in
     let steps = rows_of-steps (value_of d) in
-    let limit : (rows_of (value_of d)).limits.journal ≡ d.limits.journal = ap (λ (l : Limits). l.journal) (rows_of-limits (value_of d)) in
+    let limit : (rows_of (value_of d)).limits.journal ≡ d.limits.journal =
+    ap (λ (l : Limits). l.journal) (rows_of-limits (value_of d)) in
     omega (arith, d.journal.ok.0)
 
 -- The journal is within its limit after an event that found room.
-pub within_after : (d : Inside) (event : Event) (journal : Vec Event) → IsDevice d → no_room (rows_of (value_of d)) event ≡ false →
+pub within_after : (d : Inside) (event : Event) (journal : Vec Event) → IsDevice d
+    → no_room (rows_of (value_of d)) event ≡ false →
     vec_len journal ≡ vec_len d.journal + 1 → length journal.items ≤ d.limits.journal
 within_after d event journal h room len = omega (arith, fits_after d event h room, journal.ok.0)
 
 -- The journal has memory for an event that found room.
-pub has_room_for : (d : Inside) (event : Event) → IsDevice d → no_room (rows_of (value_of d)) event ≡ false → vec_len d.journal < vec_capacity d.journal
+pub has_room_for : (d : Inside) (event : Event) → IsDevice d → no_room (rows_of (value_of d)) event ≡ false
+    → vec_len d.journal < vec_capacity d.journal
 has_room_for d event h room = omega (arith, fits_after d event h room, h.reserved)
 
 -- After a recorded event the history of the device has this event more.
-pub next_history : (d : Inside) (event : Event) (journal : Vec Event) (s : State) → journal.items ≡ d.journal.items ++ event ∷ [] → s.modes.topology ≡ d.state.modes.topology →
+pub next_history : (d : Inside) (event : Event) (journal : Vec Event) (s : State)
+    → journal.items ≡ d.journal.items ++ event ∷ [] → s.modes.topology ≡ d.state.modes.topology →
     value_of (record { limits = d.limits; journal = journal; state = s }) ≡ journaled_in (value_of d) event
 next_history d event journal s e fixed = λ i. record { topology = fixed i; limits = d.limits; journal = e i }
 
 -- The rows after a recorded event are those of the event after the rows before.
-pub next_rows : (d : Inside) (event : Event) (journal : Vec Event) (s : State) → journal.items ≡ d.journal.items ++ event ∷ [] → s.modes.topology ≡ d.state.modes.topology →
+pub next_rows : (d : Inside) (event : Event) (journal : Vec Event) (s : State)
+    → journal.items ≡ d.journal.items ++ event ∷ [] → s.modes.topology ≡ d.state.modes.topology →
     rows_of (value_of (record { limits = d.limits; journal = journal; state = s })) ≡ after (rows_of (value_of d)) event
-next_rows d event journal s e fixed = ap rows_of (next_history d event journal s e fixed) ∙ rows_journaled (value_of d) event
+next_rows d event journal s e fixed =
+    ap rows_of (next_history d event journal s e fixed) ∙ rows_journaled (value_of d) event
 
 -- Another state with the same mode objects leaves the history of the device.
-pub same_history : (d : Inside) (s : State) → s.modes.topology ≡ d.state.modes.topology → value_of (record { limits = d.limits; journal = d.journal; state = s }) ≡ value_of d
+pub same_history : (d : Inside) (s : State) → s.modes.topology ≡ d.state.modes.topology
+    → value_of (record { limits = d.limits; journal = d.journal; state = s }) ≡ value_of d
 same_history d s fixed = λ i. record { topology = fixed i; limits = d.limits; journal = d.journal.items }
 
 -- The state keeps the fixed mode objects.
-pub topology_same : (d : Inside) (s : State) (w : Rows) → Represents s w → w.topology ≡ (rows_of (value_of d)).topology → s.modes.topology ≡ d.state.modes.topology
+pub topology_same : (d : Inside) (s : State) (w : Rows) → Represents s w → w.topology ≡ (rows_of (value_of d)).topology
+    → s.modes.topology ≡ d.state.modes.topology
 topology_same d s w r e = (bounds_are s w r).7 ∙ e ∙ rows_of-topology (value_of d)
 
 -- No event changes the fixed mode objects of the state.
-pub topology_after : (d : Inside) (event : Event) (s : State) → Represents s (after (rows_of (value_of d)) event) → s.modes.topology ≡ d.state.modes.topology
-topology_after d event s r = topology_same d s (after (rows_of (value_of d)) event) r (after-topology (rows_of (value_of d)) event)
+pub topology_after : (d : Inside) (event : Event) (s : State) → Represents s (after (rows_of (value_of d)) event)
+    → s.modes.topology ≡ d.state.modes.topology
+topology_after d event s r =
+    topology_same d s (after (rows_of (value_of d)) event) r (after-topology (rows_of (value_of d)) event)
 
 -- each event of the longer journal found room
-next_room : (d : Inside) (event : Event) → IsDevice d → no_room (rows_of (value_of d)) event ≡ false → FoundRoom (start_of (value_of d)) (d.journal.items ++ event ∷ [])
+next_room : (d : Inside) (event : Event) → IsDevice d → no_room (rows_of (value_of d)) event ≡ false
+    → FoundRoom (start_of (value_of d)) (d.journal.items ++ event ∷ [])
 unfolding rows_of
 next_room d event h room = found_room_push (start_of (value_of d)) d.journal.items event h.found_room room
 
 -- A device is one after a recorded event too: the invariants hold and the state represents the new rows.
-pub next_device : (d : Inside) (event : Event) (journal : Vec Event) (s : State) → IsDevice d → no_room (rows_of (value_of d)) event ≡ false →
-    journal.items ≡ d.journal.items ++ event ∷ [] → vec_len journal ≡ vec_len d.journal + 1 → vec_capacity journal ≡ vec_capacity d.journal →
-    MeetsInvariants s → Represents s (after (rows_of (value_of d)) event) → IsDevice (record { limits = d.limits; journal = journal; state = s })
+pub next_device : (d : Inside) (event : Event) (journal : Vec Event) (s : State) → IsDevice d
+    → no_room (rows_of (value_of d)) event ≡ false →
+    journal.items ≡ d.journal.items ++ event ∷ [] → vec_len journal ≡ vec_len d.journal + 1 → vec_capacity journal ≡
+    vec_capacity d.journal →
+    MeetsInvariants s → Represents s (after (rows_of (value_of d)) event) → IsDevice
+    (record { limits = d.limits; journal = journal; state = s })
 next_device d event journal s h room items len capacity t r =
     let count = represented_count s (after (rows_of (value_of d)) event) r in
     let enough = fits_after d event h room in
@@ -128,7 +146,9 @@ next_device d event journal s h room items len capacity t r =
     record {
       rows = subst (Represents s) (sym (next_rows d event journal s items fixed)) r;
       invariants = t;
-      found_room = subst (λ t. FoundRoom (empty_rows t d.limits) journal.items) (sym fixed) (subst (FoundRoom (start_of (value_of d))) (sym items) (next_room d event h room));
+      found_room =
+          subst (λ t. FoundRoom (empty_rows t d.limits) journal.items) (sym fixed)
+          (subst (FoundRoom (start_of (value_of d))) (sym items) (next_room d event h room));
       places = omega arith;
       reserved = omega (arith, h.reserved);
       in_range = h.in_range;
@@ -136,12 +156,15 @@ next_device d event journal s h room items len capacity t r =
     }
 
 -- A device is one after refused memory too: its history is unchanged.
-pub same_device : (d : Inside) (s : State) → IsDevice d → MeetsInvariants s → Represents s (rows_of (value_of d)) → IsDevice (record { limits = d.limits; journal = d.journal; state = s })
+pub same_device : (d : Inside) (s : State) → IsDevice d → MeetsInvariants s → Represents s (rows_of (value_of d))
+    → IsDevice (record { limits = d.limits; journal = d.journal; state = s })
 same_device d s h t r =
     let now = represented_count s (rows_of (value_of d)) r in
     let before = represented_count d.state (rows_of (value_of d)) h.rows in
     let fixed = topology_same d s (rows_of (value_of d)) r refl in
-    let rows = subst (λ t. Represents s (rows_of (record { topology = t; limits = d.limits; journal = d.journal.items }))) (sym fixed) r in
+    let rows =
+    subst (λ t. Represents s (rows_of (record { topology = t; limits = d.limits; journal = d.journal.items })))
+    (sym fixed) r in
     let found = subst (λ t. FoundRoom (empty_rows t d.limits) d.journal.items) (sym fixed) h.found_room in
     record { rows = rows; invariants = t; found_room = found; places = omega (arith, h.places); reserved = h.reserved; in_range = h.in_range; journal_fits = h.journal_fits }
 
@@ -157,7 +180,8 @@ at_least : (low high n : ℕ) → is_between low high n ≡ true → low ≤ n
 at_least low high n h = leb-true low n (and_parts (nat_le low n) (nat_le n high) h).0
 
 -- `&&` groups to the left: this many parts follow each limit
-before_objects : (limits : Limits) → are_in_range limits ≡ true → (is_between 1 1024 limits.clients && is_between 1 65535 limits.handles && is_between 1 65535 limits.names && is_between 1 65535 limits.tokens) ≡ true
+before_objects : (limits : Limits) → are_in_range limits ≡ true
+    → (is_between 1 1024 limits.clients && is_between 1 65535 limits.handles && is_between 1 65535 limits.names && is_between 1 65535 limits.tokens) ≡ true
 unfolding are_in_range
 before_objects limits h =
     let before_journal = (and_parts _ _ h).0 in
@@ -176,7 +200,8 @@ framebuffers_between limits h =
 -- Limits in their ranges allow 64 lessees at most.
 pub few_lessees_allowed : (limits : Limits) → are_in_range limits ≡ true → limits.lessees ≤ 64
 unfolding are_in_range
-few_lessees_allowed limits h = at_most 1 64 limits.lessees (and_parts _ (is_between 1 64 limits.lessees) (and_parts _ _ h).0).1
+few_lessees_allowed limits h =
+    at_most 1 64 limits.lessees (and_parts _ (is_between 1 64 limits.lessees) (and_parts _ _ h).0).1
 
 -- Limits in their ranges allow a framebuffer at least.
 pub some_framebuffers : (limits : Limits) → are_in_range limits ≡ true → 1 ≤ limits.framebuffers
@@ -188,20 +213,26 @@ few_framebuffers_allowed limits h = at_most 1 64 limits.framebuffers (framebuffe
 
 -- Limits in their ranges allow a token at least.
 pub some_tokens : (limits : Limits) → are_in_range limits ≡ true → 1 ≤ limits.tokens
-some_tokens limits h = at_least 1 65535 limits.tokens (and_parts _ (is_between 1 65535 limits.tokens) (before_objects limits h)).1
+some_tokens limits h =
+    at_least 1 65535 limits.tokens (and_parts _ (is_between 1 65535 limits.tokens) (before_objects limits h)).1
 
 -- Limits in their ranges allow a name at least.
 pub some_names : (limits : Limits) → are_in_range limits ≡ true → 1 ≤ limits.names
-some_names limits h = at_least 1 65535 limits.names (and_parts _ (is_between 1 65535 limits.names) (and_parts _ _ (before_objects limits h)).0).1
+some_names limits h =
+    at_least 1 65535 limits.names
+    (and_parts _ (is_between 1 65535 limits.names) (and_parts _ _ (before_objects limits h)).0).1
 
 -- Limits in their ranges allow a handle at least.
 pub some_handles : (limits : Limits) → are_in_range limits ≡ true → 1 ≤ limits.handles
-some_handles limits h = at_least 1 65535 limits.handles (and_parts _ (is_between 1 65535 limits.handles) (and_parts _ _ (and_parts _ _ (before_objects limits h)).0).0).1
+some_handles limits h =
+    at_least 1 65535 limits.handles
+    (and_parts _ (is_between 1 65535 limits.handles) (and_parts _ _ (and_parts _ _ (before_objects limits h)).0).0).1
 
 -- ---- a device without rows
 
 abbrev no_masters : ℕ → ℕ → MasterSet
-no_masters clients lessees = record { members = []; masters = []; device_master = None; last_magic = clients; last_lessee = lessees }
+no_masters clients lessees =
+    record { members = []; masters = []; device_master = None; last_magic = clients; last_lessee = lessees }
 
 -- its parts are empty
 pub record IsStart (s : State) (t : Topology) (limits : Limits) : Type 0 where
@@ -221,51 +252,78 @@ all_dark : (x n : ℕ) → lit_rows x (replicate n 0) ≡ []
 all_dark x zero = refl
 all_dark x (suc n) = all_dark (x + 1) n
 
-start_represents : (t : Topology) (limits : Limits) (s : State) → IsStart s t limits → (part : Part) → represents_part part s (empty_rows t limits)
+start_represents : (t : Topology) (limits : Limits) (s : State) → IsStart s t limits → (part : Part)
+    → represents_part part s (empty_rows t limits)
 unfolding represents_part
-start_represents t limits s is Bounds = (ap (λ (f : FileLists). f.limit) is.files, ap (λ (f : FileLists). f.last_handle) is.files, ap (λ (o : ObjectSet). o.limit) is.objects, ap (λ (l : NameList). l.last) is.names, ap (λ (l : TokenList). l.last) is.tokens, ap (λ (v : MasterSet). v.last_magic) is.masters, ap (λ (set : ModeSet). set.last) is.modes, ap (λ (set : ModeSet). set.topology) is.modes, ap (λ (v : MasterSet). v.last_lessee) is.masters, ap (λ (l : LeaseSet). l.last) is.leases)
-start_represents t limits s is Clients = sym (ap (λ (f : FileLists). map (client_row_of s.masters.members) f.clients) is.files)
-start_represents t limits s is Masters = sym (ap (λ (v : MasterSet). map (master_row_of s.leases.tokens) v.masters) is.masters)
-start_represents t limits s is Magics = λ test. sym (ap (λ (v : MasterSet). length (filter test (filter_map magic_row_of v.members))) is.masters)
-start_represents t limits s is Holds = λ test. sym (ap (λ (f : FileLists). length (filter test (map (handle_row_of s.objects.objects) f.holds))) is.files)
+start_represents t limits s is Bounds =
+    (ap (λ (f : FileLists). f.limit) is.files, ap (λ (f : FileLists). f.last_handle) is.files, ap (λ (o : ObjectSet). o.limit) is.objects, ap (λ (l : NameList). l.last) is.names, ap (λ (l : TokenList). l.last) is.tokens, ap (λ (v : MasterSet). v.last_magic) is.masters, ap (λ (set : ModeSet). set.last) is.modes, ap (λ (set : ModeSet). set.topology) is.modes, ap (λ (v : MasterSet). v.last_lessee) is.masters, ap (λ (l : LeaseSet). l.last) is.leases)
+start_represents t limits s is Clients =
+    sym (ap (λ (f : FileLists). map (client_row_of s.masters.members) f.clients) is.files)
+start_represents t limits s is Masters =
+    sym (ap (λ (v : MasterSet). map (master_row_of s.leases.tokens) v.masters) is.masters)
+start_represents t limits s is Magics =
+    λ test. sym (ap (λ (v : MasterSet). length (filter test (filter_map magic_row_of v.members))) is.masters)
+start_represents t limits s is Holds =
+    λ test. sym (ap (λ (f : FileLists). length (filter test (map (handle_row_of s.objects.objects) f.holds))) is.files)
 start_represents t limits s is Objects = sym (ap (λ (o : ObjectSet). map object_row_of o.objects) is.objects)
-start_represents t limits s is Names = λ test. sym (ap (λ (l : NameList). length (filter test (map (name_row_of s.objects.objects) l.names))) is.names)
-start_represents t limits s is Tokens = λ test. sym (ap (λ (l : TokenList). length (filter test (map (token_row_of s.objects.objects) l.tokens))) is.tokens)
-start_represents t limits s is Framebuffers = λ test. sym (ap (λ (set : ModeSet). length (filter test (map (framebuffer_row_of s.objects.objects) set.framebuffers))) is.modes)
-start_represents t limits s is Shown = λ test. sym (ap (λ (set : ModeSet). length (filter test (map shown_row_of (shown_rows set)))) is.modes ∙ ap (λ l. length (filter test (map shown_row_of l))) (all_dark 1 (scanout_count t)))
-start_represents t limits s is Grants = λ test. sym (ap (λ (l : LeaseSet). length (filter test (map grant_row_of l.grants))) is.leases)
+start_represents t limits s is Names =
+    λ test. sym (ap (λ (l : NameList). length (filter test (map (name_row_of s.objects.objects) l.names))) is.names)
+start_represents t limits s is Tokens =
+    λ test. sym (ap (λ (l : TokenList). length (filter test (map (token_row_of s.objects.objects) l.tokens))) is.tokens)
+start_represents t limits s is Framebuffers =
+    λ test. sym
+    (ap (λ (set : ModeSet). length (filter test (map (framebuffer_row_of s.objects.objects) set.framebuffers))) is.modes)
+start_represents t limits s is Shown =
+    λ test. sym
+    (ap (λ (set : ModeSet). length (filter test (map shown_row_of (shown_rows set)))) is.modes ∙ ap (λ l. length (filter test (map shown_row_of l))) (all_dark 1 (scanout_count t)))
+start_represents t limits s is Grants =
+    λ test. sym (ap (λ (l : LeaseSet). length (filter test (map grant_row_of l.grants))) is.leases)
 start_represents t limits s is LastLeaseToken = sym (ap (λ (l : LeaseSet). unwrap_or l.last_given 0) is.leases)
 start_represents t limits s is LastToken = sym (ap (λ (l : TokenList). unwrap_or l.last_given 0) is.tokens)
 start_represents t limits s is DeviceMaster = sym (ap (λ (v : MasterSet). v.device_master) is.masters)
 
 nobody : (clients lessees : ℕ) → lessees ≤ 64 → AreMasters (no_masters clients lessees)
-nobody clients lessees few = record { members_rise = tt; masters_rise = tt; lessors_older = tt; masters_there = tt; device_own = λ m e. absurd (let n : None ≡ Some m = e in cc); used = tt; magics_differ = tt; few = omega arith; few_ids = few; device_owner = λ m e. absurd (let n : None ≡ Some m = e in cc); guests_of_owners = tt }
+nobody clients lessees few =
+    record
+    { members_rise = tt; masters_rise = tt; lessors_older = tt; masters_there = tt; device_own = λ m e. absurd (let n : None ≡ Some m = e in cc); used = tt; magics_differ = tt; few = omega arith; few_ids = few; device_owner = λ m e. absurd (let n : None ≡ Some m = e in cc); guests_of_owners = tt }
 
-start_invariants : (t : Topology) (limits : Limits) (s : State) → IsStart s t limits → (invariant : Invariant) → meets_invariant invariant s
+start_invariants : (t : Topology) (limits : Limits) (s : State) → IsStart s t limits → (invariant : Invariant)
+    → meets_invariant invariant s
 unfolding meets_invariant
-start_invariants t limits s is MembersOpen = subst (λ (v : MasterSet). AllByRecursion (λ (x : Member). is_open_client s.files x.client ≡ true) v.members) (sym is.masters) tt
-start_invariants t limits s is ClientsHave = subst (λ (f : FileLists). AllByRecursion (HasMaster s.masters) f.clients) (sym is.files) tt
-start_invariants t limits s is MastersAre = subst AreMasters (sym is.masters) (nobody limits.clients limits.lessees is.lessees_few)
+start_invariants t limits s is MembersOpen =
+    subst (λ (v : MasterSet). AllByRecursion (λ (x : Member). is_open_client s.files x.client ≡ true) v.members)
+    (sym is.masters) tt
+start_invariants t limits s is ClientsHave =
+    subst (λ (f : FileLists). AllByRecursion (HasMaster s.masters) f.clients) (sym is.files) tt
+start_invariants t limits s is MastersAre =
+    subst AreMasters (sym is.masters) (nobody limits.clients limits.lessees is.lessees_few)
 start_invariants t limits s is LeasesAre = is.leases_are
-start_invariants t limits s is TokensOfLessees = subst (λ (l : LeaseSet). AreOfLessees l.tokens s.masters.masters) (sym is.leases) tt
-start_invariants t limits s is KeptHaveTokens = subst (λ (v : MasterSet). AreKeptBy s.leases.tokens v.masters) (sym is.masters) tt
+start_invariants t limits s is TokensOfLessees =
+    subst (λ (l : LeaseSet). AreOfLessees l.tokens s.masters.masters) (sym is.leases) tt
+start_invariants t limits s is KeptHaveTokens =
+    subst (λ (v : MasterSet). AreKeptBy s.leases.tokens v.masters) (sym is.masters) tt
 start_invariants t limits s is LeasesAgree = subst (λ (l : LeaseSet). AreAgreed l s.masters) (sym is.leases) tt
-start_invariants t limits s is MagicsSuffice = ap (λ (v : MasterSet). v.last_magic) is.masters ∙ sym (ap (λ (f : FileLists). f.limit) is.files)
+start_invariants t limits s is MagicsSuffice =
+    ap (λ (v : MasterSet). v.last_magic) is.masters ∙ sym (ap (λ (f : FileLists). f.limit) is.files)
 start_invariants t limits s is ModesAre = is.modes_are
-start_invariants t limits s is HoldsRise = subst (λ (f : FileLists). InOrder (λ (x y : FileHandle). handle_before x y ≡ true) f.holds) (sym is.files) tt
+start_invariants t limits s is HoldsRise =
+    subst (λ (f : FileLists). InOrder (λ (x y : FileHandle). handle_before x y ≡ true) f.holds) (sym is.files) tt
 start_invariants t limits s is ObjectsCounted =
     subst (λ (f : FileLists). AreCounted (keys_of f.holds) (referring_keys s) s.objects.objects) (sym is.files)
     (subst (λ (l : TokenList). AreCounted [] (referring l.tokens s.modes.framebuffers) s.objects.objects) (sym is.tokens)
     (subst (λ (set : ModeSet). AreCounted [] (framebuffer_keys set.framebuffers) s.objects.objects) (sym is.modes)
     (subst (λ (o : ObjectSet). AreCounted [] [] o.objects) (sym is.objects) (record { there = λ n h. absurd (let k : false ≡ true = h in cc); counted = tt; used = tt; keys_differ = tt; step_numbers_differ = tt }))))
-start_invariants t limits s is NamesHeld = subst (λ (l : NameList). AreNamed (keys_of s.files.holds) l.names) (sym is.names) tt
+start_invariants t limits s is NamesHeld =
+    subst (λ (l : NameList). AreNamed (keys_of s.files.holds) l.names) (sym is.names) tt
 
 -- A device that starts with limits in their ranges and an empty journal is one.
-pub new_device : (d : Inside) (t : Topology) → are_in_range d.limits ≡ true → d.journal.items ≡ [] → d.limits.journal ≤ vec_capacity d.journal → IsStart d.state t d.limits → IsDevice d
+pub new_device : (d : Inside) (t : Topology) → are_in_range d.limits ≡ true → d.journal.items ≡ []
+    → d.limits.journal ≤ vec_capacity d.journal → IsStart d.state t d.limits → IsDevice d
 unfolding rows_of run FoundRoom
 new_device d t good e room is =
     let fixed : d.state.modes.topology ≡ t = ap (λ (set : ModeSet). set.topology) is.modes in
-    let start : rows_of (value_of d) ≡ empty_rows t d.limits = ap (run (empty_rows d.state.modes.topology d.limits)) e ∙ ap (λ t. empty_rows t d.limits) fixed in
+    let start : rows_of (value_of d) ≡ empty_rows t d.limits =
+    ap (run (empty_rows d.state.modes.topology d.limits)) e ∙ ap (λ t. empty_rows t d.limits) fixed in
     let journal : vec_len d.journal ≡ 0 = d.journal.ok.0 ∙ ap length e in
     let clients : length d.state.files.clients ≡ 0 = ap (λ (f : FileLists). length f.clients) is.files in
     record {
@@ -301,20 +359,26 @@ unfolding count_in
 few_framebuffers d h = few_rows (value_of d) (fixed_topology d h) Framebuffers
 
 framebuffers_many : (s : State) (w : Rows) → Represents s w → length w.framebuffers ≡ length s.modes.framebuffers
-framebuffers_many s w h = same-length w.framebuffers (framebuffers_of s) (framebuffers_are s w h) ∙ length-map s.modes.framebuffers (framebuffer_row_of s.objects.objects)
+framebuffers_many s w h =
+    same-length w.framebuffers (framebuffers_of s) (framebuffers_are s w h)
+    ∙ length-map s.modes.framebuffers (framebuffer_row_of s.objects.objects)
 
 holds_many : (s : State) (w : Rows) → Represents s w → length w.holds ≡ length s.files.holds
-holds_many s w h = same-length w.holds (holds_of s) (holds_are s w h) ∙ length-map s.files.holds (handle_row_of s.objects.objects)
+holds_many s w h =
+    same-length w.holds (holds_of s) (holds_are s w h) ∙ length-map s.files.holds (handle_row_of s.objects.objects)
 
 tokens_many : (s : State) (w : Rows) → Represents s w → length w.tokens ≡ length s.tokens.tokens
-tokens_many s w h = same-length w.tokens (tokens_of s) (tokens_are s w h) ∙ length-map s.tokens.tokens (token_row_of s.objects.objects)
+tokens_many s w h =
+    same-length w.tokens (tokens_of s) (tokens_are s w h) ∙ length-map s.tokens.tokens (token_row_of s.objects.objects)
 
 -- grants of masters up to a number, in any order
-none_over : (last : ℕ) (rows : List GrantRow) → AllByRecursion (λ (row : GrantRow). row.master ≤ last) rows → list_any (λ (row : GrantRow). nat_lt last row.master) rows ≡ false
+none_over : (last : ℕ) (rows : List GrantRow) → AllByRecursion (λ (row : GrantRow). row.master ≤ last) rows
+    → list_any (λ (row : GrantRow). nat_lt last row.master) rows ≡ false
 none_over last [] h = refl
 none_over last (row ∷ rows) h = let first = h.0 in let under : nat_lt last row.master ≡ false = grind (arith, nat_tests) in ap (λ b. b || list_any (λ (r : GrantRow). nat_lt last r.master) rows) under ∙ none_over last rows h.1
 
-all_under : (last : ℕ) (rows : List GrantRow) → list_any (λ (row : GrantRow). nat_lt last row.master) rows ≡ false → AllByRecursion (λ (row : GrantRow). row.master < last + 1) rows
+all_under : (last : ℕ) (rows : List GrantRow) → list_any (λ (row : GrantRow). nat_lt last row.master) rows ≡ false
+    → AllByRecursion (λ (row : GrantRow). row.master < last + 1) rows
 all_under last [] h = tt
 all_under last (row ∷ rows) h = let k = neither (nat_lt last row.master) (list_any (λ (r : GrantRow). nat_lt last r.master) rows) h in let first = k.0 in (grind (arith, nat_tests), all_under last rows k.1)
   where
@@ -323,17 +387,24 @@ all_under last (row ∷ rows) h = let k = neither (nat_lt last row.master) (list
     neither false b e = (refl, e)
 
 -- a lessee is a master that exists
-lessee_made : (last m : ℕ) (ms : List Master) → AllByRecursion (λ (x : Master). x.step_number < last + 1) ms → is_lessee ms m ≡ true → m < last + 1
+lessee_made : (last m : ℕ) (ms : List Master) → AllByRecursion (λ (x : Master). x.step_number < last + 1) ms
+    → is_lessee ms m ≡ true → m < last + 1
 lessee_made last m ms h e = by_row (find (is_step_number m) ms) refl e
   where
-    by_row : (o : Option Master) → find (is_step_number m) ms ≡ o → is_some (option_and_then (λ (x : Master). x.lessor) o) ≡ true → m < last + 1
+    by_row : (o : Option Master) → find (is_step_number m) ms ≡ o
+        → is_some (option_and_then (λ (x : Master). x.lessor) o) ≡ true → m < last + 1
     by_row None k j = absurd (let n : false ≡ true = j in cc)
     by_row (Some x) k j = let it = found (is_step_number m) (λ (x : Master). x.step_number < last + 1) x ms h k in subst (λ n. n < last + 1) (eqb-true x.step_number m it.0) it.1
 
 -- the lessees of tokens and grants were made
-leases_later : (s : State) (w : Rows) → MeetsInvariants s → Represents s w → GrantsMade w.steps w → AllByRecursion (λ (x : Master). x.step_number < w.steps + 1) s.masters.masters → IsNewLessee s.leases (w.steps + 1)
+leases_later : (s : State) (w : Rows) → MeetsInvariants s → Represents s w → GrantsMade w.steps w
+    → AllByRecursion (λ (x : Master). x.step_number < w.steps + 1) s.masters.masters
+    → IsNewLessee s.leases (w.steps + 1)
 leases_later s w t h made older = record {
-  tokens = all_weaker (λ (row : LeaseToken). is_lessee s.masters.masters row.master ≡ true) (λ (row : LeaseToken). row.master < w.steps + 1) (λ row e. lessee_made w.steps row.master s.masters.masters older e) s.leases.tokens (tokens_of_lessees s t);
+  tokens =
+      all_weaker (λ (row : LeaseToken). is_lessee s.masters.masters row.master ≡ true)
+      (λ (row : LeaseToken). row.master < w.steps + 1)
+      (λ row e. lessee_made w.steps row.master s.masters.masters older e) s.leases.tokens (tokens_of_lessees s t);
   grants = all_of_map (λ (row : GrantRow). row.master < w.steps + 1) grant_row_of s.leases.grants
       (all_under w.steps (grants_of s) (sym (same-any (λ (row : GrantRow). nat_lt w.steps row.master) w.grants (grants_of s) (grants_are s w h)) ∙ none_over w.steps w.grants made));
 }
@@ -344,15 +415,31 @@ precondition d n h e =
     let w = rows_of (value_of d) in
     let steps : w.steps ≡ n = rows_of-steps (value_of d) ∙ sym d.journal.ok.0 ∙ sym e in
     let step_numbers = step_numbers_rise (value_of d) in
-    let masters = all_weaker (λ (x : Master). x.step_number ≤ w.steps) (λ (x : Master). x.step_number < w.steps + 1) (λ x k. not_later x.step_number w.steps k) d.state.masters.masters (all_of_map (λ (row : MasterRow). row.master ≤ w.steps) (master_row_of d.state.leases.tokens) d.state.masters.masters (subst (AllByRecursion (λ (row : MasterRow). row.master ≤ w.steps)) (masters_are d.state w h.rows) step_numbers.1.1)) in
+    let masters =
+    all_weaker (λ (x : Master). x.step_number ≤ w.steps) (λ (x : Master). x.step_number < w.steps + 1)
+    (λ x k. not_later x.step_number w.steps k) d.state.masters.masters
+    (all_of_map (λ (row : MasterRow). row.master ≤ w.steps) (master_row_of d.state.leases.tokens) d.state.masters.masters (subst (AllByRecursion (λ (row : MasterRow). row.master ≤ w.steps)) (masters_are d.state w h.rows) step_numbers.1.1))
+    in
     let later : IsLater d.state (w.steps + 1) = record {
-      clients = all_weaker (λ (f : FileClient). f.client ≤ w.steps) (λ (f : FileClient). f.client < w.steps + 1) (λ f k. not_later f.client w.steps k) d.state.files.clients (all_of_map (λ (row : ClientRow). row.client ≤ w.steps) (client_row_of d.state.masters.members) d.state.files.clients (subst (AllByRecursion (λ (row : ClientRow). row.client ≤ w.steps)) (clients_are d.state w h.rows) step_numbers.0.1));
-      objects = all_weaker (λ (x : Object). x.step_number ≤ w.steps) (λ (x : Object). x.step_number < w.steps + 1) (λ x k. not_later x.step_number w.steps k) d.state.objects.objects (all_of_map (λ (row : ObjectRow). row.object ≤ w.steps) object_row_of d.state.objects.objects (subst (AllByRecursion (λ (row : ObjectRow). row.object ≤ w.steps)) (objects_are d.state w h.rows) step_numbers.2.1));
+      clients =
+          all_weaker (λ (f : FileClient). f.client ≤ w.steps) (λ (f : FileClient). f.client < w.steps + 1)
+          (λ f k. not_later f.client w.steps k) d.state.files.clients
+          (all_of_map (λ (row : ClientRow). row.client ≤ w.steps) (client_row_of d.state.masters.members) d.state.files.clients (subst (AllByRecursion (λ (row : ClientRow). row.client ≤ w.steps)) (clients_are d.state w h.rows) step_numbers.0.1));
+      objects =
+          all_weaker (λ (x : Object). x.step_number ≤ w.steps) (λ (x : Object). x.step_number < w.steps + 1)
+          (λ x k. not_later x.step_number w.steps k) d.state.objects.objects
+          (all_of_map (λ (row : ObjectRow). row.object ≤ w.steps) object_row_of d.state.objects.objects (subst (AllByRecursion (λ (row : ObjectRow). row.object ≤ w.steps)) (objects_are d.state w h.rows) step_numbers.2.1));
       masters = masters;
       leases = leases_later d.state w h.invariants h.rows (grants_made (value_of d)) masters;
-      holds = not_later (length d.state.files.holds) w.steps (subst (λ n. n ≤ w.steps) (holds_many d.state w h.rows) (few_holds d h));
-      tokens = not_later (length d.state.tokens.tokens) w.steps (subst (λ n. n ≤ w.steps) (tokens_many d.state w h.rows) (few_tokens d h));
-      framebuffers = not_later (length d.state.modes.framebuffers) w.steps (subst (λ n. n ≤ w.steps) (framebuffers_many d.state w h.rows) (few_framebuffers d h));
+      holds =
+          not_later (length d.state.files.holds) w.steps
+          (subst (λ n. n ≤ w.steps) (holds_many d.state w h.rows) (few_holds d h));
+      tokens =
+          not_later (length d.state.tokens.tokens) w.steps
+          (subst (λ n. n ≤ w.steps) (tokens_many d.state w h.rows) (few_tokens d h));
+      framebuffers =
+          not_later (length d.state.modes.framebuffers) w.steps
+          (subst (λ n. n ≤ w.steps) (framebuffers_many d.state w h.rows) (few_framebuffers d h));
     } in
     record { invariants = h.invariants; later = subst (λ last. IsLater d.state (last + 1)) steps later; first = omega arith; fits = let places = h.places in let journal = h.journal_fits in omega (arith, e, places, journal) }
 
@@ -363,7 +450,8 @@ pub few_answer : (d : Inside) (event : Event) → IsDevice d → FitsOneFrame (O
 few_answer d event h =
     let w = rows_of (value_of d) in
     let are = modes_so d.state h.invariants in
-    few_reply w event (subst IsTopology ((bounds_are d.state w h.rows).7) are.topology) (subst (λ n. n ≤ 64) (sym (framebuffers_many d.state w h.rows)) are.few)
+    few_reply w event (subst IsTopology ((bounds_are d.state w h.rows).7) are.topology)
+    (subst (λ n. n ≤ 64) (sym (framebuffers_many d.state w h.rows)) are.few)
 
 -- ---- room in the journal
 
@@ -371,32 +459,45 @@ not_less : (a b : ℕ) → nat_le b a ≡ not (nat_lt a b)
 not_less a b = grind (arith, nat_tests)
 
 places_are : (d : Inside) → places_left (rows_of (value_of d)) ≡ d.limits.journal - vec_len d.journal
-places_are d = ap (λ (l : Limits). l.journal - (rows_of (value_of d)).steps) (rows_of-limits (value_of d)) ∙ ap (λ n. d.limits.journal - n) (rows_of-steps (value_of d) ∙ sym d.journal.ok.0)
+places_are d =
+    ap (λ (l : Limits). l.journal - (rows_of (value_of d)).steps) (rows_of-limits (value_of d))
+    ∙ ap (λ n. d.limits.journal - n) (rows_of-steps (value_of d) ∙ sym d.journal.ok.0)
 
 -- The test for room before an opening is exactly that of the rows.
-pub room_to_open : (d : Inside) → IsDevice d → (opening : Opening) → nat_le (length d.state.files.clients + 2) (d.limits.journal - vec_len d.journal) ≡ not (no_room (rows_of (value_of d)) (Open opening))
+pub room_to_open : (d : Inside) → IsDevice d → (opening : Opening)
+    → nat_le (length d.state.files.clients + 2) (d.limits.journal - vec_len d.journal) ≡ not (no_room (rows_of (value_of d)) (Open opening))
 unfolding no_room
-room_to_open d h opening = rw (places_are d, represented_count d.state (rows_of (value_of d)) h.rows) (not_less (d.limits.journal - vec_len d.journal) (length d.state.files.clients + 2))
+room_to_open d h opening =
+    rw (places_are d, represented_count d.state (rows_of (value_of d)) h.rows)
+    (not_less (d.limits.journal - vec_len d.journal) (length d.state.files.clients + 2))
 
 -- The test for room before a request is exactly that of the rows.
-pub room_to_ask : (d : Inside) → IsDevice d → (c : ℕ) (call : Call) → nat_le (length d.state.files.clients + 1) (d.limits.journal - vec_len d.journal) ≡ not (no_room (rows_of (value_of d)) (Ask c call))
+pub room_to_ask : (d : Inside) → IsDevice d → (c : ℕ) (call : Call)
+    → nat_le (length d.state.files.clients + 1) (d.limits.journal - vec_len d.journal) ≡ not (no_room (rows_of (value_of d)) (Ask c call))
 unfolding no_room
-room_to_ask d h c call = rw (places_are d, represented_count d.state (rows_of (value_of d)) h.rows) (not_less (d.limits.journal - vec_len d.journal) (length d.state.files.clients + 1))
+room_to_ask d h c call =
+    rw (places_are d, represented_count d.state (rows_of (value_of d)) h.rows)
+    (not_less (d.limits.journal - vec_len d.journal) (length d.state.files.clients + 1))
 
 -- The closing of an open client always finds room.
-pub room_to_close_open : (d : Inside) → IsDevice d → (c : ℕ) → is_open_client d.state.files c ≡ true → true ≡ not (no_room (rows_of (value_of d)) (Close c))
+pub room_to_close_open : (d : Inside) → IsDevice d → (c : ℕ) → is_open_client d.state.files c ≡ true
+    → true ≡ not (no_room (rows_of (value_of d)) (Close c))
 unfolding no_room
 room_to_close_open d h c e = rw (is_open_is d.state (rows_of (value_of d)) h.rows c, e) refl
 
 -- The test for room before the closing of a client that is not open is exactly that of the rows.
 pub room_to_close : (d : Inside) → IsDevice d → (c : ℕ) → is_open_client d.state.files c ≡ false →
-    nat_le (length d.state.files.clients + 1) (d.limits.journal - vec_len d.journal) ≡ not (no_room (rows_of (value_of d)) (Close c))
+    nat_le (length d.state.files.clients + 1) (d.limits.journal - vec_len d.journal) ≡ not
+    (no_room (rows_of (value_of d)) (Close c))
 unfolding no_room
 room_to_close d h c e =
-    rw (is_open_is d.state (rows_of (value_of d)) h.rows c, e, places_are d, represented_count d.state (rows_of (value_of d)) h.rows) (not_less (d.limits.journal - vec_len d.journal) (length d.state.files.clients + 1))
+    rw
+    (is_open_is d.state (rows_of (value_of d)) h.rows c, e, places_are d, represented_count d.state (rows_of (value_of d)) h.rows)
+    (not_less (d.limits.journal - vec_len d.journal) (length d.state.files.clients + 1))
 
 -- The journal has its events, a place for each open client, and what is left.
 pub journal_left_is : (d : Inside) → IsDevice d →
-    d.limits.journal - vec_len d.journal - length d.state.files.clients + length d.journal.items + length (rows_of (value_of d)).clients ≡ d.limits.journal
+    d.limits.journal - vec_len d.journal - length d.state.files.clients + length d.journal.items + length
+    (rows_of (value_of d)).clients ≡ d.limits.journal
 journal_left_is d h =
     let count = represented_count d.state (rows_of (value_of d)) h.rows in omega (arith, h.places, d.journal.ok.0)

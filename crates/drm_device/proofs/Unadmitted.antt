@@ -8,7 +8,8 @@ use Rattle.drm_model.specs.Rows.{Rows}
 use Rattle.drm_model.specs.Verdict.{admission_checks}
 
 -- A call without a family is never admitted.
-pub never_admitted : (w : Rows) (c : ℕ) (call : Call) → family_of call ≡ None → first_failing (admission_checks w c call) ≡ None → ⊥
+pub never_admitted : (w : Rows) (c : ℕ) (call : Call) → family_of call ≡ None
+    → first_failing (admission_checks w c call) ≡ None → ⊥
 unfolding family_of call_row admission_checks
 never_admitted w c (Unknown number) none a = cc
 never_admitted w c (BadLayout number) none a = cc

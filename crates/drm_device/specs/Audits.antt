@@ -16,7 +16,8 @@ pub record RepresentsAfter (s : State) (steps : ℕ) (w : Rows) : Type 0 where
 
 -- the row of a kind at a place, in the order of the rows' numbers, whichever rows the state represents
 unfoldable pub IsRowAt : State → ℕ → AuditKind → ℕ → Option AuditRow → Type 0
-IsRowAt s steps kind position row = (w : Rows) → RepresentsAfter s steps w → row ≡ slice_get (rising_rows (audit_rows w kind)) position
+IsRowAt s steps kind position row =
+    (w : Rows) → RepresentsAfter s steps w → row ≡ slice_get (rising_rows (audit_rows w kind)) position
 
 -- the page of a kind after the first rows, whichever rows the state represents
 unfoldable pub IsPage : State → ℕ → AuditKind → ℕ → List AuditRow → Type 0

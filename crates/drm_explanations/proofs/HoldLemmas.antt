@@ -37,9 +37,12 @@ pub no_rows : (history : List AnsweredEvent) (c : ℕ) (held : List Held) → Ar
 no_rows history c held = record { rising = tt; below = λ k d le within. tt; had = tt; each = λ of_device. tt }
 
 module _ (history : List AnsweredEvent) (c : ℕ) (held : List Held) (rise : AllPairs (λ (one other : Held). one.handle < other.handle) held) (n : ℕ) (one : Held) (within : n < length held) (is : one ≡ get_or held n one) (rows : List HandleRow) (told : AreRows history c held n rows) where
-  shown_more : (more : List HandleRow) → ((h o : ℕ) → is_shown rows h o ≡ true → is_shown more h o ≡ true) → (IsOfDevice history → IsShown history c more one) → IsOfDevice history → AllByRecursion (IsShown history c more) (take (n + 1) held)
+  shown_more : (more : List HandleRow) → ((h o : ℕ) → is_shown rows h o ≡ true → is_shown more h o ≡ true)
+      → (IsOfDevice history → IsShown history c more one) → IsOfDevice history
+      → AllByRecursion (IsShown history c more) (take (n + 1) held)
   shown_more more stay new of_device =
-      subst (AllByRecursion (IsShown history c more)) (sym (take_more held n one within ∙ ap (λ (x : Held). take n held ++ x ∷ []) (sym is)))
+      subst (AllByRecursion (IsShown history c more))
+      (sym (take_more held n one within ∙ ap (λ (x : Held). take n held ++ x ∷ []) (sym is)))
       (all_append (IsShown history c more) (take n held) (one ∷ []) (all_weaker (IsShown history c rows) (IsShown history c more) (λ x shown o has. stay x.handle o (shown o has)) (take n held) (told.each of_device)) (new of_device, tt))
 
   -- A handle of no object adds no row.
@@ -58,7 +61,8 @@ module _ (history : List AnsweredEvent) (c : ℕ) (held : List Held) (rise : All
     here : IsOfDevice history → IsShown history c (rows ++ row ∷ []) one
     here of_device = λ o other.
         let same : row.object ≡ o = its_object ∙ had_once history c one.handle object o of_device has other in
-        list_any_right (λ (x : HandleRow). (x.handle == one.handle) && (x.object == o)) rows (row ∷ []) (ap (λ b. (b && (row.object == o)) || false) (eq-eqb row.handle one.handle its_handle) ∙ ap (λ b. b || false) (eq-eqb row.object o same))
+        list_any_right (λ (x : HandleRow). (x.handle == one.handle) && (x.object == o)) rows (row ∷ [])
+        (ap (λ b. (b && (row.object == o)) || false) (eq-eqb row.handle one.handle its_handle) ∙ ap (λ b. b || false) (eq-eqb row.object o same))
 
     -- One more handle with an object adds its row to the rows.
     pub with_row : AreRows history c held (n + 1) (rows ++ row ∷ [])
@@ -67,16 +71,25 @@ module _ (history : List AnsweredEvent) (c : ℕ) (held : List Held) (rise : All
           (subst (λ h. AllByRecursion (IsBelow h) rows) (sym (its_handle ∙ ap (λ (x : Held). x.handle) is)) (told.below n one (omega arith) within));
       below = λ k d le inside.
           let next : (get_or held n d).handle < (get_or held k d).handle = rise n k d (omega (arith, le)) inside in
-          all_append (IsBelow (get_or held k d).handle) rows (row ∷ []) (told.below k d (omega (arith, le)) inside) (subst (λ h. h < (get_or held k d).handle) (ap (λ (x : Held). x.handle) (get_or_from_slice_get held n one d (slice_get-get_or held n one within ∙ ap Some (sym is))) ∙ sym its_handle) next, tt);
+          all_append (IsBelow (get_or held k d).handle) rows (row ∷ []) (told.below k d (omega (arith, le)) inside)
+          (subst (λ h. h < (get_or held k d).handle) (ap (λ (x : Held). x.handle) (get_or_from_slice_get held n one d (slice_get-get_or held n one within ∙ ap Some (sym is))) ∙ sym its_handle) next, tt);
       had = all_append (λ (x : HandleRow). Has history c x.handle x.object) rows (row ∷ []) told.had (its, tt);
-      each = shown_more (rows ++ row ∷ []) (λ h o shown. list_any_left (λ (x : HandleRow). (x.handle == h) && (x.object == o)) rows (row ∷ []) shown) here;
+      each =
+          shown_more (rows ++ row ∷ [])
+          (λ h o shown. list_any_left (λ (x : HandleRow). (x.handle == h) && (x.object == o)) rows (row ∷ []) shown)
+          here;
     }
 
 -- Each handle that a device's history grants has a row.
-pub all_rows : (history : List AnsweredEvent) (c : ℕ) (held : List Held) (rows : List HandleRow) → ((h s : ℕ) → is_held_since held h s ≡ is_given_at (last_gift history c h) s) → (IsOfDevice history → AllByRecursion (IsShown history c rows) held) →
+pub all_rows : (history : List AnsweredEvent) (c : ℕ) (held : List Held) (rows : List HandleRow)
+    → ((h s : ℕ) → is_held_since held h s ≡ is_given_at (last_gift history c h) s)
+    → (IsOfDevice history → AllByRecursion (IsShown history c rows) held) →
     IsOfDevice history → (h o : ℕ) → Has history c h o → is_shown rows h o ≡ true
 all_rows history c held rows are each of_device h o has =
     let since = had_is_given history c h o of_device has in
-    let found = some_passing (λ (one : Held). (one.handle == h) && (one.step == since.0)) (IsShown history c rows) held (each of_device) (are h since.0 ∙ since.1) in
-    let same : found.0.handle ≡ h = eqb-true found.0.handle h (and_parts (found.0.handle == h) (found.0.step == since.0) found.1).0 in
+    let found =
+    some_passing (λ (one : Held). (one.handle == h) && (one.step == since.0)) (IsShown history c rows) held
+    (each of_device) (are h since.0 ∙ since.1) in
+    let same : found.0.handle ≡ h =
+    eqb-true found.0.handle h (and_parts (found.0.handle == h) (found.0.step == since.0) found.1).0 in
     subst (λ k. is_shown rows k o ≡ true) same (found.2 o (subst (λ k. Has history c k o) (sym same) has))

@@ -15,7 +15,8 @@ pub none_opened : (only : Option ℕ) → clients_in only (history_of []) ≡ []
 unfolding clients_in followed_by
 none_opened only = refl
 
-opened_more : (only : Option ℕ) (steps : List Step) (n : ℕ) (step : Step) → n < length steps → step ≡ get_or steps n step
+opened_more : (only : Option ℕ) (steps : List Step) (n : ℕ) (step : Step) → n < length steps
+    → step ≡ get_or steps n step
     → clients_in only (history_of (take (n + 1) steps)) ≡ clients_in only (history_of (take n steps)) ++ with_row only (opens (entry_of step))
 unfolding clients_in
 opened_more only steps n step within is = ap (clients_in only) (history-more steps n step within is)
@@ -26,15 +27,20 @@ map_append f [] ys = refl
 map_append f (x ∷ xs) ys = ap (λ l. f x ∷ l) (map_append f xs ys)
 
 -- One more step that opens a client adds the row of the client.
-pub with_one : (only : Option ℕ) (steps : List Step) (n : ℕ) (step : Step) (rows : List ClientRow) (row : ClientRow) → n < length steps → step ≡ get_or steps n step
-    → map client_of rows ≡ clients_in only (history_of (take n steps)) → option_to_list (option_map client_of (Some row)) ≡ with_row only (opens (entry_of step))
+pub with_one : (only : Option ℕ) (steps : List Step) (n : ℕ) (step : Step) (rows : List ClientRow) (row : ClientRow)
+    → n < length steps → step ≡ get_or steps n step
+    → map client_of rows ≡ clients_in only (history_of (take n steps))
+    → option_to_list (option_map client_of (Some row)) ≡ with_row only (opens (entry_of step))
     → map client_of (rows ++ row ∷ []) ≡ clients_in only (history_of (take (n + 1) steps))
 with_one only steps n step rows row within is so_far new =
     map_append client_of rows (row ∷ []) ∙ (λ i. so_far i ++ new i) ∙ sym (opened_more only steps n step within is)
 
 -- One more step that opens no client adds no row.
-pub with_none : (only : Option ℕ) (steps : List Step) (n : ℕ) (step : Step) (rows : List ClientRow) → n < length steps → step ≡ get_or steps n step
-    → map client_of rows ≡ clients_in only (history_of (take n steps)) → option_to_list (option_map client_of None) ≡ with_row only (opens (entry_of step))
+pub with_none : (only : Option ℕ) (steps : List Step) (n : ℕ) (step : Step) (rows : List ClientRow) → n < length steps
+    → step ≡ get_or steps n step
+    → map client_of rows ≡ clients_in only (history_of (take n steps))
+    → option_to_list (option_map client_of None) ≡ with_row only (opens (entry_of step))
     → map client_of rows ≡ clients_in only (history_of (take (n + 1) steps))
 with_none only steps n step rows within is so_far new =
-    so_far ∙ sym (append-nil (clients_in only (history_of (take n steps)))) ∙ ap (λ l. clients_in only (history_of (take n steps)) ++ l) new ∙ sym (opened_more only steps n step within is)
+    so_far ∙ sym (append-nil (clients_in only (history_of (take n steps))))
+    ∙ ap (λ l. clients_in only (history_of (take n steps)) ++ l) new ∙ sym (opened_more only steps n step within is)

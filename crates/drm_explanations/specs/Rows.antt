@@ -42,7 +42,9 @@ is_lease_of c row = (row.leased.client == c) || is_option c row.redeemed_by
 -- whether a client may set a CRTC or a plane: it is current and controls it, and with universal planes off it is no
 -- primary or cursor plane
 abbrev pub may_set : Topology → List AnsweredEvent → ℕ → ℕ → Bool
-may_set t history c x = is_current_in history c && controls_in t history c x && (is_universal_in history c || not (is_primary_or_cursor t x))
+may_set t history c x =
+    is_current_in history c && controls_in t history c x &&
+    (is_universal_in history c || not (is_primary_or_cursor t x))
 
 -- the CRTCs and planes that it may set, in rising order
 abbrev pub settable : Topology → List AnsweredEvent → ℕ → List ℕ
@@ -50,17 +52,21 @@ settable t history c = filter (may_set t history c) (crtc_ids t ++ plane_ids t)
 
 -- the reason a client is authenticated: its opening as root, else a master, else an AUTH_MAGIC
 abbrev pub authenticated_by : List AnsweredEvent → ℕ → AuthenticatedBy
-authenticated_by history c = if is_root_in history c then Root else (if is_master_in history c then Master else AuthMagic)
+authenticated_by history c =
+    if is_root_in history c then Root else (if is_master_in history c then Master else AuthMagic)
 
 -- the step since which it is: its opening, the step that made it a master, or the first AUTH_MAGIC that named its magic
 abbrev pub authenticated_since : List AnsweredEvent → ℕ → AuthenticatedBy → Option ℕ
 authenticated_since history c Root = Some c
-authenticated_since history c Master = option_map (λ (state : MasterState). state.step) (master_state_of (standings_in history) c)
-authenticated_since history c AuthMagic = option_map (λ (named : Authentication). named.step) (authentication_of (authentications_in history) c)
+authenticated_since history c Master =
+    option_map (λ (state : MasterState). state.step) (master_state_of (standings_in history) c)
+authenticated_since history c AuthMagic =
+    option_map (λ (named : Authentication). named.step) (authentication_of (authentications_in history) c)
 
 -- the magic that this AUTH_MAGIC named
 abbrev pub named_magic : List AnsweredEvent → ℕ → AuthenticatedBy → Option ℕ
-named_magic history c AuthMagic = option_map (λ (named : Authentication). named.magic) (authentication_of (authentications_in history) c)
+named_magic history c AuthMagic =
+    option_map (λ (named : Authentication). named.magic) (authentication_of (authentications_in history) c)
 named_magic history c _ = None
 
 -- the reason a client is authenticated, by the history

@@ -11,13 +11,19 @@ use Rattle.drm_files.specs.contracts.files.Files as files
 use Rattle.drm_files.specs.contracts.files.Files.TheInside as inside
 
 held_send : IsSend held.the_row
-held_send = recorded_send held.the_field.row _ _ held.the_type.to_one (struct_send (shape held.the_type) (search sendable depth 20, (search sendable depth 20, tt)))
+held_send =
+    recorded_send held.the_field.row _ _ held.the_type.to_one
+    (struct_send (shape held.the_type) (search sendable depth 20, (search sendable depth 20, tt)))
 
 neighbours_send : IsSend neighbours.the_row
-neighbours_send = recorded_send neighbours.the_field.row _ _ neighbours.the_type.to_one (struct_send (shape neighbours.the_type) (search sendable depth 20, (search sendable depth 20, tt)))
+neighbours_send =
+    recorded_send neighbours.the_field.row _ _ neighbours.the_type.to_one
+    (struct_send (shape neighbours.the_type) (search sendable depth 20, (search sendable depth 20, tt)))
 
 orders_send : IsSend orders.the_field.row
-orders_send = struct_send (shape orders.the_type) (search (array_send, neighbours_send, sendable) depth 20, (search (array_send, neighbours_send, sendable) depth 20, tt))
+orders_send =
+    struct_send (shape orders.the_type)
+    (search (array_send, neighbours_send, sendable) depth 20, (search (array_send, neighbours_send, sendable) depth 20, tt))
 
 record_send : IsSend record_of.the_row
 record_send =

@@ -16,7 +16,7 @@ use Rattle.drm_files.specs.declared.files.Held.{Held}
 use Rattle.drm_files.specs.declared.rows.FileHandle.{FileHandle}
 use Rattle.drm_files.specs.Files.{hold}
 use Rattle.drm_files.specs.Records.{rows_in, holds_in}
-use Rattle.drm_index_array.proofs.Keyed.{left, right, both, find_below}
+use Rattle.drm_index_array.proofs.RowsByKey.{left, right, both, find_below}
 
 abbrev pub KeyPair : Type 0
 KeyPair = ℕ × ℕ
@@ -27,7 +27,8 @@ key_pair_cmp a b = ordering_then (nat_cmp a.0 b.0) (nat_cmp a.1 b.1)
 
 -- The order of pairs is total.
 pub export_order_total : IsTotalOrder key_pair_cmp
-export_order_total = then_total (on_total (λ (a : KeyPair). a.0) nat_cmp_total) (on_total (λ (a : KeyPair). a.1) nat_cmp_total)
+export_order_total =
+    then_total (on_total (λ (a : KeyPair). a.0) nat_cmp_total) (on_total (λ (a : KeyPair). a.1) nat_cmp_total)
 
 -- Two pairs that are equal in their order are the same.
 pub export_order_exact : IsAntisymmetric key_pair_cmp
@@ -90,11 +91,13 @@ pub sorted_tagged : (c : ℕ) (hs : List (ℕ × Held)) → is_sorted key_pair_c
 sorted_tagged c [] = refl
 sorted_tagged c (e ∷ hs) = λ i. below_tagged c e.0 hs i && sorted_tagged c hs i
 
-below_append : (p : KeyPair) (xs ys : List (KeyPair × Held)) → T (below_all key_pair_cmp p xs) → T (below_all key_pair_cmp p ys) → T (below_all key_pair_cmp p (xs ++ ys))
+below_append : (p : KeyPair) (xs ys : List (KeyPair × Held)) → T (below_all key_pair_cmp p xs)
+    → T (below_all key_pair_cmp p ys) → T (below_all key_pair_cmp p (xs ++ ys))
 below_append p [] ys h k = k
 below_append p (x ∷ xs) ys h k = both _ _ (left _ _ h) (below_append p xs ys (right _ _ h) k)
 
-above_tagged : (c h d : ℕ) (hs : List (ℕ × Held)) → T (is_lt (nat_cmp c d)) → T (below_all key_pair_cmp (c, h) (tagged d hs))
+above_tagged : (c h d : ℕ) (hs : List (ℕ × Held)) → T (is_lt (nat_cmp c d))
+    → T (below_all key_pair_cmp (c, h) (tagged d hs))
 above_tagged c h d [] lt = tt
 above_tagged c h d (e ∷ hs) lt = both _ _ (before (nat_cmp c d) lt) (above_tagged c h d hs lt)
   where
@@ -103,30 +106,40 @@ above_tagged c h d (e ∷ hs) lt = both _ _ (before (nat_cmp c d) lt) (above_tag
     before Equal lt = absurd lt
     before Greater lt = absurd lt
 
-above_flat : (c h : ℕ) (es : List (ℕ × FileRecord)) → T (below_all nat_cmp c es) → T (below_all key_pair_cmp (c, h) (flat es))
+above_flat : (c h : ℕ) (es : List (ℕ × FileRecord)) → T (below_all nat_cmp c es)
+    → T (below_all key_pair_cmp (c, h) (flat es))
 above_flat c h [] k = tt
-above_flat c h (e ∷ es) k = below_append (c, h) _ _ (above_tagged c h e.0 (fin.entries e.1.handles.slots) (left _ _ k)) (above_flat c h es (right _ _ k))
+above_flat c h (e ∷ es) k =
+    below_append (c, h) _ _ (above_tagged c h e.0 (fin.entries e.1.handles.slots) (left _ _ k))
+    (above_flat c h es (right _ _ k))
 
-sorted_append : (c : ℕ) (hs : List (ℕ × Held)) (ys : List (KeyPair × Held)) → T (is_sorted key_pair_cmp (tagged c hs)) → ((h : ℕ) → T (below_all key_pair_cmp (c, h) ys)) → T (is_sorted key_pair_cmp ys) → T (is_sorted key_pair_cmp (tagged c hs ++ ys))
+sorted_append : (c : ℕ) (hs : List (ℕ × Held)) (ys : List (KeyPair × Held)) → T (is_sorted key_pair_cmp (tagged c hs))
+    → ((h : ℕ) → T (below_all key_pair_cmp (c, h) ys)) → T (is_sorted key_pair_cmp ys)
+    → T (is_sorted key_pair_cmp (tagged c hs ++ ys))
 sorted_append c [] ys h above k = k
-sorted_append c (e ∷ hs) ys h above k = both _ _ (below_append (c, e.0) (tagged c hs) ys (left _ _ h) (above e.0)) (sorted_append c hs ys (right _ _ h) above k)
+sorted_append c (e ∷ hs) ys h above k =
+    both _ _ (below_append (c, e.0) (tagged c hs) ys (left _ _ h) (above e.0))
+    (sorted_append c hs ys (right _ _ h) above k)
 
 -- If the records are sorted, the flat list is.
 pub sorted_flat : (es : List (ℕ × FileRecord)) → T (is_sorted nat_cmp es) → T (is_sorted key_pair_cmp (flat es))
 sorted_flat [] h = tt
 sorted_flat (e ∷ es) h =
-    sorted_append e.0 (fin.entries e.1.handles.slots) (flat es) (subst T (sym (sorted_tagged e.0 (fin.entries e.1.handles.slots))) (fin.entries_sorted e.1.handles.slots))
+    sorted_append e.0 (fin.entries e.1.handles.slots) (flat es)
+    (subst T (sym (sorted_tagged e.0 (fin.entries e.1.handles.slots))) (fin.entries_sorted e.1.handles.slots))
     (λ n. above_flat e.0 n es (left _ _ h)) (sorted_flat es (right _ _ h))
 
 -- what is found in it
 
-find_append : (p : KeyPair) (xs ys : List (KeyPair × Held)) → find key_pair_cmp p (xs ++ ys) ≡ option_or (find key_pair_cmp p xs) (find key_pair_cmp p ys)
+find_append : (p : KeyPair) (xs ys : List (KeyPair × Held))
+    → find key_pair_cmp p (xs ++ ys) ≡ option_or (find key_pair_cmp p xs) (find key_pair_cmp p ys)
 find_append p [] ys = refl
 find_append p (x ∷ xs) ys =
     elim (eq_by_cmp key_pair_cmp p x.0) as (λ b. cond b (Some x.1) (find key_pair_cmp p (xs ++ ys)) ≡ option_or (cond b (Some x.1) (find key_pair_cmp p xs)) (find key_pair_cmp p ys)) [ true ↦ refl | false ↦ find_append p xs ys ]
 
 -- A search in one client's tagged entries finds the client's own handles and no others.
-pub find_tagged : (a b c : ℕ) (hs : List (ℕ × Held)) → find key_pair_cmp (a, b) (tagged c hs) ≡ cond (eqb a c) (find nat_cmp b hs) None
+pub find_tagged : (a b c : ℕ) (hs : List (ℕ × Held))
+    → find key_pair_cmp (a, b) (tagged c hs) ≡ cond (eqb a c) (find nat_cmp b hs) None
 find_tagged a b c [] = sym (cond_none (eqb a c))
   where
     cond_none : (t : Bool) → cond t (find {X = Held} nat_cmp b []) None ≡ None
@@ -143,7 +156,8 @@ find_tagged a b c (e ∷ hs) =
 abbrev pub held : fin.FinMap nat_cmp FileRecord → ℕ → ℕ → Option Held
 held m c h = option_and_then (λ r. fin.get r.handles.slots h) (fin.get m c)
 
-find_flat : (es : List (ℕ × FileRecord)) → T (is_sorted nat_cmp es) → (a b : ℕ) → find key_pair_cmp (a, b) (flat es) ≡ option_and_then (λ r. fin.get r.handles.slots b) (find nat_cmp a es)
+find_flat : (es : List (ℕ × FileRecord)) → T (is_sorted nat_cmp es) → (a b : ℕ)
+    → find key_pair_cmp (a, b) (flat es) ≡ option_and_then (λ r. fin.get r.handles.slots b) (find nat_cmp a es)
 find_flat [] h a b = refl
 find_flat (e ∷ es) h a b =
     let hs = fin.entries e.1.handles.slots in
@@ -157,12 +171,14 @@ find_flat (e ∷ es) h a b =
           let yes_cmp : eq_by_cmp nat_cmp a e.0 ≡ true = eq_by_cmp-nat_cmp a e.0 ∙ yes_it in
           (λ i. option_or (cond (yes_it i) (find nat_cmp b hs) None) (option_and_then (λ r. fin.get r.handles.slots b) (none i)))
           ∙ or_none (find nat_cmp b hs) ∙ sym (fin.get-entries e.1.handles.slots b)
-          ∙ ap (λ t. option_and_then (λ r. fin.get r.handles.slots b) (cond t (Some e.1) (find nat_cmp a es))) (sym yes_cmp)
+          ∙ ap (λ t. option_and_then (λ r. fin.get r.handles.slots b) (cond t (Some e.1) (find nat_cmp a es)))
+          (sym yes_cmp)
       | inr apart ↦
           let no_it : eqb a e.0 ≡ false = eqb_other a e.0 apart in
           let no_cmp : eq_by_cmp nat_cmp a e.0 ≡ false = eq_by_cmp-nat_cmp a e.0 ∙ no_it in
           (λ i. option_or (cond (no_it i) (find nat_cmp b hs) None) (option_and_then (λ r. fin.get r.handles.slots b) (find nat_cmp a es)))
-          ∙ ap (λ t. option_and_then (λ r. fin.get r.handles.slots b) (cond t (Some e.1) (find nat_cmp a es))) (sym no_cmp)
+          ∙ ap (λ t. option_and_then (λ r. fin.get r.handles.slots b) (cond t (Some e.1) (find nat_cmp a es)))
+          (sym no_cmp)
     ]
   where
     or_none : (x : Option Held) → option_or x None ≡ x
@@ -170,9 +186,15 @@ find_flat (e ∷ es) h a b =
     or_none (Some x) = refl
 
 -- A search in the flat list finds the entry of the client's table.
-pub find_held : (m : fin.FinMap nat_cmp FileRecord) (a b : ℕ) → find key_pair_cmp (a, b) (flat (fin.entries m)) ≡ held m a b
-find_held m a b = find_flat (fin.entries m) (fin.entries_sorted m) a b ∙ ap (option_and_then (λ r. fin.get r.handles.slots b)) (sym (fin.get-entries m a))
+pub find_held : (m : fin.FinMap nat_cmp FileRecord) (a b : ℕ)
+    → find key_pair_cmp (a, b) (flat (fin.entries m)) ≡ held m a b
+find_held m a b =
+    find_flat (fin.entries m) (fin.entries_sorted m) a b
+    ∙ ap (option_and_then (λ r. fin.get r.handles.slots b)) (sym (fin.get-entries m a))
 
 -- A sorted list with the same handle at each pair is the flat list.
-pub flat_is : (m : fin.FinMap nat_cmp FileRecord) (es : List (KeyPair × Held)) → T (is_sorted key_pair_cmp es) → ((a b : ℕ) → held m a b ≡ find key_pair_cmp (a, b) es) → flat (fin.entries m) ≡ es
-flat_is m es h same = same_entries key_pair_cmp export_order_total export_order_exact _ es (sorted_flat (fin.entries m) (fin.entries_sorted m)) h (λ q. find_held m q.0 q.1 ∙ same q.0 q.1)
+pub flat_is : (m : fin.FinMap nat_cmp FileRecord) (es : List (KeyPair × Held)) → T (is_sorted key_pair_cmp es)
+    → ((a b : ℕ) → held m a b ≡ find key_pair_cmp (a, b) es) → flat (fin.entries m) ≡ es
+flat_is m es h same =
+    same_entries key_pair_cmp export_order_total export_order_exact _ es
+    (sorted_flat (fin.entries m) (fin.entries_sorted m)) h (λ q. find_held m q.0 q.1 ∙ same q.0 q.1)

@@ -2,9 +2,9 @@ mod Flat
 mod Chains
 mod OrderFacts
 mod InOrder
-mod Changes
+mod ChangedLists
 mod RecordFacts
-mod Calls
+mod ListsAfterCalls
 mod Walks
 mod Rests
 mod Removal

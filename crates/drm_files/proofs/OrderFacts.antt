@@ -35,10 +35,13 @@ last_order = record {
 -- the primes of a table
 
 -- The prime at a handle has this handle.
-pub named : (slots : fin.FinMap nat_cmp Held) (object h : ℕ) (y : Prime) → prime_at slots object h ≡ Some y → y.handle ≡ h
+pub named : (slots : fin.FinMap nat_cmp Held) (object h : ℕ) (y : Prime) → prime_at slots object h ≡ Some y
+    → y.handle ≡ h
 named slots object h y there = of_slot (fin.get slots h) there
   where
-    of_order : (t : Bool) (p : Option ℕ) → (if t then option_map (λ export_order. record { export_order = export_order; handle = h }) p else None) ≡ Some y → y.handle ≡ h
+    of_order : (t : Bool) (p : Option ℕ)
+        → (if t then option_map (λ export_order. record { export_order = export_order; handle = h }) p else None) ≡ Some y
+        → y.handle ≡ h
     of_order true None e = absurd (none-some y e)
     of_order true (Some export_order) e = sym (ap (λ (z : Prime). z.handle) (same_Some _ y e))
     of_order false p e = absurd (none-some y e)
@@ -48,31 +51,39 @@ named slots object h y there = of_slot (fin.get slots h) there
     of_slot (Some held) e = of_order (held.object == object) held.export_order e
 
 -- The handle of a prime is in the table and names the object.
-pub for_object : (slots : fin.FinMap nat_cmp Held) (object h : ℕ) (y : Prime) → prime_at slots object h ≡ Some y → (x : Held) × (fin.get slots h ≡ Some x) × (x.object ≡ object)
+pub for_object : (slots : fin.FinMap nat_cmp Held) (object h : ℕ) (y : Prime) → prime_at slots object h ≡ Some y
+    → (x : Held) × (fin.get slots h ≡ Some x) × (x.object ≡ object)
 for_object slots object h y there = of_slot (fin.get slots h) there
   where
-    of_test : (t : Bool) (p : Option ℕ) → (if t then option_map (λ export_order. record { export_order = export_order; handle = h }) p else None) ≡ Some y → t ≡ true
+    of_test : (t : Bool) (p : Option ℕ)
+        → (if t then option_map (λ export_order. record { export_order = export_order; handle = h }) p else None) ≡ Some y
+        → t ≡ true
     of_test true p e = refl
     of_test false p e = absurd (none-some y e)
 
-    of_slot : (o : Option Held) → option_and_then (λ held. prime_of object (h, held)) o ≡ Some y → (x : Held) × (o ≡ Some x) × (x.object ≡ object)
+    of_slot : (o : Option Held) → option_and_then (λ held. prime_of object (h, held)) o ≡ Some y
+        → (x : Held) × (o ≡ Some x) × (x.object ≡ object)
     of_slot None e = absurd (none-some y e)
-    of_slot (Some held) e = (held, refl, eqb-true held.object object (of_test (held.object == object) held.export_order e))
+    of_slot (Some held) e =
+        (held, refl, eqb-true held.object object (of_test (held.object == object) held.export_order e))
 
 -- A handle without an export order is no prime.
 pub unplaced_is : (object h : ℕ) (x : Held) → x.export_order ≡ None → prime_of object (h, x) ≡ None
 unplaced_is object h x none = either (x.object == object) x.export_order none
   where
-    either : (t : Bool) (p : Option ℕ) → p ≡ None → (if t then option_map {U = Prime} (λ export_order. record { export_order = export_order; handle = h }) p else None) ≡ None
+    either : (t : Bool) (p : Option ℕ) → p ≡ None
+        → (if t then option_map {U = Prime} (λ export_order. record { export_order = export_order; handle = h }) p else None) ≡ None
     either true None e = refl
     either true (Some k) e = absurd (none-some k (sym e))
     either false p e = refl
 
 module _ (slots : fin.FinMap nat_cmp Held) (object h : ℕ) where
   -- A new handle without an export order changes no prime.
-  pub primes_kept : ((d : ℕ) → prime_at slots d h ≡ None) → (d k : ℕ) → prime_at (with_handle slots object h None) d k ≡ prime_at slots d k
+  pub primes_kept : ((d : ℕ) → prime_at slots d h ≡ None) → (d k : ℕ)
+      → prime_at (with_handle slots object h None) d k ≡ prime_at slots d k
   primes_kept none d k =
-      ap (option_and_then (λ held. prime_of d (k, held))) (get-insert slots h (record { object = object; export_order = None }) k)
+      ap (option_and_then (λ held. prime_of d (k, held)))
+      (get-insert slots h (record { object = object; export_order = None }) k)
       ∙ by_bool (eqb k h)
       (λ same. ap (λ b. option_and_then (λ held. prime_of d (k, held)) (cond b (Some (record { object = object; export_order = None })) (fin.get slots k))) same
       ∙ unplaced_is d k (record { object = object; export_order = None }) refl
@@ -80,9 +91,11 @@ module _ (slots : fin.FinMap nat_cmp Held) (object h : ℕ) where
       (λ apart. ap (λ b. option_and_then (λ held. prime_of d (k, held)) (cond b (Some (record { object = object; export_order = None })) (fin.get slots k))) apart)
 
   -- A handle with an export order is one more prime of its object.
-  pub primes_more : (export_order k : ℕ) → prime_at (with_handle slots object h (Some export_order)) object k ≡ cond (eqb k h) (Some (record { export_order = export_order; handle = h })) (prime_at slots object k)
+  pub primes_more : (export_order k : ℕ)
+      → prime_at (with_handle slots object h (Some export_order)) object k ≡ cond (eqb k h) (Some (record { export_order = export_order; handle = h })) (prime_at slots object k)
   primes_more export_order k =
-      ap (option_and_then (λ held. prime_of object (k, held))) (get-insert slots h (record { object = object; export_order = Some export_order }) k)
+      ap (option_and_then (λ held. prime_of object (k, held)))
+      (get-insert slots h (record { object = object; export_order = Some export_order }) k)
       ∙ by_bool (eqb k h)
       (λ same. ap (λ b. option_and_then (λ held. prime_of object (k, held)) (cond b (Some (record { object = object; export_order = Some export_order })) (fin.get slots k))) same
       ∙ ap (λ t. if t then Some (record { export_order = export_order; handle = k }) else None) (self_test object)
@@ -95,12 +108,15 @@ module _ (slots : fin.FinMap nat_cmp Held) (object h : ℕ) where
       self_test n = grind (arith, nat_tests)
 
   -- A handle with an export order changes no prime of another object.
-  pub primes_of_others : (export_order d k : ℕ) → (d ≡ object → ⊥) → prime_at slots d h ≡ None → prime_at (with_handle slots object h (Some export_order)) d k ≡ prime_at slots d k
+  pub primes_of_others : (export_order d k : ℕ) → (d ≡ object → ⊥) → prime_at slots d h ≡ None
+      → prime_at (with_handle slots object h (Some export_order)) d k ≡ prime_at slots d k
   primes_of_others export_order d k apart none =
-      ap (option_and_then (λ held. prime_of d (k, held))) (get-insert slots h (record { object = object; export_order = Some export_order }) k)
+      ap (option_and_then (λ held. prime_of d (k, held)))
+      (get-insert slots h (record { object = object; export_order = Some export_order }) k)
       ∙ by_bool (eqb k h)
       (λ same. ap (λ b. option_and_then (λ held. prime_of d (k, held)) (cond b (Some (record { object = object; export_order = Some export_order })) (fin.get slots k))) same
-      ∙ ap (λ t. if t then Some (record { export_order = export_order; handle = k }) else None) (other_test object d apart)
+      ∙ ap (λ t. if t then Some (record { export_order = export_order; handle = k }) else None)
+      (other_test object d apart)
       ∙ sym (ap (prime_at slots d) (eqb-true k h same) ∙ none))
       (λ isnt. ap (λ b. option_and_then (λ held. prime_of d (k, held)) (cond b (Some (record { object = object; export_order = Some export_order })) (fin.get slots k))) isnt)
     where
@@ -116,7 +132,9 @@ module _ (slots : fin.FinMap nat_cmp Held) (object h : ℕ) where
       (λ apart. ap (λ b. option_and_then (λ held. prime_of d (k, held)) (cond b None (fin.get slots k))) apart ∙ sym (ap (λ b. cond b None (prime_at slots d k)) apart))
 
 -- Changing one place of an array changes no other.
-pub written : (m : fin.FinMap nat_cmp Neighbours) (index : ℕ) (x : Neighbours) (change : Neighbours → Neighbours) → Some x ≡ fin.get m index → (k : ℕ) → fin.get (fin.insert m index (change x)) k ≡ choose (k == index) (option_map change (fin.get m k)) (fin.get m k)
+pub written : (m : fin.FinMap nat_cmp Neighbours) (index : ℕ) (x : Neighbours) (change : Neighbours → Neighbours)
+    → Some x ≡ fin.get m index → (k : ℕ)
+    → fin.get (fin.insert m index (change x)) k ≡ choose (k == index) (option_map change (fin.get m k)) (fin.get m k)
 written m index x change there k =
     get-insert m index (change x) k
     ∙ by_bool (eqb k index)
@@ -127,7 +145,9 @@ written m index x change there k =
 
 abbrev pub IsReached : Primes → Option ℕ → Prime → Type 0
 IsReached primes None x = (k : ℕ) (y : Prime) → primes k ≡ Some y → is_before y x ≡ false
-IsReached primes (Some h) x = (v : Prime) × (primes h ≡ Some v) × ((k : ℕ) (y : Prime) → primes k ≡ Some y → is_before v y ≡ true → is_before y x ≡ false)
+IsReached primes (Some h) x =
+    (v : Prime) × (primes h ≡ Some v) ×
+    ((k : ℕ) (y : Prime) → primes k ≡ Some y → is_before v y ≡ true → is_before y x ≡ false)
 
 module _ (slots : fin.FinMap nat_cmp Held) (object : ℕ) (x : Prime) where
   abbrev primes : Primes
@@ -136,10 +156,12 @@ module _ (slots : fin.FinMap nat_cmp Held) (object : ℕ) (x : Prime) where
   -- A walk from the last prime on has at first passed no prime before the new one.
   pub walk_begins : (at : Option ℕ) → IsNext is_after primes None at → IsReached primes at x
   walk_begins None last = λ k y there. absurd (false≢true (sym (last k y there)))
-  walk_begins (Some h) last = (last.prime, last.there, λ k y there further. both (is_before last.prime y) further (last.first k y there refl))
+  walk_begins (Some h) last =
+      (last.prime, last.there, λ k y there further. both (is_before last.prime y) further (last.first k y there refl))
 
   -- A walk may pass a prime that is not before the new one.
-  pub walk_goes_on : (h : ℕ) (v : Prime) → primes h ≡ Some v → is_before v x ≡ false → IsReached primes (Some h) x → (at : Option ℕ) → IsNext is_after primes (Some v) at → IsReached primes at x
+  pub walk_goes_on : (h : ℕ) (v : Prime) → primes h ≡ Some v → is_before v x ≡ false → IsReached primes (Some h) x
+      → (at : Option ℕ) → IsNext is_after primes (Some v) at → IsReached primes at x
   walk_goes_on h v there not_before reached at last = on at last
     where
       beyond : (k : ℕ) (y : Prime) → primes k ≡ Some y → is_before y v ≡ false → is_before y x ≡ false
@@ -154,40 +176,59 @@ module _ (slots : fin.FinMap nat_cmp Held) (object : ℕ) (x : Prime) where
 
       on : (at : Option ℕ) → IsNext is_after primes (Some v) at → IsReached primes at x
       on None last = λ k y is. beyond k y is (last k y is)
-      on (Some l) last = (last.prime, last.there, λ k y is further. beyond k y is (by_bool (is_before y v) (λ less. both (is_before last.prime y) further (last.first k y is less)) (λ isnt. isnt)))
+      on (Some l) last =
+          (last.prime, last.there, λ k y is further. beyond k y is (by_bool (is_before y v) (λ less. both (is_before last.prime y) further (last.first k y is less)) (λ isnt. isnt)))
 
 -- of two primes the first has the lesser export order, or has the same one and the lesser handle
-by_order : {C : Type 0} (w v : Prime) → is_before w v ≡ true → (w.export_order + 1 ≤ v.export_order → C) → (w.export_order ≡ v.export_order → w.handle + 1 ≤ v.handle → C) → C
-by_order w v less lesser tied = by_bool (nat_lt w.export_order v.export_order) (λ so. lesser (grind (arith, nat_tests))) (λ isnt. tied (grind (arith, nat_tests)) (grind (arith, nat_tests)))
+by_order : {C : Type 0} (w v : Prime) → is_before w v ≡ true → (w.export_order + 1 ≤ v.export_order → C)
+    → (w.export_order ≡ v.export_order → w.handle + 1 ≤ v.handle → C) → C
+by_order w v less lesser tied =
+    by_bool (nat_lt w.export_order v.export_order) (λ so. lesser (grind (arith, nat_tests)))
+    (λ isnt. tied (grind (arith, nat_tests)) (grind (arith, nat_tests)))
 
 -- how much of the walk is left
 abbrev pub walk_left : fin.FinMap nat_cmp Held → ℕ → Option ℕ → ℕ
-walk_left slots object at = option_map_or (λ h. option_map_or (λ (x : Prime). x.export_order * 4294967296 + x.handle + 1) (prime_at slots object h) 0) at 0
+walk_left slots object at =
+    option_map_or
+    (λ h. option_map_or (λ (x : Prime). x.export_order * 4294967296 + x.handle + 1) (prime_at slots object h) 0) at 0
 
 module _ (slots : fin.FinMap nat_cmp Held) (orders : ExportOrders) (order : AreInOrder slots orders) (object : ℕ) (x : Prime) where
   -- A walk from the last prime in the links has at first passed no prime before the new one.
-  pub walk_first : (d : ℕ) → d ≡ object → (at : Option ℕ) → at ≡ previous_of orders d None → IsReached (prime_at slots object) at x
-  walk_first d same at is = walk_begins slots object x at (subst (λ m. IsNext is_after (prime_at slots object) None m) (sym (is ∙ ap (λ o. previous_of orders o None) same)) (order.previous object None None tt))
+  pub walk_first : (d : ℕ) → d ≡ object → (at : Option ℕ) → at ≡ previous_of orders d None
+      → IsReached (prime_at slots object) at x
+  walk_first d same at is =
+      walk_begins slots object x at
+      (subst (λ m. IsNext is_after (prime_at slots object) None m) (sym (is ∙ ap (λ o. previous_of orders o None) same)) (order.previous object None None tt))
 
   module _ (d : ℕ) (same : d ≡ object) (at : Option ℕ) (h : ℕ) (here : at ≡ Some h) (v : Prime) (there : Some v ≡ prime_at slots object h) (further : Option ℕ) (is : further ≡ previous_of orders d (Some h)) where
     next_there : IsNext is_after (prime_at slots object) (Some v) further
-    next_there = subst (λ m. IsNext is_after (prime_at slots object) (Some v) m) (sym (is ∙ ap (λ o. previous_of orders o (Some h)) same)) (order.previous object (Some h) (Some v) (sym there))
+    next_there =
+        subst (λ m. IsNext is_after (prime_at slots object) (Some v) m)
+        (sym (is ∙ ap (λ o. previous_of orders o (Some h)) same)) (order.previous object (Some h) (Some v) (sym there))
 
     -- If the prime here is not before the new one, the walk may pass it too.
-    pub walk_next : is_before v x ≡ false → IsReached (prime_at slots object) at x → IsReached (prime_at slots object) further x
-    walk_next not_before reached = walk_goes_on slots object x h v (sym there) not_before (subst (λ m. IsReached (prime_at slots object) m x) here reached) further next_there
+    pub walk_next : is_before v x ≡ false → IsReached (prime_at slots object) at x
+        → IsReached (prime_at slots object) further x
+    walk_next not_before reached =
+        walk_goes_on slots object x h v (sym there) not_before
+        (subst (λ m. IsReached (prime_at slots object) m x) here reached) further next_there
 
     -- Each step to the previous prime leaves less of the walk.
     pub walk_shorter : walk_left slots object further < walk_left slots object at
     walk_shorter =
-        let left_at : walk_left slots object at ≡ v.export_order * 4294967296 + v.handle + 1 = ap (walk_left slots object) here ∙ ap (λ o. option_map_or (λ (y : Prime). y.export_order * 4294967296 + y.handle + 1) o 0) (sym there) in
+        let left_at : walk_left slots object at ≡ v.export_order * 4294967296 + v.handle + 1 =
+        ap (walk_left slots object) here
+        ∙ ap (λ o. option_map_or (λ (y : Prime). y.export_order * 4294967296 + y.handle + 1) o 0) (sym there) in
         less left_at further next_there
       where
-        less : walk_left slots object at ≡ v.export_order * 4294967296 + v.handle + 1 → (m : Option ℕ) → IsNext is_after (prime_at slots object) (Some v) m → walk_left slots object m < walk_left slots object at
+        less : walk_left slots object at ≡ v.export_order * 4294967296 + v.handle + 1 → (m : Option ℕ)
+            → IsNext is_after (prime_at slots object) (Some v) m → walk_left slots object m < walk_left slots object at
         less left None last = omega (arith, left)
         less left (Some l) last =
             let w = last.prime in
-            let left_there : walk_left slots object (Some l) ≡ w.export_order * 4294967296 + w.handle + 1 = ap (λ o. option_map_or (λ (y : Prime). y.export_order * 4294967296 + y.handle + 1) o 0) last.there in
+            let left_there : walk_left slots object (Some l) ≡ w.export_order * 4294967296 + w.handle + 1 =
+            ap (λ o. option_map_or (λ (y : Prime). y.export_order * 4294967296 + y.handle + 1) o 0) last.there in
             let name : w.handle ≡ l = named slots object l w last.there in
             let bound : l ≤ 4294967295 = order.fit l (ap is_some (for_object slots object l w last.there).1) in
-            by_order w v last.past (λ lesser. omega (arith, left, left_there, name, bound, lesser)) (λ tied lesser. omega (arith, left, left_there, name, tied, lesser))
+            by_order w v last.past (λ lesser. omega (arith, left, left_there, name, bound, lesser))
+            (λ tied lesser. omega (arith, left, left_there, name, tied, lesser))

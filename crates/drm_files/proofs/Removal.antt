@@ -7,8 +7,10 @@ use Rattle.drm_id_alloc.specs.Table.{Table, with_entry, without_entry}
 use Rattle.drm_files.specs.declared.files.Held.{Held}
 
 -- Adding an entry at a free handle and removing it leaves the table unchanged.
-pub taken_back : (old more back : Table Held) (h : ℕ) (x : Held) → fin.get old.slots h ≡ None → more ≡ with_entry old h x → back ≡ without_entry more h → back ≡ old
-taken_back old more back h x fresh added taken = taken ∙ ap (λ t. without_entry t h) added ∙ (λ i. record old { slots = same i })
+pub taken_back : (old more back : Table Held) (h : ℕ) (x : Held) → fin.get old.slots h ≡ None
+    → more ≡ with_entry old h x → back ≡ without_entry more h → back ≡ old
+taken_back old more back h x fresh added taken =
+    taken ∙ ap (λ t. without_entry t h) added ∙ (λ i. record old { slots = same i })
   where
     each : (q : ℕ) → fin.get (fin.remove (fin.insert old.slots h x) h) q ≡ fin.get old.slots q
     each q =

@@ -19,9 +19,11 @@ module _ (t : Table Held) where
   nothing_left none = ap pairs_by (sym (from_zero t.slots) ∙ from_none t.slots 0 none)
 
   -- The pairs that are left begin with the lowest handle and its object.
-  pub taken : (h : ℕ) (x : Held) → IsLeast (fin.contains_key t.slots) 0 4294967295 h → fin.get t.slots h ≡ Some x → pairs_of t ≡ (h, x.object) ∷ pairs_by (entries_from t.slots (h + 1))
+  pub taken : (h : ℕ) (x : Held) → IsLeast (fin.contains_key t.slots) 0 4294967295 h → fin.get t.slots h ≡ Some x
+      → pairs_of t ≡ (h, x.object) ∷ pairs_by (entries_from t.slots (h + 1))
   taken h x is found = ap pairs_by (sym (from_zero t.slots) ∙ from_least t.slots 0 4294967295 h x is found)
 
   -- After the lowest handle is removed, the pairs of the handles past it are left.
-  pub after_taken : (h : ℕ) → IsLeast (fin.contains_key t.slots) 0 4294967295 h → pairs_in (fin.remove t.slots h) ≡ pairs_by (entries_from t.slots (h + 1))
+  pub after_taken : (h : ℕ) → IsLeast (fin.contains_key t.slots) 0 4294967295 h
+      → pairs_in (fin.remove t.slots h) ≡ pairs_by (entries_from t.slots (h + 1))
   after_taken h is = ap pairs_by (first_removed t.slots 4294967295 h is)

@@ -6,11 +6,11 @@ use Rattle.std.specs.FinMap.{nat_cmp-IsAntisymmetric}
 use Rattle.std.specs.FinMap.Entries.{find, where_key, is_sorted, below_all, is_sorted-where_key, find-where_key, same_entries}
 use Rattle.std.proofs.lemmas.Bool.{cases_lt, cases_eq, false≢true}
 use Rattle.std.proofs.lemmas.Bool.Decides.{nat_tests}
-use Rattle.drm_lists.proofs.Found.{is_some-false}
+use Rattle.drm_lists.proofs.FoundInLists.{is_some-false}
 use Rattle.drm_index_array.specs.Least.{least, IsLeast}
 use Rattle.drm_index_array.proofs.Least.{least_some}
 use Rattle.drm_index_array.proofs.MarkedLemmas.{get-remove, eq_by_cmp-nat_cmp}
-use Rattle.drm_index_array.proofs.Keyed.{both}
+use Rattle.drm_index_array.proofs.RowsByKey.{both}
 use Rattle.drm_files.proofs.Flat.{eqb_same, eqb_other}
 use Rattle.std.proofs.lemmas.Option.{none-some}
 
@@ -47,14 +47,16 @@ module _ {X : Type 0} where
   module _ (m : fin.FinMap nat_cmp X) where
     find_from : (from q : ℕ) → find nat_cmp q (entries_from m from) ≡ cond (nat_le from q) (fin.get m q) None
     find_from from q =
-        find-where_key nat_cmp (λ k. nat_le from k) q (λ x t. ap (nat_le from) (sym (nat_cmp-IsAntisymmetric q x t))) (fin.entries m)
+        find-where_key nat_cmp (λ k. nat_le from k) q (λ x t. ap (nat_le from) (sym (nat_cmp-IsAntisymmetric q x t)))
+        (fin.entries m)
         ∙ ap (λ y. cond (nat_le from q) y None) (sym (fin.get-entries m q))
 
     sorted_from : (from : ℕ) → T (is_sorted nat_cmp (entries_from m from))
     sorted_from from = is_sorted-where_key nat_cmp (λ k. nat_le from k) (fin.entries m) (fin.entries_sorted m)
 
     -- The entries from a number on are the lowest of them and the entries after it.
-    pub from_least : (from to h : ℕ) (v : X) → IsLeast (fin.contains_key m) from to h → fin.get m h ≡ Some v → entries_from m from ≡ (h, v) ∷ entries_from m (h + 1)
+    pub from_least : (from to h : ℕ) (v : X) → IsLeast (fin.contains_key m) from to h → fin.get m h ≡ Some v
+        → entries_from m from ≡ (h, v) ∷ entries_from m (h + 1)
     from_least from to h v is found =
         same_entries nat_cmp nat_cmp_total nat_cmp-IsAntisymmetric _ _ (sorted_from from) (both _ _ (above_from h (fin.entries m)) (sorted_from (h + 1))) (λ q.
         find_from from q ∙ at q ∙ (λ i. cond (sym (eq_by_cmp-nat_cmp q h) i) (Some v) (sym (find_from (h + 1) q) i)))
@@ -66,26 +68,30 @@ module _ {X : Type 0} where
             at_least le = grind (arith, nat_tests)
         below q lt false le = refl
 
-        at : (q : ℕ) → cond (nat_le from q) (fin.get m q) None ≡ cond (eqb q h) (Some v) (cond (nat_le (h + 1) q) (fin.get m q) None)
+        at : (q : ℕ)
+            → cond (nat_le from q) (fin.get m q) None ≡ cond (eqb q h) (Some v) (cond (nat_le (h + 1) q) (fin.get m q) None)
         at q =
             elim (cases_lt q h) [
               | inl lt ↦
                   below q lt (nat_le from q) refl
-                  ∙ (λ i. cond (sym (eqb_other q h (λ same. omega (arith, lt, same))) i) (Some v) (cond (sym (le_no (h + 1) q (omega (arith, lt))) i) (fin.get m q) None))
+                  ∙
+                  (λ i. cond (sym (eqb_other q h (λ same. omega (arith, lt, same))) i) (Some v) (cond (sym (le_no (h + 1) q (omega (arith, lt))) i) (fin.get m q) None))
               | inr ge ↦ elim (cases_eq q h) [
                 | inl same ↦
                     (λ i. cond (le_yes from q (omega (arith, is.at_least, same)) i) ((ap (fin.get m) same ∙ found) i) None)
                     ∙ ap (λ b. cond b (Some v) (cond (nat_le (h + 1) q) (fin.get m q) None)) (sym (eqb_same q h same))
                 | inr apart ↦
                     (λ i. cond (le_yes from q (omega (arith, is.at_least, ge)) i) (fin.get m q) None)
-                    ∙ (λ i. cond (sym (eqb_other q h apart) i) (Some v) (cond (sym (le_yes (h + 1) q (omega (arith, ge, apart))) i) (fin.get m q) None))
+                    ∙
+                    (λ i. cond (sym (eqb_other q h apart) i) (Some v) (cond (sym (le_yes (h + 1) q (omega (arith, ge, apart))) i) (fin.get m q) None))
               ]
             ]
 
     -- If no key from `from` on exists, no entries from it on are left.
     pub from_none : (from : ℕ) → ((k : ℕ) → from ≤ k → fin.contains_key m k ≡ false) → entries_from m from ≡ []
     from_none from none =
-        same_entries nat_cmp nat_cmp_total nat_cmp-IsAntisymmetric _ [] (sorted_from from) tt (λ q. find_from from q ∙ at q (nat_le from q) refl)
+        same_entries nat_cmp nat_cmp_total nat_cmp-IsAntisymmetric _ [] (sorted_from from) tt
+        (λ q. find_from from q ∙ at q (nat_le from q) refl)
       where
         at : (q : ℕ) (b : Bool) → nat_le from q ≡ b → cond b (fin.get m q) None ≡ None
         at q true le = is_some-false (fin.get m q) (none q (at_least le))
@@ -101,7 +107,8 @@ module _ {X : Type 0} where
         find_from 0 q ∙ ap (λ b. cond b (fin.get m q) None) (le_yes 0 q (omega arith)) ∙ fin.get-entries m q)
 
     -- If all keys are `u32`, there are no entries past `u32`.
-    pub from_past : (from : ℕ) → ((k : ℕ) → IsTrue (fin.contains_key m k) → k ≤ 4294967295) → 4294967295 < from → entries_from m from ≡ []
+    pub from_past : (from : ℕ) → ((k : ℕ) → IsTrue (fin.contains_key m k) → k ≤ 4294967295) → 4294967295 < from
+        → entries_from m from ≡ []
     from_past from bound past = from_none from (λ k le. outside k le (fin.contains_key m k) refl)
       where
         outside : (k : ℕ) → from ≤ k → (b : Bool) → fin.contains_key m k ≡ b → b ≡ false
@@ -109,7 +116,8 @@ module _ {X : Type 0} where
         outside k le false there = refl
 
     -- A map without its lowest key has the entries after it.
-    pub first_removed : (to h : ℕ) → IsLeast (fin.contains_key m) 0 to h → fin.entries (fin.remove m h) ≡ entries_from m (h + 1)
+    pub first_removed : (to h : ℕ) → IsLeast (fin.contains_key m) 0 to h
+        → fin.entries (fin.remove m h) ≡ entries_from m (h + 1)
     first_removed to h is =
         same_entries nat_cmp nat_cmp_total nat_cmp-IsAntisymmetric _ _ (fin.entries_sorted (fin.remove m h)) (sorted_from (h + 1)) (λ q.
         sym (fin.get-entries (fin.remove m h) q) ∙ get-remove m h q ∙ at q ∙ sym (find_from (h + 1) q))
@@ -122,9 +130,11 @@ module _ {X : Type 0} where
                   ∙ (λ i. cond (sym (le_yes (h + 1) q (omega (arith, above))) i) (fin.get m q) None)
               | inr le ↦ elim (cases_eq q h) [
                 | inl same ↦
-                    (λ i. cond (eqb_same q h same i) None (fin.get m q)) ∙ (λ i. cond (sym (le_no (h + 1) q (omega (arith, same))) i) (fin.get m q) None)
+                    (λ i. cond (eqb_same q h same i) None (fin.get m q))
+                    ∙ (λ i. cond (sym (le_no (h + 1) q (omega (arith, same))) i) (fin.get m q) None)
                 | inr apart ↦
-                    (λ i. cond (eqb_other q h apart i) None (fin.get m q)) ∙ is_some-false (fin.get m q) (is.none_below q (omega arith) (omega (arith, le, apart)))
+                    (λ i. cond (eqb_other q h apart i) None (fin.get m q))
+                    ∙ is_some-false (fin.get m q) (is.none_below q (omega arith) (omega (arith, le, apart)))
                     ∙ (λ i. cond (sym (le_no (h + 1) q (omega (arith, le, apart))) i) (fin.get m q) None)
               ]
             ]
@@ -140,7 +150,8 @@ at_front (x ∷ xs) ys zero y is = is
 at_front (x ∷ xs) ys (suc i) y is = at_front xs ys i y is
 
 -- A place past the front of two lists is a place in the second.
-pub behind_front : {Y : Type 0} (xs ys : List Y) (i n : ℕ) → length xs ≡ n → n ≤ i → slice_get (xs ++ ys) i ≡ slice_get ys (i - n)
+pub behind_front : {Y : Type 0} (xs ys : List Y) (i n : ℕ) → length xs ≡ n → n ≤ i
+    → slice_get (xs ++ ys) i ≡ slice_get ys (i - n)
 behind_front [] ys i n is le = let none : i ≡ i - n = omega (arith, is) in ap (slice_get ys) none
 behind_front (x ∷ xs) ys zero n is le = absurd (omega (arith, is, le))
 behind_front (x ∷ xs) ys (suc i) n is le =

@@ -44,7 +44,8 @@ IsNext before primes place (Some h) = IsFirstPast before primes place h
 
 -- each place has the next one
 abbrev pub AreNext : (Prime → Prime → Bool) → Primes → (Option ℕ → Option ℕ) → Type 0
-AreNext before primes next = (at : Option ℕ) (place : Option Prime) → IsPlace primes at place → IsNext before primes place (next at)
+AreNext before primes next =
+    (at : Option ℕ) (place : Option Prime) → IsPlace primes at place → IsNext before primes place (next at)
 
 -- what is on one side of a place
 abbrev pub side_of : (Neighbours → Option ℕ) → ExportOrders → ℕ → Option ℕ → Option ℕ
@@ -87,20 +88,24 @@ choose false x y = y
 -- what follows one place is set, and nothing else
 pub record HasNext (old : ExportOrders) (object : ℕ) (place : Option ℕ) (next : Option ℕ) (new : ExportOrders) : Type 0 where
   pub room : (d : ℕ) (at : Option ℕ) → has_room new d at ≡ has_room old d at
-  pub next_is : (d : ℕ) (at : Option ℕ) → next_of new d at ≡ choose (has_room old d at && is_same_place object place d at) next (next_of old d at)
+  pub next_is : (d : ℕ) (at : Option ℕ)
+      → next_of new d at ≡ choose (has_room old d at && is_same_place object place d at) next (next_of old d at)
   pub previous_is : (d : ℕ) (at : Option ℕ) → previous_of new d at ≡ previous_of old d at
 
 -- what is before one place is set, and nothing else
 pub record HasPrevious (old : ExportOrders) (object : ℕ) (place : Option ℕ) (previous : Option ℕ) (new : ExportOrders) : Type 0 where
   pub room : (d : ℕ) (at : Option ℕ) → has_room new d at ≡ has_room old d at
   pub next_is : (d : ℕ) (at : Option ℕ) → next_of new d at ≡ next_of old d at
-  pub previous_is : (d : ℕ) (at : Option ℕ) → previous_of new d at ≡ choose (has_room old d at && is_same_place object place d at) previous (previous_of old d at)
+  pub previous_is : (d : ℕ) (at : Option ℕ)
+      → previous_of new d at ≡ choose (has_room old d at && is_same_place object place d at) previous (previous_of old d at)
 
 -- the right place follows the left one, and no other place has another neighbour
 pub record AreJoined (old : ExportOrders) (object : ℕ) (left right : Option ℕ) (new : ExportOrders) : Type 0 where
   pub room : (d : ℕ) (at : Option ℕ) → has_room new d at ≡ has_room old d at
-  pub next_is : (d : ℕ) (at : Option ℕ) → next_of new d at ≡ choose (has_room old d at && is_same_place object left d at) right (next_of old d at)
-  pub previous_is : (d : ℕ) (at : Option ℕ) → previous_of new d at ≡ choose (has_room old d at && is_same_place object right d at) left (previous_of old d at)
+  pub next_is : (d : ℕ) (at : Option ℕ)
+      → next_of new d at ≡ choose (has_room old d at && is_same_place object left d at) right (next_of old d at)
+  pub previous_is : (d : ℕ) (at : Option ℕ)
+      → previous_of new d at ≡ choose (has_room old d at && is_same_place object right d at) left (previous_of old d at)
 
 -- a handle of the object, with or without an export order
 abbrev pub with_handle : map.FinMap nat_cmp Held → ℕ → ℕ → Option ℕ → map.FinMap nat_cmp Held

@@ -116,7 +116,8 @@ without_handle_row files c h = record files { holds = filter (λ row. not (is_ha
 
 -- what the client's row is made into
 abbrev pub with_change : (FileClient → FileClient) → FileLists → ℕ → FileLists
-with_change change files c = record files { clients = map (λ row. if is_client c row then change row else row) files.clients }
+with_change change files c =
+    record files { clients = map (λ row. if is_client c row then change row else row) files.clients }
 
 -- the lists with the client authenticated
 abbrev pub with_authenticated : FileLists → ℕ → FileLists
@@ -144,11 +145,14 @@ has_export_order export_order row = option_map_or (λ p. p == export_order) row.
 
 -- the client's handles for the object that have this export order
 abbrev pub handles_at : FileLists → ℕ → ℕ → ℕ → List ℕ
-handles_at files c object export_order = map (λ row. row.handle) (filter (has_export_order export_order) (filter (is_handle_of c object) files.holds))
+handles_at files c object export_order =
+    map (λ row. row.handle) (filter (has_export_order export_order) (filter (is_handle_of c object) files.holds))
 
 -- the client's handle for the object with the least export order, and at a tie the least handle
 abbrev pub prime_handle : FileLists → ℕ → ℕ → Option ℕ
-prime_handle files c object = option_and_then (λ export_order. least_of (handles_at files c object export_order)) (least_of (export_orders_of files c object))
+prime_handle files c object =
+    option_and_then (λ export_order. least_of (handles_at files c object export_order))
+    (least_of (export_orders_of files c object))
 
 -- an export order that a handle has stays
 abbrev pub given_export_order : ℕ → FileHandle → FileHandle
@@ -156,7 +160,9 @@ given_export_order export_order row = record row { export_order = option_or row.
 
 -- the lists where the client's handle has this export order, unless it had one already
 abbrev pub with_export_order : FileLists → ℕ → ℕ → ℕ → FileLists
-with_export_order files c h export_order = record files { holds = map (λ row. if is_handle c h row then given_export_order export_order row else row) files.holds }
+with_export_order files c h export_order =
+    record files
+    { holds = map (λ row. if is_handle c h row then given_export_order export_order row else row) files.holds }
 
 -- what is so of a hold: its client is open, and its numbers are in their ranges
 pub record IsHandleOf (files : FileLists) (row : FileHandle) : Type 0 where

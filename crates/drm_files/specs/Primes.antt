@@ -22,15 +22,21 @@ is_at export_order entry = option_map_or (λ p. p == export_order) entry.1.expor
 
 -- the handles for an object that have an export order
 abbrev pub handles_in : ℕ → ℕ → List (ℕ × Held) → List ℕ
-handles_in object export_order entries = list_map (λ entry. entry.0) (filter (is_at export_order) (filter (is_for object) entries))
+handles_in object export_order entries =
+    list_map (λ entry. entry.0) (filter (is_at export_order) (filter (is_for object) entries))
 
 -- the least export order of the handles for an object, with the least handle that has it
 abbrev pub least_prime : ℕ → List (ℕ × Held) → Option Prime
-least_prime object entries = option_and_then (λ export_order. option_map (λ handle. record { export_order = export_order; handle = handle }) (least_of (handles_in object export_order entries))) (least_of (export_orders_in object entries))
+least_prime object entries =
+    option_and_then
+    (λ export_order. option_map (λ handle. record { export_order = export_order; handle = handle }) (least_of (handles_in object export_order entries)))
+    (least_of (export_orders_in object entries))
 
 -- the handle and its export order, if it is for the object and has one
 abbrev pub prime_of : ℕ → ℕ × Held → Option Prime
-prime_of object entry = if is_for object entry then option_map (λ export_order. record { export_order = export_order; handle = entry.0 }) entry.1.export_order else None
+prime_of object entry =
+    if is_for object entry then option_map (λ export_order. record { export_order = export_order; handle = entry.0 })
+    entry.1.export_order else None
 
 -- a handle and its export order, if it is for the object and has one
 abbrev pub prime_at : map.FinMap nat_cmp Held → ℕ → ℕ → Option Prime

@@ -24,7 +24,7 @@ use Rattle.drm_frames.specs.Fields.{field_text, numbers_in}
 use Rattle.drm_frames.specs.Answers.{CallResult, told_frame, FitsTold, answer_frame, FitsFields, IsAnswer, rule_of, apart_of, denied, refused, resources_in, list_in, audit_in, denied_in, refused_in, answer_in}
 use Rattle.drm_frames.specs.Lists.{list_text, FitsList, FitsResources, front_list, behind_list}
 use Rattle.drm_frames.specs.Pages.{row_text, page_text, FitsPage, rows_in}
-use Rattle.drm_frames.proofs.Numbers.{u32_in-u32, length-u32}
+use Rattle.drm_frames.proofs.NumberBytes.{u32_in-u32, length-u32}
 use Rattle.drm_frames.proofs.FieldLaws.{two-bytes, length-two, last-of-two}
 use Rattle.drm_table.proofs.RefusalRows.{rule-small, apart-small}
 use Rattle.drm_frames.proofs.RuleLaws.{rule-found, apart-found}
@@ -72,25 +72,41 @@ answer-fits (Err apart) h = record {
 
 -- ---- a result is found
 
-denied_in-two : (number errno : ℕ) → number < 2 ^ 32 → errno < 2 ^ 32 → denied_in (u32 number ++ u32 errno) ≡ denied (rule_of number errno)
-denied_in-two number errno a b = rw (eq-eqb _ 8 (length-two number errno), u32_in-u32 number (u32 errno) a, last-of-two number errno b) refl
+denied_in-two : (number errno : ℕ) → number < 2 ^ 32 → errno < 2 ^ 32
+    → denied_in (u32 number ++ u32 errno) ≡ denied (rule_of number errno)
+denied_in-two number errno a b =
+    rw (eq-eqb _ 8 (length-two number errno), u32_in-u32 number (u32 errno) a, last-of-two number errno b) refl
 
-refused_in-two : (number errno : ℕ) → number < 2 ^ 32 → errno < 2 ^ 32 → refused_in (u32 number ++ u32 errno) ≡ refused (apart_of number errno)
-refused_in-two number errno a b = rw (eq-eqb _ 8 (length-two number errno), u32_in-u32 number (u32 errno) a, last-of-two number errno b) refl
+refused_in-two : (number errno : ℕ) → number < 2 ^ 32 → errno < 2 ^ 32
+    → refused_in (u32 number ++ u32 errno) ≡ refused (apart_of number errno)
+refused_in-two number errno a b =
+    rw (eq-eqb _ 8 (length-two number errno), u32_in-u32 number (u32 errno) a, last-of-two number errno b) refl
 
 -- the numbers of the others are no row's
-others-own : (fields : List ℕ) → (answer_in (frame_value 0x1007 fields) ≡ list_in fields) × (answer_in (frame_value 0x100B fields) ≡ audit_in fields)
-    × (answer_in (frame_value 0x2000 fields) ≡ denied_in fields) × (answer_in (frame_value 0x2001 fields) ≡ refused_in fields) × (answer_in (frame_value 0x1006 fields) ≡ resources_in fields)
+others-own : (fields : List ℕ)
+    → (answer_in (frame_value 0x1007 fields) ≡ list_in fields) × (answer_in (frame_value 0x100B fields) ≡ audit_in fields)
+    × (answer_in (frame_value 0x2000 fields) ≡ denied_in fields) ×
+    (answer_in (frame_value 0x2001 fields) ≡ refused_in fields) ×
+    (answer_in (frame_value 0x1006 fields) ≡ resources_in fields)
 unfolding answer_in answer_kind_of answer_kind_row
 others-own fields = (refl, refl, refl, refl, refl)
 
-denied-found : (rule : Rule) → answer_in (frame_value 0x2000 (u32 (rule_number rule) ++ u32 (rule_errno rule))) ≡ Some (Ok (Denied rule))
-denied-found rule = (others-own (u32 (rule_number rule) ++ u32 (rule_errno rule))).2 ∙ denied_in-two (rule_number rule) (rule_errno rule) (rule-small rule).0 (rule-small rule).1 ∙ ap denied (rule-found rule)
+denied-found : (rule : Rule)
+    → answer_in (frame_value 0x2000 (u32 (rule_number rule) ++ u32 (rule_errno rule))) ≡ Some (Ok (Denied rule))
+denied-found rule =
+    (others-own (u32 (rule_number rule) ++ u32 (rule_errno rule))).2
+    ∙ denied_in-two (rule_number rule) (rule_errno rule) (rule-small rule).0 (rule-small rule).1
+    ∙ ap denied (rule-found rule)
 
-refused-found : (apart : Apart) → answer_in (frame_value 0x2001 (u32 (apart_number apart) ++ u32 (apart_errno apart))) ≡ Some (Err apart)
-refused-found apart = (others-own (u32 (apart_number apart) ++ u32 (apart_errno apart))).3 ∙ refused_in-two (apart_number apart) (apart_errno apart) (apart-small apart).0 (apart-small apart).1 ∙ ap refused (apart-found apart)
+refused-found : (apart : Apart)
+    → answer_in (frame_value 0x2001 (u32 (apart_number apart) ++ u32 (apart_errno apart))) ≡ Some (Err apart)
+refused-found apart =
+    (others-own (u32 (apart_number apart) ++ u32 (apart_errno apart))).3
+    ∙ refused_in-two (apart_number apart) (apart_errno apart) (apart-small apart).0 (apart-small apart).1
+    ∙ ap refused (apart-found apart)
 
-list_in-behind : (fields : List ℕ) → behind_list fields ≡ Some [] → list_in fields ≡ Some (Ok (Listed (front_list fields)))
+list_in-behind : (fields : List ℕ) → behind_list fields ≡ Some []
+    → list_in fields ≡ Some (Ok (Listed (front_list fields)))
 list_in-behind fields e = rw e refl
 
 list-found : (ids : List ℕ) → FitsList ids → answer_in (frame_value 0x1007 (list_text ids)) ≡ Some (Ok (Listed ids))
@@ -102,11 +118,13 @@ list-found ids fits =
     ∙ list_in-behind text front.0
     ∙ ap (λ (xs : List ℕ). Some (Ok (Listed xs))) front.1
 
-resources_in-lists : (first second third fourth : List ℕ) → behind_list first ≡ Some second → behind_list second ≡ Some third → behind_list third ≡ Some fourth → behind_list fourth ≡ Some []
+resources_in-lists : (first second third fourth : List ℕ) → behind_list first ≡ Some second
+    → behind_list second ≡ Some third → behind_list third ≡ Some fourth → behind_list fourth ≡ Some []
     → resources_in first ≡ Some (Ok (Resources (front_list first) (front_list second) (front_list third) (front_list fourth)))
 resources_in-lists first second third fourth a b c d = rw (a, b, c, d) refl
 
-resources-found : (crtcs connectors encoders framebuffers : List ℕ) → FitsResources crtcs connectors encoders framebuffers
+resources-found : (crtcs connectors encoders framebuffers : List ℕ)
+    → FitsResources crtcs connectors encoders framebuffers
     → answer_in (frame_value 0x1006 (list_text crtcs ++ list_text connectors ++ list_text encoders ++ list_text framebuffers)) ≡ Some (Ok (Resources crtcs connectors encoders framebuffers))
 resources-found crtcs connectors encoders framebuffers fits =
     let fourth = list_text framebuffers ++ [] in
@@ -117,27 +135,35 @@ resources-found crtcs connectors encoders framebuffers fits =
     let b = front-found connectors third fits.each_connector in
     let c = front-found encoders fourth fits.each_encoder in
     let d = front-found framebuffers [] fits.each_framebuffer in
-    let lists : Resources (front_list first) (front_list second) (front_list third) (front_list fourth) ≡ Resources crtcs connectors encoders framebuffers = rw (a.1, b.1, c.1, d.1) refl in
+    let lists : Resources (front_list first) (front_list second) (front_list third) (front_list fourth) ≡ Resources crtcs connectors encoders framebuffers =
+    rw (a.1, b.1, c.1, d.1) refl in
     (others-own (list_text crtcs ++ list_text connectors ++ list_text encoders ++ list_text framebuffers)).4
-    ∙ ap resources_in (four-apart (list_text crtcs) (list_text connectors) (list_text encoders) (list_text framebuffers))
+    ∙ ap resources_in
+    (four-apart (list_text crtcs) (list_text connectors) (list_text encoders) (list_text framebuffers))
     ∙ resources_in-lists first second third fourth a.0 b.0 c.0 d.0
     ∙ ap (λ (answer : Answer). Some (Ok answer)) lists
 
-audit_in-page : (count : ℕ) (fields : List ℕ) → count ≤ 16 → length fields ≡ 4 + 32 * count → u32_in fields ≡ count → audit_in fields ≡ Some (Ok (Audit (rows_in count (drop 4 fields))))
+audit_in-page : (count : ℕ) (fields : List ℕ) → count ≤ 16 → length fields ≡ 4 + 32 * count → u32_in fields ≡ count
+    → audit_in fields ≡ Some (Ok (Audit (rows_in count (drop 4 fields))))
 audit_in-page count fields few len says =
     let long : nat_le 4 (length fields) ≡ true = grind (arith, nat_tests) in
     let most : nat_le count 16 ≡ true = grind (arith, nat_tests) in
     rw (long, says, most, eq-eqb (length fields) (4 + 32 * count) len) refl
 
-audit-found : (shown : List AuditRow) → FitsPage shown → answer_in (frame_value 0x100B (page_text shown)) ≡ Some (Ok (Audit shown))
+audit-found : (shown : List AuditRow) → FitsPage shown
+    → answer_in (frame_value 0x100B (page_text shown)) ≡ Some (Ok (Audit shown))
 audit-found shown fits =
     let few = fits.few in
-    let behind : drop 4 (page_text shown) ≡ flat_map row_text shown = drop_at (u32 (length shown)) (flat_map row_text shown) 4 (length-u32 (length shown)) in
+    let behind : drop 4 (page_text shown) ≡ flat_map row_text shown =
+    drop_at (u32 (length shown)) (flat_map row_text shown) 4 (length-u32 (length shown)) in
     (others-own (page_text shown)).1
-    ∙ audit_in-page (length shown) (page_text shown) few (length-page shown) (u32_in-u32 (length shown) (flat_map row_text shown) (omega arith))
-    ∙ ap (λ (rows : List AuditRow). Some (Ok (Audit rows))) (ap (rows_in (length shown)) behind ∙ rows_in-rows shown fits.each)
+    ∙ audit_in-page (length shown) (page_text shown) few (length-page shown)
+    (u32_in-u32 (length shown) (flat_map row_text shown) (omega arith))
+    ∙ ap (λ (rows : List AuditRow). Some (Ok (Audit rows)))
+    (ap (rows_in (length shown)) behind ∙ rows_in-rows shown fits.each)
 
-row-found : (answer : Answer) (kind : AnswerKind) (fs : List Field) → answer_with kind fs ≡ Some answer → map width_of fs ≡ answer_widths kind → All FitsField fs
+row-found : (answer : Answer) (kind : AnswerKind) (fs : List Field) → answer_with kind fs ≡ Some answer
+    → map width_of fs ≡ answer_widths kind → All FitsField fs
     → answer_in (frame_value (answer_number kind) (flat_map field_text fs)) ≡ Some (Ok answer)
 unfolding answer_in
 row-found answer kind fs back widths each =
@@ -145,9 +171,11 @@ row-found answer kind fs back widths each =
     ap (λ (ws : List Width). numbers_in ws (flat_map field_text fs)) (sym widths) ∙ numbers-read fs each in
     rw (kind-found kind, fields, back) refl
 
-told-found : (answer : Answer) (t : Told) → TellsBack answer t → HasToldWidths t → FitsTold t → answer_in (told_frame t) ≡ Some (Ok answer)
+told-found : (answer : Answer) (t : Told) → TellsBack answer t → HasToldWidths t → FitsTold t
+    → answer_in (told_frame t) ≡ Some (Ok answer)
 told-found answer (row kind fs) back widths h = row-found answer kind fs back widths h
-told-found answer (resources crtcs connectors encoders framebuffers) back widths h = resources-found crtcs connectors encoders framebuffers h ∙ ap (λ (a : Answer). Some (Ok a)) (sym back)
+told-found answer (resources crtcs connectors encoders framebuffers) back widths h =
+    resources-found crtcs connectors encoders framebuffers h ∙ ap (λ (a : Answer). Some (Ok a)) (sym back)
 told-found answer (list ids) back widths h = list-found ids h ∙ ap (λ (a : Answer). Some (Ok a)) (sym back)
 told-found answer (page rows) back widths h = audit-found rows h ∙ ap (λ (a : Answer). Some (Ok a)) (sym back)
 told-found answer (denial rule) back widths h = denied-found rule ∙ ap (λ (a : Answer). Some (Ok a)) (sym back)

@@ -34,11 +34,13 @@ row-fits f call h = fits-by f (call_row call) h
 
 -- ---- a row's call is found
 
-found-by : (f : FrameValue) (call : Call) (o : Option (CallKind × List Field)) → IsReadBack call o → AsksBy o f → asked_of f (call_kind_of f.number) ≡ call
+found-by : (f : FrameValue) (call : Call) (o : Option (CallKind × List Field)) → IsReadBack call o → AsksBy o f
+    → asked_of f (call_kind_of f.number) ≡ call
 found-by f call None back h = absurd h
 found-by f call (Some row) back h =
     let kind : call_kind_of f.number ≡ Some row.0 = ap call_kind_of h.number ∙ kind-found row.0 in
-    let fields : fields_in (kind_layout row.0) f.fields ≡ Some row.1 = ap (fields_in (kind_layout row.0)) h.text ∙ text-read (kind_layout row.0) row.1 h.fits in
+    let fields : fields_in (kind_layout row.0) f.fields ≡ Some row.1 =
+    ap (fields_in (kind_layout row.0)) h.text ∙ text-read (kind_layout row.0) row.1 h.fits in
     rw (kind, fields, back) refl
 
 -- A row's call is found in a frame that asks it.
@@ -55,19 +57,26 @@ has_row (calls.Unknown n) h e = h
 has_row (calls.BadLayout n) h e = h
 has_row call h e = cc
 
-widths-by : (kind : CallKind) (fs : List Field) (o : Option (CallKind × List Field)) → HasWidths o → o ≡ Some (kind, fs) → map width_of fs ≡ widths_in (kind_layout kind) (length fs)
+widths-by : (kind : CallKind) (fs : List Field) (o : Option (CallKind × List Field)) → HasWidths o → o ≡ Some (kind, fs)
+    → map width_of fs ≡ widths_in (kind_layout kind) (length fs)
 widths-by kind fs None h e = absurd (cc)
-widths-by kind fs (Some row) h e = subst (λ (r : CallKind × List Field). map width_of r.1 ≡ widths_in (kind_layout r.0) (length r.1)) (some-is row (kind, fs) e) h
+widths-by kind fs (Some row) h e =
+    subst (λ (r : CallKind × List Field). map width_of r.1 ≡ widths_in (kind_layout r.0) (length r.1))
+    (some-is row (kind, fs) e) h
 
 -- The text made of a row's number and of the call's fields is that of a frame that asks the call.
-pub writes-row : (call : Call) (kind : CallKind) (fs xs : List Field) (layout : Layout) (number : ℕ) (fields slice text : List ℕ) → call_row call ≡ Some (kind, fs) → xs ≡ fs
-    → length fs ≤ 32 → layout ≡ kind_layout kind → number ≡ kind_number kind → fields ≡ fields_text layout xs → All FitsField xs → slice ≡ fields → text ≡ frame_text (frame_value number slice)
+pub writes-row : (call : Call) (kind : CallKind) (fs xs : List Field) (layout : Layout) (number : ℕ) (fields slice text : List ℕ)
+    → call_row call ≡ Some (kind, fs) → xs ≡ fs
+    → length fs ≤ 32 → layout ≡ kind_layout kind → number ≡ kind_number kind → fields ≡ fields_text layout xs
+    → All FitsField xs → slice ≡ fields → text ≡ frame_text (frame_value number slice)
     → WritesCall call text
 writes-row call kind fs xs layout number fields slice text row same few l n f each s t =
     let asks : AsksRow kind fs (frame_value number slice) =
     record {
       number = n;
-      fits = record { widths = widths-by kind fs (call_row call) (has-widths call) row; few = few; each = subst (λ (ys : List Field). All FitsField ys) same each };
+      fits =
+          record
+          { widths = widths-by kind fs (call_row call) (has-widths call) row; few = few; each = subst (λ (ys : List Field). All FitsField ys) same each };
       text = s ∙ f ∙ ap (fields_text layout) same ∙ ap (λ (k : Layout). fields_text k fs) l;
     } in
     record {

@@ -6,10 +6,11 @@ use Rattle.drm_frames.specs.declared.decoding.Decoded.TheVariants.{Whole, NeedMo
 use Rattle.drm_frames.specs.Number.{u16, u32_in}
 use Rattle.drm_frames.specs.Grammar.{FrameValue, frame_text, IsFrame, IsWrongLength, IsTooLong, IsPart}
 use Rattle.drm_frames.specs.Decoding.{StandsAtFront, Decodes, ReadsAs}
-use Rattle.drm_frames.proofs.Numbers.{u32_in-u32}
+use Rattle.drm_frames.proofs.NumberBytes.{u32_in-u32}
 use Rattle.drm_frames.proofs.FrameLaws.{one-text, frame_value-text, part-no-frame}
 
-stands : (bytes : List ℕ) (f : FrameValue) (used : ℕ) → StandsAtFront bytes f used → bytes ≡ frame_text f ++ drop used bytes
+stands : (bytes : List ℕ) (f : FrameValue) (used : ℕ) → StandsAtFront bytes f used
+    → bytes ≡ frame_text f ++ drop used bytes
 stands bytes f used h = sym (take-append-drop used bytes) ∙ ap (λ (xs : List ℕ). xs ++ drop used bytes) h.text
 
 used-is : (bytes : List ℕ) (f : FrameValue) (used : ℕ) → StandsAtFront bytes f used → used ≡ length (frame_text f)
@@ -18,10 +19,13 @@ used-is bytes f used h = sym (length-take-le used bytes h.within) ∙ ap length 
 whole-is : (f g : FrameValue) (u v : ℕ) → f ≡ g → u ≡ v → Whole f u ≡ Whole g v
 whole-is f g u v a b = cc
 
-one-frame : (bytes : List ℕ) (f g : FrameValue) (u v : ℕ) → StandsAtFront bytes f u → StandsAtFront bytes g v → Whole f u ≡ Whole g v
+one-frame : (bytes : List ℕ) (f g : FrameValue) (u v : ℕ) → StandsAtFront bytes f u → StandsAtFront bytes g v
+    → Whole f u ≡ Whole g v
 one-frame bytes f g u v a b =
-    let same = one-text f g (drop u bytes) (drop v bytes) a.fits b.fits (sym (stands bytes f u a) ∙ stands bytes g v b) in
-    whole-is f g u v same.0 (used-is bytes f u a ∙ ap (λ (k : FrameValue). length (frame_text k)) same.0 ∙ sym (used-is bytes g v b))
+    let same =
+    one-text f g (drop u bytes) (drop v bytes) a.fits b.fits (sym (stands bytes f u a) ∙ stands bytes g v b) in
+    whole-is f g u v same.0
+    (used-is bytes f u a ∙ ap (λ (k : FrameValue). length (frame_text k)) same.0 ∙ sym (used-is bytes g v b))
 
 no-part : (bytes : List ℕ) (f : FrameValue) (used : ℕ) → StandsAtFront bytes f used → IsPart bytes → ⊥
 no-part bytes f used h part = part-no-frame bytes (drop used bytes) f h.fits part (stands bytes f used h)

@@ -6,7 +6,7 @@ use Rattle.std.proofs.lemmas.Bool.{cases_lt}
 use Rattle.std.proofs.lemmas.List.{append_assoc, append-nil, length-append, drop_at, length-drop, drop-drop, get_or_append_left, get_or-append_right}
 use Rattle.byteorder.specs.Numbers.{little_from-lt}
 use Rattle.drm_frames.specs.Number.{u32, u64, u32_in, u64_in, AreBytes}
-use Rattle.drm_frames.proofs.Numbers.{AreBytes-drop, u32-again, u32-front, length-u32, u32_in-u32}
+use Rattle.drm_frames.proofs.NumberBytes.{AreBytes-drop, u32-again, u32-front, length-u32, u32_in-u32}
 
 -- ---- what is written is bytes
 
@@ -81,7 +81,8 @@ length-three a b c = omega (arith, length-behind a b (u32 c), length-u32 c)
 
 -- After the first `u32` is dropped, the second one and the rest are left.
 pub second-drop : (a b : ℕ) (rest : List ℕ) → drop 4 (u32 a ++ u32 b ++ rest) ≡ u32 b ++ rest
-second-drop a b rest = ap (drop 4) (append_assoc (u32 a) (u32 b) rest) ∙ drop_at (u32 a) (u32 b ++ rest) 4 (length-u32 a)
+second-drop a b rest =
+    ap (drop 4) (append_assoc (u32 a) (u32 b) rest) ∙ drop_at (u32 a) (u32 b ++ rest) 4 (length-u32 a)
 
 -- The first of two `u32` is read at the front.
 pub first-is : (a b : ℕ) (rest : List ℕ) → a < 2 ^ 32 → u32_in (u32 a ++ u32 b ++ rest) ≡ a
@@ -100,22 +101,30 @@ pub last-of-two : (a b : ℕ) → b < 2 ^ 32 → u32_in (drop 4 (u32 a ++ u32 b)
 last-of-two a b h = ap u32_in (drop_at (u32 a) (u32 b) 4 (length-u32 a)) ∙ u32_in-alone b h
 
 -- At least 8 bytes are two `u32` that are read from them, and the rest.
-pub two-front : (fields : List ℕ) → 8 ≤ length fields → AreBytes fields → fields ≡ u32 (u32_in fields) ++ u32 (u32_in (drop 4 fields)) ++ drop 8 fields
+pub two-front : (fields : List ℕ) → 8 ≤ length fields → AreBytes fields
+    → fields ≡ u32 (u32_in fields) ++ u32 (u32_in (drop 4 fields)) ++ drop 8 fields
 two-front fields long h =
     let first = u32-front fields (omega arith) h in
-    let second : drop 4 fields ≡ u32 (u32_in (drop 4 fields)) ++ drop 4 (drop 4 fields) = u32-front (drop 4 fields) (omega (arith, length-drop 4 fields)) (AreBytes-drop 4 fields h) in
+    let second : drop 4 fields ≡ u32 (u32_in (drop 4 fields)) ++ drop 4 (drop 4 fields) =
+    u32-front (drop 4 fields) (omega (arith, length-drop 4 fields)) (AreBytes-drop 4 fields h) in
     let both : drop 4 (drop 4 fields) ≡ drop 8 fields = drop-drop 4 4 fields in
-    first ∙ ap (λ (x : List ℕ). u32 (u32_in fields) ++ x) (second ∙ ap (λ (x : List ℕ). u32 (u32_in (drop 4 fields)) ++ x) both)
+    first
+    ∙ ap (λ (x : List ℕ). u32 (u32_in fields) ++ x)
+    (second ∙ ap (λ (x : List ℕ). u32 (u32_in (drop 4 fields)) ++ x) both)
     ∙ sym (append_assoc (u32 (u32_in fields)) (u32 (u32_in (drop 4 fields))) (drop 8 fields))
 
 -- 8 bytes are the two `u32` that are read from them.
-pub two-again : (fields : List ℕ) → length fields ≡ 8 → AreBytes fields → fields ≡ u32 (u32_in fields) ++ u32 (u32_in (drop 4 fields))
+pub two-again : (fields : List ℕ) → length fields ≡ 8 → AreBytes fields
+    → fields ≡ u32 (u32_in fields) ++ u32 (u32_in (drop 4 fields))
 two-again fields len h =
     u32-front fields (omega (arith, len)) h
-    ∙ ap (λ (x : List ℕ). u32 (u32_in fields) ++ x) (sym (u32-again (drop 4 fields) (omega (arith, length-drop 4 fields, len)) (AreBytes-drop 4 fields h)))
+    ∙ ap (λ (x : List ℕ). u32 (u32_in fields) ++ x)
+    (sym (u32-again (drop 4 fields) (omega (arith, length-drop 4 fields, len)) (AreBytes-drop 4 fields h)))
 
 -- 12 bytes are the three `u32` that are read from them.
-pub three-again : (fields : List ℕ) → length fields ≡ 12 → AreBytes fields → fields ≡ u32 (u32_in fields) ++ u32 (u32_in (drop 4 fields)) ++ u32 (u32_in (drop 8 fields))
+pub three-again : (fields : List ℕ) → length fields ≡ 12 → AreBytes fields
+    → fields ≡ u32 (u32_in fields) ++ u32 (u32_in (drop 4 fields)) ++ u32 (u32_in (drop 8 fields))
 three-again fields len h =
     two-front fields (omega (arith, len)) h
-    ∙ ap (λ (x : List ℕ). u32 (u32_in fields) ++ u32 (u32_in (drop 4 fields)) ++ x) (sym (u32-again (drop 8 fields) (omega (arith, length-drop 8 fields, len)) (AreBytes-drop 8 fields h)))
+    ∙ ap (λ (x : List ℕ). u32 (u32_in fields) ++ u32 (u32_in (drop 4 fields)) ++ x)
+    (sym (u32-again (drop 8 fields) (omega (arith, length-drop 8 fields, len)) (AreBytes-drop 8 fields h)))

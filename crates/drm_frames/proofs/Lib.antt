@@ -1,8 +1,8 @@
 pub mod PageLaws
-pub mod Numbers
+pub mod NumberBytes
 pub mod Sizes
 pub mod FieldLaws
-pub mod Frames
+pub mod FrontFrame
 pub mod FrameLaws
 pub mod DecodingLaws
 pub mod ListLaws

@@ -13,7 +13,8 @@ use Rattle.drm_frames.specs.Requests.{AsksBy, IsRowCall, HasRow}
 -- A number of the table has a row.
 pub row-there : (n : ℕ) → HasRow n → is_some (row_of n) ≡ true
 unfolding row_of
-row-there n row = ap (λ (o : Option CallKind). is_some (option_map kind_row o)) (ap call_kind_of (sym row.1) ∙ kind-found row.0)
+row-there n row =
+    ap (λ (o : Option CallKind). is_some (option_map kind_row o)) (ap call_kind_of (sym row.1) ∙ kind-found row.0)
 
 none-by : (n : ℕ) (o : Option CallKind) → call_kind_of n ≡ o → (HasRow n → ⊥) → option_map kind_row o ≡ None
 none-by n None t h = refl
@@ -24,7 +25,8 @@ pub no-row-there : (n : ℕ) → (HasRow n → ⊥) → row_of n ≡ None
 unfolding row_of
 no-row-there n h = none-by n (call_kind_of n) refl h
 
-number-by : (f : FrameValue) (o : Option (CallKind × List Field)) (other : ℕ) → AsksBy o f → f.number ≡ option_map_or (λ (row : CallKind × List Field). kind_number row.0) o other
+number-by : (f : FrameValue) (o : Option (CallKind × List Field)) (other : ℕ) → AsksBy o f
+    → f.number ≡ option_map_or (λ (row : CallKind × List Field). kind_number row.0) o other
 number-by f None other h = absurd h
 number-by f (Some row) other h = h.number
 

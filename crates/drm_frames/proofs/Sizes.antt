@@ -14,7 +14,8 @@ pub some-is : {A : Type 0} (x a : A) → Some x ≡ Some a → x ≡ a
 some-is x a e = cc
 
 -- If a value is read from fields of one size, they have this size.
-pub size-some : {A : Type 0} (n : ℕ) (fields : List ℕ) (said a : A) → if_size n fields said ≡ Some a → (length fields ≡ n) × (said ≡ a)
+pub size-some : {A : Type 0} (n : ℕ) (fields : List ℕ) (said a : A) → if_size n fields said ≡ Some a
+    → (length fields ≡ n) × (said ≡ a)
 size-some n fields said a e =
     let t = cond-some (nat_eq (length fields) n) (Some said) a e in
     (eqb-true (length fields) n t.0, some-is said a t.1)

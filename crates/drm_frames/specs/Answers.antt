@@ -26,7 +26,8 @@ CallResult = Result Answer Apart
 -- the fields of an answer one after the other, four lists, a list, a page, or the rule's number and errno
 abbrev pub told_frame : Told → FrameValue
 told_frame (row kind fs) = frame_value (answer_number kind) (flat_map field_text fs)
-told_frame (resources crtcs connectors encoders framebuffers) = frame_value 0x1006 (list_text crtcs ++ list_text connectors ++ list_text encoders ++ list_text framebuffers)
+told_frame (resources crtcs connectors encoders framebuffers) =
+    frame_value 0x1006 (list_text crtcs ++ list_text connectors ++ list_text encoders ++ list_text framebuffers)
 told_frame (list ids) = frame_value 0x1007 (list_text ids)
 told_frame (page rows) = frame_value 0x100B (page_text rows)
 told_frame (denial rule) = frame_value 0x2000 (u32 (rule_number rule) ++ u32 (rule_errno rule))
@@ -75,16 +76,22 @@ list_in fields = option_and_then (list_from fields) (behind_list fields)
 -- what four lists say, where the last ends the fields
 abbrev pub resources_from : List ℕ → List ℕ → List ℕ → List ℕ → List ℕ → Option CallResult
 resources_from crtcs connectors encoders framebuffers behind =
-    if nat_eq (length behind) 0 then Some (Ok (Resources (front_list crtcs) (front_list connectors) (front_list encoders) (front_list framebuffers))) else None
+    if nat_eq (length behind) 0 then Some
+    (Ok (Resources (front_list crtcs) (front_list connectors) (front_list encoders) (front_list framebuffers))) else
+    None
 
 -- the four lists that the bytes are, without a rest
 abbrev pub resources_in : List ℕ → Option CallResult
-resources_in fields = option_and_then (λ second. option_and_then (λ third. option_and_then (λ fourth. option_and_then (resources_from fields second third fourth) (behind_list fourth)) (behind_list third)) (behind_list second)) (behind_list fields)
+resources_in fields =
+    option_and_then
+    (λ second. option_and_then (λ third. option_and_then (λ fourth. option_and_then (resources_from fields second third fourth) (behind_list fourth)) (behind_list third)) (behind_list second))
+    (behind_list fields)
 
 -- the page that the bytes are: a count n of at most 16 and n rows, without a rest
 abbrev pub audit_in : List ℕ → Option CallResult
 audit_in fields =
-    if nat_le 4 (length fields) && nat_le (u32_in fields) 16 && nat_eq (length fields) (4 + 32 * u32_in fields) then Some (Ok (Audit (rows_in (u32_in fields) (drop 4 fields)))) else None
+    if nat_le 4 (length fields) && nat_le (u32_in fields) 16 && nat_eq (length fields) (4 + 32 * u32_in fields) then
+    Some (Ok (Audit (rows_in (u32_in fields) (drop 4 fields)))) else None
 
 -- one whose errno is this
 abbrev pub if_errno : {A : Type 0} → (A → ℕ) → ℕ → A → Option A
@@ -114,7 +121,8 @@ denied_in fields = if nat_eq (length fields) 8 then denied (rule_of (u32_in fiel
 
 -- the refusal that the bytes are: the number and errno of a fault, without a rest
 abbrev pub refused_in : List ℕ → Option CallResult
-refused_in fields = if nat_eq (length fields) 8 then refused (apart_of (u32_in fields) (u32_in (drop 4 fields))) else None
+refused_in fields =
+    if nat_eq (length fields) 8 then refused (apart_of (u32_in fields) (u32_in (drop 4 fields))) else None
 
 -- what fields of fixed number say
 abbrev pub row_in : AnswerKind → List ℕ → Option CallResult

@@ -42,4 +42,6 @@ numbers_in ws bytes = option_and_then (λ read. if_size 0 read.1 read.0) (read_e
 -- the fields of a layout that the bytes are
 unfoldable pub fields_in : Layout → List ℕ → Option (List Field)
 fields_in (numbers ws) bytes = numbers_in ws bytes
-fields_in ids bytes = if nat_le 4 (length bytes) && nat_le (u32_in bytes) 32 then numbers_in (replicate (u32_in bytes) widths.U32) (drop 4 bytes) else None
+fields_in ids bytes =
+    if nat_le 4 (length bytes) && nat_le (u32_in bytes) 32 then numbers_in (replicate (u32_in bytes) widths.U32)
+    (drop 4 bytes) else None

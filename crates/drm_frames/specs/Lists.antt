@@ -38,4 +38,5 @@ front_list bytes = ids_in (u32_in bytes) (drop 4 bytes)
 -- the bytes after the list at the front, if there is one of at most 64 ids
 unfoldable pub behind_list : List ℕ → Option (List ℕ)
 behind_list bytes =
-    if nat_le 4 (length bytes) && nat_le (u32_in bytes) 64 && nat_le (4 + 4 * u32_in bytes) (length bytes) then Some (drop (4 + 4 * u32_in bytes) bytes) else None
+    if nat_le 4 (length bytes) && nat_le (u32_in bytes) 64 && nat_le (4 + 4 * u32_in bytes) (length bytes) then Some
+    (drop (4 + 4 * u32_in bytes) bytes) else None

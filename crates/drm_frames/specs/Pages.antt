@@ -25,7 +25,8 @@ pub record FitsPage (rows : List AuditRow) : Type 0 where
 
 -- the row in the first 32 bytes
 abbrev pub row_in : List ℕ → AuditRow
-row_in bytes = record { a = u64_in bytes; b = u64_in (drop 8 bytes); c = u64_in (drop 16 bytes); d = u64_in (drop 24 bytes) }
+row_in bytes =
+    record { a = u64_in bytes; b = u64_in (drop 8 bytes); c = u64_in (drop 16 bytes); d = u64_in (drop 24 bytes) }
 
 -- n rows, one after the other
 abbrev pub rows_in : ℕ → List ℕ → List AuditRow

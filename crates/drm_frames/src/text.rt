@@ -70,7 +70,7 @@ impl FrameBytes {
         let _ = self.bytes.try_extend_from_slice(bytes);
     }
 
-    #[tactic(auto, using(crate::proofs::Numbers::lengths), unfolding(crate::specs::Number::u16))]
+    #[tactic(auto, using(crate::proofs::NumberBytes::lengths), unfolding(crate::specs::Number::u16))]
     pub(crate) fn push_u16(&mut self, number: u16)
         requires { length self.old + 2 ≤ 1028 }
         ensures text { self.new ≡ self.old ++ u16 number }
@@ -81,7 +81,7 @@ impl FrameBytes {
         self.push_bytes(&text);
     }
 
-    #[tactic(auto, using(crate::proofs::Numbers::lengths), unfolding(crate::specs::Number::u32))]
+    #[tactic(auto, using(crate::proofs::NumberBytes::lengths), unfolding(crate::specs::Number::u32))]
     pub(crate) fn push_u32(&mut self, number: u32)
         requires { length self.old + 4 ≤ 1028 }
         ensures text { self.new ≡ self.old ++ u32 number }
@@ -92,7 +92,7 @@ impl FrameBytes {
         self.push_bytes(&text);
     }
 
-    #[tactic(auto, using(crate::proofs::Numbers::lengths), unfolding(crate::specs::Number::u64))]
+    #[tactic(auto, using(crate::proofs::NumberBytes::lengths), unfolding(crate::specs::Number::u64))]
     pub(crate) fn push_u64(&mut self, number: u64)
         requires { length self.old + 8 ≤ 1028 }
         ensures text { self.new ≡ self.old ++ u64 number }

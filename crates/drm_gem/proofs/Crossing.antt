@@ -12,7 +12,9 @@ use Rattle.drm_gem.specs.contracts.objects.Objects as objects
 use Rattle.drm_gem.specs.contracts.objects.Objects.TheInside as inside
 
 object_send : IsSend object.the_row
-object_send = recorded_send object.the_field.row _ _ object.the_type.to_one (struct_send (shape object.the_type) (search sendable depth 20, (search sendable depth 20, (search sendable depth 20, (search sendable depth 20, (search sendable depth 20, (search sendable depth 20, tt)))))))
+object_send =
+    recorded_send object.the_field.row _ _ object.the_type.to_one
+    (struct_send (shape object.the_type) (search sendable depth 20, (search sendable depth 20, (search sendable depth 20, (search sendable depth 20, (search sendable depth 20, (search sendable depth 20, tt)))))))
 
 slab_send : IsSend (slabs.the_row object.the_row heap.the_row heap_impl.ghosts)
 slab_send = slab.the_send object.the_row heap.the_row heap_impl.ghosts object_send send frees

@@ -1,3 +1,3 @@
 mod Records
 pub mod Crossing
-pub mod Newest
+pub mod NewestObject

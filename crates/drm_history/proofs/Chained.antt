@@ -6,15 +6,18 @@ use Rattle.drm_history.specs.Holds.{WasGiven, WasPublished, Has, made, passed}
 use Rattle.drm_history.specs.Chains.{Link, IsChain, Chain}
 
 -- The step that granted a handle is one of the history.
-pub given_within : (history past : List AnsweredEvent) (c h : ℕ) (source : Source) → WasGiven history c h source past → next_number past ≤ length history
+pub given_within : (history past : List AnsweredEvent) (c h : ℕ) (source : Source) → WasGiven history c h source past
+    → next_number past ≤ length history
 given_within history past c h source g = let all = length-append g.later (g.step ∷ past) in let same = ap length g.steps in omega (arith, all, same)
 
 -- The step that published under a key is one of the history.
-pub published_within : (history past : List AnsweredEvent) (key : Key) (c h : ℕ) → WasPublished history key c h past → next_number past ≤ length history
+pub published_within : (history past : List AnsweredEvent) (key : Key) (c h : ℕ) → WasPublished history key c h past
+    → next_number past ≤ length history
 published_within history past key c h p = let all = length-append p.later (p.step ∷ past) in let same = ap length p.steps in omega (arith, all, same)
 
 -- The first step that a chain names is one of the history.
-pub link_within : (history : List AnsweredEvent) (o : ℕ) (link : Link) (links : List Link) → IsChain history o (link ∷ links) → link.step ≤ length history
+pub link_within : (history : List AnsweredEvent) (o : ℕ) (link : Link) (links : List Link)
+    → IsChain history o (link ∷ links) → link.step ≤ length history
 unfolding IsChain
 link_within history o link [] k = let within = given_within history k.0 link.client link.handle _ k.1 in omega (arith, within, k.2)
 link_within history o link (before ∷ links) k = let within = given_within history k.0 link.client link.handle _ k.3 in omega (arith, within, k.4)
@@ -30,7 +33,8 @@ has_chain o history c h (passed {past = past} {before = before} {d = d} {k = k} 
     let then = published_within past before key d k p in
     (next_number past, link ∷ older.1, (past, before, key, g, refl, p, omega (arith, first, then), older.2))
 
-chain_holds : (history : List AnsweredEvent) (o : ℕ) (link : Link) (links : List Link) → IsChain history o (link ∷ links) → Has history link.client link.handle o
+chain_holds : (history : List AnsweredEvent) (o : ℕ) (link : Link) (links : List Link)
+    → IsChain history o (link ∷ links) → Has history link.client link.handle o
 unfolding IsChain
 chain_holds history o link [] k = made k.1 (sym k.3 ∙ k.2)
 chain_holds history o link (before ∷ links) k = passed k.3 k.5 (chain_holds k.1 o before links k.7)

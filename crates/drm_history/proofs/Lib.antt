@@ -1,9 +1,9 @@
-pub mod Histories
-pub mod Told
+pub mod AnsweredJournals
+pub mod HistoryFunctions
 pub mod Chained
 pub mod HoldSteps
 pub mod NumberSteps
 pub mod Facts
-pub mod Numbers
-pub mod Calls
-pub mod Runs
+pub mod NumbersOfNoRow
+pub mod CallSteps
+pub mod RunsAgree

@@ -15,11 +15,15 @@ pub record Link : Type 0 where
 -- with the handle that it was assigned there and that no step between took.
 unfoldable pub IsChain : List AnsweredEvent → ℕ → List Link → Type 0
 IsChain history o [] = ⊥
-IsChain history o (link ∷ []) = (past : List AnsweredEvent) × WasGiven history link.client link.handle Creation past × (link.step ≡ next_number past) × (link.step ≡ o)
+IsChain history o (link ∷ []) =
+    (past : List AnsweredEvent) × WasGiven history link.client link.handle Creation past ×
+    (link.step ≡ next_number past) × (link.step ≡ o)
 IsChain history o (link ∷ before ∷ links) =
-    (past older : List AnsweredEvent) × (key : Key) × WasGiven history link.client link.handle (Transfer key) past × (link.step ≡ next_number past)
+    (past older : List AnsweredEvent) × (key : Key) × WasGiven history link.client link.handle (Transfer key) past ×
+    (link.step ≡ next_number past)
     × WasPublished past key before.client before.handle older × (before.step < link.step) × IsChain older o (before ∷ links)
 
 -- a chain leads to the client's handle
 abbrev pub Chain : List AnsweredEvent → ℕ → ℕ → ℕ → Type 0
-Chain history c h o = (i : ℕ) × (links : List Link) × IsChain history o (record { step = i; client = c; handle = h } ∷ links)
+Chain history c h o =
+    (i : ℕ) × (links : List Link) × IsChain history o (record { step = i; client = c; handle = h } ∷ links)

@@ -36,5 +36,6 @@ events_in (step ∷ past) = events_in past ++ step.event ∷ []
 unfoldable pub with_journaled : List AnsweredEvent → List Event → List (Result Answer Apart) → List AnsweredEvent
 with_journaled past [] results = past
 with_journaled past (event ∷ events) [] = past
-with_journaled past (event ∷ events) (Ok answer ∷ results) = with_journaled (record { event = event; answer = answer } ∷ past) events results
+with_journaled past (event ∷ events) (Ok answer ∷ results) =
+    with_journaled (record { event = event; answer = answer } ∷ past) events results
 with_journaled past (event ∷ events) (Err apart ∷ results) = with_journaled past events results

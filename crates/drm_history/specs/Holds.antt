@@ -24,7 +24,8 @@ pub record WasPublished (history : List AnsweredEvent) (key : Key) (c h : ℕ) (
 -- The client has the handle of the object. If the step created the object, its number names it. The object of any other
 -- handle is that of the last step before that published under the key.
 pub data Has : List AnsweredEvent → ℕ → ℕ → ℕ → Type 0 where
-  made : {history past : List AnsweredEvent} {c h o : ℕ} → WasGiven history c h Creation past → o ≡ next_number past → Has history c h o
+  made : {history past : List AnsweredEvent} {c h o : ℕ} → WasGiven history c h Creation past → o ≡ next_number past
+      → Has history c h o
   passed : {history past before : List AnsweredEvent} {c h o d k : ℕ} {key : Key} → WasGiven history c h (Transfer key) past → WasPublished past key d k before → Has before d k o → Has history c h o
 
 -- the last step that published under the key was the client's, and had the object

@@ -75,7 +75,8 @@ takes step c h = taken_by step.event step.answer c h
 abbrev pub published_by : Event → Answer → Option Publishing
 published_by (Ask c (GemFlink handle)) (Number name) = publishing (Name name) c handle
 published_by (Ask c (PrimeHandleToFd handle)) (Number token) = publishing (Token token) c handle
-published_by (Ask c (AddFb width height pitch bpp handle)) (Number framebuffer) = publishing (Framebuffer framebuffer) c handle
+published_by (Ask c (AddFb width height pitch bpp handle)) (Number framebuffer) =
+    publishing (Framebuffer framebuffer) c handle
 published_by event answer = None
 
 -- what a step publishes

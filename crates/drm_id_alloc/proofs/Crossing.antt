@@ -26,16 +26,22 @@ pub table_send : (T : RattleType) → IsSend T → IsSend (table.the_row T)
 table_send T s = view_send (inside.the_row T) _ _ _ _ (inside_send T s)
 
 kept_send : IsSend kept.the_field.row
-kept_send = enum_send (enums.shape kept.the_type) ((search sendable depth 20, tt), ((search (array_send, sendable) depth 20, tt), tt))
+kept_send =
+    enum_send (enums.shape kept.the_type)
+    ((search sendable depth 20, tt), ((search (array_send, sendable) depth 20, tt), tt))
 
 numbers_inside_send : IsSend numbers_inside.the_row
-numbers_inside_send = recorded_send numbers_inside.the_field.row _ _ numbers_inside.the_type.to_one (struct_send (shape numbers_inside.the_type) (kept_send, tt))
+numbers_inside_send =
+    recorded_send numbers_inside.the_field.row _ _ numbers_inside.the_type.to_one
+    (struct_send (shape numbers_inside.the_type) (kept_send, tt))
 
 numbers_send : IsSend numbers.the_row
 numbers_send = view_send numbers_inside.the_row _ _ _ _ numbers_inside_send
 
 groups_inside_send : IsSend groups_inside.the_row
-groups_inside_send = recorded_send groups_inside.the_field.row _ _ groups_inside.the_type.to_one (struct_send (shape groups_inside.the_type) (search sendable depth 20, (search (array_send, numbers_send, sendable) depth 20, tt)))
+groups_inside_send =
+    recorded_send groups_inside.the_field.row _ _ groups_inside.the_type.to_one
+    (struct_send (shape groups_inside.the_type) (search sendable depth 20, (search (array_send, numbers_send, sendable) depth 20, tt)))
 
 -- Groups may cross threads.
 pub groups_send : IsSend groups.the_row

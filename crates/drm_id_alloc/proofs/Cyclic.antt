@@ -11,10 +11,12 @@ module _ {T : Type 0} (t : Table T) where
   or_same (Some n) = refl
 
   -- The next number in rotation is the lowest free one above the last allocated one, else the lowest free one.
-  pub next_is : t.first ≡ 1 → or_else (least (is_free t) (unwrap_or t.last_given 0 + 1) t.last) (least (is_free t) 1 t.last) ≡ next_cyclic t
+  pub next_is : t.first ≡ 1
+      → or_else (least (is_free t) (unwrap_or t.last_given 0 + 1) t.last) (least (is_free t) 1 t.last) ≡ next_cyclic t
   next_is first = turn t.last_given
     where
-      turn : (g : Option ℕ) → or_else (least (is_free t) (unwrap_or g 0 + 1) t.last) (least (is_free t) 1 t.last) ≡ next_after t g
+      turn : (g : Option ℕ)
+          → or_else (least (is_free t) (unwrap_or g 0 + 1) t.last) (least (is_free t) 1 t.last) ≡ next_after t g
       turn None = or_same (least (is_free t) 1 t.last) ∙ ap (λ n. least (is_free t) n t.last) (sym first)
       turn (Some g) = ap (λ n. or_else (least (is_free t) (g + 1) t.last) (least (is_free t) n t.last)) (sym first)
 
@@ -25,7 +27,9 @@ module _ {T : Type 0} (t : Table T) where
       none_next : (g : Option ℕ) → IfSome g (λ n. t.first ≤ n) → least_free t ≡ None → next_after t g ≡ None
       none_next None low none = none
       none_next (Some g) low none =
-          let above : least (is_free t) (g + 1) t.last ≡ None = least_is_none (is_free t) (g + 1) t.last (λ k ge le. least_none (is_free t) t.first t.last none k (omega (arith, low, ge)) le) in
+          let above : least (is_free t) (g + 1) t.last ≡ None =
+          least_is_none (is_free t) (g + 1) t.last
+          (λ k ge le. least_none (is_free t) t.first t.last none k (omega (arith, low, ge)) le) in
           ap (λ x. or_else x (least_free t)) above ∙ none
 
       second : (x y : Option ℕ) → or_else x y ≡ None → y ≡ None

@@ -27,29 +27,36 @@ module _ {Y : Type 0} (has : Y → ℕ → Bool) where
 
   module _ (m : fin.FinMap nat_cmp Y) (g : ℕ) where
     -- A new entry of a group changes the numbers of this group and of no other.
-    pub groups_insert : (b : Y) (d u : ℕ) → groups_in has (fin.insert m g b) d u ≡ cond (d == g) (has b u) (groups_in has m d u)
+    pub groups_insert : (b : Y) (d u : ℕ)
+        → groups_in has (fin.insert m g b) d u ≡ cond (d == g) (has b u) (groups_in has m d u)
     groups_insert b d u = ap (λ o. option_map_or (λ y. has y u) o false) (get-insert m g b d) ∙ inside (d == g)
       where
-        inside : (t : Bool) → option_map_or (λ y. has y u) (cond t (Some b) (fin.get m d)) false ≡ cond t (has b u) (groups_in has m d u)
+        inside : (t : Bool)
+            → option_map_or (λ y. has y u) (cond t (Some b) (fin.get m d)) false ≡ cond t (has b u) (groups_in has m d u)
         inside true = refl
         inside false = refl
 
     groups_remove : (d u : ℕ) → groups_in has (fin.remove m g) d u ≡ cond (d == g) false (groups_in has m d u)
     groups_remove d u = ap (λ o. option_map_or (λ y. has y u) o false) (get-remove m g d) ∙ inside (d == g)
       where
-        inside : (t : Bool) → option_map_or (λ y. has y u) (cond t None (fin.get m d)) false ≡ cond t false (groups_in has m d u)
+        inside : (t : Bool)
+            → option_map_or (λ y. has y u) (cond t None (fin.get m d)) false ≡ cond t false (groups_in has m d u)
         inside true = refl
         inside false = refl
 
     -- A group has the numbers of its entry in the map, or none without an entry.
-    pub group_is : (o : Option Y) → fin.get m g ≡ o → (u : ℕ) → groups_in has m g u ≡ option_map_or (λ y. has y u) o false
+    pub group_is : (o : Option Y) → fin.get m g ≡ o → (u : ℕ)
+        → groups_in has m g u ≡ option_map_or (λ y. has y u) o false
     group_is o is u = ap (λ o. option_map_or (λ y. has y u) o false) is
 
-    here : (o : Option Y) → fin.get m g ≡ o → (d u : ℕ) → (d == g) ≡ true → groups_in has m d u ≡ option_map_or (λ y. has y u) o false
+    here : (o : Option Y) → fin.get m g ≡ o → (d u : ℕ) → (d == g) ≡ true
+        → groups_in has m d u ≡ option_map_or (λ y. has y u) o false
     here o is d u same = ap (λ k. groups_in has m k u) (eqb-true d g same) ∙ group_is o is u
 
     -- An entry with one more number adds this number to its group and changes no other.
-    pub group_more : (o : Option Y) (b : Y) (n : ℕ) → fin.get m g ≡ o → ((u : ℕ) → has b u ≡ (option_map_or (λ y. has y u) o false || (u == n))) → IsAdded (groups_in has m) g n (groups_in has (fin.insert m g b))
+    pub group_more : (o : Option Y) (b : Y) (n : ℕ) → fin.get m g ≡ o
+        → ((u : ℕ) → has b u ≡ (option_map_or (λ y. has y u) o false || (u == n)))
+        → IsAdded (groups_in has m) g n (groups_in has (fin.insert m g b))
     group_more o b n is own d u =
         groups_insert b d u
         ∙ elim (d == g) as (λ s. (d == g) ≡ s → cond s (has b u) (groups_in has m d u) ≡ (groups_in has m d u || (s && (u == n)))) [
@@ -58,7 +65,8 @@ module _ {Y : Type 0} (has : Y → ℕ → Bool) where
         ] refl
 
     -- An entry without one of its numbers removes this number from its group and changes no other.
-    pub group_less : (a b : Y) (n : ℕ) → fin.get m g ≡ Some a → ((u : ℕ) → has b u ≡ (has a u && not (u == n))) → IsTaken (groups_in has m) g n (groups_in has (fin.insert m g b))
+    pub group_less : (a b : Y) (n : ℕ) → fin.get m g ≡ Some a → ((u : ℕ) → has b u ≡ (has a u && not (u == n)))
+        → IsTaken (groups_in has m) g n (groups_in has (fin.insert m g b))
     group_less a b n is own d u =
         groups_insert b d u
         ∙ elim (d == g) as (λ s. (d == g) ≡ s → cond s (has b u) (groups_in has m d u) ≡ (groups_in has m d u && not (s && (u == n)))) [
@@ -67,7 +75,9 @@ module _ {Y : Type 0} (has : Y → ℕ → Bool) where
         ] refl
 
   -- Removing a group with its last number removes this number and no other.
-  pub group_last : (m : fin.FinMap nat_cmp Y) (g : ℕ) (a b : Y) (n : ℕ) → fin.get m g ≡ Some a → ((u : ℕ) → has b u ≡ (has a u && not (u == n))) → ((u : ℕ) → has b u ≡ false) → IsTaken (groups_in has m) g n (groups_in has (fin.remove (fin.insert m g b) g))
+  pub group_last : (m : fin.FinMap nat_cmp Y) (g : ℕ) (a b : Y) (n : ℕ) → fin.get m g ≡ Some a
+      → ((u : ℕ) → has b u ≡ (has a u && not (u == n))) → ((u : ℕ) → has b u ≡ false)
+      → IsTaken (groups_in has m) g n (groups_in has (fin.remove (fin.insert m g b) g))
   group_last m g a b n is own none d u =
       groups_remove (fin.insert m g b) g d u
       ∙ elim (d == g) as (λ s. (d == g) ≡ s → cond s false (groups_in has (fin.insert m g b) d u) ≡ (groups_in has m d u && not (s && (u == n)))) [
@@ -82,8 +92,10 @@ module _ {X : Type 0} (group : X → ℕ) where
   in_group g o = option_map_or (λ x. group x == g) o false
 
   -- An empty map has the groups without numbers.
-  pub grouped_empty : (m : fin.FinMap nat_cmp X) (groups : Groups) → m ≡ fin.empty → ((g n : ℕ) → groups g n ≡ false) → AreGroupsOf group m groups
-  grouped_empty m groups none nobody g n = nobody g n ∙ ap (in_group g) (sym (ap (λ s. fin.get s n) none ∙ fin.get-empty nat_cmp n))
+  pub grouped_empty : (m : fin.FinMap nat_cmp X) (groups : Groups) → m ≡ fin.empty → ((g n : ℕ) → groups g n ≡ false)
+      → AreGroupsOf group m groups
+  grouped_empty m groups none nobody g n =
+      nobody g n ∙ ap (in_group g) (sym (ap (λ s. fin.get s n) none ∙ fin.get-empty nat_cmp n))
 
   module _ (m : fin.FinMap nat_cmp X) (old new : Groups) (are : AreGroupsOf group m old) where
     -- If the groups are unchanged, they are still those of the map.
@@ -91,7 +103,8 @@ module _ {X : Type 0} (group : X → ℕ) where
     grouped_same same g n = same g n ∙ are g n
 
     -- After a value and its number are added, the groups are those of the map with it.
-    pub grouped_more : (n : ℕ) (x : X) (g : ℕ) → fin.get m n ≡ None → group x ≡ g → IsAdded old g n new → AreGroupsOf group (fin.insert m n x) new
+    pub grouped_more : (n : ℕ) (x : X) (g : ℕ) → fin.get m n ≡ None → group x ≡ g → IsAdded old g n new
+        → AreGroupsOf group (fin.insert m n x) new
     grouped_more n x g fresh is added d u =
         added d u
         ∙ ap (λ s. s || ((d == g) && (u == n))) (are d u)
@@ -104,7 +117,8 @@ module _ {X : Type 0} (group : X → ℕ) where
         ∙ ap (in_group d) (sym (get-insert m n x u))
 
     -- After a value and its number are removed, the groups are those of the map without it.
-    pub grouped_fewer : (n : ℕ) (x : X) (g : ℕ) → fin.get m n ≡ Some x → group x ≡ g → IsTaken old g n new → AreGroupsOf group (fin.remove m n) new
+    pub grouped_fewer : (n : ℕ) (x : X) (g : ℕ) → fin.get m n ≡ Some x → group x ≡ g → IsTaken old g n new
+        → AreGroupsOf group (fin.remove m n) new
     grouped_fewer n x g there is taken d u =
         taken d u
         ∙ ap (λ s. s && not ((d == g) && (u == n))) (are d u)
@@ -120,7 +134,8 @@ module _ {X : Type 0} (group : X → ℕ) where
         ∙ ap (in_group d) (sym (get-remove m n u))
 
     -- Another value of the same group at a number keeps the groups.
-    pub grouped_kept : (n : ℕ) (x y : X) → fin.get m n ≡ Some x → group y ≡ group x → AreGroupsOf group (fin.insert m n y) old
+    pub grouped_kept : (n : ℕ) (x y : X) → fin.get m n ≡ Some x → group y ≡ group x
+        → AreGroupsOf group (fin.insert m n y) old
     grouped_kept n x y there same g u =
         are g u
         ∙ elim (u == n) as (λ s. (u == n) ≡ s → in_group g (fin.get m u) ≡ in_group g (cond s (Some y) (fin.get m u))) [
@@ -130,7 +145,8 @@ module _ {X : Type 0} (group : X → ℕ) where
         ∙ ap (in_group g) (sym (get-insert m n y u))
 
     -- A number added to a group and removed again leaves the groups unchanged.
-    pub grouped_back : (again : Groups) (g n : ℕ) → fin.get m n ≡ None → IsAdded old g n new → IsTaken new g n again → AreSame old again
+    pub grouped_back : (again : Groups) (g n : ℕ) → fin.get m n ≡ None → IsAdded old g n new → IsTaken new g n again
+        → AreSame old again
     grouped_back again g n fresh added taken d u =
         taken d u ∙ ap (λ s. s && not ((d == g) && (u == n))) (added d u)
         ∙ elim ((d == g) && (u == n)) as (λ s. ((d == g) && (u == n)) ≡ s → ((old d u || s) && not s) ≡ old d u) [

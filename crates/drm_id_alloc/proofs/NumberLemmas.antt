@@ -35,16 +35,23 @@ without_one (Some x) false = refl
 
 -- Adding a number to a group adds this number and no other.
 pub one_more : (a b : Numbers) (n : ℕ) → b ≡ with_item a n tt → IsNoted a n b
-one_more a b n new u = ap (λ (x : Numbers). has_number x u) new ∙ ap is_some (get-insert a.items n tt u) ∙ with_one (fin.get a.items u) (u == n)
+one_more a b n new u =
+    ap (λ (x : Numbers). has_number x u) new ∙ ap is_some (get-insert a.items n tt u)
+    ∙ with_one (fin.get a.items u) (u == n)
 
 -- A number added to an empty group is the only one in it.
-pub one_first : (a b : Numbers) (n : ℕ) → a ≡ empty_array → b ≡ with_item a n tt → (u : ℕ) → has_number b u ≡ (false || (u == n))
+pub one_first : (a b : Numbers) (n : ℕ) → a ≡ empty_array → b ≡ with_item a n tt → (u : ℕ)
+    → has_number b u ≡ (false || (u == n))
 one_first a b n none new u =
-    one_more a b n new u ∙ ap (λ s. s || (u == n)) (ap (λ (x : Numbers). has_number x u) none ∙ ap is_some (fin.get-empty nat_cmp u))
+    one_more a b n new u
+    ∙ ap (λ s. s || (u == n)) (ap (λ (x : Numbers). has_number x u) none ∙ ap is_some (fin.get-empty nat_cmp u))
 
 -- Removing a number from a group removes this number and no other.
-pub one_less : (a b : Numbers) (n : ℕ) → b ≡ without_item a n → (u : ℕ) → has_number b u ≡ (has_number a u && not (u == n))
-one_less a b n new u = ap (λ (x : Numbers). has_number x u) new ∙ ap is_some (get-remove a.items n u) ∙ without_one (fin.get a.items u) (u == n)
+pub one_less : (a b : Numbers) (n : ℕ) → b ≡ without_item a n → (u : ℕ)
+    → has_number b u ≡ (has_number a u && not (u == n))
+one_less a b n new u =
+    ap (λ (x : Numbers). has_number x u) new ∙ ap is_some (get-remove a.items n u)
+    ∙ without_one (fin.get a.items u) (u == n)
 
 -- Adding a number that the group already has changes nothing.
 pub one_there : (a b : Numbers) (n : ℕ) → b ≡ a → is_some (fin.get a.items n) ≡ true → IsNoted a n b
@@ -61,7 +68,8 @@ none_in (x ∷ es) e u = absurd (omega (arith, e))
 
 -- A group of length 0 has no numbers.
 pub none_has : (a : Numbers) → fin.len a.items ≡ 0 → (u : ℕ) → has_number a u ≡ false
-none_has a last u = ap is_some (fin.get-entries a.items u ∙ none_in (fin.entries a.items) (sym (fin.len-entries a.items) ∙ last) u)
+none_has a last u =
+    ap is_some (fin.get-entries a.items u ∙ none_in (fin.entries a.items) (sym (fin.len-entries a.items) ∙ last) u)
 
 -- A group that does not exist has no lowest number.
 pub least_of_none : (m : GroupMap) (g from to : ℕ) → fin.get m g ≡ None → least (has m g) from to ≡ None
@@ -82,7 +90,8 @@ among_numbers m g n = by_row (fin.get m g)
     agree [] = refl
     agree (k ∷ ks) = λ i. key_test k n i || agree ks i
 
-    by_row : (o : Option Numbers) → list_any (λ k. k == n) (option_map_or (λ (a : Numbers). fin.keys a.items) o []) ≡ option_map_or (λ (a : Numbers). has_number a n) o false
+    by_row : (o : Option Numbers)
+        → list_any (λ k. k == n) (option_map_or (λ (a : Numbers). fin.keys a.items) o []) ≡ option_map_or (λ (a : Numbers). has_number a n) o false
     by_row None = refl
     by_row (Some a) = agree (fin.keys a.items) ∙ sym (fin.contains_key-keys a.items n)
 
@@ -99,7 +108,9 @@ single_has n u = one_first empty_array (single n) n refl refl u
 pub single_len : (n : ℕ) → fin.len (single n).items ≡ 1
 single_len n =
     fin.len-insert nat_cmp_total fin.empty n tt
-    ∙ ap (λ o. cond (is_some o) (fin.len {X = Unit {0}} {R = nat_cmp} fin.empty) (fin.len {X = Unit {0}} {R = nat_cmp} fin.empty + 1)) (fin.get-empty nat_cmp n)
+    ∙ ap
+    (λ o. cond (is_some o) (fin.len {X = Unit {0}} {R = nat_cmp} fin.empty) (fin.len {X = Unit {0}} {R = nat_cmp} fin.empty + 1))
+    (fin.get-empty nat_cmp n)
     ∙ ap (λ k. k + 1) (fin.len-empty nat_cmp (Unit {0}))
 
 -- a list of one number, and whether another is in it
@@ -118,10 +129,13 @@ single_keys n =
     (sym (fin.contains_key-keys (single n).items n) ∙ single_has n n ∙ eq-eqb n n refl)
 
 -- A group of length 1 has the number of its first key and no other.
-pub alone : (a : Numbers) (only : ℕ) → fin.len a.items ≡ 1 → Some only ≡ slice_get (fin.keys a.items) 0 → (u : ℕ) → has_number a u ≡ (u == only)
-alone a only one first u = fin.contains_key-keys a.items u ∙ by_keys (fin.keys a.items) (sym (as_many_keys a) ∙ one) first
+pub alone : (a : Numbers) (only : ℕ) → fin.len a.items ≡ 1 → Some only ≡ slice_get (fin.keys a.items) 0 → (u : ℕ)
+    → has_number a u ≡ (u == only)
+alone a only one first u =
+    fin.contains_key-keys a.items u ∙ by_keys (fin.keys a.items) (sym (as_many_keys a) ∙ one) first
   where
-    by_keys : (ks : List ℕ) → length ks ≡ 1 → Some only ≡ slice_get ks 0 → list_any (eq_by_cmp nat_cmp u) ks ≡ (u == only)
+    by_keys : (ks : List ℕ) → length ks ≡ 1 → Some only ≡ slice_get ks 0
+        → list_any (eq_by_cmp nat_cmp u) ks ≡ (u == only)
     by_keys [] many first = absurd (omega (arith, many))
     by_keys (k ∷ []) many first = let same : k ≡ only = cc in in_one k u ∙ ap (λ n. u == n) same
     by_keys (k ∷ j ∷ ks) many first = absurd (omega (arith, many))
@@ -161,10 +175,12 @@ pub single_again : (n u : ℕ) → n ≡ u → IsNoted (single n) u (single n)
 single_again n u same = one_there (single n) (single n) u refl (single_has n u ∙ eq-eqb u n (sym same))
 
 -- A second number added to a group with one number makes a group of both.
-pub two : (first second : ℕ) (none a b : Numbers) → none ≡ empty_array → IsNoted none first a → IsNoted a second b → IsNoted (single first) second b
+pub two : (first second : ℕ) (none a b : Numbers) → none ≡ empty_array → IsNoted none first a → IsNoted a second b
+    → IsNoted (single first) second b
 two first second none a b is one more u =
     more u
-    ∙ ap (λ s. s || (u == second)) (one u ∙ ap (λ s. s || (u == first)) (ap (λ (x : Numbers). has_number x u) is ∙ ap is_some (fin.get-empty nat_cmp u)) ∙ sym (single_has first u))
+    ∙ ap (λ s. s || (u == second))
+    (one u ∙ ap (λ s. s || (u == first)) (ap (λ (x : Numbers). has_number x u) is ∙ ap is_some (fin.get-empty nat_cmp u)) ∙ sym (single_has first u))
 
 -- Removing the only number of a group leaves the empty group.
 pub single_gone : (n u : ℕ) → n ≡ u → IsForgotten (single n) u empty_array
@@ -184,9 +200,11 @@ single_stays n u apart k =
     ] refl
 
 -- If one number is left after a removal, the group is that of this number.
-pub one_left : (a b : Numbers) (n u : ℕ) → b ≡ without_item a u → ((k : ℕ) → has_number b k ≡ (k == n)) → IsForgotten a u (single n)
+pub one_left : (a b : Numbers) (n u : ℕ) → b ≡ without_item a u → ((k : ℕ) → has_number b k ≡ (k == n))
+    → IsForgotten a u (single n)
 one_left a b n u less left k = single_has n k ∙ sym (left k) ∙ one_less a b u less k
 
 -- A removal of a number stays one if both groups are written as equal ones.
 pub forgotten_as : (a was b is : Numbers) (n : ℕ) → a ≡ was → is ≡ b → IsForgotten a n b → IsForgotten was n is
-forgotten_as a was b is n old new less k = ap (λ (x : Numbers). has_number x k) new ∙ less k ∙ ap (λ (x : Numbers). has_number x k && not (k == n)) old
+forgotten_as a was b is n old new less k =
+    ap (λ (x : Numbers). has_number x k) new ∙ less k ∙ ap (λ (x : Numbers). has_number x k && not (k == n)) old

@@ -32,7 +32,8 @@ module _ {T : Type 0} (items : MarkedMap T) (v : Indexed T) (view_is : array_of 
   key_at k = rw (← view_is) (sym (contains_key-values items k))
 
   -- The array has a mark at an index if and only if the tree's entry there carries it.
-  pub mark_at : (m : Mark) (k : ℕ) → option_map_or (λ s. mark_of s m) (map.get items k) false ≡ set.contains (marked_with v m) k
+  pub mark_at : (m : Mark) (k : ℕ)
+      → option_map_or (λ s. mark_of s m) (map.get items k) false ≡ set.contains (marked_with v m) k
   mark_at m k = rw (← view_is) (sym (marked_with-array_of items m k))
 
   -- Each index with a mark has an entry.
@@ -40,27 +41,37 @@ module _ {T : Type 0} (items : MarkedMap T) (v : Indexed T) (view_is : array_of 
   mark_is_key m = rw (← view_is) (marked_is_key items m)
 
   -- the number at a place of the tree's indices
-  placed_at : (end position : ℕ) (r : Option ℕ) → IsPlaced (λ k. map.contains_key items k) end position r → IsPlaced (λ k. map.contains_key v.items k) end position r
-  placed_at end position None few = omega (arith, few, passing-moved (λ k. map.contains_key items k) (λ k. map.contains_key v.items k) 0 0 end (λ r lt. key_at (0 + r)))
+  placed_at : (end position : ℕ) (r : Option ℕ) → IsPlaced (λ k. map.contains_key items k) end position r
+      → IsPlaced (λ k. map.contains_key v.items k) end position r
+  placed_at end position None few =
+      omega
+      (arith, few, passing-moved (λ k. map.contains_key items k) (λ k. map.contains_key v.items k) 0 0 end (λ r lt. key_at (0 + r)))
   placed_at end position (Some n) is = record {
     below = is.below;
     passes = sym (key_at n) ∙ is.passes;
-    before = sym (passing-moved (λ k. map.contains_key items k) (λ k. map.contains_key v.items k) 0 0 n (λ r lt. key_at (0 + r))) ∙ is.before;
+    before =
+        sym
+        (passing-moved (λ k. map.contains_key items k) (λ k. map.contains_key v.items k) 0 0 n (λ r lt. key_at (0 + r)))
+        ∙ is.before;
   }
 
   module _ (m : MarkedMap T) (same : m ≡ items) (end : ℕ) (past : (k : ℕ) → end ≤ k → map.get m k ≡ None) (position : ℕ) where
     nothing_past : (k : ℕ) → end ≤ k → map.contains_key v.items k ≡ false
     nothing_past k le = sym (key_at k) ∙ ap (λ m. map.contains_key m k) (sym same) ∙ ap is_some (past k le)
 
-    here : (r : Option ℕ) → IsPlaced (λ k. map.contains_key m k) end position r → IsPlaced (λ k. map.contains_key v.items k) end position r
-    here r placed = placed_at end position r (subst (λ m. IsPlaced (λ k. map.contains_key m k) end position r) same placed)
+    here : (r : Option ℕ) → IsPlaced (λ k. map.contains_key m k) end position r
+        → IsPlaced (λ k. map.contains_key v.items k) end position r
+    here r placed =
+        placed_at end position r (subst (λ m. IsPlaced (λ k. map.contains_key m k) end position r) same placed)
 
     -- The index that a count of the tree finds at a position is the array's key at this position.
-    pub nth_found : (r : Option ℕ) → IsPlaced (λ k. map.contains_key m k) end position r → r ≡ slice_get (map.keys v.items) position
+    pub nth_found : (r : Option ℕ) → IsPlaced (λ k. map.contains_key m k) end position r
+        → r ≡ slice_get (map.keys v.items) position
     nth_found r placed = key_placed v.items end nothing_past position r (here r placed)
 
     -- An index found at a position has an entry.
-    pub nth_there : (n : ℕ) → IsPlaced (λ k. map.contains_key m k) end position (Some n) → map.contains_key v.items n ≡ true
+    pub nth_there : (n : ℕ) → IsPlaced (λ k. map.contains_key m k) end position (Some n)
+        → map.contains_key v.items n ≡ true
     nth_there n placed = (here (Some n) placed).passes
 
     -- If no index is found at a position, the array has no more entries than the position.
@@ -75,10 +86,12 @@ module _ {T : Type 0} (items : MarkedMap T) (v : Indexed T) (view_is : array_of 
 
     -- The marks of a found entry are the array's at its index.
     pub mark_found : (mark : Mark) → option_map_or (λ s. mark_of s mark) o false ≡ set.contains (marked_with v mark) k
-    mark_found mark = ap (λ o. option_map_or (λ s. mark_of s mark) o false) (found ∙ ap (λ m. map.get m k) same) ∙ mark_at mark k
+    mark_found mark =
+        ap (λ o. option_map_or (λ s. mark_of s mark) o false) (found ∙ ap (λ m. map.get m k) same) ∙ mark_at mark k
 
   -- An entry is found if and only if the array has one at the index.
-  pub key_found : (k : ℕ) (r : Option (Bor (Entry T))) (m : MarkedMap T) → option_marked (option_copied r) ≡ map.get m k → m ≡ items → is_some r ≡ map.contains_key v.items k
+  pub key_found : (k : ℕ) (r : Option (Bor (Entry T))) (m : MarkedMap T) → option_marked (option_copied r) ≡ map.get m k
+      → m ≡ items → is_some r ≡ map.contains_key v.items k
   key_found k r m found same = sym (seen r) ∙ ap is_some found ∙ ap (λ m. map.contains_key m k) same ∙ key_at k
     where
       seen : (r : Option (Bor (Entry T))) → is_some (option_marked (option_copied r)) ≡ is_some r
@@ -117,7 +130,8 @@ module _ (p q : ℕ → Bool) (same : (k : ℕ) → p k ≡ q k) (n from : ℕ) 
     pub search_some : Some r ≡ least q from 4294967295
     search_some =
         let is = least_some p from (n - 1) r (sym found) in
-        sym (least_is q from 4294967295 r (record { at_least = is.at_least; at_most = search_low; passes = sym (same r) ∙ is.passes; none_below = λ k ge lt. sym (same k) ∙ is.none_below k ge lt }))
+        sym
+        (least_is q from 4294967295 r (record { at_least = is.at_least; at_most = search_low; passes = sym (same r) ∙ is.passes; none_below = λ k ge lt. sym (same k) ∙ is.none_below k ge lt }))
 
 -- If no index from `from` on passes, a search to any end finds nothing.
 pub nothing_least : (q : ℕ → Bool) (from to : ℕ) → ((k : ℕ) → from ≤ k → q k ≡ false) → None ≡ least q from to
@@ -127,7 +141,9 @@ nothing_least q from to none = sym (least_is_none q from to (λ k ge le. none k 
 module _ (p q : ℕ → Bool) (same : (k : ℕ) → p k ≡ q k) (from n : ℕ) (is : IsLeastFrom p from n) where
   -- The lowest free index, if it is a `u32`, is what a search for a free index finds.
   pub vacant_here : n ≤ 4294967295 → Some n ≡ least q from 4294967295
-  vacant_here le = sym (least_is q from 4294967295 n (record { at_least = is.at_least; at_most = le; passes = sym (same n) ∙ is.passes; none_below = λ k ge lt. sym (same k) ∙ is.none_below k ge lt }))
+  vacant_here le =
+      sym
+      (least_is q from 4294967295 n (record { at_least = is.at_least; at_most = le; passes = sym (same n) ∙ is.passes; none_below = λ k ge lt. sym (same k) ∙ is.none_below k ge lt }))
 
   -- If the lowest free index is past `u32`, a search for a free index finds none.
   pub vacant_nowhere : 4294967295 < n → None ≡ least q from 4294967295
@@ -137,7 +153,9 @@ module _ (p q : ℕ → Bool) (same : (k : ℕ) → p k ≡ q k) (from n : ℕ) 
 module _ {T : Type 0} (items : MarkedMap T) (v : Indexed T) (view_is : array_of items ≡ v) (empty : items ≡ map.empty) where
   -- An empty array has no value at any index.
   pub no_item : (k : ℕ) → map.get v.items k ≡ None
-  no_item k = sym (item_at items v view_is k) ∙ ap (λ m. option_map (λ s. s.value) (map.get m k)) empty ∙ ap (option_map (λ s. s.value)) (map.get-empty nat_cmp k)
+  no_item k =
+      sym (item_at items v view_is k) ∙ ap (λ m. option_map (λ s. s.value) (map.get m k)) empty
+      ∙ ap (option_map (λ s. s.value)) (map.get-empty nat_cmp k)
 
   -- An empty array has no keys.
   pub no_key : (k : ℕ) → map.contains_key v.items k ≡ false
@@ -156,30 +174,44 @@ module _ {T : Type 0} (items : MarkedMap T) (v : Indexed T) (view_is : array_of 
 
   -- An empty array has no marks.
   pub no_mark : (m : Mark) (k : ℕ) → set.contains (marked_with v m) k ≡ false
-  no_mark m k = sym (mark_at items v view_is m k) ∙ ap (λ a. option_map_or (λ s. mark_of s m) (map.get a k) false) empty ∙ ap (λ o. option_map_or (λ s. mark_of s m) o false) (map.get-empty nat_cmp k)
+  no_mark m k =
+      sym (mark_at items v view_is m k) ∙ ap (λ a. option_map_or (λ s. mark_of s m) (map.get a k) false) empty
+      ∙ ap (λ o. option_map_or (λ s. mark_of s m) o false) (map.get-empty nat_cmp k)
 
   -- In an empty array the lowest free index from `from` on is `from`.
-  pub all_vacant : (from : ℕ) → from ≤ 4294967295 → Some from ≡ least (λ k. not (map.contains_key v.items k)) from 4294967295
-  all_vacant from le = sym (least_is _ from 4294967295 from (record { at_least = omega arith; at_most = le; passes = ap not (no_key from); none_below = λ k ge lt. absurd (omega arith) }))
+  pub all_vacant : (from : ℕ) → from ≤ 4294967295
+      → Some from ≡ least (λ k. not (map.contains_key v.items k)) from 4294967295
+  all_vacant from le =
+      sym
+      (least_is _ from 4294967295 from (record { at_least = omega arith; at_most = le; passes = ap not (no_key from); none_below = λ k ge lt. absurd (omega arith) }))
 
 -- No entries are counted as 0.
 pub rooted_none : (T : Type 0) → IsRooted (map.empty {X = Marked T} {R = nat_cmp}) 0
-rooted_none T = record { counted = sym (map.len-empty nat_cmp (Marked T)); fit = λ k there. absurd (false≢true (sym (ap is_some (map.get-empty nat_cmp k)) ∙ there)) }
+rooted_none T =
+    record
+    { counted = sym (map.len-empty nat_cmp (Marked T)); fit = λ k there. absurd (false≢true (sym (ap is_some (map.get-empty nat_cmp k)) ∙ there)) }
 
 -- an entry more
 module _ {T : Type 0} (items : MarkedMap T) (v : Indexed T) (view_is : array_of items ≡ v) (i : ℕ) (value : T) (now : MarkedMap T) (is : now ≡ map.insert items i (unmarked value)) (absent : map.get items i ≡ None) where
   -- After an insertion at a free index, the count is higher by one.
   pub rooted_more : (count : ℕ) → IsRooted items count → i ≤ 4294967295 → IsRooted now (count + 1)
   rooted_more count rooted le = record {
-    counted = ap (λ n. n + 1) rooted.counted ∙ sym (ap map.len is ∙ map.len-insert nat_cmp_total items i (unmarked value) ∙ ap (λ o. cond (is_some o) (map.len items) (map.len items + 1)) absent);
+    counted =
+        ap (λ n. n + 1) rooted.counted
+        ∙ sym
+        (ap map.len is ∙ map.len-insert nat_cmp_total items i (unmarked value) ∙ ap (λ o. cond (is_some o) (map.len items) (map.len items + 1)) absent);
     fit = λ k there. elim (cases_eq k i) [
       | inl same ↦ omega arith
       | inr apart ↦ rooted.fit k (kept k apart (sym (ap (λ m. map.contains_key m k) is) ∙ there))
     ];
   }
     where
-      kept : (k : ℕ) → (k ≡ i → ⊥) → IsTrue (map.contains_key (map.insert items i (unmarked value)) k) → IsTrue (map.contains_key items k)
-      kept k apart there = sym (ap is_some (get-insert items i (unmarked value) k ∙ ap (λ b. cond b (Some (unmarked value)) (map.get items k)) (ne_eqb k i apart))) ∙ there
+      kept : (k : ℕ) → (k ≡ i → ⊥) → IsTrue (map.contains_key (map.insert items i (unmarked value)) k)
+          → IsTrue (map.contains_key items k)
+      kept k apart there =
+          sym
+          (ap is_some (get-insert items i (unmarked value) k ∙ ap (λ b. cond b (Some (unmarked value)) (map.get items k)) (ne_eqb k i apart)))
+          ∙ there
 
   -- After an insertion in the tree, the array has the value at the index.
   pub array_more : array_of now ≡ with_item v i value
@@ -190,7 +222,8 @@ module _ {T : Type 0} (items : MarkedMap T) (v : Indexed T) (view_is : array_of 
   mark_of_new m =
       ap (λ a. set.contains (marked_with (array_of a) m) i) is
       ∙ sym (mark_at _ _ refl m i)
-      ∙ ap (λ o. option_map_or (λ s. mark_of s m) o false) (get-insert items i (unmarked value) i ∙ ap (λ b. cond b (Some (unmarked value)) (map.get items i)) (eq-eqb i i refl))
+      ∙ ap (λ o. option_map_or (λ s. mark_of s m) o false)
+      (get-insert items i (unmarked value) i ∙ ap (λ b. cond b (Some (unmarked value)) (map.get items i)) (eq-eqb i i refl))
       ∙ unmarked_by m
     where
       unmarked_by : (m : Mark) → mark_of (unmarked value) m ≡ false
@@ -228,7 +261,9 @@ module _ {T : Type 0} (items : MarkedMap T) (v : Indexed T) (view_is : array_of 
         known (Some s) e = refl
 
     len_less : map.len now ≡ map.len items - 1
-    len_less = ap map.len is ∙ map.len-remove nat_cmp_total items i ∙ ap (λ b. cond b (map.len items - 1) (map.len items)) there
+    len_less =
+        ap map.len is ∙ map.len-remove nat_cmp_total items i
+        ∙ ap (λ b. cond b (map.len items - 1) (map.len items)) there
 
     -- If an entry is found, the count is at least 1.
     pub some_counted : 1 ≤ count
@@ -256,9 +291,12 @@ module _ {T : Type 0} (items : MarkedMap T) (v : Indexed T) (view_is : array_of 
 -- a mark written
 module _ {T : Type 0} (items : MarkedMap T) (v : Indexed T) (view_is : array_of items ≡ v) (i : ℕ) (m : Mark) (b : Bool) (now : MarkedMap T) (gets : (k : ℕ) → map.get now k ≡ cond (eqb k i) (option_map (λ s. with_mark s m b) (map.get items i)) (map.get items k)) where
   is_written : now ≡ write_mark items i m b
-  is_written = same_by_gets now (write_mark items i m b) (λ k. gets k ∙ sym (get-rewrite items i (λ s. with_mark s m b) k ∙ at_index k))
+  is_written =
+      same_by_gets now (write_mark items i m b)
+      (λ k. gets k ∙ sym (get-rewrite items i (λ s. with_mark s m b) k ∙ at_index k))
     where
-      at_index : (k : ℕ) → cond (eqb k i) (option_map (λ s. with_mark s m b) (map.get items k)) (map.get items k) ≡ cond (eqb k i) (option_map (λ s. with_mark s m b) (map.get items i)) (map.get items k)
+      at_index : (k : ℕ)
+          → cond (eqb k i) (option_map (λ s. with_mark s m b) (map.get items k)) (map.get items k) ≡ cond (eqb k i) (option_map (λ s. with_mark s m b) (map.get items i)) (map.get items k)
       at_index k =
           elim (cases_eq k i) as (λ _. cond (eqb k i) (option_map (λ s. with_mark s m b) (map.get items k)) (map.get items k) ≡ cond (eqb k i) (option_map (λ s. with_mark s m b) (map.get items i)) (map.get items k)) [
             | inl same ↦ ap (λ n. cond (eqb k i) (option_map (λ s. with_mark s m b) (map.get items n)) (map.get items k)) same
@@ -267,7 +305,8 @@ module _ {T : Type 0} (items : MarkedMap T) (v : Indexed T) (view_is : array_of 
 
   -- Setting or clearing a mark of an entry in the tree does the same in the array.
   pub array_written : IsSome (get items i) → array_of now ≡ written_mark v i m b
-  array_written there = ap array_of is_written ∙ array_of-write_mark items i m b there ∙ ap (λ a. written_mark a i m b) view_is
+  array_written there =
+      ap array_of is_written ∙ array_of-write_mark items i m b there ∙ ap (λ a. written_mark a i m b) view_is
 
   keys_kept : (k : ℕ) → map.contains_key now k ≡ map.contains_key items k
   keys_kept k = ap is_some (gets k) ∙ elim (cases_eq k i) as (λ _. is_some (cond (eqb k i) (option_map (λ s. with_mark s m b) (map.get items i)) (map.get items k)) ≡ map.contains_key items k) [
@@ -277,7 +316,8 @@ module _ {T : Type 0} (items : MarkedMap T) (v : Indexed T) (view_is : array_of 
 
   -- Setting or clearing a mark keeps the count.
   pub rooted_written : (count : ℕ) → IsRooted items count → IsRooted now count
-  rooted_written count rooted = record { counted = rooted.counted ∙ sym len_kept; fit = λ k there. rooted.fit k (sym (keys_kept k) ∙ there) }
+  rooted_written count rooted =
+      record { counted = rooted.counted ∙ sym len_kept; fit = λ k there. rooted.fit k (sym (keys_kept k) ∙ there) }
     where
       values_kept : values now ≡ values items
       values_kept = ap values is_written ∙ values-write_mark items i m b
@@ -292,17 +332,23 @@ module _ {T : Type 0} (items : MarkedMap T) (v : Indexed T) (view_is : array_of 
   array_lent there w = array_of-set_value items i w there ∙ ap (λ a. with_item a i w) view_is
 
   keys-set_value : (w : T) (k : ℕ) → map.contains_key (set_value items i w) k ≡ map.contains_key items k
-  keys-set_value w k = ap is_some (get-rewrite items i (λ s. record s { value = w }) k) ∙ either (eqb k i) (map.get items k)
+  keys-set_value w k =
+      ap is_some (get-rewrite items i (λ s. record s { value = w }) k) ∙ either (eqb k i) (map.get items k)
     where
-      either : (b : Bool) (o : Option (Marked T)) → is_some (cond b (option_map {T = Marked T} {U = Marked T} (λ s. record s { value = w }) o) o) ≡ is_some o
+      either : (b : Bool) (o : Option (Marked T))
+          → is_some (cond b (option_map {T = Marked T} {U = Marked T} (λ s. record s { value = w }) o) o) ≡ is_some o
       either true o = is_some-option_map _ o
       either false o = refl
 
   -- A write through a lent value keeps the count.
   pub rooted_lent : (count : ℕ) → IsRooted items count → (w : T) → IsRooted (set_value items i w) count
-  rooted_lent count rooted w = record { counted = rooted.counted ∙ sym (len-set_value items i w); fit = λ k there. rooted.fit k (sym (keys-set_value w k) ∙ there) }
+  rooted_lent count rooted w =
+      record
+      { counted = rooted.counted ∙ sym (len-set_value items i w); fit = λ k there. rooted.fit k (sym (keys-set_value w k) ∙ there) }
 
   -- Two readings of a lent value that agree if there is one, and without a borrow, are equal.
-  pub lent_there : {D : Type 0} (r : Option (MutBor T)) → option_copied_mut r ≡ get items i → (f h : T → D) (a b : D) → (IsSome (get items i) → (x : T) → f x ≡ h x) → a ≡ b → read_of (ghost_name_of r) f a ≡ read_of (ghost_name_of r) h b
+  pub lent_there : {D : Type 0} (r : Option (MutBor T)) → option_copied_mut r ≡ get items i → (f h : T → D) (a b : D)
+      → (IsSome (get items i) → (x : T) → f x ≡ h x) → a ≡ b
+      → read_of (ghost_name_of r) f a ≡ read_of (ghost_name_of r) h b
   lent_there None found f h a b fs same = ap inr same
   lent_there (Some m) found f h a b fs same = λ j. inl (m.ghost_name, λ x. fs (ap is_some (sym found)) x j)

@@ -19,13 +19,15 @@ use Rattle.drm_index_array.specs.declared.tree.Slot.TheVariants.{Vacant, Child}
 use Rattle.drm_index_array.proofs.TableLemmas.{get-table_within, get-table_past}
 use Rattle.drm_index_array.proofs.SlotLemmas.{Spot, slot_fits, rest_in_range}
 
-AllFit-set : {T : Type 0} (height : ℕ) (slots : List (Slot T)) (at : ℕ) (s : Slot T) → AllFit height slots → SlotFits height s → AllFit height (set slots at s)
+AllFit-set : {T : Type 0} (height : ℕ) (slots : List (Slot T)) (at : ℕ) (s : Slot T) → AllFit height slots
+    → SlotFits height s → AllFit height (set slots at s)
 AllFit-set height [] at s fit one = tt
 AllFit-set height (t ∷ ss) zero s fit one = (one, fit.1)
 AllFit-set height (t ∷ ss) (suc at) s fit one = (fit.0, AllFit-set height ss at s fit.1 one)
 
 -- If no slot has an empty subtree and the new one has none, the same is true after it is written.
-pub used_set : {T : Type 0} (slots : List (Slot T)) (at : ℕ) (s : Slot T) → at < length slots → ((i : ℕ) → IsUsed (slot slots i)) → IsUsed s → (i : ℕ) → IsUsed (slot (set slots at s) i)
+pub used_set : {T : Type 0} (slots : List (Slot T)) (at : ℕ) (s : Slot T) → at < length slots
+    → ((i : ℕ) → IsUsed (slot slots i)) → IsUsed s → (i : ℕ) → IsUsed (slot (set slots at s) i)
 used_set slots at s lt used one i =
     elim (cases_eq i at) as (λ _. IsUsed (slot (set slots at s) i)) [
       | inl same ↦ subst IsUsed (sym (ap (slot (set slots at s)) same ∙ get_or-set_same slots at s Vacant lt)) one
@@ -41,14 +43,18 @@ used_key m q there =
     ]
 
 -- A map after an insertion is not empty.
-pub used_more : {T : Type 0} (old now : MarkedMap T) (q : ℕ) (v : T) → now ≡ map.insert old q (unmarked v) → 0 < map.len now
+pub used_more : {T : Type 0} (old now : MarkedMap T) (q : ℕ) (v : T) → now ≡ map.insert old q (unmarked v)
+    → 0 < map.len now
 used_more old now q v is =
     let tied : eqb q q ≡ true = eq-eqb q q refl in
-    used_key now q (ap (λ m. map.contains_key m q) is ∙ ap is_some (get-insert old q (unmarked v) q) ∙ ap (λ b. is_some (cond b (Some (unmarked v)) (map.get old q))) tied)
+    used_key now q
+    (ap (λ m. map.contains_key m q) is ∙ ap is_some (get-insert old q (unmarked v) q) ∙ ap (λ b. is_some (cond b (Some (unmarked v)) (map.get old q))) tied)
 
 module _ {T : Type 0} {height : ℕ} {slots : List (Slot T)} {q at rest : ℕ} {v : Tree T} (here : Spot height slots q at rest v) (s : Slot T) where
   -- A sound node stays sound after a slot is written, if its words are written for the slot.
-  pub edited_sound : (words after : Words) → IsSound height slots words → SlotFits height s → AreWords after → ((x : Sought) (i : ℕ) → i < 64 → tells_of after x i ≡ cond (eqb i at) (has_below height s x) (tells_of words x i)) → IsSound height (set slots at s) after
+  pub edited_sound : (words after : Words) → IsSound height slots words → SlotFits height s → AreWords after
+      → ((x : Sought) (i : ℕ) → i < 64 → tells_of after x i ≡ cond (eqb i at) (has_below height s x) (tells_of words x i))
+      → IsSound height (set slots at s) after
   edited_sound words after sound fits are tells = record {
     wide = length-set slots at s ∙ sound.wide;
     low = sound.low;
@@ -98,7 +104,8 @@ module _ {T : Type 0} {height : ℕ} {slots : List (Slot T)} {q at rest : ℕ} {
         ]
 
     -- A map that differs from the node's at the edited index only is the map of the edited node.
-    pub edited_view : (m : MarkedMap T) → ((k : ℕ) → map.get m k ≡ cond (eqb k q) o (map.get v.items k)) → view_of height (set slots at s) ≡ record v { items = m }
+    pub edited_view : (m : MarkedMap T) → ((k : ℕ) → map.get m k ≡ cond (eqb k q) o (map.get v.items k))
+        → view_of height (set slots at s) ≡ record v { items = m }
     edited_view m gets =
         ap (λ items. record { height = height; items = items }) (same_by_gets _ m (λ k. edited_gets k ∙ sym (gets k)))
         ∙ ap (λ (t : Tree T). record { height = t.height; items = m }) here.view_is
@@ -126,8 +133,12 @@ module _ {T : Type 0} {height : ℕ} {slots : List (Slot T)} {q at rest : ℕ} {
     value_was = ap (λ s. below s rest) (sym was_is) ∙ value_here
 
     -- After a slot with one edited entry is written, the node has this entry edited and all others unchanged.
-    pub edit_gets : (s : Slot T) (edit : Option (Marked T) → Option (Marked T)) → ((r : ℕ) → r < width height → below s r ≡ cond (eqb r rest) (edit (below was rest)) (below was r)) → (k : ℕ) → map.get (view_of height (set slots at s)).items k ≡ cond (eqb k q) (edit (map.get v.items q)) (map.get v.items k)
-    edit_gets s edit below_s = edited_gets here s (edit (map.get v.items q)) (λ r lt. below_s r lt ∙ ap (λ o. cond (eqb r rest) (edit o) (below was r)) value_was ∙ ap (λ t. cond (eqb r rest) (edit (map.get v.items q)) (below t r)) (sym was_is))
+    pub edit_gets : (s : Slot T) (edit : Option (Marked T) → Option (Marked T))
+        → ((r : ℕ) → r < width height → below s r ≡ cond (eqb r rest) (edit (below was rest)) (below was r)) → (k : ℕ)
+        → map.get (view_of height (set slots at s)).items k ≡ cond (eqb k q) (edit (map.get v.items q)) (map.get v.items k)
+    edit_gets s edit below_s =
+        edited_gets here s (edit (map.get v.items q))
+        (λ r lt. below_s r lt ∙ ap (λ o. cond (eqb r rest) (edit o) (below was r)) value_was ∙ ap (λ t. cond (eqb r rest) (edit (map.get v.items q)) (below t r)) (sym was_is))
 
 -- An empty map has no entry at any index.
 pub none_below : {X : Type 0} (m : map.FinMap nat_cmp X) → map.len m ≡ 0 → (r : ℕ) → map.get m r ≡ None
@@ -142,8 +153,11 @@ some_left n none =
     ]
 
 -- Reading a slot that was just written returns what was written.
-pub read_set : {T : Type 0} (slots : List (Slot T)) (at : ℕ) (s now : Slot T) → at < length slots → now ≡ get_or (set slots at s) at now → now ≡ s
-read_set slots at s now lt read = get_or_read (set slots at s) at now (omega (arith, length-set slots at s)) read Vacant ∙ get_or-set_same slots at s Vacant lt
+pub read_set : {T : Type 0} (slots : List (Slot T)) (at : ℕ) (s now : Slot T) → at < length slots
+    → now ≡ get_or (set slots at s) at now → now ≡ s
+read_set slots at s now lt read =
+    get_or_read (set slots at s) at now (omega (arith, length-set slots at s)) read Vacant
+    ∙ get_or-set_same slots at s Vacant lt
 
 -- What follows from a fact about a failure is also a fact about it.
 pub on_err_map : {A E : Type 0} {P Q : Type 0} (done : Result A E) → (P → Q) → OnErr done P → OnErr done Q
@@ -151,7 +165,8 @@ on_err_map (Ok _) f p = tt
 on_err_map (Err _) f p = f p
 
 -- Index 0 of a node is index 0 below slot 0.
-pub first_spot : {T : Type 0} (height : ℕ) (slots : List (Slot T)) (v : Tree T) (words : Words) → IsSound height slots words → view_of height slots ≡ v → Spot height slots 0 0 0 v
+pub first_spot : {T : Type 0} (height : ℕ) (slots : List (Slot T)) (v : Tree T) (words : Words)
+    → IsSound height slots words → view_of height slots ≡ v → Spot height slots 0 0 0 v
 first_spot height slots v words sound view_is = record {
   at_is = sym (div-eq_of_lt (pow_pos (6 * height)));
   rest_is = sym (mod-eq_of_lt (pow_pos (6 * height)));
@@ -164,7 +179,8 @@ first_spot height slots v words sound view_is = record {
 -- the first slot written over by a child
 module _ {T : Type 0} {height : ℕ} {slots : List (Slot T)} {v : Tree T} (words : Words) (sound : IsSound height slots words) (view_is : view_of height slots ≡ v) (b : Box (Node T) Global) where
   old_at : (k : ℕ) → k < span height → look height slots k ≡ map.get v.items k
-  old_at k lt = sym (get-table_within (span height) (look height slots) k lt) ∙ ap (λ (t : Tree T). map.get t.items k) view_is
+  old_at k lt =
+      sym (get-table_within (span height) (look height slots) k lt) ∙ ap (λ (t : Tree T). map.get t.items k) view_is
 
   first_slot : (k : ℕ) → k < width height → look height (set slots 0 (Child b)) k ≡ map.get b.value.items k
   first_slot k lt =
@@ -174,11 +190,14 @@ module _ {T : Type 0} {height : ℕ} {slots : List (Slot T)} {v : Tree T} (words
 
   later_slot : (k : ℕ) → width height ≤ k → look height (set slots 0 (Child b)) k ≡ look height slots k
   later_slot k le =
-      let apart : k / width height ≡ 0 → ⊥ = λ zeroth. omega (arith, le, div-add-mod' k (width height), rest_in_range height k, ap (λ n. n * width height) zeroth) in
+      let apart : k / width height ≡ 0 → ⊥ =
+      λ zeroth. omega
+      (arith, le, div-add-mod' k (width height), rest_in_range height k, ap (λ n. n * width height) zeroth) in
       ap (λ s. below s (k % width height)) (get_or-set_other slots 0 (k / width height) (Child b) Vacant apart)
 
   -- A subtree put into slot 0 replaces the entries of the indices that this slot covers, and no others.
-  pub hang_gets : (k : ℕ) → map.get (view_of height (set slots 0 (Child b))).items k ≡ cond (ltb k (width v.height)) (map.get b.value.items k) (map.get v.items k)
+  pub hang_gets : (k : ℕ)
+      → map.get (view_of height (set slots 0 (Child b))).items k ≡ cond (ltb k (width v.height)) (map.get b.value.items k) (map.get v.items k)
   hang_gets k =
       let same : height ≡ v.height = ap (λ (t : Tree T). t.height) view_is in
       elim (cases_lt k (span height)) as (λ _. map.get (view_of height (set slots 0 (Child b))).items k ≡ cond (ltb k (width v.height)) (map.get b.value.items k) (map.get v.items k)) [

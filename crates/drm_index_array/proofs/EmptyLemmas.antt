@@ -32,12 +32,15 @@ module _ (T : Type 0) where
   abbrev vacant : Slot T
   vacant = Vacant
 
-  all_vacant : {F : Type 0} (step : F → Slot T → F → Type 0) → ((p : F) (x : Slot T) (q : F) → step p x q → x ≡ Vacant) → (ys : List (Slot T)) (p q : F) → FoldsTo step p ys q → ys ≡ vacants (length ys)
+  all_vacant : {F : Type 0} (step : F → Slot T → F → Type 0) → ((p : F) (x : Slot T) (q : F) → step p x q → x ≡ Vacant)
+      → (ys : List (Slot T)) (p q : F) → FoldsTo step p ys q → ys ≡ vacants (length ys)
   all_vacant step is [] p q folds = refl
   all_vacant step is (y ∷ ys) p q folds = λ i. is p y folds.0 folds.1 i ∷ all_vacant step is ys folds.0 q folds.2 i
 
   -- If each added slot is vacant and none was there before, the slots are vacant ones.
-  pub resized_vacant : {F : Type 0} (step : F → Slot T → F → Type 0) → ((p : F) (x : Slot T) (q : F) → step p x q → x ≡ Vacant) → (n : ℕ) (old new : List (Slot T)) (f : F) → old ≡ [] → AppendsResults step old new f → length new ≡ n → new ≡ vacants n
+  pub resized_vacant : {F : Type 0} (step : F → Slot T → F → Type 0)
+      → ((p : F) (x : Slot T) (q : F) → step p x q → x ≡ Vacant) → (n : ℕ) (old new : List (Slot T)) (f : F) → old ≡ []
+      → AppendsResults step old new f → length new ≡ n → new ≡ vacants n
   resized_vacant step is n old new f none adds len =
       let all : new ≡ adds.0 = adds.2 ∙ ap (λ xs. xs ++ adds.0) none in
       all ∙ all_vacant step is adds.0 f adds.1 adds.3 ∙ ap vacants (ap length (sym all) ∙ len)

@@ -58,7 +58,8 @@ remove_other m n q differs = get-remove m n q ∙ ap (λ t. cond t None (fin.get
 
 module _ {X : Type 0} (f g : ℕ × ℕ → X) where
   -- If g is h after f on each entry, the rows by g are the rows by f, mapped by h.
-  pub rows_over : (h : X → X) → (es : List (ℕ × ℕ)) → AllByRecursion (λ e. g e ≡ h (f e)) es → map g es ≡ map h (map f es)
+  pub rows_over : (h : X → X) → (es : List (ℕ × ℕ)) → AllByRecursion (λ e. g e ≡ h (f e)) es
+      → map g es ≡ map h (map f es)
   rows_over h [] all = refl
   rows_over h (e ∷ es) all = λ i. all.0 i ∷ rows_over h es all.1 i
 

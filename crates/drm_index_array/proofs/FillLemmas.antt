@@ -40,7 +40,8 @@ module _ {T : Type 0} {height : ℕ} {slots : List (Slot T)} {q at rest : ℕ} {
   -- The node has the entry at the index, and is otherwise unchanged.
   pub filled_items : (view_of height (set slots at s)).items ≡ map.insert v.items q (unmarked x)
   filled_items = same_by_gets _ _ (λ k.
-      edited_gets here s (Some (unmarked x)) (λ r lt. now r lt ∙ ap (λ t. cond (eqb r rest) (Some (unmarked x)) (below t r)) (sym was_is)) k
+      edited_gets here s (Some (unmarked x))
+      (λ r lt. now r lt ∙ ap (λ t. cond (eqb r rest) (Some (unmarked x)) (below t r)) (sym was_is)) k
       ∙ sym (get-insert v.items q (unmarked x) k))
 
   -- The node had no entry at the index.
@@ -49,14 +50,18 @@ module _ {T : Type 0} {height : ℕ} {slots : List (Slot T)} {q at rest : ℕ} {
 
   has_entry : has_below height s Taken ≡ true
   has_entry =
-      let there : below s rest ≡ Some (unmarked x) = now rest (rest_in_slot here) ∙ ap (λ b. cond b (Some (unmarked x)) (below was rest)) (eq-eqb rest rest refl) in
+      let there : below s rest ≡ Some (unmarked x) =
+      now rest (rest_in_slot here)
+      ∙ ap (λ b. cond b (Some (unmarked x)) (below was rest)) (eq-eqb rest rest refl) in
       some_in _ 0 _ rest (omega arith) (omega (arith, rest_in_slot here)) (ap is_some there)
 
   has_marks : (m : Mark) → has_below height s (WithMark m) ≡ has_below height was (WithMark m)
   has_marks m =
-      ap is_some (least-same _ _ 0 (width height - 1) (λ r _ le. ap (is_sought (WithMark m)) (now r (omega (arith, rest_in_slot here))) ∙ alike r))
+      ap is_some
+      (least-same _ _ 0 (width height - 1) (λ r _ le. ap (is_sought (WithMark m)) (now r (omega (arith, rest_in_slot here))) ∙ alike r))
     where
-      alike : (r : ℕ) → is_sought (WithMark m) (cond (eqb r rest) (Some (unmarked x)) (below was r)) ≡ is_sought (WithMark m) (below was r)
+      alike : (r : ℕ)
+          → is_sought (WithMark m) (cond (eqb r rest) (Some (unmarked x)) (below was r)) ≡ is_sought (WithMark m) (below was r)
       alike r =
           elim (cases_eq r rest) as (λ _. is_sought (WithMark m) (cond (eqb r rest) (Some (unmarked x)) (below was r)) ≡ is_sought (WithMark m) (below was r)) [
             | inl is ↦ rw (eq-eqb r rest is) (new_marked m x ∙ sym (none_marked T m) ∙ ap (is_sought (WithMark m)) (sym absent) ∙ ap (λ n. is_sought (WithMark m) (below was n)) (sym is))
@@ -64,7 +69,8 @@ module _ {T : Type 0} {height : ℕ} {slots : List (Slot T)} {q at rest : ℕ} {
           ]
 
   module _ (words after : Words) (count : ℕ) (node : IsNode height slots words count) (full : Bool) (full_is : full ≡ not (has_below height s Free)) (taken : (i : ℕ) → i < 64 → tells_of after Taken i ≡ cond (eqb i at) true (tells_of words Taken i)) (vacant : (i : ℕ) → i < 64 → tells_of after Free i ≡ cond (eqb i at) (not full) (tells_of words Free i)) (marks : (m : Mark) (i : ℕ) → tells_of after (WithMark m) i ≡ tells_of words (WithMark m) i) where
-    tells : (x : Sought) (i : ℕ) → i < 64 → tells_of after x i ≡ cond (eqb i at) (has_below height s x) (tells_of words x i)
+    tells : (x : Sought) (i : ℕ) → i < 64
+        → tells_of after x i ≡ cond (eqb i at) (has_below height s x) (tells_of words x i)
     tells Taken i lt = taken i lt ∙ ap (λ b. cond (eqb i at) b (tells_of words Taken i)) (sym has_entry)
     tells Free i lt = vacant i lt ∙ ap (λ b. cond (eqb i at) b (tells_of words Free i)) (ap not full_is ∙ not-not _)
     tells (WithMark m) i lt =
@@ -76,7 +82,8 @@ module _ {T : Type 0} {height : ℕ} {slots : List (Slot T)} {q at rest : ℕ} {
     counted : count + 1 ≡ map.len (view_of height (set slots at s)).items
     counted =
         ap (λ n. n + 1) (node.counted ∙ ap (λ (t : Tree T). map.len t.items) here.view_is)
-        ∙ sym (ap map.len filled_items ∙ map.len-insert nat_cmp_total v.items q (unmarked x) ∙ ap (λ o. cond (is_some o) (map.len v.items) (map.len v.items + 1)) absent_before)
+        ∙ sym
+        (ap map.len filled_items ∙ map.len-insert nat_cmp_total v.items q (unmarked x) ∙ ap (λ o. cond (is_some o) (map.len v.items) (map.len v.items + 1)) absent_before)
 
     -- The node counts at most 2^36 entries.
     pub filled_few : count + 1 ≤ 2 ^ 36

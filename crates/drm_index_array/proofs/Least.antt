@@ -17,15 +17,18 @@ abbrev Found : (ℕ → Bool) → ℕ → ℕ → Option ℕ → Type 0
 Found p from count r = MatchOption r ((k : ℕ) → from ≤ k → k < from + count → p k ≡ false) (IsFirst p from count)
 
 -- a number is the first of a range, or after it
-first_or_after : (p : ℕ → Bool) (from : ℕ) → p from ≡ false → (q : ℕ → Type 0) → ((k : ℕ) → from + 1 ≤ k → q k → p k ≡ false) → (k : ℕ) → from ≤ k → q k → p k ≡ false
+first_or_after : (p : ℕ → Bool) (from : ℕ) → p from ≡ false → (q : ℕ → Type 0)
+    → ((k : ℕ) → from + 1 ≤ k → q k → p k ≡ false) → (k : ℕ) → from ≤ k → q k → p k ≡ false
 first_or_after p from fails q after k le h =
     elim (cases_lt from k) [
       | inl above ↦ after k (omega arith) h
       | inr here ↦ let same : k ≡ from = omega arith in rw same fails
     ]
 
-found_later : (p : ℕ → Bool) (from count : ℕ) (r : Option ℕ) → p from ≡ false → Found p (from + 1) count r → Found p from (suc count) r
-found_later p from count None fails none = first_or_after p from fails (λ k. k < from + suc count) (λ k le lt. none k le (omega arith))
+found_later : (p : ℕ → Bool) (from count : ℕ) (r : Option ℕ) → p from ≡ false → Found p (from + 1) count r
+    → Found p from (suc count) r
+found_later p from count None fails none =
+    first_or_after p from fails (λ k. k < from + suc count) (λ k le lt. none k le (omega arith))
 found_later p from count (Some n) fails is = record {
   at_least = omega (arith, is.at_least);
   below = omega (arith, is.below);
@@ -43,7 +46,8 @@ first_passing_found p from (suc count) =
     ] refl
 
 -- `least` finds nothing and no number of the range passes, or it finds the lowest that does.
-pub least_cases : (p : ℕ → Bool) (from to : ℕ) → MatchOption (least p from to) (NonePasses p from to) (IsLeast p from to)
+pub least_cases : (p : ℕ → Bool) (from to : ℕ)
+    → MatchOption (least p from to) (NonePasses p from to) (IsLeast p from to)
 unfolding least
 least_cases p from to =
     elim (first_passing p from (to + 1 - from)) as (λ r. Found p from (to + 1 - from) r → MatchOption r (NonePasses p from to) (IsLeast p from to)) [
@@ -87,12 +91,14 @@ least_is_none p from to none =
     ] (least_cases p from to)
 
 -- A result that is the lowest passing number, or `None` if none passes, is what `least` finds.
-pub least_by_cases : (p : ℕ → Bool) (from to : ℕ) (r : Option ℕ) → MatchOption r (NonePasses p from to) (IsLeast p from to) → r ≡ least p from to
+pub least_by_cases : (p : ℕ → Bool) (from to : ℕ) (r : Option ℕ)
+    → MatchOption r (NonePasses p from to) (IsLeast p from to) → r ≡ least p from to
 least_by_cases p from to None none = sym (least_is_none p from to none)
 least_by_cases p from to (Some n) is = sym (least_is p from to n is)
 
 -- Two tests that agree on the range find the same number.
-pub least-same : (p q : ℕ → Bool) (from to : ℕ) → ((k : ℕ) → from ≤ k → k ≤ to → p k ≡ q k) → least p from to ≡ least q from to
+pub least-same : (p q : ℕ → Bool) (from to : ℕ) → ((k : ℕ) → from ≤ k → k ≤ to → p k ≡ q k)
+    → least p from to ≡ least q from to
 least-same p q from to same = least_by_cases q from to _ (elim (least p from to) as (λ r. MatchOption r (NonePasses p from to) (IsLeast p from to) → MatchOption r (NonePasses q from to) (IsLeast q from to)) [
   | None ↦ λ none k ge le. sym (same k ge le) ∙ none k ge le
   | Some n ↦ λ is. record {
@@ -116,22 +122,30 @@ there n k rest is = grind (arith, nat_tests, is)
 
 -- a number of a list is the first, or among the others
 here_or_there : (n k : ℕ) (P : Type 0) (rest : Bool) → (n ≡ k → P) → (rest ≡ true → P) → ((n == k) || rest) ≡ true → P
-here_or_there n k P rest first other is = elim (cases_eq n k) [ inl same ↦ first same | inr apart ↦ other (grind (arith, nat_tests, is, apart)) ]
+here_or_there n k P rest first other is =
+    elim (cases_eq n k) [ inl same ↦ first same | inr apart ↦ other (grind (arith, nat_tests, is, apart)) ]
 
 least_of_first : (n : ℕ) (ns : List ℕ) → ns ≡ [] → IsLeastOf (n ∷ ns) n
 least_of_first n ns none = record {
   among = here n (among ns n);
-  at_most = λ k is. here_or_there n k (n ≤ k) (among ns k) (λ same. omega (arith, same)) (λ later. absurd (false≢true (sym (ap (λ l. among l k) none) ∙ later))) is;
+  at_most =
+      λ k is. here_or_there n k (n ≤ k) (among ns k) (λ same. omega (arith, same))
+      (λ later. absurd (false≢true (sym (ap (λ l. among l k) none) ∙ later))) is;
 }
 
-least_of_lesser : (n m : ℕ) (ns : List ℕ) → IsLeastOf ns m → (b : Bool) → nat_le n m ≡ b → IsLeastOf (n ∷ ns) (if b then n else m)
+least_of_lesser : (n m : ℕ) (ns : List ℕ) → IsLeastOf ns m → (b : Bool) → nat_le n m ≡ b
+    → IsLeastOf (n ∷ ns) (if b then n else m)
 least_of_lesser n m ns is true le = record {
   among = here n (among ns n);
-  at_most = λ k among_it. here_or_there n k (n ≤ k) (among ns k) (λ same. omega (arith, same)) (λ later. grind (arith, nat_tests, le, is.at_most k later)) among_it;
+  at_most =
+      λ k among_it. here_or_there n k (n ≤ k) (among ns k) (λ same. omega (arith, same))
+      (λ later. grind (arith, nat_tests, le, is.at_most k later)) among_it;
 }
 least_of_lesser n m ns is false le = record {
   among = there n m (among ns m) is.among;
-  at_most = λ k among_it. here_or_there n k (m ≤ k) (among ns k) (λ same. grind (arith, nat_tests, le, same)) (is.at_most k) among_it;
+  at_most =
+      λ k among_it. here_or_there n k (m ≤ k) (among ns k) (λ same. grind (arith, nat_tests, le, same)) (is.at_most k)
+      among_it;
 }
 
 -- `least_of` finds nothing and the list is empty, or it finds the lowest number of the list.
@@ -164,7 +178,8 @@ least_of_is ns n is =
     ] (least_of_cases ns)
 
 -- Two lists with the same numbers have the same lowest one.
-pub least_of-same : (xs ys : List ℕ) → ((n : ℕ) → list_any (λ x. x == n) xs ≡ list_any (λ x. x == n) ys) → least_of xs ≡ least_of ys
+pub least_of-same : (xs ys : List ℕ) → ((n : ℕ) → list_any (λ x. x == n) xs ≡ list_any (λ x. x == n) ys)
+    → least_of xs ≡ least_of ys
 least_of-same xs ys same =
     elim (least_of xs) as (λ r. MatchOption r (xs ≡ []) (IsLeastOf xs) → r ≡ least_of ys) [
       | None ↦ λ none. sym ((least_of_none ys).1 (no_member ys (λ n. sym (same n) ∙ ap (λ l. among l n) none)))

@@ -24,11 +24,13 @@ use Rattle.drm_index_array.proofs.SlotLemmas.{Spot}
 use Rattle.drm_index_array.proofs.EditLemmas.{used_set, edited_sound, edited_view, was_fits, value_was, rest_in_slot}
 
 -- Two readings of a borrow that agree on its last value, or without a borrow, are equal.
-pub lent_same : {D E : Type 0} (name : maybe.Option GName) (f h : E → D) (v w : D) → ((x : E) → f x ≡ h x) → v ≡ w → read_of name f v ≡ read_of name h w
+pub lent_same : {D E : Type 0} (name : maybe.Option GName) (f h : E → D) (v w : D) → ((x : E) → f x ≡ h x) → v ≡ w
+    → read_of name f v ≡ read_of name h w
 lent_same name f h v w fs vs = λ i. read_of name (λ x. fs x i) (vs i)
 
 -- the branch for equal numbers is used only at equal numbers
-branch_at : {X Y : Type 0} (f : X → Y) (a : ℕ → X) (k n : ℕ) (z : Y) → cond (eqb k n) (f (a k)) z ≡ cond (eqb k n) (f (a n)) z
+branch_at : {X Y : Type 0} (f : X → Y) (a : ℕ → X) (k n : ℕ) (z : Y)
+    → cond (eqb k n) (f (a k)) z ≡ cond (eqb k n) (f (a n)) z
 branch_at f a k n z =
     elim (cases_eq k n) as (λ _. cond (eqb k n) (f (a k)) z ≡ cond (eqb k n) (f (a n)) z) [
       | inl is ↦ ap (λ x. cond (eqb k n) (f (a x)) z) is
@@ -43,10 +45,13 @@ module _ {T : Type 0} where
   abbrev pub option_valued : T → Option (Marked T) → Option (Marked T)
   option_valued w o = option_map (valued w) o
 
-  get-set_value : (a : map.FinMap Rattle.std.specs.Ordering.nat_cmp (Marked T)) (i : ℕ) (w : T) (k : ℕ) → map.get (set_value a i w) k ≡ cond (eqb k i) (option_valued w (map.get a i)) (map.get a k)
+  get-set_value : (a : map.FinMap Rattle.std.specs.Ordering.nat_cmp (Marked T)) (i : ℕ) (w : T) (k : ℕ)
+      → map.get (set_value a i w) k ≡ cond (eqb k i) (option_valued w (map.get a i)) (map.get a k)
   get-set_value a i w k = get-rewrite a i (valued w) k ∙ branch_at (option_valued w) (map.get a) k i (map.get a k)
 
-  below-slot_with_value : (height : ℕ) (s : Slot T) → SlotFits height s → (rest r : ℕ) → rest < width height → r < width height → (w : T) → below (slot_with_value s rest w) r ≡ cond (eqb r rest) (option_valued w (below s rest)) (below s r)
+  below-slot_with_value : (height : ℕ) (s : Slot T) → SlotFits height s → (rest r : ℕ) → rest < width height
+      → r < width height → (w : T)
+      → below (slot_with_value s rest w) r ≡ cond (eqb r rest) (option_valued w (below s rest)) (below s r)
   below-slot_with_value height Vacant fits rest r lt less w = sym (same_branch (eqb r rest) None)
   below-slot_with_value height (Value e) fits rest r lt less w =
       let one : rest < width 0 = subst (λ h. rest < width h) fits lt in
@@ -62,24 +67,29 @@ module _ {T : Type 0} where
   sought_alike (WithMark M1) w (Some s) = refl
   sought_alike (WithMark M2) w (Some s) = refl
 
-  has_alike : (height : ℕ) (s : Slot T) → SlotFits height s → (rest : ℕ) → rest < width height → (w : T) (x : Sought) → has_below height (slot_with_value s rest w) x ≡ has_below height s x
+  has_alike : (height : ℕ) (s : Slot T) → SlotFits height s → (rest : ℕ) → rest < width height → (w : T) (x : Sought)
+      → has_below height (slot_with_value s rest w) x ≡ has_below height s x
   has_alike height s fits rest lt w x =
-      ap is_some (least-same _ _ 0 (width height - 1) (λ r _ le. ap (is_sought x) (below-slot_with_value height s fits rest r lt (omega (arith, lt)) w) ∙ alike r))
+      ap is_some
+      (least-same _ _ 0 (width height - 1) (λ r _ le. ap (is_sought x) (below-slot_with_value height s fits rest r lt (omega (arith, lt)) w) ∙ alike r))
     where
-      alike : (r : ℕ) → is_sought x (cond (eqb r rest) (option_valued w (below s rest)) (below s r)) ≡ is_sought x (below s r)
+      alike : (r : ℕ)
+          → is_sought x (cond (eqb r rest) (option_valued w (below s rest)) (below s r)) ≡ is_sought x (below s r)
       alike r =
           elim (cases_eq r rest) as (λ _. is_sought x (cond (eqb r rest) (option_valued w (below s rest)) (below s r)) ≡ is_sought x (below s r)) [
             | inl is ↦ rw (eq-eqb r rest is) (sought_alike x w (below s rest) ∙ ap (λ n. is_sought x (below s n)) (sym is))
             | inr apart ↦ rw (ne_eqb r rest apart) refl
           ]
 
-  fits_alike : (height : ℕ) (s : Slot T) (rest : ℕ) (w : T) → SlotFits height s → SlotFits height (slot_with_value s rest w)
+  fits_alike : (height : ℕ) (s : Slot T) (rest : ℕ) (w : T) → SlotFits height s
+      → SlotFits height (slot_with_value s rest w)
   fits_alike height Vacant rest w fits = fits
   fits_alike height (Value e) rest w fits = fits
   fits_alike height (Child b) rest w fits = fits
 
 module _ {T : Type 0} {height : ℕ} {slots : List (Slot T)} {q at rest : ℕ} {v : Tree T} (here : Spot height slots q at rest v) (was : Slot T) (was_is : slot slots at ≡ was) where
-  lent_sound : (words : Words) → IsSound height slots words → (w : T) → IsSound height (set slots at (slot_with_value was rest w)) words
+  lent_sound : (words : Words) → IsSound height slots words → (w : T)
+      → IsSound height (set slots at (slot_with_value was rest w)) words
   lent_sound words sound w = edited_sound here (slot_with_value was rest w) words words sound (fits_alike height was rest w (was_fits here was was_is)) sound.fit (λ x i lt. elim (cases_eq i at) as (λ _. tells_of words x i ≡ cond (eqb i at) (has_below height (slot_with_value was rest w) x) (tells_of words x i)) [
     | inl same ↦ rw (eq-eqb i at same) (sound.tells x i lt ∙ ap (λ n. has_below height (slot slots n) x) same ∙ ap (λ s. has_below height s x) was_is ∙ sym (has_alike height was (was_fits here was was_is) rest (rest_in_slot here) w x))
     | inr apart ↦ rw (ne_eqb i at apart) refl
@@ -91,7 +101,8 @@ module _ {T : Type 0} {height : ℕ} {slots : List (Slot T)} {q at rest : ℕ} {
       (λ r lt. below-slot_with_value height was (was_fits here was was_is) rest r (rest_in_slot here) lt w ∙ ap (λ o. cond (eqb r rest) (option_valued w o) (below was r)) (value_was here was was_is) ∙ ap (λ t. cond (eqb r rest) (option_valued w (map.get v.items q)) (below t r)) (sym was_is))
       (set_value v.items q w) (get-set_value v.items q w)
 
-  len_lent : (w : T) → map.len (view_of height slots).items ≡ map.len (view_of height (set slots at (slot_with_value was rest w))).items
+  len_lent : (w : T)
+      → map.len (view_of height slots).items ≡ map.len (view_of height (set slots at (slot_with_value was rest w))).items
   len_lent w =
       ap (λ (t : Tree T). map.len t.items) here.view_is
       ∙ sym (len-set_value v.items q w)
@@ -103,14 +114,18 @@ module _ {T : Type 0} {height : ℕ} {slots : List (Slot T)} {q at rest : ℕ} {
   used_lent (Child b) w used = omega (arith, used, len-set_value b.value.items rest w)
 
   -- A write through a lent value leaves a sound node sound, with the same words and count.
-  pub lent_node : (words : Words) (count : ℕ) → IsNode height slots words count → (w : T) → IsNode height (set slots at (slot_with_value was rest w)) words count
-  lent_node words count node w = record { sound = lent_sound words node.sound w; counted = node.counted ∙ len_lent w; used = used_set slots at _ here.in_range node.used (used_lent was w (subst IsUsed was_is (node.used at))) }
+  pub lent_node : (words : Words) (count : ℕ) → IsNode height slots words count → (w : T)
+      → IsNode height (set slots at (slot_with_value was rest w)) words count
+  lent_node words count node w =
+      record
+      { sound = lent_sound words node.sound w; counted = node.counted ∙ len_lent w; used = used_set slots at _ here.in_range node.used (used_lent was w (subst IsUsed was_is (node.used at))) }
 
   kept_slots : set slots at was ≡ slots
   kept_slots = ap (set slots at) (sym was_is) ∙ set-get_or slots at Vacant
 
   -- Writing a slot back unchanged leaves a sound node sound.
-  pub kept_node : (words : Words) (count : ℕ) → IsNode height slots words count → IsNode height (set slots at was) words count
+  pub kept_node : (words : Words) (count : ℕ) → IsNode height slots words count
+      → IsNode height (set slots at was) words count
   kept_node words count node = subst (λ ss. IsNode height ss words count) (sym kept_slots) node
 
   -- Writing a slot back unchanged leaves the node's map unchanged.

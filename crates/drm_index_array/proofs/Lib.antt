@@ -1,7 +1,7 @@
 pub mod Least
 pub mod MarkedLemmas
 pub mod KeysLemmas
-pub mod Keyed
+pub mod RowsByKey
 pub mod Entries
 mod WordLemmas
 mod PlaceLemmas

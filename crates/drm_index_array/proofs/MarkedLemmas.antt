@@ -20,11 +20,14 @@ pub eq_by_cmp-nat_cmp : (q k : ℕ) → eq_by_cmp nat_cmp q k ≡ eqb q k
 eq_by_cmp-nat_cmp q k = grind (arith, nat_tests)
 
 -- After an insertion, the key has the new value and all other keys are unchanged.
-pub get-insert : {X : Type 0} (m : map.FinMap nat_cmp X) (k : ℕ) (v : X) (q : ℕ) → map.get (map.insert m k v) q ≡ cond (eqb q k) (Some v) (map.get m q)
-get-insert m k v q = map.get-insert nat_cmp_total m k v q ∙ ap (λ b. cond b (Some v) (map.get m q)) (eq_by_cmp-nat_cmp q k)
+pub get-insert : {X : Type 0} (m : map.FinMap nat_cmp X) (k : ℕ) (v : X) (q : ℕ)
+    → map.get (map.insert m k v) q ≡ cond (eqb q k) (Some v) (map.get m q)
+get-insert m k v q =
+    map.get-insert nat_cmp_total m k v q ∙ ap (λ b. cond b (Some v) (map.get m q)) (eq_by_cmp-nat_cmp q k)
 
 -- After a removal, the key has no entry and all other keys are unchanged.
-pub get-remove : {X : Type 0} (m : map.FinMap nat_cmp X) (k q : ℕ) → map.get (map.remove m k) q ≡ cond (eqb q k) None (map.get m q)
+pub get-remove : {X : Type 0} (m : map.FinMap nat_cmp X) (k q : ℕ)
+    → map.get (map.remove m k) q ≡ cond (eqb q k) None (map.get m q)
 get-remove m k q = map.get-remove nat_cmp_total m k q ∙ ap (λ b. cond b None (map.get m q)) (eq_by_cmp-nat_cmp q k)
 
 -- Two maps with the same value at each key are equal.
@@ -68,11 +71,13 @@ module _ {X Y : Type 0} (f : X → Y) where
   find-pairs_by q (e ∷ es) =
       elim (eq_by_cmp nat_cmp q e.0) as (λ b. cond b (Some (f e.1)) (find nat_cmp q (pairs_by es)) ≡ option_map f (cond b (Some e.1) (find nat_cmp q es))) [ true ↦ refl | false ↦ find-pairs_by q es ]
 
-option_map-cond : {Y Z : Type 0} (f : Y → Z) (b : Bool) (x y : Option Y) → option_map f (cond b x y) ≡ cond b (option_map f x) (option_map f y)
+option_map-cond : {Y Z : Type 0} (f : Y → Z) (b : Bool) (x y : Option Y)
+    → option_map f (cond b x y) ≡ cond b (option_map f x) (option_map f y)
 option_map-cond f true x y = refl
 option_map-cond f false x y = refl
 
-option_map_or-cond : {Y Z : Type 0} (f : Y → Z) (d : Z) (b : Bool) (x y : Option Y) → option_map_or f (cond b x y) d ≡ cond b (option_map_or f x d) (option_map_or f y d)
+option_map_or-cond : {Y Z : Type 0} (f : Y → Z) (d : Z) (b : Bool) (x y : Option Y)
+    → option_map_or f (cond b x y) d ≡ cond b (option_map_or f x d) (option_map_or f y d)
 option_map_or-cond f d true x y = refl
 option_map_or-cond f d false x y = refl
 
@@ -93,12 +98,14 @@ module _ {X : Type 0} where
   pub get-values : (a : MarkedMap X) (q : ℕ) → map.get (values a) q ≡ get a q
   unfolding values pairs_by
   get-values a q =
-      map.get-from_sorted nat_cmp _ q (subst T (sym (is_sorted-pairs_by (λ s. s.value) (map.entries a))) (map.entries_sorted a))
+      map.get-from_sorted nat_cmp _ q
+      (subst T (sym (is_sorted-pairs_by (λ s. s.value) (map.entries a))) (map.entries_sorted a))
       ∙ find-pairs_by (λ s. s.value) q (map.entries a)
       ∙ ap (option_map (λ s. s.value)) (sym (map.get-entries a q))
 
   -- A rewrite changes the entry at its index, if there is one, and no other.
-  pub get-rewrite : (a : MarkedMap X) (i : ℕ) (f : Marked X → Marked X) (q : ℕ) → map.get (rewrite a i f) q ≡ cond (eqb q i) (option_map f (map.get a q)) (map.get a q)
+  pub get-rewrite : (a : MarkedMap X) (i : ℕ) (f : Marked X → Marked X) (q : ℕ)
+      → map.get (rewrite a i f) q ≡ cond (eqb q i) (option_map f (map.get a q)) (map.get a q)
   unfolding rewrite
   get-rewrite a i f q =
       elim (map.get a i) as (λ o. map.get a i ≡ o → map.get (rewritten a i f o) q ≡ cond (eqb q i) (option_map f (map.get a q)) (map.get a q)) [
@@ -107,21 +114,26 @@ module _ {X : Type 0} where
       ] refl
 
   -- After an insertion, the index has the new value and all other values are unchanged.
-  pub get-insert_unmarked : (a : MarkedMap X) (i : ℕ) (v : X) (q : ℕ) → get (map.insert a i (unmarked v)) q ≡ cond (eqb q i) (Some v) (get a q)
-  get-insert_unmarked a i v q = ap (option_map (λ s. s.value)) (get-insert a i (unmarked v) q) ∙ option_map-cond (λ s. s.value) (eqb q i) _ _
+  pub get-insert_unmarked : (a : MarkedMap X) (i : ℕ) (v : X) (q : ℕ)
+      → get (map.insert a i (unmarked v)) q ≡ cond (eqb q i) (Some v) (get a q)
+  get-insert_unmarked a i v q =
+      ap (option_map (λ s. s.value)) (get-insert a i (unmarked v) q) ∙ option_map-cond (λ s. s.value) (eqb q i) _ _
 
   -- After a removal, the index has no value and all others are unchanged.
   pub get-remove_value : (a : MarkedMap X) (i q : ℕ) → get (map.remove a i) q ≡ cond (eqb q i) None (get a q)
-  get-remove_value a i q = ap (option_map (λ s. s.value)) (get-remove a i q) ∙ option_map-cond (λ s. s.value) (eqb q i) _ _
+  get-remove_value a i q =
+      ap (option_map (λ s. s.value)) (get-remove a i q) ∙ option_map-cond (λ s. s.value) (eqb q i) _ _
 
   -- Setting a value changes the value at its index if there is one, and no other.
-  pub get-set_value : (a : MarkedMap X) (i : ℕ) (v : X) (q : ℕ) → get (set_value a i v) q ≡ cond (eqb q i) (option_map (λ _. v) (get a q)) (get a q)
+  pub get-set_value : (a : MarkedMap X) (i : ℕ) (v : X) (q : ℕ)
+      → get (set_value a i v) q ≡ cond (eqb q i) (option_map (λ _. v) (get a q)) (get a q)
   get-set_value a i v q =
       ap (option_map (λ s. s.value)) (get-rewrite a i (λ s. record s { value = v }) q)
       ∙ option_map-cond (λ s. s.value) (eqb q i) _ _
       ∙ ap (λ x. cond (eqb q i) x (get a q)) (twice (map.get a q))
     where
-      twice : (o : Option (Marked X)) → option_map (λ s. s.value) (option_map {T = Marked X} (λ s. record s { value = v }) o) ≡ option_map (λ _. v) (option_map (λ s. s.value) o)
+      twice : (o : Option (Marked X))
+          → option_map (λ s. s.value) (option_map {T = Marked X} (λ s. record s { value = v }) o) ≡ option_map (λ _. v) (option_map (λ s. s.value) o)
       twice None = refl
       twice (Some s) = refl
 
@@ -133,14 +145,16 @@ module _ {X : Type 0} where
       ∙ ap (λ x. cond (eqb q i) x (get a q)) (kept m (map.get a q))
       ∙ same_branch (eqb q i) _
     where
-      kept : (m : Mark) (o : Option (Marked X)) → option_map (λ s. s.value) (option_map (λ s. with_mark s m b) o) ≡ option_map (λ s. s.value) o
+      kept : (m : Mark) (o : Option (Marked X))
+          → option_map (λ s. s.value) (option_map (λ s. with_mark s m b) o) ≡ option_map (λ s. s.value) o
       kept m None = refl
       kept M0 (Some s) = refl
       kept M1 (Some s) = refl
       kept M2 (Some s) = refl
 
   -- After an insertion, the index carries no mark and all other marks are unchanged.
-  pub is_marked-insert : (a : MarkedMap X) (i : ℕ) (v : X) (q : ℕ) (m : Mark) → is_marked (map.insert a i (unmarked v)) q m ≡ cond (eqb q i) false (is_marked a q m)
+  pub is_marked-insert : (a : MarkedMap X) (i : ℕ) (v : X) (q : ℕ) (m : Mark)
+      → is_marked (map.insert a i (unmarked v)) q m ≡ cond (eqb q i) false (is_marked a q m)
   is_marked-insert a i v q m =
       ap (λ o. option_map_or (λ s. mark_of s m) o false) (get-insert a i (unmarked v) q)
       ∙ option_map_or-cond (λ s. mark_of s m) false (eqb q i) _ _
@@ -152,26 +166,34 @@ module _ {X : Type 0} where
       none M2 = refl
 
   -- After a removal, the index carries no mark and all others are unchanged.
-  pub is_marked-remove : (a : MarkedMap X) (i q : ℕ) (m : Mark) → is_marked (map.remove a i) q m ≡ cond (eqb q i) false (is_marked a q m)
+  pub is_marked-remove : (a : MarkedMap X) (i q : ℕ) (m : Mark)
+      → is_marked (map.remove a i) q m ≡ cond (eqb q i) false (is_marked a q m)
   is_marked-remove a i q m =
-      ap (λ o. option_map_or (λ s. mark_of s m) o false) (get-remove a i q) ∙ option_map_or-cond (λ s. mark_of s m) false (eqb q i) _ _
+      ap (λ o. option_map_or (λ s. mark_of s m) o false) (get-remove a i q)
+      ∙ option_map_or-cond (λ s. mark_of s m) false (eqb q i) _ _
 
   -- An empty map has no values.
   pub values-empty : values (map.empty {X = Marked X}) ≡ map.empty
-  values-empty = same_by_gets _ _ (λ q. get-values map.empty q ∙ ap (option_map (λ s. s.value)) (map.get-empty nat_cmp q) ∙ sym (map.get-empty nat_cmp q))
+  values-empty =
+      same_by_gets _ _
+      (λ q. get-values map.empty q ∙ ap (option_map (λ s. s.value)) (map.get-empty nat_cmp q) ∙ sym (map.get-empty nat_cmp q))
 
   -- Inserting an unmarked value inserts it in the map of values.
-  pub values-insert : (a : MarkedMap X) (i : ℕ) (v : X) → values (map.insert a i (unmarked v)) ≡ map.insert (values a) i v
+  pub values-insert : (a : MarkedMap X) (i : ℕ) (v : X)
+      → values (map.insert a i (unmarked v)) ≡ map.insert (values a) i v
   values-insert a i v =
-      same_by_gets _ _ (λ q. get-values _ q ∙ get-insert_unmarked a i v q ∙ ap (cond (eqb q i) (Some v)) (sym (get-values a q)) ∙ sym (get-insert (values a) i v q))
+      same_by_gets _ _
+      (λ q. get-values _ q ∙ get-insert_unmarked a i v q ∙ ap (cond (eqb q i) (Some v)) (sym (get-values a q)) ∙ sym (get-insert (values a) i v q))
 
   -- Removing an entry removes it from the map of values.
   pub values-remove : (a : MarkedMap X) (i : ℕ) → values (map.remove a i) ≡ map.remove (values a) i
   values-remove a i =
-      same_by_gets _ _ (λ q. get-values _ q ∙ get-remove_value a i q ∙ ap (cond (eqb q i) None) (sym (get-values a q)) ∙ sym (get-remove (values a) i q))
+      same_by_gets _ _
+      (λ q. get-values _ q ∙ get-remove_value a i q ∙ ap (cond (eqb q i) None) (sym (get-values a q)) ∙ sym (get-remove (values a) i q))
 
   -- Setting the value of an entry inserts it in the map of values.
-  pub values-set_value : (a : MarkedMap X) (i : ℕ) (v : X) → IsSome (get a i) → values (set_value a i v) ≡ map.insert (values a) i v
+  pub values-set_value : (a : MarkedMap X) (i : ℕ) (v : X) → IsSome (get a i)
+      → values (set_value a i v) ≡ map.insert (values a) i v
   values-set_value a i v there =
       same_by_gets _ _ (λ q.
       get-values _ q
@@ -198,13 +220,15 @@ module _ {X : Type 0} where
 
 module _ {X : Type 0} where
   -- the marks after a rewrite that keeps this mark, or writes it
-  is_marked-rewrite : (a : MarkedMap X) (i : ℕ) (f : Marked X → Marked X) (q : ℕ) (m : Mark) → is_marked (rewrite a i f) q m ≡ cond (eqb q i) (option_map_or (λ s. mark_of (f s) m) (map.get a q) false) (is_marked a q m)
+  is_marked-rewrite : (a : MarkedMap X) (i : ℕ) (f : Marked X → Marked X) (q : ℕ) (m : Mark)
+      → is_marked (rewrite a i f) q m ≡ cond (eqb q i) (option_map_or (λ s. mark_of (f s) m) (map.get a q) false) (is_marked a q m)
   is_marked-rewrite a i f q m =
       ap (λ o. option_map_or (λ s. mark_of s m) o false) (get-rewrite a i f q)
       ∙ option_map_or-cond (λ s. mark_of s m) false (eqb q i) _ _
       ∙ ap (λ b. cond (eqb q i) b (is_marked a q m)) (inner (map.get a q))
     where
-      inner : (o : Option (Marked X)) → option_map_or (λ s. mark_of s m) (option_map f o) false ≡ option_map_or (λ s. mark_of (f s) m) o false
+      inner : (o : Option (Marked X))
+          → option_map_or (λ s. mark_of s m) (option_map f o) false ≡ option_map_or (λ s. mark_of (f s) m) o false
       inner None = refl
       inner (Some s) = refl
 
@@ -212,16 +236,21 @@ module _ {X : Type 0} where
   pub contains-marked_in : (a : MarkedMap X) (m : Mark) (q : ℕ) → set.contains (marked_in a m) q ≡ is_marked a q m
   unfolding marked_in
   contains-marked_in a m q =
-      set.contains-retain (set.from_list (map.keys a)) (λ i. is_marked a i m) q (λ x t. ap (λ i. is_marked a i m) (sym (nat_cmp-IsAntisymmetric q x t)))
-      ∙ ap (λ b. b && is_marked a q m) (set.contains-from_list nat_cmp_total (map.keys a) q ∙ sym (map.contains_key-keys a q))
+      set.contains-retain (set.from_list (map.keys a)) (λ i. is_marked a i m) q
+      (λ x t. ap (λ i. is_marked a i m) (sym (nat_cmp-IsAntisymmetric q x t)))
+      ∙ ap (λ b. b && is_marked a q m)
+      (set.contains-from_list nat_cmp_total (map.keys a) q ∙ sym (map.contains_key-keys a q))
       ∙ inside (map.get a q)
     where
-      inside : (o : Option (Marked X)) → (is_some o && option_map_or (λ s. mark_of s m) o false) ≡ option_map_or (λ s. mark_of s m) o false
+      inside : (o : Option (Marked X))
+          → (is_some o && option_map_or (λ s. mark_of s m) o false) ≡ option_map_or (λ s. mark_of s m) o false
       inside None = refl
       inside (Some s) = refl
 
-  same_marks : (a : MarkedMap X) (m : Mark) (s : set.FinSet nat_cmp) → ((q : ℕ) → is_marked a q m ≡ set.contains s q) → marked_in a m ≡ s
-  same_marks a m s same = set.same_set nat_cmp_total nat_cmp-IsAntisymmetric _ _ (λ q. contains-marked_in a m q ∙ same q)
+  same_marks : (a : MarkedMap X) (m : Mark) (s : set.FinSet nat_cmp) → ((q : ℕ) → is_marked a q m ≡ set.contains s q)
+      → marked_in a m ≡ s
+  same_marks a m s same =
+      set.same_set nat_cmp_total nat_cmp-IsAntisymmetric _ _ (λ q. contains-marked_in a m q ∙ same q)
 
   absent_unmarked : (a : MarkedMap X) (i : ℕ) (m : Mark) → map.get a i ≡ None → is_marked a i m ≡ false
   absent_unmarked a i m none = ap (λ o. option_map_or (λ s. mark_of s m) o false) none
@@ -234,10 +263,13 @@ module _ {X : Type 0} where
   array_of-empty = by_parts _ _ values-empty (none M0) (none M1) (none M2)
     where
       none : (m : Mark) → marked_in (map.empty {X = Marked X}) m ≡ set.empty
-      none m = same_marks map.empty m set.empty (λ q. absent_unmarked map.empty q m (map.get-empty nat_cmp q) ∙ sym (set.contains-empty nat_cmp q))
+      none m =
+          same_marks map.empty m set.empty
+          (λ q. absent_unmarked map.empty q m (map.get-empty nat_cmp q) ∙ sym (set.contains-empty nat_cmp q))
 
   -- Inserting an unmarked value at a free index adds the item to the array.
-  pub array_of-insert : (a : MarkedMap X) (i : ℕ) (v : X) → map.get a i ≡ None → array_of (map.insert a i (unmarked v)) ≡ with_item (array_of a) i v
+  pub array_of-insert : (a : MarkedMap X) (i : ℕ) (v : X) → map.get a i ≡ None
+      → array_of (map.insert a i (unmarked v)) ≡ with_item (array_of a) i v
   array_of-insert a i v none = by_parts _ _ (values-insert a i v) (kept M0) (kept M1) (kept M2)
     where
       kept : (m : Mark) → marked_in (map.insert a i (unmarked v)) m ≡ marked_in a m
@@ -261,7 +293,8 @@ module _ {X : Type 0} where
           ∙ sym (set.contains-remove nat_cmp_total (marked_in a m) i q))
 
   -- Setting the value of an entry sets the array's item.
-  pub array_of-set_value : (a : MarkedMap X) (i : ℕ) (v : X) → IsSome (get a i) → array_of (set_value a i v) ≡ with_item (array_of a) i v
+  pub array_of-set_value : (a : MarkedMap X) (i : ℕ) (v : X) → IsSome (get a i)
+      → array_of (set_value a i v) ≡ with_item (array_of a) i v
   array_of-set_value a i v there = by_parts _ _ (values-set_value a i v there) (kept M0) (kept M1) (kept M2)
     where
       mark_kept : (m : Mark) (s : Marked X) → mark_of (let t : Marked X = record s { value = v } in t) m ≡ mark_of s m
@@ -269,7 +302,8 @@ module _ {X : Type 0} where
       mark_kept M1 s = refl
       mark_kept M2 s = refl
 
-      inner : (m : Mark) (o : Option (Marked X)) → option_map_or (λ s. mark_of (let t : Marked X = record s { value = v } in t) m) o false ≡ option_map_or (λ s. mark_of s m) o false
+      inner : (m : Mark) (o : Option (Marked X))
+          → option_map_or (λ s. mark_of (let t : Marked X = record s { value = v } in t) m) o false ≡ option_map_or (λ s. mark_of s m) o false
       inner m None = refl
       inner m (Some s) = mark_kept m s
 
@@ -282,17 +316,20 @@ module _ {X : Type 0} where
           ∙ sym (contains-marked_in a m q))
 
   -- a mark that a rewrite keeps
-  kept_mark : (a : MarkedMap X) (i : ℕ) (f : Marked X → Marked X) (n : Mark) → ((s : Marked X) → mark_of (f s) n ≡ mark_of s n) → marked_in (rewrite a i f) n ≡ marked_in a n
+  kept_mark : (a : MarkedMap X) (i : ℕ) (f : Marked X → Marked X) (n : Mark)
+      → ((s : Marked X) → mark_of (f s) n ≡ mark_of s n) → marked_in (rewrite a i f) n ≡ marked_in a n
   kept_mark a i f n keeps =
       same_marks _ n (marked_in a n) (λ q.
       is_marked-rewrite a i f q n ∙ ap (λ b. cond (eqb q i) b (is_marked a q n)) (inner (map.get a q)) ∙ same_branch (eqb q i) _ ∙ sym (contains-marked_in a n q))
     where
-      inner : (o : Option (Marked X)) → option_map_or (λ s. mark_of (f s) n) o false ≡ option_map_or (λ s. mark_of s n) o false
+      inner : (o : Option (Marked X))
+          → option_map_or (λ s. mark_of (f s) n) o false ≡ option_map_or (λ s. mark_of s n) o false
       inner None = refl
       inner (Some s) = keeps s
 
   -- a mark that is set
-  set_mark_in : (a : MarkedMap X) (i : ℕ) (f : Marked X → Marked X) (m : Mark) → IsSome (get a i) → ((s : Marked X) → mark_of (f s) m ≡ true) → marked_in (rewrite a i f) m ≡ set.insert (marked_in a m) i
+  set_mark_in : (a : MarkedMap X) (i : ℕ) (f : Marked X → Marked X) (m : Mark) → IsSome (get a i)
+      → ((s : Marked X) → mark_of (f s) m ≡ true) → marked_in (rewrite a i f) m ≡ set.insert (marked_in a m) i
   set_mark_in a i f m there sets =
       same_marks _ m _ (λ q.
       is_marked-rewrite a i f q m
@@ -305,12 +342,14 @@ module _ {X : Type 0} where
       test true c = refl
       test false c = refl
 
-      written : (o : Option (Marked X)) → IsSome (option_map (λ s. s.value) o) → option_map_or (λ s. mark_of (f s) m) o false ≡ true
+      written : (o : Option (Marked X)) → IsSome (option_map (λ s. s.value) o)
+          → option_map_or (λ s. mark_of (f s) m) o false ≡ true
       written None there = absurd (false≢true there)
       written (Some s) there = sets s
 
   -- a mark that is taken
-  clear_mark_in : (a : MarkedMap X) (i : ℕ) (f : Marked X → Marked X) (m : Mark) → ((s : Marked X) → mark_of (f s) m ≡ false) → marked_in (rewrite a i f) m ≡ set.remove (marked_in a m) i
+  clear_mark_in : (a : MarkedMap X) (i : ℕ) (f : Marked X → Marked X) (m : Mark)
+      → ((s : Marked X) → mark_of (f s) m ≡ false) → marked_in (rewrite a i f) m ≡ set.remove (marked_in a m) i
   clear_mark_in a i f m clears =
       same_marks _ m _ (λ q.
       is_marked-rewrite a i f q m
@@ -324,25 +363,41 @@ module _ {X : Type 0} where
       written (Some s) = clears s
 
   -- Setting a mark of an entry sets it in the array.
-  pub array_of-set_mark : (a : MarkedMap X) (i : ℕ) (m : Mark) → IsSome (get a i) → array_of (write_mark a i m true) ≡ ix.with_mark (array_of a) i m
-  array_of-set_mark a i M0 there = by_parts _ _ (values-write_mark a i M0 true) (set_mark_in a i _ M0 there (λ s. refl)) (kept_mark a i _ M1 (λ s. refl)) (kept_mark a i _ M2 (λ s. refl))
-  array_of-set_mark a i M1 there = by_parts _ _ (values-write_mark a i M1 true) (kept_mark a i _ M0 (λ s. refl)) (set_mark_in a i _ M1 there (λ s. refl)) (kept_mark a i _ M2 (λ s. refl))
-  array_of-set_mark a i M2 there = by_parts _ _ (values-write_mark a i M2 true) (kept_mark a i _ M0 (λ s. refl)) (kept_mark a i _ M1 (λ s. refl)) (set_mark_in a i _ M2 there (λ s. refl))
+  pub array_of-set_mark : (a : MarkedMap X) (i : ℕ) (m : Mark) → IsSome (get a i)
+      → array_of (write_mark a i m true) ≡ ix.with_mark (array_of a) i m
+  array_of-set_mark a i M0 there =
+      by_parts _ _ (values-write_mark a i M0 true) (set_mark_in a i _ M0 there (λ s. refl))
+      (kept_mark a i _ M1 (λ s. refl)) (kept_mark a i _ M2 (λ s. refl))
+  array_of-set_mark a i M1 there =
+      by_parts _ _ (values-write_mark a i M1 true) (kept_mark a i _ M0 (λ s. refl))
+      (set_mark_in a i _ M1 there (λ s. refl)) (kept_mark a i _ M2 (λ s. refl))
+  array_of-set_mark a i M2 there =
+      by_parts _ _ (values-write_mark a i M2 true) (kept_mark a i _ M0 (λ s. refl)) (kept_mark a i _ M1 (λ s. refl))
+      (set_mark_in a i _ M2 there (λ s. refl))
 
   -- Clearing a mark clears it in the array.
-  pub array_of-clear_mark : (a : MarkedMap X) (i : ℕ) (m : Mark) → array_of (write_mark a i m false) ≡ ix.without_mark (array_of a) i m
-  array_of-clear_mark a i M0 = by_parts _ _ (values-write_mark a i M0 false) (clear_mark_in a i _ M0 (λ s. refl)) (kept_mark a i _ M1 (λ s. refl)) (kept_mark a i _ M2 (λ s. refl))
-  array_of-clear_mark a i M1 = by_parts _ _ (values-write_mark a i M1 false) (kept_mark a i _ M0 (λ s. refl)) (clear_mark_in a i _ M1 (λ s. refl)) (kept_mark a i _ M2 (λ s. refl))
-  array_of-clear_mark a i M2 = by_parts _ _ (values-write_mark a i M2 false) (kept_mark a i _ M0 (λ s. refl)) (kept_mark a i _ M1 (λ s. refl)) (clear_mark_in a i _ M2 (λ s. refl))
+  pub array_of-clear_mark : (a : MarkedMap X) (i : ℕ) (m : Mark)
+      → array_of (write_mark a i m false) ≡ ix.without_mark (array_of a) i m
+  array_of-clear_mark a i M0 =
+      by_parts _ _ (values-write_mark a i M0 false) (clear_mark_in a i _ M0 (λ s. refl))
+      (kept_mark a i _ M1 (λ s. refl)) (kept_mark a i _ M2 (λ s. refl))
+  array_of-clear_mark a i M1 =
+      by_parts _ _ (values-write_mark a i M1 false) (kept_mark a i _ M0 (λ s. refl))
+      (clear_mark_in a i _ M1 (λ s. refl)) (kept_mark a i _ M2 (λ s. refl))
+  array_of-clear_mark a i M2 =
+      by_parts _ _ (values-write_mark a i M2 false) (kept_mark a i _ M0 (λ s. refl)) (kept_mark a i _ M1 (λ s. refl))
+      (clear_mark_in a i _ M2 (λ s. refl))
 
   -- The array has a mark at exactly those indices whose entries carry it.
-  pub marked_with-array_of : (a : MarkedMap X) (m : Mark) (q : ℕ) → set.contains (ix.marked_with (array_of a) m) q ≡ is_marked a q m
+  pub marked_with-array_of : (a : MarkedMap X) (m : Mark) (q : ℕ)
+      → set.contains (ix.marked_with (array_of a) m) q ≡ is_marked a q m
   marked_with-array_of a M0 q = contains-marked_in a M0 q
   marked_with-array_of a M1 q = contains-marked_in a M1 q
   marked_with-array_of a M2 q = contains-marked_in a M2 q
 
   -- Each index with a mark has an entry.
-  pub marked_is_key : (a : MarkedMap X) (m : Mark) (q : ℕ) → IsTrue (set.contains (ix.marked_with (array_of a) m) q) → IsTrue (map.contains_key (array_of a).items q)
+  pub marked_is_key : (a : MarkedMap X) (m : Mark) (q : ℕ) → IsTrue (set.contains (ix.marked_with (array_of a) m) q)
+      → IsTrue (map.contains_key (array_of a).items q)
   marked_is_key a m q marked = contains_key-values a q ∙ some (map.get a q) (sym (marked_with-array_of a m q) ∙ marked)
     where
       some : (o : Option (Marked X)) → option_map_or (λ s. mark_of s m) o false ≡ true → is_some o ≡ true
@@ -350,7 +405,8 @@ module _ {X : Type 0} where
       some (Some s) e = refl
 
   -- Setting or clearing a mark of an entry does the same in the array.
-  pub array_of-write_mark : (a : MarkedMap X) (i : ℕ) (m : Mark) (b : Bool) → IsSome (get a i) → array_of (write_mark a i m b) ≡ ix.written_mark (array_of a) i m b
+  pub array_of-write_mark : (a : MarkedMap X) (i : ℕ) (m : Mark) (b : Bool) → IsSome (get a i)
+      → array_of (write_mark a i m b) ≡ ix.written_mark (array_of a) i m b
   array_of-write_mark a i m true there = array_of-set_mark a i m there
   array_of-write_mark a i m false there = array_of-clear_mark a i m
 
@@ -359,18 +415,22 @@ module _ {X : Type 0} where
   unfolding values pairs_by
   len-values a =
       map.len-entries _
-      ∙ ap length (map.entries-from_sorted nat_cmp _ (subst T (sym (is_sorted-pairs_by (λ s. s.value) (map.entries a))) (map.entries_sorted a)))
+      ∙ ap length
+      (map.entries-from_sorted nat_cmp _ (subst T (sym (is_sorted-pairs_by (λ s. s.value) (map.entries a))) (map.entries_sorted a)))
       ∙ length_pairs_by (map.entries a)
       ∙ sym (map.len-entries a)
     where
-      length_pairs_by : (es : List (ℕ × Marked X)) → length {A = ℕ × X} (list_map (λ e. (e.0, e.1.value)) es) ≡ length es
+      length_pairs_by : (es : List (ℕ × Marked X))
+          → length {A = ℕ × X} (list_map (λ e. (e.0, e.1.value)) es) ≡ length es
       length_pairs_by [] = refl
       length_pairs_by (e ∷ es) = ap suc (length_pairs_by es)
 
 -- an entry that is rewritten is neither more nor less
-len-rewritten : {T : Type 0} (a : MarkedMap T) (i : ℕ) (f : Marked T → Marked T) (o : Option (Marked T)) → map.get a i ≡ o → map.len (rewritten a i f o) ≡ map.len a
+len-rewritten : {T : Type 0} (a : MarkedMap T) (i : ℕ) (f : Marked T → Marked T) (o : Option (Marked T))
+    → map.get a i ≡ o → map.len (rewritten a i f o) ≡ map.len a
 len-rewritten a i f None is = refl
-len-rewritten a i f (Some s) is = map.len-insert nat_cmp_total a i (f s) ∙ ap (λ o. cond (is_some o) (map.len a) (map.len a + 1)) is
+len-rewritten a i f (Some s) is =
+    map.len-insert nat_cmp_total a i (f s) ∙ ap (λ o. cond (is_some o) (map.len a) (map.len a + 1)) is
 
 -- Setting a value keeps the number of entries.
 pub len-set_value : {T : Type 0} (a : MarkedMap T) (i : ℕ) (w : T) → map.len (set_value a i w) ≡ map.len a

@@ -6,14 +6,16 @@ use Rattle.drm_index_array.specs.Least.{least, IsLeast, NonePasses}
 use Rattle.drm_index_array.proofs.Least.{least_cases, least_some, least_none, least_is, least_is_none, least_by_cases}
 
 -- A search in a part of a longer range is the search there, counted from the part's base.
-pub least_moved : (p q : ℕ → Bool) (base from to : ℕ) → ((r : ℕ) → from ≤ r → r ≤ to → q r ≡ p (base + r)) → option_map (λ n. base + n) (least q from to) ≡ least p (base + from) (base + to)
+pub least_moved : (p q : ℕ → Bool) (base from to : ℕ) → ((r : ℕ) → from ≤ r → r ≤ to → q r ≡ p (base + r))
+    → option_map (λ n. base + n) (least q from to) ≡ least p (base + from) (base + to)
 least_moved p q base from to same = least_by_cases p (base + from) (base + to) _ (elim (least q from to) as (λ r. MatchOption r (NonePasses q from to) (IsLeast q from to) → MatchOption (option_map (λ n. base + n) r) (NonePasses p (base + from) (base + to)) (IsLeast p (base + from) (base + to))) [
   | None ↦ λ none k ge le. moved k ge le (none (k - base) (omega arith) (omega arith))
   | Some n ↦ λ is. record {
     at_least = omega (arith, is.at_least);
     at_most = omega (arith, is.at_most);
     passes = sym (same n is.at_least is.at_most) ∙ is.passes;
-    none_below = λ k ge lt. moved k ge (omega (arith, is.at_most)) (is.none_below (k - base) (omega arith) (omega arith));
+    none_below =
+        λ k ge lt. moved k ge (omega (arith, is.at_most)) (is.none_below (k - base) (omega arith) (omega arith));
   }
 ] (least_cases q from to))
   where
@@ -29,7 +31,8 @@ is_some-option_map f (Some x) = refl
 pub least_wider : (p : ℕ → Bool) (from mid to n : ℕ) → mid ≤ to → least p from mid ≡ Some n → least p from to ≡ Some n
 least_wider p from mid to n le found =
     let is = least_some p from mid n found in
-    least_is p from to n (record { at_least = is.at_least; at_most = omega (arith, is.at_most); passes = is.passes; none_below = is.none_below })
+    least_is p from to n
+    (record { at_least = is.at_least; at_most = omega (arith, is.at_most); passes = is.passes; none_below = is.none_below })
 
 -- If `least` finds nothing in a range, no number of it passes.
 pub none_of : (p : ℕ → Bool) (from to : ℕ) → is_some (least p from to) ≡ false → NonePasses p from to
@@ -57,13 +60,15 @@ module _ (p : ℕ → Bool) (w : ℕ) (pos : 0 < w) (tells : ℕ → Bool) (told
 
   -- no number passes in a slot for which `tells` is false
   not_told : (k : ℕ) → k ≤ 64 * w - 1 → tells (k / w) ≡ false → p k ≡ false
-  not_told k le e = none_of p _ _ (sym (told (k / w) (slot_below k le)) ∙ e) k (omega (arith, (in_slot k).0)) (in_slot k).1
+  not_told k le e =
+      none_of p _ _ (sym (told (k / w) (slot_below k le)) ∙ e) k (omega (arith, (in_slot k).0)) (in_slot k).1
 
   -- Some slot has a number that passes if and only if some number of the node does.
   pub any_told : is_some (least tells 0 63) ≡ is_some (least p 0 (64 * w - 1))
   any_told = by_word (least tells 0 63) refl
     where
-      in_slot_of : (t : ℕ) (r : Option ℕ) → t ≤ 63 → least p (t * w + 0) (t * w + (w - 1)) ≡ r → is_some r ≡ true → is_some (least p 0 (64 * w - 1)) ≡ true
+      in_slot_of : (t : ℕ) (r : Option ℕ) → t ≤ 63 → least p (t * w + 0) (t * w + (w - 1)) ≡ r → is_some r ≡ true
+          → is_some (least p 0 (64 * w - 1)) ≡ true
       in_slot_of t None le e some = absurd (false≢true some)
       in_slot_of t (Some n) le e some =
           let is = least_some p _ _ n e in
@@ -71,10 +76,13 @@ module _ (p : ℕ → Bool) (w : ℕ) (pos : 0 < w) (tells : ℕ → Bool) (told
           some_in p 0 (64 * w - 1) n (omega arith) (omega (arith, is.at_most)) is.passes
 
       by_word : (r : Option ℕ) → least tells 0 63 ≡ r → is_some r ≡ is_some (least p 0 (64 * w - 1))
-      by_word None e = sym (ap is_some (least_is_none p 0 _ (λ k _ le. not_told k le (least_none tells 0 63 e (k / w) (omega arith) (omega (arith, slot_below k le))))))
+      by_word None e =
+          sym
+          (ap is_some (least_is_none p 0 _ (λ k _ le. not_told k le (least_none tells 0 63 e (k / w) (omega arith) (omega (arith, slot_below k le))))))
       by_word (Some t) e =
           let word = least_some tells 0 63 t e in
-          sym (in_slot_of t (least p (t * w + 0) (t * w + (w - 1))) word.at_most refl (sym (told t (omega (arith, word.at_most))) ∙ word.passes))
+          sym
+          (in_slot_of t (least p (t * w + 0) (t * w + (w - 1))) word.at_most refl (sym (told t (omega (arith, word.at_most))) ∙ word.passes))
 
   module _ (at rest : ℕ) (rest_in : rest < w) (at_in : at < 64) (none : None ≡ least p (at * w + rest) (at * w + (w - 1))) where
     -- a number after the first slot's rest lies in a later slot
@@ -112,7 +120,8 @@ module _ (p : ℕ → Bool) (w : ℕ) (pos : 0 < w) (tells : ℕ → Bool) (told
       | inr after ↦ not_told k le (least_none tells (at + 1) 63 (sym untold) (k / w) (omega arith) (omega (arith, slot_below k le)))
     ]))
 
-    next_found : (t n : ℕ) → IsLeast tells (at + 1) 63 t → IsLeast p (t * w + 0) (t * w + (w - 1)) n → IsLeast p (at * w + rest) (64 * w - 1) n
+    next_found : (t n : ℕ) → IsLeast tells (at + 1) 63 t → IsLeast p (t * w + 0) (t * w + (w - 1)) n
+        → IsLeast p (at * w + rest) (64 * w - 1) n
     next_found t n word is =
         let low : (at + 1) * w ≤ t * w = mul-le-mul_right w word.at_least in
         let high : t * w ≤ 63 * w = mul-le-mul_right w word.at_most in
@@ -130,8 +139,11 @@ module _ (p : ℕ → Bool) (w : ℕ) (pos : 0 < w) (tells : ℕ → Bool) (told
         }
 
     -- What is found in the first later slot that has a passing number is the first in the rest of the node.
-    pub next_some : (t : ℕ) (r : Option ℕ) → Some t ≡ least tells (at + 1) 63 → r ≡ least p (t * w + 0) (t * w + (w - 1)) → r ≡ least p (at * w + rest) (64 * w - 1)
+    pub next_some : (t : ℕ) (r : Option ℕ) → Some t ≡ least tells (at + 1) 63
+        → r ≡ least p (t * w + 0) (t * w + (w - 1)) → r ≡ least p (at * w + rest) (64 * w - 1)
     next_some t None found next =
         let word = least_some tells (at + 1) 63 t (sym found) in
         absurd (false≢true (ap is_some next ∙ sym (told t (omega (arith, word.at_most))) ∙ word.passes))
-    next_some t (Some n) found next = sym (least_is p _ _ n (next_found t n (least_some tells (at + 1) 63 t (sym found)) (least_some p _ _ n (sym next))))
+    next_some t (Some n) found next =
+        sym
+        (least_is p _ _ n (next_found t n (least_some tells (at + 1) 63 t (sym found)) (least_some p _ _ n (sym next))))

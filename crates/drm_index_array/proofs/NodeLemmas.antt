@@ -51,8 +51,11 @@ module _ {T : Type 0} {height : ℕ} {slots : List (Slot T)} {q at rest : ℕ} {
   split : at * width v.height + rest ≡ q
   split = rw (← height_is) (rw (here.at_is, here.rest_is) (div-add-mod' q (width height)))
 
-  ends : (x : Sought) (r : Option ℕ) → r ≡ least (sought_in v x) (at * width v.height + rest) (64 * width v.height - 1) → r ≡ in_node v x q
-  ends x r e = e ∙ ap (λ from. least (sought_in v x) from (64 * width v.height - 1)) split ∙ ap (λ to. least (sought_in v x) q to) (whole v.height)
+  ends : (x : Sought) (r : Option ℕ) → r ≡ least (sought_in v x) (at * width v.height + rest) (64 * width v.height - 1)
+      → r ≡ in_node v x q
+  ends x r e =
+      e ∙ ap (λ from. least (sought_in v x) from (64 * width v.height - 1)) split
+      ∙ ap (λ to. least (sought_in v x) q to) (whole v.height)
 
   -- An index found in the slot is the one found in the node.
   pub node_in_slot : (x : Sought) (n : ℕ) → Some n ≡ in_slot v x at rest → Some n ≡ in_node v x q
@@ -62,8 +65,11 @@ module _ {T : Type 0} {height : ℕ} {slots : List (Slot T)} {q at rest : ℕ} {
       ends x (Some n) (sym (least_wider (sought_in v x) _ _ _ n (omega (arith, pow_pos (6 * v.height))) (sym found)))
 
   -- If nothing is found in the last slot, nothing is found in the node.
-  pub node_at_end : (x : Sought) (words : Words) → IsSound height slots words → None ≡ in_slot v x at rest → at ≡ 63 → None ≡ in_node v x q
-  node_at_end x words sound none last = ends x None (next_at_end (sought_in v x) (width v.height) (pow_pos (6 * v.height)) (tells_of words x) (told height slots words v sound here.view_is x) at rest rest_in slot_in none last)
+  pub node_at_end : (x : Sought) (words : Words) → IsSound height slots words → None ≡ in_slot v x at rest → at ≡ 63
+      → None ≡ in_node v x q
+  node_at_end x words sound none last =
+      ends x None
+      (next_at_end (sought_in v x) (width v.height) (pow_pos (6 * v.height)) (tells_of words x) (told height slots words v sound here.view_is x) at rest rest_in slot_in none last)
 
   module _ (words : Words) (sound : IsSound height slots words) (x : Sought) (word : ℕ) (bits : (i : ℕ) → i < 64 → has_bit word i ≡ tells_of words x i) where
     told_here : (i : ℕ) → i < 64 → has_bit word i ≡ is_some (in_slot v x i 0)
@@ -72,16 +78,25 @@ module _ {T : Type 0} {height : ℕ} {slots : List (Slot T)} {q at rest : ℕ} {
     module _ (none : None ≡ in_slot v x at rest) where
       -- If nothing is found in the slot and the word has no later bit, nothing is found in the node.
       pub node_none : None ≡ least (has_bit word) (at + 1) 63 → None ≡ in_node v x q
-      node_none untold = ends x None (next_none (sought_in v x) (width v.height) (pow_pos (6 * v.height)) (has_bit word) told_here at rest rest_in slot_in none untold)
+      node_none untold =
+          ends x None
+          (next_none (sought_in v x) (width v.height) (pow_pos (6 * v.height)) (has_bit word) told_here at rest rest_in slot_in none untold)
 
       -- If nothing is found in the slot, the search in the slot of the word's next bit is that in the node.
-      pub node_some : (t : ℕ) (r : Option ℕ) → Some t ≡ least (has_bit word) (at + 1) 63 → r ≡ in_slot v x t 0 → r ≡ in_node v x q
-      node_some t r found next = ends x r (next_some (sought_in v x) (width v.height) (pow_pos (6 * v.height)) (has_bit word) told_here at rest rest_in slot_in none t r found next)
+      pub node_some : (t : ℕ) (r : Option ℕ) → Some t ≡ least (has_bit word) (at + 1) 63 → r ≡ in_slot v x t 0
+          → r ≡ in_node v x q
+      node_some t r found next =
+          ends x r
+          (next_some (sought_in v x) (width v.height) (pow_pos (6 * v.height)) (has_bit word) told_here at rest rest_in slot_in none t r found next)
 
 -- The word has a bit if and only if the node has an index that is sought.
-pub node_any : {T : Type 0} (height : ℕ) (slots : List (Slot T)) (v : Tree T) (words : Words) → IsSound height slots words → view_of height slots ≡ v → (x : Sought) (word : ℕ) → ((i : ℕ) → i < 64 → has_bit word i ≡ tells_of words x i) → is_some (least (has_bit word) 0 63) ≡ is_some (in_node v x 0)
+pub node_any : {T : Type 0} (height : ℕ) (slots : List (Slot T)) (v : Tree T) (words : Words)
+    → IsSound height slots words → view_of height slots ≡ v → (x : Sought) (word : ℕ)
+    → ((i : ℕ) → i < 64 → has_bit word i ≡ tells_of words x i)
+    → is_some (least (has_bit word) 0 63) ≡ is_some (in_node v x 0)
 node_any height slots v words sound view_is x word bits =
-    any_told (sought_in v x) (width v.height) (pow_pos (6 * v.height)) (has_bit word) (λ i lt. bits i lt ∙ told height slots words v sound view_is x i lt)
+    any_told (sought_in v x) (width v.height) (pow_pos (6 * v.height)) (has_bit word)
+    (λ i lt. bits i lt ∙ told height slots words v sound view_is x i lt)
     ∙ ap (λ to. is_some (least (sought_in v x) 0 to)) (whole v.height)
 
 -- one slot
@@ -90,9 +105,12 @@ module _ {T : Type 0} {height : ℕ} {slots : List (Slot T)} {v : Tree T} (words
   low_rest = subst (λ (t : Tree T). rest < width t.height) (sym view_is) rest_in
 
   -- If the word does not have the slot's bit, nothing is found in the slot.
-  pub slot_untold : (word : ℕ) → ((i : ℕ) → i < 64 → has_bit word i ≡ tells_of words x i) → has_bit word at ≡ false → None ≡ in_slot v x at rest
+  pub slot_untold : (word : ℕ) → ((i : ℕ) → i < 64 → has_bit word i ≡ tells_of words x i) → has_bit word at ≡ false
+      → None ≡ in_slot v x at rest
   slot_untold word bits zero =
-      let none = none_of (sought_in v x) _ _ (sym (told height slots words v sound view_is x at slot_in) ∙ sym (bits at slot_in) ∙ zero) in
+      let none =
+      none_of (sought_in v x) _ _
+      (sym (told height slots words v sound view_is x at slot_in) ∙ sym (bits at slot_in) ∙ zero) in
       sym (least_is_none _ _ _ (λ k ge le. none k (omega arith) le))
 
   -- A slot that is read is the one at its place.
@@ -105,21 +123,27 @@ module _ {T : Type 0} {height : ℕ} {slots : List (Slot T)} {v : Tree T} (words
 
     moved : option_map (λ n. at * width height + n) (least passing rest (width height - 1)) ≡ in_slot v x at rest
     moved =
-        ap (λ s. option_map (λ n. at * width height + n) (least (λ r. is_sought x (below s r)) rest (width height - 1))) (sym s_is)
+        ap (λ s. option_map (λ n. at * width height + n) (least (λ r. is_sought x (below s r)) rest (width height - 1)))
+        (sym s_is)
         ∙ slot_least height slots x at rest slot_in
         ∙ ap (λ (t : Tree T). in_slot t x at rest) view_is
 
     -- What is found below the slot, counted from the slot's first index, is found in the slot.
-    pub slot_some : (base n : ℕ) → base ≡ at * width height → Some n ≡ least passing rest (width height - 1) → Some (base + n) ≡ in_slot v x at rest
-    slot_some base n base_is found = ap (λ b. Some (b + n)) base_is ∙ ap (option_map (λ n. at * width height + n)) found ∙ moved
+    pub slot_some : (base n : ℕ) → base ≡ at * width height → Some n ≡ least passing rest (width height - 1)
+        → Some (base + n) ≡ in_slot v x at rest
+    slot_some base n base_is found =
+        ap (λ b. Some (b + n)) base_is ∙ ap (option_map (λ n. at * width height + n)) found ∙ moved
 
     -- If nothing is found below the slot, nothing is found in the slot.
     pub slot_none : None ≡ least passing rest (width height - 1) → None ≡ in_slot v x at rest
     slot_none none = ap (option_map (λ n. at * width height + n)) none ∙ moved
 
     -- If the index below the slot is itself sought, it is the one found in the slot.
-    pub slot_all : (base : ℕ) → base ≡ at * width height → passing rest ≡ true → Some (base + rest) ≡ in_slot v x at rest
-    slot_all base base_is passes = slot_some base rest base_is (sym (least_is passing rest _ rest (record { at_least = omega arith; at_most = omega (arith, low_rest); passes = passes; none_below = λ k ge lt. absurd (omega arith) })))
+    pub slot_all : (base : ℕ) → base ≡ at * width height → passing rest ≡ true
+        → Some (base + rest) ≡ in_slot v x at rest
+    slot_all base base_is passes =
+        slot_some base rest base_is
+        (sym (least_is passing rest _ rest (record { at_least = omega arith; at_most = omega (arith, low_rest); passes = passes; none_below = λ k ge lt. absurd (omega arith) })))
 
     -- If no index below the slot is sought, nothing is found in the slot.
     pub slot_fails : ((r : ℕ) → passing r ≡ false) → None ≡ in_slot v x at rest
@@ -139,7 +163,8 @@ module _ {T : Type 0} {height : ℕ} {slots : List (Slot T)} {v : Tree T} (words
     rest_within = rw (child_span b.value.height height child_fits) low_rest
 
     -- The search in the subtree is the search below its slot.
-    pub child_end : (r : Option ℕ) → r ≡ in_node b.value x rest → r ≡ least (λ k. is_sought x (below (Child b) k)) rest (width height - 1)
+    pub child_end : (r : Option ℕ) → r ≡ in_node b.value x rest
+        → r ≡ least (λ k. is_sought x (below (Child b) k)) rest (width height - 1)
     child_end r e = e ∙ ap (λ n. least (sought_in b.value x) rest (n - 1)) (child_span b.value.height height child_fits)
 
     -- An index found in the subtree is lower than the slot's width.

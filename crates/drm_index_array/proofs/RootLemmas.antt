@@ -19,7 +19,9 @@ use Rattle.std.proofs.lemmas.Option.{none-some}
 module _ {T : Type 0} (height : ℕ) (slots : List (Slot T)) (v : Tree T) (view_is : view_of height slots ≡ v) where
   -- A node has no entry past its span.
   pub view_past : IsPast v (span v.height)
-  view_past = subst (λ (v : Tree T). IsPast v (span v.height)) view_is (λ k le. get-table_past (span height) (look height slots) k le)
+  view_past =
+      subst (λ (v : Tree T). IsPast v (span v.height)) view_is
+      (λ k le. get-table_past (span height) (look height slots) k le)
 
   -- A node of a height up to 5 has at most 2^36 entries.
   pub view_few : height ≤ 5 → map.len v.items ≤ 2 ^ 36
@@ -36,7 +38,8 @@ beyond a b none = elim (cases_lt a b) [ inl lt ↦ absurd (false≢true (none lt
 module _ {T : Type 0} (v : Tree T) where
   -- A search that begins past the span finds nothing in it.
   pub first_beyond : (p : ℕ → Bool) (from : ℕ) → span v.height ≤ from → None ≡ least p from (span v.height - 1)
-  first_beyond p from le = sym (least_is_none p from _ (λ k ge high. absurd (omega (arith, pow_pos (6 * v.height + 6)))))
+  first_beyond p from le =
+      sym (least_is_none p from _ (λ k ge high. absurd (omega (arith, pow_pos (6 * v.height + 6)))))
 
   module _ (past : IsPast v (span v.height)) (from : ℕ) where
     abbrev free : ℕ → Bool
@@ -52,8 +55,11 @@ module _ {T : Type 0} (v : Tree T) where
         record { at_least = is.at_least; at_most = omega arith; passes = is.passes; none_below = is.none_below }
 
     -- If no index of the span is free, the first index past it is the lowest free one.
-    pub vacant_none : from < span v.height → None ≡ least free from (span v.height - 1) → IsLeastFrom free from (span v.height)
-    vacant_none lt none = record { at_least = omega arith; at_most = omega arith; passes = free_past (span v.height) (omega arith); none_below = λ k ge below. least_none free from _ (sym none) k ge (omega arith) }
+    pub vacant_none : from < span v.height → None ≡ least free from (span v.height - 1)
+        → IsLeastFrom free from (span v.height)
+    vacant_none lt none =
+        record
+        { at_least = omega arith; at_most = omega arith; passes = free_past (span v.height) (omega arith); none_below = λ k ge below. least_none free from _ (sym none) k ge (omega arith) }
 
 -- The span of a lower node is at most the slot width of a higher one.
 pub span_low : (a b : ℕ) → a + 1 ≤ b → span a ≤ width b
@@ -72,7 +78,8 @@ higher a b q past within =
     ]
 
 -- A map with one entry has this entry and no other.
-pub get-lone : {X : Type 0} (q : ℕ) (x : X) (k : ℕ) → map.get (map.insert (map.empty {R = nat_cmp}) q x) k ≡ cond (eqb k q) (Some x) None
+pub get-lone : {X : Type 0} (q : ℕ) (x : X) (k : ℕ)
+    → map.get (map.insert (map.empty {R = nat_cmp}) q x) k ≡ cond (eqb k q) (Some x) None
 get-lone q x k = get-insert map.empty q x k ∙ ap (λ o. cond (eqb k q) (Some x) o) (map.get-empty nat_cmp k)
 
 -- a tree hung into the first slot of a higher one
@@ -94,16 +101,19 @@ module _ {X : Type 0} (n : ℕ) (top child root now : map.FinMap nat_cmp X) (chi
 -- the one entry of a tree, taken out
 module _ {T : Type 0} where
   -- The value at the index of a tree's only entry is the value of this entry.
-  pub lone_taken : (q : ℕ) (v : T) (o : Option T) (t u : Tree T) → o ≡ get t.items q → t ≡ u → u.items ≡ map.insert map.empty q (unmarked v) → o ≡ Some v
+  pub lone_taken : (q : ℕ) (v : T) (o : Option T) (t u : Tree T) → o ≡ get t.items q → t ≡ u
+      → u.items ≡ map.insert map.empty q (unmarked v) → o ≡ Some v
   lone_taken q v o t u taken same one =
       taken
       ∙ ap (λ (t : Tree T). get t.items q) same
       ∙ ap (λ m. get m q) one
-      ∙ ap (option_map (λ s. s.value)) (get-lone q (unmarked v) q ∙ ap (λ b. cond b (Some (unmarked v)) None) (eq-eqb q q refl))
+      ∙ ap (option_map (λ s. s.value))
+      (get-lone q (unmarked v) q ∙ ap (λ b. cond b (Some (unmarked v)) None) (eq-eqb q q refl))
 
 module _ {T : Type 0} where
   -- A map without one key that is otherwise unchanged is the map after the removal.
-  pub removed_by : (old now : MarkedMap T) (q : ℕ) → ((k : ℕ) → map.get now k ≡ cond (eqb k q) None (map.get old k)) → now ≡ map.remove old q
+  pub removed_by : (old now : MarkedMap T) (q : ℕ) → ((k : ℕ) → map.get now k ≡ cond (eqb k q) None (map.get old k))
+      → now ≡ map.remove old q
   removed_by old now q gets = same_by_gets now (map.remove old q) (λ k. gets k ∙ sym (get-remove old q k))
 
   -- Removing at an index with no entry changes nothing.

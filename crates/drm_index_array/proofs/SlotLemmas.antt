@@ -48,20 +48,27 @@ module _ {T : Type 0} where
   slot_fits height (s ∷ ss) fit (suc i) = slot_fits height ss fit.1 i
 
   -- At an index made of a slot and an index below it, the node has what the slot has there.
-  pub value_in : (height : ℕ) (slots : List (Slot T)) (i r : ℕ) → i < 64 → r < width height → map.get (view_of height slots).items (i * width height + r) ≡ below (slot slots i) r
+  pub value_in : (height : ℕ) (slots : List (Slot T)) (i r : ℕ) → i < 64 → r < width height
+      → map.get (view_of height slots).items (i * width height + r) ≡ below (slot slots i) r
   value_in height slots i r lt within =
       get-table_within (span height) (look height slots) _ (index_in_span height i r lt within)
       ∙ rw (div-mul-add i (width height) r within, mod-mul-add i (width height) r within) refl
 
   -- A search below a slot, counted from the slot's first index, is the node's search in the slot.
-  pub slot_least : (height : ℕ) (slots : List (Slot T)) (x : Sought) (i from : ℕ) → i < 64 → option_map (λ n. i * width height + n) (least (λ r. is_sought x (below (slot slots i) r)) from (width height - 1)) ≡ least (λ k. is_sought x (map.get (view_of height slots).items k)) (i * width height + from) (i * width height + (width height - 1))
+  pub slot_least : (height : ℕ) (slots : List (Slot T)) (x : Sought) (i from : ℕ) → i < 64
+      → option_map (λ n. i * width height + n) (least (λ r. is_sought x (below (slot slots i) r)) from (width height - 1)) ≡ least (λ k. is_sought x (map.get (view_of height slots).items k)) (i * width height + from) (i * width height + (width height - 1))
   slot_least height slots x i from lt =
-      least_moved _ _ (i * width height) from (width height - 1) (λ r ge le. ap (is_sought x) (sym (value_in height slots i r lt (omega (arith, pow_pos (6 * height))))))
+      least_moved _ _ (i * width height) from (width height - 1)
+      (λ r ge le. ap (is_sought x) (sym (value_in height slots i r lt (omega (arith, pow_pos (6 * height))))))
 
   -- The words have a slot's bit if and only if the node has a sought index in the slot.
-  pub told : (height : ℕ) (slots : List (Slot T)) (words : Words) (v : Tree T) → IsSound height slots words → view_of height slots ≡ v → (x : Sought) (i : ℕ) → i < 64 → tells_of words x i ≡ is_some (least (λ k. is_sought x (map.get v.items k)) (i * width v.height + 0) (i * width v.height + (width v.height - 1)))
+  pub told : (height : ℕ) (slots : List (Slot T)) (words : Words) (v : Tree T) → IsSound height slots words
+      → view_of height slots ≡ v → (x : Sought) (i : ℕ) → i < 64
+      → tells_of words x i ≡ is_some (least (λ k. is_sought x (map.get v.items k)) (i * width v.height + 0) (i * width v.height + (width v.height - 1)))
   told height slots words v sound view_is x i lt =
-      subst (λ (v : Tree T). tells_of words x i ≡ is_some (least (λ k. is_sought x (map.get v.items k)) (i * width v.height + 0) (i * width v.height + (width v.height - 1)))) view_is
+      subst
+      (λ (v : Tree T). tells_of words x i ≡ is_some (least (λ k. is_sought x (map.get v.items k)) (i * width v.height + 0) (i * width v.height + (width v.height - 1))))
+      view_is
       (sound.tells x i lt ∙ sym (is_some-option_map _ _) ∙ ap is_some (slot_least height slots x i 0 lt))
 
 -- an index, with its slot and where it lies below it, at a node whose value is v
@@ -75,7 +82,8 @@ pub record Spot {T : Type 0} (height : ℕ) (slots : List (Slot T)) (q at rest :
 
 module _ {T : Type 0} {height : ℕ} {slots : List (Slot T)} {q at rest : ℕ} {v : Tree T} where
   -- An index within the span lies in the slot that division finds, at the remainder below it.
-  pub spot : (words : Words) → IsSound height slots words → at ≡ q / width height → rest ≡ q % width height → view_of height slots ≡ v → q < span v.height → Spot height slots q at rest v
+  pub spot : (words : Words) → IsSound height slots words → at ≡ q / width height → rest ≡ q % width height
+      → view_of height slots ≡ v → q < span v.height → Spot height slots q at rest v
   spot words sound at_is rest_is view_is lt =
       let within : q < span height = subst (λ (t : Tree T). q < span t.height) (sym view_is) lt in
       record {
@@ -88,7 +96,9 @@ module _ {T : Type 0} {height : ℕ} {slots : List (Slot T)} {q at rest : ℕ} {
       }
 
   -- The same, if the division is by the width of a level that is the node's.
-  pub level_spot : (words : Words) → IsSound height slots words → (level known : ℕ) → level ≡ known → v.height ≡ known → at ≡ q / width level → rest ≡ q % width level → view_of height slots ≡ v → q < span v.height → Spot height slots q at rest v
+  pub level_spot : (words : Words) → IsSound height slots words → (level known : ℕ) → level ≡ known → v.height ≡ known
+      → at ≡ q / width level → rest ≡ q % width level → view_of height slots ≡ v → q < span v.height
+      → Spot height slots q at rest v
   level_spot words sound level known level_is known_is at_is rest_is view_is lt =
       let same : level ≡ height = level_is ∙ sym known_is ∙ sym (ap (λ (t : Tree T). t.height) view_is) in
       spot words sound (at_is ∙ ap (λ h. q / width h) same) (rest_is ∙ ap (λ h. q % width h) same) view_is lt

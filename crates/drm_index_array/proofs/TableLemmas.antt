@@ -8,7 +8,8 @@ use Rattle.drm_index_array.proofs.MarkedLemmas.{get-insert}
 use Rattle.drm_index_array.specs.Tree.{table, given_at}
 
 module _ {X : Type 0} where
-  get-given_at : (n q : ℕ) (o : Option X) (m : map.FinMap nat_cmp X) → map.get m n ≡ None → map.get (given_at n o m) q ≡ cond (eqb q n) o (map.get m q)
+  get-given_at : (n q : ℕ) (o : Option X) (m : map.FinMap nat_cmp X) → map.get m n ≡ None
+      → map.get (given_at n o m) q ≡ cond (eqb q n) o (map.get m q)
   get-given_at n q (Some x) m none = get-insert m n x q
   get-given_at n q None m none =
       elim (cases_order q n) [
@@ -40,7 +41,8 @@ module _ {X : Type 0} where
 
   len-given_at : (n : ℕ) (o : Option X) (m : map.FinMap nat_cmp X) → map.len (given_at n o m) ≤ map.len m + 1
   len-given_at n None m = omega arith
-  len-given_at n (Some x) m = omega (arith, map.len-insert nat_cmp_total m n x, either (map.contains_key m n) (map.len m))
+  len-given_at n (Some x) m =
+      omega (arith, map.len-insert nat_cmp_total m n x, either (map.contains_key m n) (map.len m))
     where
       either : (b : Bool) (k : ℕ) → cond b k (k + 1) ≤ k + 1
       either true k = omega arith

@@ -17,7 +17,8 @@ not-not false = refl
 
 -- the part of a word from a place on
 tail_of : (word from i : ℕ) → from ≤ i → i < 64 → bit_at (bit_and word (2 ^ 64 - 2 ^ from)) i ≡ bit_at word i
-tail_of word from i ge lt = bit_at_and word (2 ^ 64 - 2 ^ from) i ∙ omega (arith, bit_at_mask_inside from 64 i ge lt, bit_at-lt word i)
+tail_of word from i ge lt =
+    bit_at_and word (2 ^ 64 - 2 ^ from) i ∙ omega (arith, bit_at_mask_inside from 64 i ge lt, bit_at-lt word i)
 
 tail_below : (word from i : ℕ) → i < from → bit_at (bit_and word (2 ^ 64 - 2 ^ from)) i ≡ 0
 tail_below word from i lt = bit_at_and word (2 ^ 64 - 2 ^ from) i ∙ omega (arith, bit_at_mask_below from 64 i lt)
@@ -31,10 +32,12 @@ one_test n e = rw e refl
 -- If a word has no bits from a place on, no place from there on is found.
 pub no_position : (word from : ℕ) → bit_and word (2 ^ 64 - 2 ^ from) ≡ 0 → None ≡ least (has_bit word) from 63
 no_position word from none =
-    sym (least_is_none (has_bit word) from 63 (λ k ge le. zero_test _ (sym (tail_of word from k ge (omega arith)) ∙ ap (λ n. bit_at n k) none ∙ bit_at-zero k)))
+    sym
+    (least_is_none (has_bit word) from 63 (λ k ge le. zero_test _ (sym (tail_of word from k ge (omega arith)) ∙ ap (λ n. bit_at n k) none ∙ bit_at-zero k)))
 
 -- If a word has bits from a place on, the lowest of them is found.
-pub least_position : (word from : ℕ) → 0 < bit_and word (2 ^ 64 - 2 ^ from) → bit_and word (2 ^ 64 - 2 ^ from) < 2 ^ 64 → Some (trailing_zeros w64 (bit_and word (2 ^ 64 - 2 ^ from))) ≡ least (has_bit word) from 63
+pub least_position : (word from : ℕ) → 0 < bit_and word (2 ^ 64 - 2 ^ from) → bit_and word (2 ^ 64 - 2 ^ from) < 2 ^ 64
+    → Some (trailing_zeros w64 (bit_and word (2 ^ 64 - 2 ^ from))) ≡ least (has_bit word) from 63
 least_position word from some fits =
     let rest = bit_and word (2 ^ 64 - 2 ^ from) in
     let lowest = bit_at-trailing_zeros w64 rest some fits in
@@ -59,7 +62,8 @@ pub and_fits : (a b : ℕ) → a < 2 ^ 64 → bit_and a b < 2 ^ 64
 and_fits a b fits = omega (arith, and_le_l a b)
 
 -- Setting a bit of a word sets this bit and changes no other.
-pub has_bit-set : (word k i : ℕ) → k < 64 → i < 64 → has_bit (bit_or word (1 * 2 ^ k % 2 ^ 64)) i ≡ (if i == k then true else has_bit word i)
+pub has_bit-set : (word k i : ℕ) → k < 64 → i < 64
+    → has_bit (bit_or word (1 * 2 ^ k % 2 ^ 64)) i ≡ (if i == k then true else has_bit word i)
 has_bit-set word k i within lt =
     elim (cases_eq i k) [
       | inl same ↦ let test : eqb i k ≡ true = grind (arith, nat_tests) in rw (test, same) (one_test _ (bit_at_set_same w64 word k within))
@@ -67,7 +71,8 @@ has_bit-set word k i within lt =
     ]
 
 -- Clearing a bit of a word clears this bit and changes no other.
-pub has_bit-clear : (word k i : ℕ) → k < 64 → i < 64 → has_bit (bit_and word (bit_not w64 (1 * 2 ^ k % 2 ^ 64))) i ≡ (if i == k then false else has_bit word i)
+pub has_bit-clear : (word k i : ℕ) → k < 64 → i < 64
+    → has_bit (bit_and word (bit_not w64 (1 * 2 ^ k % 2 ^ 64))) i ≡ (if i == k then false else has_bit word i)
 has_bit-clear word k i within lt =
     elim (cases_eq i k) [
       | inl same ↦ let test : eqb i k ≡ true = grind (arith, nat_tests) in rw (test, same) (zero_test _ (bit_at_clear_same w64 word k within))

@@ -38,7 +38,8 @@ module _ {T : Type 0} where
   with_item a i v = record a { items = map.insert a.items i v }
 
   abbrev pub without_item : Indexed T → ℕ → Indexed T
-  without_item a i = record { items = map.remove a.items i; m0 = set.remove a.m0 i; m1 = set.remove a.m1 i; m2 = set.remove a.m2 i }
+  without_item a i =
+      record { items = map.remove a.items i; m0 = set.remove a.m0 i; m1 = set.remove a.m1 i; m2 = set.remove a.m2 i }
 
   abbrev pub with_mark : Indexed T → ℕ → Mark → Indexed T
   with_mark a i M0 = record a { m0 = set.insert a.m0 i }

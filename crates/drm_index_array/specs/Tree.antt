@@ -16,7 +16,8 @@ pub record Tree (T : Type 0) : Type 0 where
 -- the code of a subtree
 abbrev pub tree_code : {T : Type 0} → Coded T → Coded (Tree T)
 tree_code {T} code =
-    code_by (ℕ × MarkedMap T) (coded× coded_ℕ (map.code coded_ℕ (marked_code code))) (λ t. (t.height, t.items)) (λ p. record { height = p.0; items = p.1 }) (λ _. refl)
+    code_by (ℕ × MarkedMap T) (coded× coded_ℕ (map.code coded_ℕ (marked_code code))) (λ t. (t.height, t.items))
+    (λ p. record { height = p.0; items = p.1 }) (λ _. refl)
 
 -- how many indices one slot of a node of this height covers
 abbrev pub width : ℕ → ℕ

@@ -17,7 +17,8 @@ use Rattle.drm_journals.specs.Lines.{brief_event, command_at, command_text, comm
 pub data Lines (limits : Limits) (first : DeviceValue) : List Event → List ℕ → DeviceValue → List ℕ → Type 0 where
   limited : Lines limits first [] (ended (limits_text limits)) first unbound
   answered : {events : List Event} {text : List ℕ} {device after : DeviceValue} {labels : List ℕ} (next : Event) (place : ℕ) (result : Result Answer Apart)
-      → Lines limits first events text device labels → place < 26 → event_of labels (command_at place next) ≡ next → StepsOn device next result after
+      → Lines limits first events text device labels → place < 26 → event_of labels (command_at place next) ≡ next
+      → StepsOn device next result after
       → Lines limits first (events ++ next ∷ []) (text ++ ended (with_answer (command_text (command_at place next)) (Some result))) after (bound labels (label_bound (command_at place next)) result)
 
 -- whether a label names the client
@@ -76,9 +77,12 @@ AddsLine event text device labels text' device' labels' =
 -- Adds one more comment, after any comments before it.
 abbrev pub AddsComment : Event → List ℕ → DeviceValue → List ℕ → DeviceValue → Type 0
 AddsComment event text device text' device' =
-    (front : List ℕ) (first : DeviceValue) (events : List Event) → Comments front first events text device → Comments front first (events ++ event ∷ []) text' device'
+    (front : List ℕ) (first : DeviceValue) (events : List Event) → Comments front first events text device
+    → Comments front first (events ++ event ∷ []) text' device'
 
 -- One more line, if there is a label for the event, or else the comment before the first event without a line.
 abbrev pub Advances : Event → List ℕ → DeviceValue → List ℕ → List ℕ → DeviceValue → List ℕ → Bool → Type 0
-Advances event text device labels text' device' labels' true = AddsLine (written_event event) text device labels text' device' labels'
-Advances event text device labels text' device' labels' false = HasNoLabel labels event × (text' ≡ text ++ ended labels_used) × (device' ≡ device)
+Advances event text device labels text' device' labels' true =
+    AddsLine (written_event event) text device labels text' device' labels'
+Advances event text device labels text' device' labels' false =
+    HasNoLabel labels event × (text' ≡ text ++ ended labels_used) × (device' ≡ device)

@@ -58,11 +58,13 @@ command_text (commands.Ask place call) = label_text place ++ call_text call
 abbrev pub limits_text : Limits → List ℕ
 limits_text limits =
     codes "limits"
-    ++ flat_map spaced (limits.clients ∷ limits.handles ∷ limits.names ∷ limits.tokens ∷ limits.objects ∷ limits.framebuffers ∷ limits.lessees ∷ limits.journal ∷ [])
+    ++ flat_map spaced
+    (limits.clients ∷ limits.handles ∷ limits.names ∷ limits.tokens ∷ limits.objects ∷ limits.framebuffers ∷ limits.lessees ∷ limits.journal ∷ [])
 
 -- A call whose line has more than 255 bytes is written as one with the wrong fields.
 abbrev pub written_call : Call → Call
-written_call call = if nat_lt 255 (length (command_text (commands.Ask 0 call))) then BadLayout (call_number call) else call
+written_call call =
+    if nat_lt 255 (length (command_text (commands.Ask 0 call))) then BadLayout (call_number call) else call
 
 -- the event, with its call as a line writes it
 abbrev pub written_event : Event → Event
@@ -85,7 +87,8 @@ comment_text (events.Ask client call) = codes "# client" ++ (spaced client ++ ca
 
 -- A call whose comment has more than 255 bytes is written as one with the wrong fields.
 abbrev pub brief_call : ℕ → Call → Call
-brief_call client call = if nat_lt 255 (length (comment_text (events.Ask client call))) then BadLayout (call_number call) else call
+brief_call client call =
+    if nat_lt 255 (length (comment_text (events.Ask client call))) then BadLayout (call_number call) else call
 
 -- the event, with its call as a comment writes it
 abbrev pub brief_event : Event → Event

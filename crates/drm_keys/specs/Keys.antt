@@ -10,5 +10,6 @@ rows_in nothing slab entries = list_map (λ entry. unwrap_or (get slab entry.1) 
 
 -- each step number's key has the record of that step number, which has its key, and no other record is kept
 pub record IsKeyed {X : Type 0} (key step_number : X → ℕ) (keys : map.FinMap nat_cmp ℕ) (slab : Slab X) : Type 0 where
-  pub record_of : (b k : ℕ) → map.get keys b ≡ Some k → (x : X) × (get slab k ≡ Some x) × (step_number x ≡ b) × (key x ≡ k)
+  pub record_of : (b k : ℕ) → map.get keys b ≡ Some k
+      → (x : X) × (get slab k ≡ Some x) × (step_number x ≡ b) × (key x ≡ k)
   pub key_of : (k : ℕ) (x : X) → get slab k ≡ Some x → (key x ≡ k) × (map.get keys (step_number x) ≡ Some k)

@@ -1,5 +1,5 @@
-mod Lessees
+mod LesseeRows
 mod Revoked
-mod Listed
+mod LeaseIds
 mod Asked
-mod Leased
+mod OneLeaseMore

@@ -1,2 +1,2 @@
-mod Keyed
+mod KeysOfMasters
 mod Older

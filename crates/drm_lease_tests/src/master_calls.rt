@@ -75,7 +75,7 @@ fn is_new_client(masters: &Masters, client: u32) -> bool
 }
 
 /// Returns the key of an existing master.
-#[tactic(auto, using(crate::proofs::Keyed::there_keyed))]
+#[tactic(auto, using(crate::proofs::KeysOfMasters::there_keyed))]
 pub(crate) fn key_of(masters: &Masters, step_number: u32) -> Option<MasterKey>
     ensures { IfSome result (λ key. is_there masters.now.masters key ≡ true) }
 {

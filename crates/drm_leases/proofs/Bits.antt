@@ -34,13 +34,16 @@ among_passing p x (y ∷ ys) =
       ] refl
     ] refl
 
-in_range : (x : ℕ) (b : Bool) → (((nat_le 1 x && nat_le x 64) && b) && (nat_le 1 x && nat_lt x (1 + 64))) ≡ ((nat_le 1 x && nat_le x 64) && b)
+in_range : (x : ℕ) (b : Bool)
+    → (((nat_le 1 x && nat_le x 64) && b) && (nat_le 1 x && nat_lt x (1 + 64))) ≡ ((nat_le 1 x && nat_le x 64) && b)
 in_range x true = grind (arith, nat_tests)
 in_range x false = grind (arith, nat_tests)
 
 -- A mode object is in the list of a mask if and only if the mask has it.
 pub among_objects : (mask x : ℕ) → is_among (objects_in mask) x ≡ has_object mask x
-among_objects mask x = among_passing (has_object mask) x (numbers_from 1 64) ∙ ap (λ b. has_object mask x && b) (is_among-numbers_from 1 64 x) ∙ in_range x (has_bit mask (x - 1))
+among_objects mask x =
+    among_passing (has_object mask) x (numbers_from 1 64)
+    ∙ ap (λ b. has_object mask x && b) (is_among-numbers_from 1 64 x) ∙ in_range x (has_bit mask (x - 1))
 
 -- ---- a mask that is made of a list
 
@@ -52,7 +55,8 @@ pub empty_mask : (x : ℕ) → has_object 0 x ≡ false
 empty_mask x = none_yet x
 
 -- a word with the bit of one place set
-has_bit-set : (word k i : ℕ) → k < 64 → has_bit (bit_or word (1 * 2 ^ k % 2 ^ 64)) i ≡ (if i == k then true else has_bit word i)
+has_bit-set : (word k i : ℕ) → k < 64
+    → has_bit (bit_or word (1 * 2 ^ k % 2 ^ 64)) i ≡ (if i == k then true else has_bit word i)
 has_bit-set word k i within =
     elim (cases_eq i k) [
       | inl same ↦ let test : eqb i k ≡ true = grind (arith, nat_tests) in rw (test, same) (ap (λ n. n == 1) (bit_at_set_same w64 word k within))
@@ -60,7 +64,8 @@ has_bit-set word k i within =
     ]
 
 -- Setting the bit of a mode object adds this one to the mask and no other.
-pub one_set : (mask id x : ℕ) → IsFixed id → has_object (bit_or mask (1 * 2 ^ (id - 1) % 2 ^ 64)) x ≡ (has_object mask x || (id == x))
+pub one_set : (mask id x : ℕ) → IsFixed id
+    → has_object (bit_or mask (1 * 2 ^ (id - 1) % 2 ^ 64)) x ≡ (has_object mask x || (id == x))
 one_set mask id x fixed = by_range (nat_le 1 x && nat_le x 64) refl
   where
     low : (x : ℕ) → (nat_le 1 x && nat_le x 64) ≡ true → (1 ≤ x) × (x ≤ 64)
@@ -78,24 +83,32 @@ one_set mask id x fixed = by_range (nat_le 1 x && nat_le x 64) refl
     merged false true = refl
     merged false false = refl
 
-    by_range : (b : Bool) → (nat_le 1 x && nat_le x 64) ≡ b → (b && has_bit (bit_or mask (1 * 2 ^ (id - 1) % 2 ^ 64)) (x - 1)) ≡ ((b && has_bit mask (x - 1)) || (id == x))
+    by_range : (b : Bool) → (nat_le 1 x && nat_le x 64) ≡ b
+        → (b && has_bit (bit_or mask (1 * 2 ^ (id - 1) % 2 ^ 64)) (x - 1)) ≡ ((b && has_bit mask (x - 1)) || (id == x))
     by_range true h =
         let r = low x h in
         let ge = fixed.0 in
         let le = fixed.1 in
         let ge2 = r.0 in
         let le2 = r.1 in
-        has_bit-set mask (id - 1) (x - 1) (omega (arith, ge, le)) ∙ ap (λ b. if b then true else has_bit mask (x - 1)) (shifted x id ge2 ge) ∙ merged (id == x) (has_bit mask (x - 1))
+        has_bit-set mask (id - 1) (x - 1) (omega (arith, ge, le))
+        ∙ ap (λ b. if b then true else has_bit mask (x - 1)) (shifted x id ge2 ge)
+        ∙ merged (id == x) (has_bit mask (x - 1))
     by_range false h = sym (outside x id h fixed.0 fixed.1)
 
 -- ---- the objects of such a mask
 
-rest_none : (p : ℕ → Bool) (first count : ℕ) → ((x : ℕ) → first ≤ x → p x ≡ false) → filter p (numbers_from first count) ≡ []
+rest_none : (p : ℕ → Bool) (first count : ℕ) → ((x : ℕ) → first ≤ x → p x ≡ false)
+    → filter p (numbers_from first count) ≡ []
 unfolding numbers_from
 rest_none p first zero none = refl
-rest_none p first (suc count) none = ap (λ b. cond b (first ∷ filter p (numbers_from (first + 1) count)) (filter p (numbers_from (first + 1) count))) (none first (omega arith)) ∙ rest_none p (first + 1) count (λ x le. none x (omega (arith, le)))
+rest_none p first (suc count) none =
+    ap (λ b. cond b (first ∷ filter p (numbers_from (first + 1) count)) (filter p (numbers_from (first + 1) count)))
+    (none first (omega arith))
+    ∙ rest_none p (first + 1) count (λ x le. none x (omega (arith, le)))
 
-split_at : (p : ℕ → Bool) (first n more : ℕ) → filter p (numbers_from first (n + more)) ≡ filter p (numbers_from first n) ++ filter p (numbers_from (first + n) more)
+split_at : (p : ℕ → Bool) (first n more : ℕ)
+    → filter p (numbers_from first (n + more)) ≡ filter p (numbers_from first n) ++ filter p (numbers_from (first + n) more)
 unfolding numbers_from
 split_at p first zero more =
     let none : 0 + more ≡ more = omega arith in
@@ -111,16 +124,20 @@ split_at p first (suc n) more =
     ]
 
 -- A mask of the passing numbers up to 64 has just these as its objects.
-pub mask_objects : (p : ℕ → Bool) (n mask : ℕ) → n ≤ 64 → ((x : ℕ) → has_object mask x ≡ is_among (filter p (numbers_from 1 n)) x) → objects_in mask ≡ filter p (numbers_from 1 n)
+pub mask_objects : (p : ℕ → Bool) (n mask : ℕ) → n ≤ 64
+    → ((x : ℕ) → has_object mask x ≡ is_among (filter p (numbers_from 1 n)) x)
+    → objects_in mask ≡ filter p (numbers_from 1 n)
 unfolding numbers_from
 mask_objects p n mask le has =
     let more = 64 - n in
     let all : 64 ≡ n + more = omega (arith, le) in
     let q = has_object mask in
     ap (λ k. filter q (numbers_from 1 k)) all ∙ split_at q 1 n more
-    ∙ ap (λ l. filter q (numbers_from 1 n) ++ l) (rest_none q (1 + n) more (λ x low. has x ∙ among_passing p x (numbers_from 1 n) ∙ ap (λ b. p x && b) (is_among-numbers_from 1 n x ∙ above x n low) ∙ and-false (p x)))
+    ∙ ap (λ l. filter q (numbers_from 1 n) ++ l)
+    (rest_none q (1 + n) more (λ x low. has x ∙ among_passing p x (numbers_from 1 n) ∙ ap (λ b. p x && b) (is_among-numbers_from 1 n x ∙ above x n low) ∙ and-false (p x)))
     ∙ append-nil (filter q (numbers_from 1 n))
-    ∙ filter-same q p (numbers_from 1 n) (inside 1 n (λ x low high. has x ∙ among_passing p x (numbers_from 1 n) ∙ ap (λ b. p x && b) (is_among-numbers_from 1 n x ∙ within x n low high) ∙ and-true (p x)))
+    ∙ filter-same q p (numbers_from 1 n)
+    (inside 1 n (λ x low high. has x ∙ among_passing p x (numbers_from 1 n) ∙ ap (λ b. p x && b) (is_among-numbers_from 1 n x ∙ within x n low high) ∙ and-true (p x)))
   where
     above : (x n : ℕ) → 1 + n ≤ x → (nat_le 1 x && nat_lt x (1 + n)) ≡ false
     above x n low = grind (arith, nat_tests)
@@ -128,16 +145,19 @@ mask_objects p n mask le has =
     within : (x n : ℕ) → 1 ≤ x → x < 1 + n → (nat_le 1 x && nat_lt x (1 + n)) ≡ true
     within x n low high = grind (arith, nat_tests)
 
-    inside : (first count : ℕ) → ((x : ℕ) → first ≤ x → x < first + count → has_object mask x ≡ p x) → AllByRecursion (λ x. has_object mask x ≡ p x) (numbers_from first count)
+    inside : (first count : ℕ) → ((x : ℕ) → first ≤ x → x < first + count → has_object mask x ≡ p x)
+        → AllByRecursion (λ x. has_object mask x ≡ p x) (numbers_from first count)
     inside first zero h = tt
-    inside first (suc count) h = (h first (omega arith) (omega arith), inside (first + 1) count (λ x low high. h x (omega (arith, low)) (omega (arith, high))))
+    inside first (suc count) h =
+        (h first (omega arith) (omega arith), inside (first + 1) count (λ x low high. h x (omega (arith, low)) (omega (arith, high))))
 
 -- Numbers from 1 up to 64 are numbers of fixed objects.
 pub are_fixed : (p : ℕ → Bool) (n : ℕ) → n ≤ 64 → AllByRecursion IsFixed (filter p (numbers_from 1 n))
 unfolding numbers_from
 are_fixed p n le = each 1 n (omega arith) (omega (arith, le))
   where
-    each : (first count : ℕ) → 1 ≤ first → first + count ≤ 65 → AllByRecursion IsFixed (filter p (numbers_from first count))
+    each : (first count : ℕ) → 1 ≤ first → first + count ≤ 65
+        → AllByRecursion IsFixed (filter p (numbers_from first count))
     each first zero low high = tt
     each first (suc count) low high =
         let more = each (first + 1) count (omega (arith, low)) (omega (arith, high)) in
@@ -165,13 +185,17 @@ in_both_ranges false b c = refl
 
 -- The union of two masks has what one of them has.
 pub either_has : (a b x : ℕ) → has_object (bit_or a b) x ≡ (has_object a x || has_object b x)
-either_has a b x = ap (λ t. (nat_le 1 x && nat_le x 64) && t) (one (bit_at a (x - 1)) (bit_at b (x - 1)) (bit_at (bit_or a b) (x - 1)) (bit_at-lt a (x - 1)) (bit_at-lt b (x - 1)) (bit_at_or a b (x - 1))) ∙ in_both_ranges (nat_le 1 x && nat_le x 64) (has_bit a (x - 1)) (has_bit b (x - 1))
+either_has a b x =
+    ap (λ t. (nat_le 1 x && nat_le x 64) && t)
+    (one (bit_at a (x - 1)) (bit_at b (x - 1)) (bit_at (bit_or a b) (x - 1)) (bit_at-lt a (x - 1)) (bit_at-lt b (x - 1)) (bit_at_or a b (x - 1)))
+    ∙ in_both_ranges (nat_le 1 x && nat_le x 64) (has_bit a (x - 1)) (has_bit b (x - 1))
   where
     one : (m n k : ℕ) → m < 2 → n < 2 → k ≡ max m n → (k == 1) ≡ ((m == 1) || (n == 1))
     one m n k lt less is = grind (arith, nat_tests)
 
 -- The first mask without the second has what only the first has.
-pub first_has : (a b x : ℕ) → b < 2 ^ 64 → has_object (bit_and a (bit_not w64 b)) x ≡ (has_object a x && not (has_object b x))
+pub first_has : (a b x : ℕ) → b < 2 ^ 64
+    → has_object (bit_and a (bit_not w64 b)) x ≡ (has_object a x && not (has_object b x))
 first_has a b x small = by_range (nat_le 1 x && nat_le x 64) refl
   where
     low : (x : ℕ) → (nat_le 1 x && nat_le x 64) ≡ true → x - 1 < 64
@@ -180,8 +204,10 @@ first_has a b x small = by_range (nat_le 1 x && nat_le x 64) refl
     one : (m n k : ℕ) → m < 2 → n < 2 → k ≡ min m (1 - n) → (k == 1) ≡ ((m == 1) && not (n == 1))
     one m n k lt less is = grind (arith, nat_tests)
 
-    by_range : (r : Bool) → (nat_le 1 x && nat_le x 64) ≡ r → (r && has_bit (bit_and a (bit_not w64 b)) (x - 1)) ≡ ((r && has_bit a (x - 1)) && not (r && has_bit b (x - 1)))
+    by_range : (r : Bool) → (nat_le 1 x && nat_le x 64) ≡ r
+        → (r && has_bit (bit_and a (bit_not w64 b)) (x - 1)) ≡ ((r && has_bit a (x - 1)) && not (r && has_bit b (x - 1)))
     by_range true h =
-        one (bit_at a (x - 1)) (bit_at b (x - 1)) (bit_at (bit_and a (bit_not w64 b)) (x - 1)) (bit_at-lt a (x - 1)) (bit_at-lt b (x - 1))
+        one (bit_at a (x - 1)) (bit_at b (x - 1)) (bit_at (bit_and a (bit_not w64 b)) (x - 1)) (bit_at-lt a (x - 1))
+        (bit_at-lt b (x - 1))
         (bit_at_and a (bit_not w64 b) (x - 1) ∙ ap (λ k. min (bit_at a (x - 1)) k) (bit_at_not w64 b (x - 1) small (low x h)))
     by_range false h = refl

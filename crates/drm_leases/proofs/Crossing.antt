@@ -13,19 +13,25 @@ use Rattle.drm_leases.specs.contracts.leases.Leases as leases
 use Rattle.drm_leases.specs.contracts.leases.Leases.TheInside as inside
 
 tokens_inside_send : IsSend tokens_inside.the_row
-tokens_inside_send = recorded_send tokens_inside.the_field.row _ _ tokens_inside.the_type.to_one (struct_send (shape tokens_inside.the_type) (search (table_send, sendable) depth 20, (search (array_send, sendable) depth 20, tt)))
+tokens_inside_send =
+    recorded_send tokens_inside.the_field.row _ _ tokens_inside.the_type.to_one
+    (struct_send (shape tokens_inside.the_type) (search (table_send, sendable) depth 20, (search (array_send, sendable) depth 20, tt)))
 
 tokens_send : IsSend tokens.the_row
 tokens_send = view_send tokens_inside.the_row _ _ _ _ tokens_inside_send
 
 kept_send : IsSend kept.the_row
-kept_send = recorded_send kept.the_field.row _ _ kept.the_type.to_one (struct_send (shape kept.the_type) (search sendable depth 20, (search sendable depth 20, (search sendable depth 20, tt))))
+kept_send =
+    recorded_send kept.the_field.row _ _ kept.the_type.to_one
+    (struct_send (shape kept.the_type) (search sendable depth 20, (search sendable depth 20, (search sendable depth 20, tt))))
 
 lent_send : IsSend lent.the_field.row
 lent_send = struct_send (shape lent.the_type) (search (array_send, sendable) depth 20, tt)
 
 granted_inside_send : IsSend granted_inside.the_row
-granted_inside_send = recorded_send granted_inside.the_field.row _ _ granted_inside.the_type.to_one (struct_send (shape granted_inside.the_type) (search (array_send, kept_send, sendable) depth 20, (search (array_send, sendable) depth 20, (lent_send, tt))))
+granted_inside_send =
+    recorded_send granted_inside.the_field.row _ _ granted_inside.the_type.to_one
+    (struct_send (shape granted_inside.the_type) (search (array_send, kept_send, sendable) depth 20, (search (array_send, sendable) depth 20, (lent_send, tt))))
 
 granted_send : IsSend granted.the_row
 granted_send = view_send granted_inside.the_row _ _ _ _ granted_inside_send

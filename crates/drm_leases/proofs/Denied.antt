@@ -29,8 +29,10 @@ some_none None h e = let j : false ≡ true = h in cc
 some_none (Some x) h e = let n : Some x ≡ None = e in cc
 
 -- Each client's master exists.
-pub master_there : (v : MasterSet) → AreMasters v → (c : ℕ) (x : Member) → member_of v.members c ≡ Some x → is_some (master_at v.masters x.master) ≡ true
-master_there v are c x e = (found (is_client c) (λ (y : Member). is_some (master_at v.masters y.master) ≡ true) x v.members are.masters_there e).1
+pub master_there : (v : MasterSet) → AreMasters v → (c : ℕ) (x : Member) → member_of v.members c ≡ Some x
+    → is_some (master_at v.masters x.master) ≡ true
+master_there v are c x e =
+    (found (is_client c) (λ (y : Member). is_some (master_at v.masters y.master) ≡ true) x v.members are.masters_there e).1
 
 -- no rule fails
 each_holds : (cs : List Check) → first_failing cs ≡ None → AllByRecursion (λ (c : Check). c.holds ≡ true) cs
@@ -42,7 +44,8 @@ each_holds (c ∷ cs) h =
     ]) refl h
 
 -- whatever the last check is, the others decide first
-last_check : (cs : List Check) (x y : Check) → first_failing (cs ++ x ∷ []) ≡ None → first_failing (cs ++ y ∷ []) ≡ first_failing (y ∷ [])
+last_check : (cs : List Check) (x y : Check) → first_failing (cs ++ x ∷ []) ≡ None
+    → first_failing (cs ++ y ∷ []) ≡ first_failing (y ∷ [])
 last_check [] x y h = refl
 last_check (c ∷ cs) x y h =
     elim c.holds as (λ b. (if b then first_failing (cs ++ x ∷ []) else Some c.rule) ≡ None → (if b then first_failing (cs ++ y ∷ []) else Some c.rule) ≡ first_failing (y ∷ [])) [
@@ -50,7 +53,9 @@ last_check (c ∷ cs) x y h =
       | false ↦ λ k. absurd (let n : Some c.rule ≡ None = k in cc)
     ] h
 
-other_last : (cs : List Check) (x y : Check) (r : Rule) → (first_failing (x ∷ []) ≡ Some r → first_failing (y ∷ []) ≡ Some r) → first_failing (cs ++ x ∷ []) ≡ Some r → first_failing (cs ++ y ∷ []) ≡ Some r
+other_last : (cs : List Check) (x y : Check) (r : Rule)
+    → (first_failing (x ∷ []) ≡ Some r → first_failing (y ∷ []) ≡ Some r) → first_failing (cs ++ x ∷ []) ≡ Some r
+    → first_failing (cs ++ y ∷ []) ≡ Some r
 other_last [] x y r f h = f h
 other_last (c ∷ cs) x y r f h =
     elim c.holds as (λ b. (if b then first_failing (cs ++ x ∷ []) else Some c.rule) ≡ Some r → (if b then first_failing (cs ++ y ∷ []) else Some c.rule) ≡ Some r) [
@@ -82,20 +87,26 @@ module _ (l : LeaseSet) (v : MasterSet) (s : ModeSet) (m : ℕ) (universal : Boo
     pub all_passed : is_some (free_lessee v m) ≡ true → first_failing (lease_checks l v s m universal ids) ≡ None
     unfolding lease_checks
     all_passed free =
-        last_check rules_before (check Full (is_some (next_token l))) (check Full (is_some (free_lessee v m) && is_some (next_token l))) passes
+        last_check rules_before (check Full (is_some (next_token l)))
+        (check Full (is_some (free_lessee v m) && is_some (next_token l))) passes
         ∙ ap (λ b. if b then None else Some Full) (λ i. free i && token_free i)
 
     -- If every rule passes but no lessee id is free, the rule that fails is `Full`.
     pub lessees_full : free_lessee v m ≡ None → first_failing (lease_checks l v s m universal ids) ≡ Some Full
     unfolding lease_checks
     lessees_full none =
-        last_check rules_before (check Full (is_some (next_token l))) (check Full (is_some (free_lessee v m) && is_some (next_token l))) passes
+        last_check rules_before (check Full (is_some (next_token l)))
+        (check Full (is_some (free_lessee v m) && is_some (next_token l))) passes
         ∙ ap (λ o. if is_some o && is_some (next_token l) then None else Some Full) none
 
   -- A rule that denies the lease denies it whether or not a lessee id is free.
-  pub rule_denies : (r : Rule) → first_failing (lease_rules l v s m universal ids (is_some (next_token l))) ≡ Some r → first_failing (lease_checks l v s m universal ids) ≡ Some r
+  pub rule_denies : (r : Rule) → first_failing (lease_rules l v s m universal ids (is_some (next_token l))) ≡ Some r
+      → first_failing (lease_checks l v s m universal ids) ≡ Some r
   unfolding lease_checks
-  rule_denies r h = other_last rules_before (check Full (is_some (next_token l))) (check Full (is_some (free_lessee v m) && is_some (next_token l))) r (by_room (is_some (free_lessee v m)) (is_some (next_token l))) h
+  rule_denies r h =
+      other_last rules_before (check Full (is_some (next_token l)))
+      (check Full (is_some (free_lessee v m) && is_some (next_token l))) r
+      (by_room (is_some (free_lessee v m)) (is_some (next_token l))) h
     where
       by_room : (a b : Bool) → (if b then None else Some Full) ≡ Some r → (if a && b then None else Some Full) ≡ Some r
       by_room true b e = e
@@ -115,11 +126,18 @@ none_among p (id ∷ ids) x h k =
     ]) refl h
 
 -- If no rule denies the lease, none of its objects is leased out already.
-pub unlent : (l : LeaseSet) (v : MasterSet) (s : ModeSet) (m : ℕ) (universal : Bool) (ids : List ℕ) → first_failing (lease_rules l v s m universal ids (is_some (next_token l))) ≡ None → (mask : ℕ) → objects_in mask ≡ listed_objects s.topology (leased l v s m universal ids) → (x : ℕ) → has_object mask x ≡ true → is_leased_out l.grants v.masters m x ≡ false
+pub unlent : (l : LeaseSet) (v : MasterSet) (s : ModeSet) (m : ℕ) (universal : Bool) (ids : List ℕ)
+    → first_failing (lease_rules l v s m universal ids (is_some (next_token l))) ≡ None → (mask : ℕ)
+    → objects_in mask ≡ listed_objects s.topology (leased l v s m universal ids) → (x : ℕ) → has_object mask x ≡ true
+    → is_leased_out l.grants v.masters m x ≡ false
 unlent l v s m universal ids h mask listed x has =
     let all = leased l v s m universal ids in
-    let among : (is_among all x && is_among (numbers_from 1 (object_count s.topology)) x) ≡ true = sym (among_passing (is_among all) x (numbers_from 1 (object_count s.topology))) ∙ ap (λ l. is_among l x) (sym listed) ∙ among_objects mask x ∙ has in
-    none_among (is_leased_out l.grants v.masters m) all x (not-true (list_any (is_leased_out l.grants v.masters m) all) (each_holds (lease_rules l v s m universal ids (is_some (next_token l))) h).1.1.1.1.1.0) (and_parts (is_among all x) (is_among (numbers_from 1 (object_count s.topology)) x) among).0
+    let among : (is_among all x && is_among (numbers_from 1 (object_count s.topology)) x) ≡ true =
+    sym (among_passing (is_among all) x (numbers_from 1 (object_count s.topology)))
+    ∙ ap (λ l. is_among l x) (sym listed) ∙ among_objects mask x ∙ has in
+    none_among (is_leased_out l.grants v.masters m) all x
+    (not-true (list_any (is_leased_out l.grants v.masters m) all) (each_holds (lease_rules l v s m universal ids (is_some (next_token l))) h).1.1.1.1.1.0)
+    (and_parts (is_among all x) (is_among (numbers_from 1 (object_count s.topology)) x) among).0
 
 -- one that passes, and is in the list
 passing : (p : ℕ → Bool) → (ids : List ℕ) → list_any p ids ≡ true → (x : ℕ) × (p x ≡ true) × (is_among ids x ≡ true)
@@ -135,11 +153,16 @@ filled [] x h = absurd (let e : false ≡ true = h in cc)
 filled (y ∷ ys) x h = refl
 
 -- A lease has a mode object, with any planes added to it.
-pub lease_filled : (t : Topology) (universal : Bool) (ids along : List ℕ) → is_lease t universal ids ≡ true → is_empty (listed_objects t (ids ++ along)) ≡ false
+pub lease_filled : (t : Topology) (universal : Bool) (ids along : List ℕ) → is_lease t universal ids ≡ true
+    → is_empty (listed_objects t (ids ++ along)) ≡ false
 lease_filled t universal ids along h =
-    let w = passing (is_crtc t) ids (and_parts (list_any (is_crtc t) ids) (list_any (is_connector t) ids) (and_parts (list_any (is_crtc t) ids && list_any (is_connector t) ids) (not universal || list_any (is_plane t) ids) h).0).0 in
+    let w =
+    passing (is_crtc t) ids
+    (and_parts (list_any (is_crtc t) ids) (list_any (is_connector t) ids) (and_parts (list_any (is_crtc t) ids && list_any (is_connector t) ids) (not universal || list_any (is_plane t) ids) h).0).0
+    in
     filled (listed_objects t (ids ++ along)) w.0
     (among_passing (is_among (ids ++ along)) w.0 (numbers_from 1 (object_count t)) ∙ ap (λ b. b && is_among (numbers_from 1 (object_count t)) w.0) (among-left ids along w.0 w.2) ∙ is_among-numbers_from 1 (object_count t) w.0 ∙ low w.0 t.crtcs (length t.planes) (length t.encoders) (length t.connectors) (sym (is_among-numbers_from 1 t.crtcs w.0) ∙ w.1))
   where
-    low : (x a b c d : ℕ) → (nat_le 1 x && nat_lt x (1 + a)) ≡ true → (nat_le 1 x && nat_lt x (1 + (a + b + c + d))) ≡ true
+    low : (x a b c d : ℕ) → (nat_le 1 x && nat_lt x (1 + a)) ≡ true
+        → (nat_le 1 x && nat_lt x (1 + (a + b + c + d))) ≡ true
     low x a b c d e = grind (arith, nat_tests)

@@ -1,17 +1,17 @@
 mod Bits
 mod Granting
 mod LentMasks
-mod Told
+mod NumbersSoFar
 mod Below
 mod Denied
-mod Sound
-mod Ending
+mod LeasesStaySound
+mod EndedLeases
 mod OpenTokens
 pub mod Agreeing
 pub mod Crossing
-pub mod Keyed
-pub mod Listed
-pub mod Newest
+pub mod MasterKeys
+pub mod ObjectsRise
+pub mod NewestLease
 mod ByKey
 mod Releasing
 mod Lending

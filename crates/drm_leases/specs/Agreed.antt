@@ -14,11 +14,15 @@ is_owned members x = x.kept || list_any (λ (y : Member). y.is_master && (y.mast
 
 -- who lent a lease is its lessee's lessor, the lessee is kept or a client's own, and it has the key
 abbrev pub IsAgreed : List Member → List Master → Lending → Type 0
-IsAgreed members masters x = (lessor_of masters x.lessee ≡ Some x.lessor) × (option_map_or (is_owned members) (master_at masters x.lessee) false ≡ true) × IsKeyOf masters x.lessee x.key
+IsAgreed members masters x =
+    (lessor_of masters x.lessee ≡ Some x.lessor) ×
+    (option_map_or (is_owned members) (master_at masters x.lessee) false ≡ true) × IsKeyOf masters x.lessee x.key
 
 -- the lessee of each token is there, kept or named by a client
 abbrev pub AreHeld : MasterSet → List LeaseToken → Type 0
-AreHeld v tokens = AllByRecursion (λ (row : LeaseToken). option_map_or (is_held v.members) (master_at v.masters row.master) false ≡ true) tokens
+AreHeld v tokens =
+    AllByRecursion
+    (λ (row : LeaseToken). option_map_or (is_held v.members) (master_at v.masters row.master) false ≡ true) tokens
 
 -- each lease agrees with the masters
 abbrev pub AreAgreed : LeaseSet → MasterSet → Type 0

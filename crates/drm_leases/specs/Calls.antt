@@ -46,7 +46,8 @@ lending_before x y = nat_lt x.lessee y.lessee
 
 -- the rows of a lessee at their place: after those of older lessees
 abbrev pub put_in : {X : Type 0} → (X → ℕ) → ℕ → List X → List X → List X
-put_in lessee m rows all = filter (λ x. nat_lt (lessee x) m) all ++ (rows ++ filter (λ x. not (nat_lt (lessee x) m)) all)
+put_in lessee m rows all =
+    filter (λ x. nat_lt (lessee x) m) all ++ (rows ++ filter (λ x. not (nat_lt (lessee x) m)) all)
 
 -- a lease of these objects by a lessor, with an open token, of a lessee with the key
 abbrev pub with_lease : ℕ → ℕ → ℕ → ℕ → List ℕ → LeaseSet → LeaseSet
@@ -97,12 +98,15 @@ Lends l v m objects step_number (Err LesseesFull) l2 v2 = (free_lessee v m ≡ N
 Lends l v m objects step_number (Err LesseeNoMemory) l2 v2 = (is_some (free_lessee v m) ≡ true) × (l2 ≡ l) × (v2 ≡ v)
 
 -- what making a lease of a master is
-abbrev pub Created : LeaseSet → MasterSet → ModeSet → ℕ → Bool → List ℕ → ℕ → Result Leased LeaseFault → LeaseSet → MasterSet → Type 0
+abbrev pub Created : LeaseSet → MasterSet → ModeSet → ℕ → Bool → List ℕ → ℕ → Result Leased LeaseFault → LeaseSet
+    → MasterSet → Type 0
 Created l v s m universal ids step_number (Ok made) l2 v2 =
     (first_failing (lease_checks l v s m universal ids) ≡ None)
     × (free_lessee v m ≡ Some made.id)
     × (next_token l ≡ Some made.token)
     × (l2 ≡ with_lease made.token made.m step_number m (listed_objects s.topology (leased l v s m universal ids)) l)
     × ((key : ℕ) × IsFreeKey v key × (v2 ≡ with_master (lessee key step_number m made.id) v) × (made.m ≡ key))
-Created l v s m universal ids step_number (Err (Denied rule)) l2 v2 = (first_failing (lease_checks l v s m universal ids) ≡ Some rule) × (l2 ≡ l) × (v2 ≡ v)
-Created l v s m universal ids step_number (Err NoMemory) l2 v2 = (first_failing (lease_checks l v s m universal ids) ≡ None) × (l2 ≡ l) × (v2 ≡ v)
+Created l v s m universal ids step_number (Err (Denied rule)) l2 v2 =
+    (first_failing (lease_checks l v s m universal ids) ≡ Some rule) × (l2 ≡ l) × (v2 ≡ v)
+Created l v s m universal ids step_number (Err NoMemory) l2 v2 =
+    (first_failing (lease_checks l v s m universal ids) ≡ None) × (l2 ≡ l) × (v2 ≡ v)

@@ -5,7 +5,9 @@ use Rattle.drm_leases.specs.Masks.{grants_in, lendings_in}
 
 -- the set in the fields
 abbrev pub set_of : Inside → LeaseSet
-set_of a = record { last = a.tokens.last; last_given = a.tokens.last_given; tokens = a.tokens.rows; grants = grants_in a.granted.rows; lendings = lendings_in a.granted.rows }
+set_of a =
+    record
+    { last = a.tokens.last; last_given = a.tokens.last_given; tokens = a.tokens.rows; grants = grants_in a.granted.rows; lendings = lendings_in a.granted.rows }
 
 -- the facts of leases hold
 abbrev pub IsSound : Inside → Type 0

@@ -68,7 +68,8 @@ granted_objects grants m = map (λ (g : Grant). g.mode_object) (filter (is_grant
 
 -- whether the lease of a direct lessee of the master has the mode object
 abbrev pub is_leased_out : List Grant → List Master → ℕ → ℕ → Bool
-is_leased_out grants masters m x = list_any (λ (g : Grant). (g.mode_object == x) && is_option m (lessor_of masters g.master)) grants
+is_leased_out grants masters m x =
+    list_any (λ (g : Grant). (g.mode_object == x) && is_option m (lessor_of masters g.master)) grants
 
 -- whether the master is a direct lessee of the other, with this id
 abbrev pub is_direct_lessee : ℕ → ℕ → Master → Bool
@@ -76,7 +77,8 @@ is_direct_lessee m id x = is_option m x.lessor && (x.lessee_id == id)
 
 -- whether the lease of the direct lessee with this id isn't empty
 abbrev pub has_lease : List Grant → List Master → ℕ → ℕ → Bool
-has_lease grants masters m id = list_any (λ (g : Grant). option_map_or (is_direct_lessee m id) (master_at masters g.master) false) grants
+has_lease grants masters m id =
+    list_any (λ (g : Grant). option_map_or (is_direct_lessee m id) (master_at masters g.master) false) grants
 
 -- the ids, up to the last that a lessee may have, of the direct lessees of the master whose lease isn't empty (rising: own)
 abbrev pub lessee_ids : List Grant → List Master → ℕ → ℕ → List ℕ
@@ -117,7 +119,8 @@ is_free tokens t = not (list_any (is_token t) tokens)
 -- the lowest free token above the last one given or, if there is none, the lowest free one (the kernel's cyclic IDR;
 -- that tokens are assigned so is own)
 abbrev pub next_of : List LeaseToken → Option ℕ → ℕ → Option ℕ
-next_of tokens last_given last = or_else (least (is_free tokens) (unwrap_or last_given 0 + 1) last) (least (is_free tokens) 1 last)
+next_of tokens last_given last =
+    or_else (least (is_free tokens) (unwrap_or last_given 0 + 1) last) (least (is_free tokens) 1 last)
 
 -- the token that is allocated next, if one is free
 abbrev pub next_token : LeaseSet → Option ℕ

@@ -19,4 +19,5 @@ pub record IsGranted (a : Inside) : Type 0 where
   pub apart : InOrder AreApart (leases_in a.leases.items)
   pub lent : (m x : ℕ) → has_object (mask_at a.lent.masks.items m) x ≡ is_lent (leases_in a.leases.items) m x
   pub keyed : (m : ℕ) (x : LeaseRecord) → map.get a.leases.items m ≡ Some x → map.get a.lessees.items x.key ≡ Some m
-  pub named : (key m : ℕ) → map.get a.lessees.items key ≡ Some m → option_map (λ (x : LeaseRecord). x.key) (map.get a.leases.items m) ≡ Some key
+  pub named : (key m : ℕ) → map.get a.lessees.items key ≡ Some m
+      → option_map (λ (x : LeaseRecord). x.key) (map.get a.leases.items m) ≡ Some key

@@ -26,7 +26,8 @@ sees grants masters t m universal x = rules.sees t (controls grants masters m x)
 
 -- whether a client of the master sees the id
 abbrev pub is_seen : List Grant → List Master → ModeSet → ℕ → Bool → ℕ → Bool
-is_seen grants masters s m universal x = rules.is_seen s.topology (sees grants masters s.topology m universal x) (has_framebuffer s x) x
+is_seen grants masters s m universal x =
+    rules.is_seen s.topology (sees grants masters s.topology m universal x) (has_framebuffer s x) x
 
 -- whether an id may be leased
 abbrev pub is_leasable : ModeSet → ℕ → Bool
@@ -63,4 +64,5 @@ lease_rules l v s m universal ids room =
 
 -- there is room where a lessee id and a token are free
 unfoldable pub lease_checks : LeaseSet → MasterSet → ModeSet → ℕ → Bool → List ℕ → List Check
-lease_checks l v s m universal ids = lease_rules l v s m universal ids (is_some (free_lessee v m) && is_some (next_token l))
+lease_checks l v s m universal ids =
+    lease_rules l v s m universal ids (is_some (free_lessee v m) && is_some (next_token l))

@@ -4,7 +4,7 @@ use Rattle.drm_model.specs.Run.{DeviceValue}
 use Rattle.drm_turns.specs.declared.history.Entry.{Entry}
 use Rattle.drm_turns.specs.History.{AllDiffer, IsLegal, StartsWith, device_at, journaled_before}
 use Rattle.drm_turns.specs.Participants.{Closes, ParticipantView, Same}
-use Rattle.drm_turns.proofs.Taken.{starts_on}
+use Rattle.drm_turns.proofs.ParticipantsIn.{starts_on}
 use Rattle.std.specs.Prelude.{Option, None, Some}
 use Rattle.drm_sessions.specs.declared.class.Class.{Class}
 use Rattle.drm_sessions.specs.declared.class.Class.TheVariants.{Card, Render, Root}
@@ -19,11 +19,13 @@ use Rattle.drm_listeners.specs.UntilEnded.{AreKept, HasServedAll, HaveAllSat, Is
 use Rattle.drm_listeners.proofs.Gathering.{length-sessions, map-three, of-class, parted, sat-of, steps-three, told-by-class}
 
 -- If each of three participants took in its own, the participant that takes in the three has taken in all.
-pub all-sat : (participants : ByClass ParticipantView) (kept : KeptListeners) (first old new : ParticipantView) → AreKept participants kept
+pub all-sat : (participants : ByClass ParticipantView) (kept : KeptListeners) (first old new : ParticipantView)
+    → AreKept participants kept
     → StartsWith new.seen kept.participants.card.seen × StartsWith new.seen kept.participants.render.seen × StartsWith new.seen kept.participants.root.seen
     → old.merged ≡ [] → old.journaled ≡ first.journaled
     → new.merged ≡ ((old.merged ++ kept.participants.card.number ∷ kept.participants.card.merged) ++ kept.participants.render.number ∷ kept.participants.render.merged) ++ kept.participants.root.number ∷ kept.participants.root.merged
-    → AllDiffer new.merged → new.journaled ≡ old.journaled + (kept.participants.card.journaled + (kept.participants.render.journaled + kept.participants.root.journaled))
+    → AllDiffer new.merged
+    → new.journaled ≡ old.journaled + (kept.participants.card.journaled + (kept.participants.render.journaled + kept.participants.root.journaled))
     → HaveAllSat first new
 all-sat participants kept first old new h seen none before merged differ journaled =
     let cards : List SessionState = h.card.served.sittings in
@@ -32,7 +34,8 @@ all-sat participants kept first old new h seen none before merged differ journal
     let counts : Counts = record { cards = length cards; renders = length renders; roots = length roots } in
     let sessions : List Session = sessions_in cards ++ (sessions_in renders ++ sessions_in roots) in
     let parts =
-    parted (IsSessionOf Card) (IsSessionOf Render) (IsSessionOf Root) counts (sessions_in cards) (sessions_in renders) (sessions_in roots) (length-sessions cards) (length-sessions renders)
+    parted (IsSessionOf Card) (IsSessionOf Render) (IsSessionOf Root) counts (sessions_in cards) (sessions_in renders)
+    (sessions_in roots) (length-sessions cards) (length-sessions renders)
     (of-class Card cards h.card.served.of_class) (of-class Render renders h.render.served.of_class) (of-class Root roots h.root.served.of_class) in
     record {
       counts = counts;
@@ -44,20 +47,26 @@ all-sat participants kept first old new h seen none before merged differ journal
         renders = parts.1;
         roots = parts.2;
       };
-      sat = sat-of counts kept.participants.card kept.participants.render kept.participants.root old new cards renders roots sessions refl refl
-          h.card.served.of_class h.render.served.of_class h.root.served.of_class h.card.served.taken h.render.served.taken h.root.served.taken
+      sat =
+          sat-of counts kept.participants.card kept.participants.render kept.participants.root old new cards renders
+          roots sessions refl refl
+          h.card.served.of_class h.render.served.of_class h.root.served.of_class h.card.served.taken
+          h.render.served.taken h.root.served.taken
           seen none merged differ (sym (map-three (λ (s : SessionState). s.session) cards renders roots));
       journaled = (let card = h.card.served.journaled in let render = h.render.served.journaled in let root = h.root.served.journaled in
           let steps = steps-three (sessions_in cards) (sessions_in renders) (sessions_in roots) in omega (arith, before, journaled, card, render, root, steps));
     }
 
 -- A device that was shared by all sessions of three listeners has the history of these sessions.
-pub all-served : (before after : DeviceValue) (first last : ParticipantView) → (first.origin ≡ before) × (first.seen ≡ journaled_before before) → first.journaled ≡ 0
-    → Same first last × StartsWith last.seen first.seen → HaveAllSat first last → Closes last after → length after.journal ≡ length last.origin.journal + last.journaled → HasServedAll before after
+pub all-served : (before after : DeviceValue) (first last : ParticipantView)
+    → (first.origin ≡ before) × (first.seen ≡ journaled_before before) → first.journaled ≡ 0
+    → Same first last × StartsWith last.seen first.seen → HaveAllSat first last → Closes last after
+    → length after.journal ≡ length last.origin.journal + last.journaled → HasServedAll before after
 all-served before after first last seen none same h closes counted =
     let log : List Entry = closes.0 in
     let origin : last.origin ≡ before = same.0.2 ∙ seen.0 in
-    let begun : StartsWith last.seen (journaled_before before) = subst (λ (l : List Entry). StartsWith last.seen l) seen.1 same.1 in
+    let begun : StartsWith last.seen (journaled_before before) =
+    subst (λ (l : List Entry). StartsWith last.seen l) seen.1 same.1 in
     let told = told-by-class log h.counts last h.sessions closes.3 h.sat in
     record {
       counts = h.counts;
@@ -78,7 +87,8 @@ all-served before after first last seen none same h closes counted =
         roots = told.2;
         differ = h.sat.differ;
       };
-      journaled = (let more = h.journaled in let long = ap (λ (d : DeviceValue). length d.journal) origin in omega (arith, counted, more, none, long));
+      journaled =
+          (let more = h.journaled in let long = ap (λ (d : DeviceValue). length d.journal) origin in omega (arith, counted, more, none, long));
     }
 
 -- A fault of a listener is neither of the turn nor for lack of memory.

@@ -11,12 +11,18 @@ use Rattle.drm_listeners.specs.contracts.connections.ServedListener as listener
 
 -- A connection that was served may be sent to another thread.
 pub served_send : IsSend served.the_row
-served_send = recorded_send _ _ _ served.the_type.to_one (struct_send (shape served.the_type) (session.the_field_send, (participant_send, tt)))
+served_send =
+    recorded_send _ _ _ served.the_type.to_one
+    (struct_send (shape served.the_type) (session.the_field_send, (participant_send, tt)))
 
 -- A listener that was served may be sent to another thread.
 pub listener_send : IsSend listener.the_row
-listener_send = recorded_send _ _ _ listener.the_type.to_one (struct_send (shape listener.the_type) (Vec-send _ session.the_send, (participant_send, tt)))
+listener_send =
+    recorded_send _ _ _ listener.the_type.to_one
+    (struct_send (shape listener.the_type) (Vec-send _ session.the_send, (participant_send, tt)))
 
 -- A listener that failed may be sent to another thread.
 pub failed_send : IsSend failed.the_row
-failed_send = recorded_send _ _ _ failed.the_type.to_one (struct_send (shape failed.the_type) (fault.the_field_send, (participant_send, tt)))
+failed_send =
+    recorded_send _ _ _ failed.the_type.to_one
+    (struct_send (shape failed.the_type) (fault.the_field_send, (participant_send, tt)))

@@ -57,7 +57,8 @@ sessions_in sittings = map (λ sitting. sitting.session) sittings
 
 -- a participant of this shared device that has made nothing and taken in no other
 abbrev pub IsFresh : TableId → ParticipantView → Type 0
-IsFresh table participant = (participant.table ≡ table) × (participant.mine ≡ []) × (participant.merged ≡ []) × (participant.journaled ≡ 0)
+IsFresh table participant =
+    (participant.table ≡ table) × (participant.mine ≡ []) × (participant.merged ≡ []) × (participant.journaled ≡ 0)
 
 -- an empty list with room for this many sessions
 abbrev pub IsRoomFor : {A : Type 0} → ℕ → Vec Session A → Type 0

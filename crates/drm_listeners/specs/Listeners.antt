@@ -55,7 +55,8 @@ AreAllServed counts participants (Err failed) = AreReturned participants failed
 
 -- the participants of the three
 abbrev pub participants_of : ByClass ServedListener → ByClass ParticipantView
-participants_of served = record { card = served.card.participant; render = served.render.participant; root = served.root.participant }
+participants_of served =
+    record { card = served.card.participant; render = served.render.participant; root = served.root.participant }
 
 -- The participants of the three were split off this one, and none is out of them.
 pub record AreChildren (participant : ParticipantView) (participants : ByClass ParticipantView) : Type 0 where

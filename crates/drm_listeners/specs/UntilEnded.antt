@@ -33,7 +33,8 @@ pub record IsPromised (class : Class) (participant : ParticipantView) (promise :
 
 -- each of these has a thread, with such a promise
 abbrev pub ArePromised : {A : Type 0} → (A → ConnectionServed) → Class → ParticipantView → List (Option A) → Type 0
-ArePromised promise class participant visits = All (λ visit. IsSomeAnd visit (λ visit. IsPromised class participant (promise visit))) visits
+ArePromised promise class participant visits =
+    All (λ visit. IsSomeAnd visit (λ visit. IsPromised class participant (promise visit))) visits
 
 -- no fault, or one of a listener of this class
 abbrev pub IsFaultIn : Class → Option ServeFault → Type 0

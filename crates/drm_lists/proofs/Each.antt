@@ -6,12 +6,14 @@ use Rattle.std.proofs.lemmas.Bool.{and_parts, or_parts, or_left, or_right}
 use Rattle.drm_lists.proofs.Lists.{all_weaker}
 
 -- If no element passes a test, each fails it.
-pub each_fails : {X : Type 0} (p : X → Bool) → (xs : List X) → list_any p xs ≡ false → AllByRecursion (λ x. p x ≡ false) xs
+pub each_fails : {X : Type 0} (p : X → Bool) → (xs : List X) → list_any p xs ≡ false
+    → AllByRecursion (λ x. p x ≡ false) xs
 each_fails p [] h = tt
 each_fails p (x ∷ xs) h = let parts = or_parts (p x) (list_any p xs) h in (parts.0, each_fails p xs parts.1)
 
 -- If each element fails a test, none passes it.
-pub none_passes : {X : Type 0} (p : X → Bool) → (xs : List X) → AllByRecursion (λ x. p x ≡ false) xs → list_any p xs ≡ false
+pub none_passes : {X : Type 0} (p : X → Bool) → (xs : List X) → AllByRecursion (λ x. p x ≡ false) xs
+    → list_any p xs ≡ false
 none_passes p [] h = refl
 none_passes p (x ∷ xs) h = ap (λ b. b || list_any p xs) h.0 ∙ none_passes p xs h.1
 
@@ -23,12 +25,15 @@ some_found (Some x) h = (x, refl)
 -- ---- some element that passes
 
 -- If an element passes its own test, some element of the list passes it.
-pub each_any : {X : Type 0} (p : X → X → Bool) → (xs : List X) → AllByRecursion (λ x. p x x ≡ true → list_any (p x) xs ≡ true) xs
+pub each_any : {X : Type 0} (p : X → X → Bool) → (xs : List X)
+    → AllByRecursion (λ x. p x x ≡ true → list_any (p x) xs ≡ true) xs
 each_any p [] = tt
-each_any p (x ∷ xs) = (λ e. or_left (p x x) (list_any (p x) xs) e, all_weaker (λ y. p y y ≡ true → list_any (p y) xs ≡ true) (λ y. p y y ≡ true → list_any (p y) (x ∷ xs) ≡ true) (λ y h e. or_right (p y x) (list_any (p y) xs) (h e)) xs (each_any p xs))
+each_any p (x ∷ xs) =
+    (λ e. or_left (p x x) (list_any (p x) xs) e, all_weaker (λ y. p y y ≡ true → list_any (p y) xs ≡ true) (λ y. p y y ≡ true → list_any (p y) (x ∷ xs) ≡ true) (λ y h e. or_right (p y x) (list_any (p y) xs) (h e)) xs (each_any p xs))
 
 -- If a filter keeps all that pass, some element passes after it if one did before.
-pub any_filter : {X : Type 0} (P : X → Type 0) (p q : X → Bool) → ((x : X) → P x → p x ≡ true → q x ≡ true) → (xs : List X) → AllByRecursion P xs → list_any p xs ≡ true → list_any p (filter q xs) ≡ true
+pub any_filter : {X : Type 0} (P : X → Type 0) (p q : X → Bool) → ((x : X) → P x → p x ≡ true → q x ≡ true)
+    → (xs : List X) → AllByRecursion P xs → list_any p xs ≡ true → list_any p (filter q xs) ≡ true
 any_filter P p q f [] h e = e
 any_filter {X = X} P p q f (x ∷ xs) h e =
     let rest = filter q xs in
@@ -42,7 +47,9 @@ any_filter {X = X} P p q f (x ∷ xs) h e =
     stays false k = k
 
 -- If a map turns each passing element into a passing one, some element passes after it if one did before.
-pub any_mapped : {X Y : Type 0} (P : X → Type 0) (p : X → Bool) (q : Y → Bool) (f : X → Y) → ((x : X) → P x → p x ≡ true → q (f x) ≡ true) → (xs : List X) → AllByRecursion P xs → list_any p xs ≡ true → list_any q (map f xs) ≡ true
+pub any_mapped : {X Y : Type 0} (P : X → Type 0) (p : X → Bool) (q : Y → Bool) (f : X → Y)
+    → ((x : X) → P x → p x ≡ true → q (f x) ≡ true) → (xs : List X) → AllByRecursion P xs → list_any p xs ≡ true
+    → list_any q (map f xs) ≡ true
 any_mapped P p q f g [] h e = absurd (let n : false ≡ true = e in cc)
 any_mapped P p q f g (x ∷ xs) h e =
     (elim (p x) as (λ b. p x ≡ b → (b || list_any p xs) ≡ true → (q (f x) || list_any q (map f xs)) ≡ true) [
@@ -53,7 +60,8 @@ any_mapped P p q f g (x ∷ xs) h e =
 -- ---- all that pass, and none
 
 -- If all pass a test, each element passes it.
-pub each_passes : {X : Type 0} (p : X → Bool) → (xs : List X) → list_all p xs ≡ true → AllByRecursion (λ x. p x ≡ true) xs
+pub each_passes : {X : Type 0} (p : X → Bool) → (xs : List X) → list_all p xs ≡ true
+    → AllByRecursion (λ x. p x ≡ true) xs
 each_passes p [] h = tt
 each_passes p (x ∷ xs) h = let parts = and_parts (p x) (list_all p xs) h in (parts.0, each_passes p xs parts.1)
 

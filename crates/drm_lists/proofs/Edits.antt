@@ -71,14 +71,16 @@ module _ {X : Type 0} where
 
   module _ (stays : X → Bool) (change : X → X) (new xs : List X) where
     -- All elements of an edited list satisfy R if all new ones do, and each kept one does after its change.
-    pub all_edited : (Q R : X → Type 0) → ((x : X) → Q x → stays x ≡ true → R (change x)) → AllByRecursion R new → AllByRecursion Q xs → AllByRecursion R (edited stays change new xs)
+    pub all_edited : (Q R : X → Type 0) → ((x : X) → Q x → stays x ≡ true → R (change x)) → AllByRecursion R new
+        → AllByRecursion Q xs → AllByRecursion R (edited stays change new xs)
     all_edited Q R still fresh h =
         all_append R (map change (filter stays xs)) new
         (all_mapped R change (filter stays xs) (all_both Q (λ x. stays x ≡ true) (λ x. R (change x)) still (filter stays xs) (all_filter Q stays xs h) (filter_true stays xs)))
         fresh
 
     -- If every passing element is kept and still passes, an edited list has one that passes if the list had one.
-    pub any_edited : (p : X → Bool) → ((x : X) → p x ≡ true → (stays x ≡ true) × (p (change x) ≡ true)) → list_any p xs ≡ true → list_any p (edited stays change new xs) ≡ true
+    pub any_edited : (p : X → Bool) → ((x : X) → p x ≡ true → (stays x ≡ true) × (p (change x) ≡ true))
+        → list_any p xs ≡ true → list_any p (edited stays change new xs) ≡ true
     any_edited p still h =
         let whatever = λ (x : X). Unit {0} in
         list_any_left p (map change (filter stays xs)) new
@@ -86,8 +88,11 @@ module _ {X : Type 0} where
         (any_filter whatever p stays (λ x _ e. (still x e).0) xs (all_each whatever (λ x. tt) xs) h))
 
     -- If no change makes an element pass and no new element passes, none of the edited list passes if none did before.
-    pub none_edited : (p : X → Bool) → ((x : X) → p x ≡ false → p (change x) ≡ false) → list_any p new ≡ false → list_any p xs ≡ false → list_any p (edited stays change new xs) ≡ false
-    none_edited p still fresh h = none_added p (map change (filter stays xs)) new (none_changed p change still (filter stays xs) (none_filtered p stays xs h)) fresh
+    pub none_edited : (p : X → Bool) → ((x : X) → p x ≡ false → p (change x) ≡ false) → list_any p new ≡ false
+        → list_any p xs ≡ false → list_any p (edited stays change new xs) ≡ false
+    none_edited p still fresh h =
+        none_added p (map change (filter stays xs)) new
+        (none_changed p change still (filter stays xs) (none_filtered p stays xs h)) fresh
 
     -- An edited list is at most as long as the list and the new elements together.
     pub length-edited : length (edited stays change new xs) ≤ length xs + length new
@@ -98,10 +103,13 @@ module _ {X : Type 0} where
         omega (arith, all, changed, fewer)
 
   -- An edited list is in order if the changes keep the order and the kept elements are before the new one.
-  pub in_order_edited : (stays : X → Bool) (change : X → X) (o : Option X) (xs : List X) (R : X → X → Type 0) → ((x y : X) → R x y → R (change x) (change y)) →
-      AllByRecursion (λ x. stays x ≡ true → IfSome o (R (change x))) xs → InOrder R xs → InOrder R (edited stays change (listed o) xs)
+  pub in_order_edited : (stays : X → Bool) (change : X → X) (o : Option X) (xs : List X) (R : X → X → Type 0)
+      → ((x y : X) → R x y → R (change x) (change y)) →
+      AllByRecursion (λ x. stays x ≡ true → IfSome o (R (change x))) xs → InOrder R xs → InOrder R
+      (edited stays change (listed o) xs)
   in_order_edited stays change o xs R still before h =
-      joined (map change (filter stays xs)) (in_order_kept R change still (filter stays xs) (in_order_filter R stays xs h))
+      joined (map change (filter stays xs))
+      (in_order_kept R change still (filter stays xs) (in_order_filter R stays xs h))
       (all_mapped (λ x. IfSome o (R x)) change (filter stays xs)
       (all_both (λ x. stays x ≡ true → IfSome o (R (change x))) (λ x. stays x ≡ true) (λ x. IfSome o (R (change x))) (λ x f e. f e) (filter stays xs)
       (all_filter (λ x. stays x ≡ true → IfSome o (R (change x))) stays xs before) (filter_true stays xs)))

@@ -1,5 +1,5 @@
 pub mod Lists
-pub mod Found
+pub mod FoundInLists
 pub mod Each
 pub mod Orders
 pub mod Numbers

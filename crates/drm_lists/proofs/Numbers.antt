@@ -50,14 +50,17 @@ pub among-right : (xs ys : List ℕ) (n : ℕ) → is_among ys n ≡ true → is
 among-right xs ys n h = among-append xs ys n ∙ or_right (is_among xs n) (is_among ys n) h
 
 -- A number in fewer numbers and others is in more numbers and the same others.
-pub fewer_among : (fewer numbers others : List ℕ) (n : ℕ) → (is_among fewer n ≡ true → is_among numbers n ≡ true) → is_among (fewer ++ others) n ≡ true → is_among (numbers ++ others) n ≡ true
+pub fewer_among : (fewer numbers others : List ℕ) (n : ℕ) → (is_among fewer n ≡ true → is_among numbers n ≡ true)
+    → is_among (fewer ++ others) n ≡ true → is_among (numbers ++ others) n ≡ true
 fewer_among fewer numbers others n f h =
     among-append numbers others n
     ∙ elim (is_among fewer n) as (λ b. (b ≡ true → is_among numbers n ≡ true) → (b || is_among others n) ≡ true → (is_among numbers n || is_among others n) ≡ true)
-    [ true ↦ λ g e. or_left (is_among numbers n) (is_among others n) (g refl) | false ↦ λ g e. or_right (is_among numbers n) (is_among others n) e ] f (sym (among-append fewer others n) ∙ h)
+    [ true ↦ λ g e. or_left (is_among numbers n) (is_among others n) (g refl) | false ↦ λ g e. or_right (is_among numbers n) (is_among others n) e ]
+    f (sym (among-append fewer others n) ∙ h)
 
 -- A number in the list differs from one that is not in it.
-pub among-differs : (numbers : List ℕ) (k n : ℕ) → is_among numbers k ≡ false → is_among numbers n ≡ true → (n == k) ≡ false
+pub among-differs : (numbers : List ℕ) (k n : ℕ) → is_among numbers k ≡ false → is_among numbers n ≡ true
+    → (n == k) ≡ false
 among-differs numbers k n h e =
     elim (n == k) as (λ b. (n == k) ≡ b → b ≡ false) [ true ↦ λ is. absurd (let j : false ≡ true = sym h ∙ ap (is_among numbers) (sym (eqb-true n k is)) ∙ e in cc) | false ↦ λ is. refl ] refl
 
@@ -79,18 +82,22 @@ count-absent numbers n h = eqb-true (count numbers n) 0 (count-none numbers n �
 
 -- Another number in front does not change the count.
 pub count-other : (numbers : List ℕ) (k n : ℕ) → (n == k) ≡ false → count (k ∷ numbers) n ≡ count numbers n
-count-other numbers k n h = ap (λ b. length (cond b (k ∷ filter (λ x. x == n) numbers) (filter (λ x. x == n) numbers))) (flipped n k h)
+count-other numbers k n h =
+    ap (λ b. length (cond b (k ∷ filter (λ x. x == n) numbers) (filter (λ x. x == n) numbers))) (flipped n k h)
 
 -- The number itself in front makes the count higher by one.
 pub count-it : (numbers : List ℕ) (k n : ℕ) → (n == k) ≡ true → count (k ∷ numbers) n ≡ suc (count numbers n)
-count-it numbers k n h = ap (λ b. length (cond b (k ∷ filter (λ x. x == n) numbers) (filter (λ x. x == n) numbers))) (eq-eqb k n (sym (eqb-true n k h)))
+count-it numbers k n h =
+    ap (λ b. length (cond b (k ∷ filter (λ x. x == n) numbers) (filter (λ x. x == n) numbers)))
+    (eq-eqb k n (sym (eqb-true n k h)))
 
 -- The count in two lists together is the sum of both counts.
 pub count-append : (xs ys : List ℕ) (n : ℕ) → count (xs ++ ys) n ≡ count xs n + count ys n
 count-append xs ys n = length-filter_append (λ x. x == n) xs ys
 
 -- As many elements have a number as the number is among those of the elements.
-pub count_of : {X : Type 0} (f : X → ℕ) (n : ℕ) → (xs : List X) → length (filter (λ x. f x == n) xs) ≡ count (map f xs) n
+pub count_of : {X : Type 0} (f : X → ℕ) (n : ℕ) → (xs : List X)
+    → length (filter (λ x. f x == n) xs) ≡ count (map f xs) n
 count_of f n [] = refl
 count_of f n (x ∷ xs) =
     elim (f x == n) as (λ b. length (cond b (x ∷ filter (λ x. f x == n) xs) (filter (λ x. f x == n) xs)) ≡ length (cond b (f x ∷ filter (λ x. x == n) (map f xs)) (filter (λ x. x == n) (map f xs))))
@@ -99,14 +106,17 @@ count_of f n (x ∷ xs) =
 -- ---- numbers that are once each
 
 -- a number that isn't there differs from each
-absent-differs : (k : ℕ) → (numbers : List ℕ) → is_among numbers k ≡ false → AllByRecursion (λ x. (k == x) ≡ false) numbers
+absent-differs : (k : ℕ) → (numbers : List ℕ) → is_among numbers k ≡ false
+    → AllByRecursion (λ x. (k == x) ≡ false) numbers
 absent-differs k [] h = tt
 absent-differs k (x ∷ xs) h =
     elim (x == k) as (λ b. (x == k) ≡ b → (b || is_among xs k) ≡ false → AllByRecursion (λ y. (k == y) ≡ false) (x ∷ xs))
-    [ true ↦ λ e j. absurd (let no : true ≡ false = j in cc) | false ↦ λ e j. (flipped x k e, absent-differs k xs j) ] refl h
+    [ true ↦ λ e j. absurd (let no : true ≡ false = j in cc) | false ↦ λ e j. (flipped x k e, absent-differs k xs j) ]
+    refl h
 
 -- If all numbers of a list pass a test, each one in it does.
-pub all_among : (p : ℕ → Bool) (k : ℕ) → (numbers : List ℕ) → list_all p numbers ≡ true → is_among numbers k ≡ true → p k ≡ true
+pub all_among : (p : ℕ → Bool) (k : ℕ) → (numbers : List ℕ) → list_all p numbers ≡ true → is_among numbers k ≡ true
+    → p k ≡ true
 all_among p k [] h e = absurd (let no : false ≡ true = e in cc)
 all_among p k (x ∷ xs) h e =
     elim (x == k) as (λ b. (x == k) ≡ b → (b || is_among xs k) ≡ true → p k ≡ true) [
@@ -139,9 +149,13 @@ at_most_once numbers h k =
     ] refl
 
 -- Numbers from 1 to n that occur once each are at most n.
-pub few_once : (n : ℕ) (numbers : List ℕ) → list_all (λ x. count numbers x == 1) numbers ≡ true → ((k : ℕ) → is_among numbers k ≡ true → (1 ≤ k) × (k ≤ n)) → length numbers ≤ n
+pub few_once : (n : ℕ) (numbers : List ℕ) → list_all (λ x. count numbers x == 1) numbers ≡ true
+    → ((k : ℕ) → is_among numbers k ≡ true → (1 ≤ k) × (k ≤ n)) → length numbers ≤ n
 few_once n numbers h each =
-    let few = length-le_from_distinct_below (0 ∷ numbers) (n + 1) (IsDistinct-cons ◌==◌ 0 numbers (absent-differs 0 numbers no_zero) (once-distinct numbers (at_most_once numbers h))) below in
+    let few =
+    length-le_from_distinct_below (0 ∷ numbers) (n + 1)
+    (IsDistinct-cons ◌==◌ 0 numbers (absent-differs 0 numbers no_zero) (once-distinct numbers (at_most_once numbers h)))
+    below in
     omega (arith, few)
   where
     no_zero : is_among numbers 0 ≡ false

@@ -21,14 +21,16 @@ same-sym xs ys h = λ test. sym (h test)
 pub same-trans : {X : Type 0} (xs ys zs : List X) → SameRows xs ys → SameRows ys zs → SameRows xs zs
 same-trans xs ys zs h k = λ test. h test ∙ k test
 
-count-map : {X Y : Type 0} (f : X → Y) (test : Y → Bool) (zs : List X) → length (filter test (map f zs)) ≡ length (filter (λ x. test (f x)) zs)
+count-map : {X Y : Type 0} (f : X → Y) (test : Y → Bool) (zs : List X)
+    → length (filter test (map f zs)) ≡ length (filter (λ x. test (f x)) zs)
 count-map f test zs = ap length (filter-map test f zs) ∙ length-map (filter (λ x. test (f x)) zs) f
 
 -- Lists with the same rows have the same rows after a map.
 pub same-map : {X Y : Type 0} (f : X → Y) → (xs ys : List X) → SameRows xs ys → SameRows (map f xs) (map f ys)
 same-map f xs ys h = λ test. count-map f test xs ∙ h (λ x. test (f x)) ∙ sym (count-map f test ys)
 
-count-filter : {X : Type 0} (p test : X → Bool) (xs : List X) → length (filter test (filter p xs)) ≡ length (filter (λ x. p x && test x) xs)
+count-filter : {X : Type 0} (p test : X → Bool) (xs : List X)
+    → length (filter test (filter p xs)) ≡ length (filter (λ x. p x && test x) xs)
 count-filter p test xs = ap length (filter-both test p xs)
 
 -- Lists with the same rows have the same rows after a filter.
@@ -63,7 +65,9 @@ same-swap x y xs = λ test. elim (test x) as (λ b. length (cond b (x ∷ cond (
 -- The rows stay the same if the first moves to any place.
 pub moved_in : {X : Type 0} (x : X) → (xs ys : List X) → SameRows (x ∷ (xs ++ ys)) (xs ++ x ∷ ys)
 moved_in x [] ys = λ test. refl
-moved_in x (y ∷ xs) ys = same-trans (x ∷ y ∷ (xs ++ ys)) (y ∷ x ∷ (xs ++ ys)) (y ∷ (xs ++ x ∷ ys)) (same-swap x y (xs ++ ys)) (same-cons y (x ∷ (xs ++ ys)) (xs ++ x ∷ ys) (moved_in x xs ys))
+moved_in x (y ∷ xs) ys =
+    same-trans (x ∷ y ∷ (xs ++ ys)) (y ∷ x ∷ (xs ++ ys)) (y ∷ (xs ++ x ∷ ys)) (same-swap x y (xs ++ ys))
+    (same-cons y (x ∷ (xs ++ ys)) (xs ++ x ∷ ys) (moved_in x xs ys))
 
 -- A list has the same rows as those that pass and those that do not together.
 pub same_parts : {X : Type 0} (p : X → Bool) → (xs : List X) → SameRows xs (filter p xs ++ filter (λ x. not (p x)) xs)
@@ -78,31 +82,39 @@ same_parts {X = X} p (x ∷ xs) =
 
 -- The rows stay the same if the last one moves to the front.
 pub last_first : {X : Type 0} (xs : List X) (x : X) → SameRows (xs ++ x ∷ []) (x ∷ xs)
-last_first xs x = subst (λ l. SameRows (xs ++ x ∷ []) (x ∷ l)) (append-nil xs) (same-sym (x ∷ (xs ++ [])) (xs ++ x ∷ []) (moved_in x xs []))
+last_first xs x =
+    subst (λ l. SameRows (xs ++ x ∷ []) (x ∷ l)) (append-nil xs)
+    (same-sym (x ∷ (xs ++ [])) (xs ++ x ∷ []) (moved_in x xs []))
 
 -- ---- rows in an order
 
 -- A filter leaves rows in their order.
-pub in_order_filter : {X : Type 0} (before : X → X → Type 0) (p : X → Bool) → (xs : List X) → InOrder before xs → InOrder before (filter p xs)
+pub in_order_filter : {X : Type 0} (before : X → X → Type 0) (p : X → Bool) → (xs : List X) → InOrder before xs
+    → InOrder before (filter p xs)
 in_order_filter before p [] h = tt
 in_order_filter before p (x ∷ xs) h =
     elim (p x) as (λ b. InOrder before (cond b (x ∷ filter p xs) (filter p xs)))
     [ true ↦ (all_filter (before x) p xs h.0, in_order_filter before p xs h.1) | false ↦ in_order_filter before p xs h.1 ]
 
 -- Rows in order stay in order with one more at the end that all of them are before.
-pub in_order_append : {X : Type 0} (before : X → X → Type 0) → (xs : List X) (y : X) → InOrder before xs → AllByRecursion (λ x. before x y) xs → InOrder before (xs ++ y ∷ [])
+pub in_order_append : {X : Type 0} (before : X → X → Type 0) → (xs : List X) (y : X) → InOrder before xs
+    → AllByRecursion (λ x. before x y) xs → InOrder before (xs ++ y ∷ [])
 in_order_append before [] y h k = (tt, tt)
-in_order_append before (x ∷ xs) y h k = (all_append (before x) xs (y ∷ []) h.0 (k.0, tt), in_order_append before xs y h.1 k.1)
+in_order_append before (x ∷ xs) y h k =
+    (all_append (before x) xs (y ∷ []) h.0 (k.0, tt), in_order_append before xs y h.1 k.1)
 
 -- Mapped rows are in order if the rows are in the order of their images.
-pub in_order_map : {X Y : Type 0} (before : Y → Y → Type 0) (f : X → Y) → (xs : List X) → InOrder (λ x y. before (f x) (f y)) xs → InOrder before (map f xs)
+pub in_order_map : {X Y : Type 0} (before : Y → Y → Type 0) (f : X → Y) → (xs : List X)
+    → InOrder (λ x y. before (f x) (f y)) xs → InOrder before (map f xs)
 in_order_map before f [] h = tt
 in_order_map before f (x ∷ xs) h = (all_mapped (before (f x)) f xs h.0, in_order_map before f xs h.1)
 
 -- Rows in one order are also in any order that this one implies.
-pub in_order_weaker : {X : Type 0} (before after : X → X → Type 0) → ((x y : X) → before x y → after x y) → (xs : List X) → InOrder before xs → InOrder after xs
+pub in_order_weaker : {X : Type 0} (before after : X → X → Type 0) → ((x y : X) → before x y → after x y)
+    → (xs : List X) → InOrder before xs → InOrder after xs
 in_order_weaker before after f [] h = tt
-in_order_weaker before after f (x ∷ xs) h = (all_weaker (before x) (after x) (f x) xs h.0, in_order_weaker before after f xs h.1)
+in_order_weaker before after f (x ∷ xs) h =
+    (all_weaker (before x) (after x) (f x) xs h.0, in_order_weaker before after f xs h.1)
 
 -- ---- rows that are sorted
 
@@ -120,23 +132,27 @@ RisesTo before x y = (before x y ≡ true) × (before y x ≡ false)
 abbrev Sorted : {X : Type 0} → (X → X → Bool) → List X → Type 0
 Sorted before xs = InOrder (λ x y. before x y ≡ true) xs
 
-inserted-first : {X : Type 0} (before : X → X → Bool) (x : X) → (xs : List X) → AllByRecursion (λ y. before x y ≡ true) xs → inserted_by before x xs ≡ x ∷ xs
+inserted-first : {X : Type 0} (before : X → X → Bool) (x : X) → (xs : List X)
+    → AllByRecursion (λ y. before x y ≡ true) xs → inserted_by before x xs ≡ x ∷ xs
 inserted-first before x [] h = refl
 inserted-first before x (y ∷ ys) h = ap (λ b. cond b (x ∷ y ∷ ys) (y ∷ inserted_by before x ys)) h.0
 
 -- Sorting leaves sorted rows unchanged.
-pub sorted-as_is : {X : Type 0} (before : X → X → Bool) → (xs : List X) → InOrder (λ x y. before x y ≡ true) xs → sorted_by before xs ≡ xs
+pub sorted-as_is : {X : Type 0} (before : X → X → Bool) → (xs : List X) → InOrder (λ x y. before x y ≡ true) xs
+    → sorted_by before xs ≡ xs
 unfolding sorted_by
 sorted-as_is before [] h = refl
 sorted-as_is before (x ∷ xs) h = ap (inserted_by before x) (sorted-as_is before xs h.1) ∙ inserted-first before x xs h.0
 
-all_inserted : {X : Type 0} (before : X → X → Bool) (P : X → Type 0) (x : X) → (ys : List X) → P x → AllByRecursion P ys → AllByRecursion P (inserted_by before x ys)
+all_inserted : {X : Type 0} (before : X → X → Bool) (P : X → Type 0) (x : X) → (ys : List X) → P x → AllByRecursion P ys
+    → AllByRecursion P (inserted_by before x ys)
 all_inserted before P x [] p h = (p, tt)
 all_inserted before P x (y ∷ ys) p h =
     elim (before x y) as (λ b. AllByRecursion P (cond b (x ∷ y ∷ ys) (y ∷ inserted_by before x ys)))
     [ true ↦ (p, h) | false ↦ (h.0, all_inserted before P x ys p h.1) ]
 
-inserted-in_order : {X : Type 0} (before is : X → X → Bool) (order : IsOrder before is) (x : X) → (ys : List X) → Sorted before ys → Sorted before (inserted_by before x ys)
+inserted-in_order : {X : Type 0} (before is : X → X → Bool) (order : IsOrder before is) (x : X) → (ys : List X)
+    → Sorted before ys → Sorted before (inserted_by before x ys)
 inserted-in_order before is order x [] h = (tt, tt)
 inserted-in_order before is order x (y ∷ ys) h =
     elim (before x y) as (λ b. before x y ≡ b → Sorted before (cond b (x ∷ y ∷ ys) (y ∷ inserted_by before x ys))) [
@@ -144,22 +160,27 @@ inserted-in_order before is order x (y ∷ ys) h =
       | false ↦ λ e. (all_inserted before (λ z. before y z ≡ true) x ys (order.total x y e) h.0, inserted-in_order before is order x ys h.1)
     ] refl
 
-sorted-in_order : {X : Type 0} (before is : X → X → Bool) (order : IsOrder before is) → (xs : List X) → Sorted before (sorted_by before xs)
+sorted-in_order : {X : Type 0} (before is : X → X → Bool) (order : IsOrder before is) → (xs : List X)
+    → Sorted before (sorted_by before xs)
 unfolding sorted_by
 sorted-in_order before is order [] = tt
-sorted-in_order before is order (x ∷ xs) = inserted-in_order before is order x (sorted_by before xs) (sorted-in_order before is order xs)
+sorted-in_order before is order (x ∷ xs) =
+    inserted-in_order before is order x (sorted_by before xs) (sorted-in_order before is order xs)
 
-ahead : {X : Type 0} (b : Bool) (x : X) (us vs : List X) → length us ≡ length vs → length (cond b (x ∷ us) us) ≡ length (cond b (x ∷ vs) vs)
+ahead : {X : Type 0} (b : Bool) (x : X) (us vs : List X) → length us ≡ length vs
+    → length (cond b (x ∷ us) us) ≡ length (cond b (x ∷ vs) vs)
 ahead true x us vs h = ap (λ n. suc n) h
 ahead false x us vs h = h
 
-behind : {X : Type 0} (b c : Bool) (x y : X) (us vs : List X) → length us ≡ length (cond b (x ∷ vs) vs) → length (cond c (y ∷ us) us) ≡ length (cond b (x ∷ cond c (y ∷ vs) vs) (cond c (y ∷ vs) vs))
+behind : {X : Type 0} (b c : Bool) (x y : X) (us vs : List X) → length us ≡ length (cond b (x ∷ vs) vs)
+    → length (cond c (y ∷ us) us) ≡ length (cond b (x ∷ cond c (y ∷ vs) vs) (cond c (y ∷ vs) vs))
 behind true true x y us vs h = ap (λ n. suc n) h
 behind true false x y us vs h = h
 behind false true x y us vs h = ap (λ n. suc n) h
 behind false false x y us vs h = h
 
-count-inserted : {X : Type 0} (before : X → X → Bool) (test : X → Bool) (x : X) → (ys : List X) → length (filter test (inserted_by before x ys)) ≡ length (filter test (x ∷ ys))
+count-inserted : {X : Type 0} (before : X → X → Bool) (test : X → Bool) (x : X) → (ys : List X)
+    → length (filter test (inserted_by before x ys)) ≡ length (filter test (x ∷ ys))
 count-inserted before test x [] = refl
 count-inserted before test x (y ∷ ys) =
     elim (before x y) as (λ b. length (filter test (cond b (x ∷ y ∷ ys) (y ∷ inserted_by before x ys))) ≡ length (filter test (x ∷ y ∷ ys))) [
@@ -170,7 +191,9 @@ count-inserted before test x (y ∷ ys) =
 same-sorted : {X : Type 0} (before : X → X → Bool) → (xs : List X) → SameRows (sorted_by before xs) xs
 unfolding sorted_by
 same-sorted before [] = λ test. refl
-same-sorted before (x ∷ xs) = λ test. count-inserted before test x (sorted_by before xs) ∙ ahead (test x) x (filter test (sorted_by before xs)) (filter test xs) (same-sorted before xs test)
+same-sorted before (x ∷ xs) =
+    λ test. count-inserted before test x (sorted_by before xs)
+    ∙ ahead (test x) x (filter test (sorted_by before xs)) (filter test xs) (same-sorted before xs test)
 
 all_pass : {X : Type 0} (xs : List X) → filter (λ x. true) xs ≡ xs
 all_pass [] = refl
@@ -178,38 +201,47 @@ all_pass (x ∷ xs) = ap (λ l. x ∷ l) (all_pass xs)
 
 -- Sorting keeps the number of rows.
 pub length-sorted : {X : Type 0} (before : X → X → Bool) (xs : List X) → length (sorted_by before xs) ≡ length xs
-length-sorted before xs = sym (ap length (all_pass (sorted_by before xs))) ∙ same-sorted before xs (λ x. true) ∙ ap length (all_pass xs)
+length-sorted before xs =
+    sym (ap length (all_pass (sorted_by before xs))) ∙ same-sorted before xs (λ x. true) ∙ ap length (all_pass xs)
 
 -- ---- rows that rise are reported by which rows they are
 
-found_in : {X : Type 0} (before is : X → X → Bool) (order : IsOrder before is) (P : X → Type 0) (x : X) → (ys : List X) → AllByRecursion P ys → list_any (is x) ys ≡ true → P x
+found_in : {X : Type 0} (before is : X → X → Bool) (order : IsOrder before is) (P : X → Type 0) (x : X) → (ys : List X)
+    → AllByRecursion P ys → list_any (is x) ys ≡ true → P x
 found_in before is order P x [] h k = absurd (let e : false ≡ true = k in cc)
 found_in before is order P x (y ∷ ys) h k =
     elim (is x y) as (λ b. is x y ≡ b → (b || list_any (is x) ys) ≡ true → P x)
     [ true ↦ λ e j. subst P (sym (order.same x y e)) h.0 | false ↦ λ e j. found_in before is order P x ys h.1 j ] refl k
 
 -- a row is the first, or what holds of the rest holds of it
-found : {X : Type 0} (before is : X → X → Bool) (order : IsOrder before is) (P : X → Type 0) (x y : X) → (ys : List X) → AllByRecursion P ys → list_any (is x) (y ∷ ys) ≡ true → (x ≡ y) ⊎ P x
+found : {X : Type 0} (before is : X → X → Bool) (order : IsOrder before is) (P : X → Type 0) (x y : X) → (ys : List X)
+    → AllByRecursion P ys → list_any (is x) (y ∷ ys) ≡ true → (x ≡ y) ⊎ P x
 found before is order P x y ys h k =
     elim (is x y) as (λ b. is x y ≡ b → (b || list_any (is x) ys) ≡ true → (x ≡ y) ⊎ P x)
     [ true ↦ λ e j. inl (order.same x y e) | false ↦ λ e j. inr (found_in before is order P x ys h j) ] refl k
 
-same_head : {X : Type 0} (before is : X → X → Bool) (order : IsOrder before is) (x y : X) (xs ys : List X) → AllByRecursion (λ z. before x z ≡ true) xs → AllByRecursion (RisesTo before y) ys → SameRows (x ∷ xs) (y ∷ ys) → x ≡ y
+same_head : {X : Type 0} (before is : X → X → Bool) (order : IsOrder before is) (x y : X) (xs ys : List X)
+    → AllByRecursion (λ z. before x z ≡ true) xs → AllByRecursion (RisesTo before y) ys → SameRows (x ∷ xs) (y ∷ ys)
+    → x ≡ y
 same_head {X = X} before is order x y xs ys h k same =
-    let x_there : list_any (is x) (y ∷ ys) ≡ true = sym (same-any (is x) (x ∷ xs) (y ∷ ys) same) ∙ ap (λ b. b || list_any (is x) xs) (order.itself x) in
-    let y_there : list_any (is y) (x ∷ xs) ≡ true = same-any (is y) (x ∷ xs) (y ∷ ys) same ∙ ap (λ b. b || list_any (is y) ys) (order.itself y) in
+    let x_there : list_any (is x) (y ∷ ys) ≡ true =
+    sym (same-any (is x) (x ∷ xs) (y ∷ ys) same) ∙ ap (λ b. b || list_any (is x) xs) (order.itself x) in
+    let y_there : list_any (is y) (x ∷ xs) ≡ true =
+    same-any (is y) (x ∷ xs) (y ∷ ys) same ∙ ap (λ b. b || list_any (is y) ys) (order.itself y) in
     ⊎_elim (λ e. e)
     (λ (r : RisesTo before y x). ⊎_elim (λ e. sym e) (λ (b : before x y ≡ true). absurd (let e : false ≡ true = sym r.1 ∙ b in cc)) (found before is order (λ z. before x z ≡ true) y x xs h y_there))
     (found before is order (RisesTo before y) x y ys k x_there)
 
-without : {X : Type 0} (b : Bool) (x : X) (us vs : List X) → length (cond b (x ∷ us) us) ≡ length (cond b (x ∷ vs) vs) → length us ≡ length vs
+without : {X : Type 0} (b : Bool) (x : X) (us vs : List X) → length (cond b (x ∷ us) us) ≡ length (cond b (x ∷ vs) vs)
+    → length us ≡ length vs
 without true x us vs h = let e : suc (length us) ≡ suc (length vs) = h in omega (arith, e)
 without false x us vs h = h
 
 same_tail : {X : Type 0} (x : X) (xs ys : List X) → SameRows (x ∷ xs) (x ∷ ys) → SameRows xs ys
 same_tail x xs ys h = λ test. without (test x) x (filter test xs) (filter test ys) (h test)
 
-rising-unique : {X : Type 0} (before is : X → X → Bool) (order : IsOrder before is) → (xs ys : List X) → Sorted before xs → InOrder (RisesTo before) ys → SameRows xs ys → xs ≡ ys
+rising-unique : {X : Type 0} (before is : X → X → Bool) (order : IsOrder before is) → (xs ys : List X)
+    → Sorted before xs → InOrder (RisesTo before) ys → SameRows xs ys → xs ≡ ys
 rising-unique before is order [] [] h k same = refl
 rising-unique before is order [] (y ∷ ys) h k same = absurd (let e : 0 ≡ suc _ = same (λ z. true) in cc)
 rising-unique before is order (x ∷ xs) [] h k same = absurd (let e : suc _ ≡ 0 = same (λ z. true) in cc)
@@ -219,9 +251,11 @@ rising-unique before is order (x ∷ xs) (y ∷ ys) h k same =
     ap (λ z. z ∷ xs) e ∙ ap (λ zs. y ∷ zs) (rising-unique before is order xs ys h.1 k.1 (same_tail x xs ys same'))
 
 -- Sorting rows returns any rising list with the same rows.
-pub sorted-same : {X : Type 0} (before is : X → X → Bool) (order : IsOrder before is) (xs ys : List X) → InOrder (RisesTo before) ys → SameRows xs ys → sorted_by before xs ≡ ys
+pub sorted-same : {X : Type 0} (before is : X → X → Bool) (order : IsOrder before is) (xs ys : List X)
+    → InOrder (RisesTo before) ys → SameRows xs ys → sorted_by before xs ≡ ys
 sorted-same before is order xs ys h same =
-    rising-unique before is order (sorted_by before xs) ys (sorted-in_order before is order xs) h (same-trans (sorted_by before xs) xs ys (same-sorted before xs) same)
+    rising-unique before is order (sorted_by before xs) ys (sorted-in_order before is order xs) h
+    (same-trans (sorted_by before xs) xs ys (same-sorted before xs) same)
 
 -- ---- numbers
 
@@ -233,4 +267,5 @@ le-trans x y z h k = grind (arith, nat_tests)
 
 -- "At most" is an order of numbers, with equality as its test of sameness.
 pub order_of_numbers : IsOrder nat_le (λ x y. x == y)
-order_of_numbers = record { total = le-total; trans = le-trans; itself = λ x. eq-eqb x x refl; same = λ x y h. eqb-true x y h }
+order_of_numbers =
+    record { total = le-total; trans = le-trans; itself = λ x. eq-eqb x x refl; same = λ x y h. eqb-true x y h }

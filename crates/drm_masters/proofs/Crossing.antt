@@ -43,7 +43,9 @@ slab_send : IsSend (slabs.the_row master.the_row heap.the_row heap_impl.ghosts)
 slab_send = slab.the_send master.the_row heap.the_row heap_impl.ghosts master_send send frees
 
 ids_inside_send : IsSend ids_inside.the_row
-ids_inside_send = recorded_send ids_inside.the_field.row _ _ ids_inside.the_type.to_one (struct_send (shape ids_inside.the_type) (search sendable depth 20, (search (array_send, sendable) depth 20, tt)))
+ids_inside_send =
+    recorded_send ids_inside.the_field.row _ _ ids_inside.the_type.to_one
+    (struct_send (shape ids_inside.the_type) (search sendable depth 20, (search (array_send, sendable) depth 20, tt)))
 
 ids_send : IsSend ids.the_row
 ids_send = view_send ids_inside.the_row _ _ _ _ ids_inside_send

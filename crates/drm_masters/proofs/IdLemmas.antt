@@ -35,7 +35,9 @@ module _ (m : IdMap) (o : ℕ) where
   here r is p q same = ap (λ k. id_at m k q) (eqb-true p o same) ∙ ap (λ s. id_in s q) is
 
   -- Writing an owner's table with one id changed changes this id of this owner and no other.
-  pub set_one : (r : Option (Indexed ℕ)) (y : Indexed ℕ) (i : ℕ) (step_number : Option ℕ) → fin.get m o ≡ r → ((q : ℕ) → fin.get y.items q ≡ cond (q == i) step_number (id_in r q)) → IsSet (id_at m) o i step_number (id_at (fin.insert m o y))
+  pub set_one : (r : Option (Indexed ℕ)) (y : Indexed ℕ) (i : ℕ) (step_number : Option ℕ) → fin.get m o ≡ r
+      → ((q : ℕ) → fin.get y.items q ≡ cond (q == i) step_number (id_in r q))
+      → IsSet (id_at m) o i step_number (id_at (fin.insert m o y))
   set_one r y i step_number is own p q =
       inserted y p q
       ∙ elim (p == o) as (λ s. (p == o) ≡ s → cond s (fin.get y.items q) (id_at m p q) ≡ (if s && (q == i) then step_number else id_at m p q)) [
@@ -56,7 +58,9 @@ module _ (m : IdMap) (o : ℕ) where
       same_none n false = refl
 
 -- Removing an owner with its last id removes this id and no other.
-pub set_last : (m : IdMap) (o : ℕ) (a y : Indexed ℕ) (i : ℕ) → fin.get m o ≡ Some a → ((q : ℕ) → fin.get y.items q ≡ cond (q == i) None (fin.get a.items q)) → ((q : ℕ) → fin.get y.items q ≡ None) → IsSet (id_at m) o i None (id_at (fin.remove (fin.insert m o y) o))
+pub set_last : (m : IdMap) (o : ℕ) (a y : Indexed ℕ) (i : ℕ) → fin.get m o ≡ Some a
+    → ((q : ℕ) → fin.get y.items q ≡ cond (q == i) None (fin.get a.items q)) → ((q : ℕ) → fin.get y.items q ≡ None)
+    → IsSet (id_at m) o i None (id_at (fin.remove (fin.insert m o y) o))
 set_last m o a y i is own none p q =
     removed (fin.insert m o y) o p q
     ∙ elim (p == o) as (λ s. (p == o) ≡ s → cond s None (id_at (fin.insert m o y) p q) ≡ (if s && (q == i) then None else id_at m p q)) [
@@ -67,15 +71,20 @@ set_last m o a y i is own none p q =
 -- ---- one owner's
 
 -- Adding an id to an owner's table adds this id and changes no other.
-pub item_more : (a b : Indexed ℕ) (i step_number : ℕ) → b ≡ with_item a i step_number → (q : ℕ) → fin.get b.items q ≡ cond (q == i) (Some step_number) (fin.get a.items q)
+pub item_more : (a b : Indexed ℕ) (i step_number : ℕ) → b ≡ with_item a i step_number → (q : ℕ)
+    → fin.get b.items q ≡ cond (q == i) (Some step_number) (fin.get a.items q)
 item_more a b i step_number new q = ap (λ (x : Indexed ℕ). fin.get x.items q) new ∙ get-insert a.items i step_number q
 
 -- An id added to an empty table is the only one in it.
-pub item_first : (a b : Indexed ℕ) (i step_number : ℕ) → a ≡ empty_array → b ≡ with_item a i step_number → (q : ℕ) → fin.get b.items q ≡ cond (q == i) (Some step_number) None
-item_first a b i step_number none new q = item_more a b i step_number new q ∙ ap (cond (q == i) (Some step_number)) (ap (λ (x : Indexed ℕ). fin.get x.items q) none ∙ fin.get-empty nat_cmp q)
+pub item_first : (a b : Indexed ℕ) (i step_number : ℕ) → a ≡ empty_array → b ≡ with_item a i step_number → (q : ℕ)
+    → fin.get b.items q ≡ cond (q == i) (Some step_number) None
+item_first a b i step_number none new q =
+    item_more a b i step_number new q
+    ∙ ap (cond (q == i) (Some step_number)) (ap (λ (x : Indexed ℕ). fin.get x.items q) none ∙ fin.get-empty nat_cmp q)
 
 -- Removing an id from an owner's table removes this id and changes no other.
-pub item_less : (a b : Indexed ℕ) (i : ℕ) → b ≡ without_item a i → (q : ℕ) → fin.get b.items q ≡ cond (q == i) None (fin.get a.items q)
+pub item_less : (a b : Indexed ℕ) (i : ℕ) → b ≡ without_item a i → (q : ℕ)
+    → fin.get b.items q ≡ cond (q == i) None (fin.get a.items q)
 item_less a b i new q = ap (λ (x : Indexed ℕ). fin.get x.items q) new ∙ get-remove a.items i q
 
 -- A table of length 0 finds no lessee.

@@ -1,17 +1,17 @@
 pub mod Looked
-mod Listed
+mod ClientList
 mod IdLemmas
-mod Lessees
-mod Named
-mod Kept
-pub mod Living
+mod LesseesOfMasters
+mod ClientsOfMasters
+mod MasterSlab
+pub mod MasterChains
 mod Upward
 pub mod Pushed
 mod Owned
 mod Swept
 pub mod Released
-mod Numbered
-mod Sound
+mod FreeMagics
+mod MastersStaySound
 pub mod Crossing
-pub mod Newest
+pub mod NewestMember
 pub mod Unmade

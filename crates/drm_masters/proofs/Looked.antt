@@ -10,22 +10,28 @@ module _ {X : Type 0} (xs : List X) (i : ℕ) where
   pub is_there : i < length xs → slice_get xs i ≡ None → ⊥
   is_there lt none = by_cases (slice_get_cases xs i).1
     where
-      by_cases : ((x : X) × (i < length xs) × (slice_get xs i ≡ Some x) × (get_or xs i x ≡ x)) ⊎ ((length xs ≤ i) × (slice_get xs i ≡ None)) → ⊥
+      by_cases : ((x : X) × (i < length xs) × (slice_get xs i ≡ Some x) × (get_or xs i x ≡ x)) ⊎ ((length xs ≤ i) × (slice_get xs i ≡ None))
+          → ⊥
       by_cases (inl w) = none-some w.0 (sym none ∙ w.2)
       by_cases (inr w) = let le = w.0 in omega (arith, lt, le)
 
   module _ (x : X) (at : slice_get xs i ≡ Some x) where
     -- The rest of a list from a place on begins with the element at this place.
     pub next_is : drop i xs ≡ x ∷ drop (i + 1) xs
-    next_is = drop_more xs i x (slice_get_within xs i x at) ∙ ap (λ y. y ∷ drop (i + 1) xs) (get_or_from_slice_get xs i x x at)
+    next_is =
+        drop_more xs i x (slice_get_within xs i x at)
+        ∙ ap (λ y. y ∷ drop (i + 1) xs) (get_or_from_slice_get xs i x x at)
 
     -- The front of a list up to and with a place ends with the element at this place.
     pub front_is : take (i + 1) xs ≡ take i xs ++ x ∷ []
-    front_is = take_more xs i x (slice_get_within xs i x at) ∙ ap (λ y. take i xs ++ y ∷ []) (get_or_from_slice_get xs i x x at)
+    front_is =
+        take_more xs i x (slice_get_within xs i x at)
+        ∙ ap (λ y. take i xs ++ y ∷ []) (get_or_from_slice_get xs i x x at)
 
     -- If the element at a place passes, the search finds it.
     pub find_here : (p : X → Bool) → find p xs ≡ find p (drop i xs) → p x ≡ true → Some x ≡ find p xs
-    find_here p so_far passes = sym (so_far ∙ ap (find p) next_is ∙ ap (λ b. cond b (Some x) (find p (drop (i + 1) xs))) passes)
+    find_here p so_far passes =
+        sym (so_far ∙ ap (find p) next_is ∙ ap (λ b. cond b (Some x) (find p (drop (i + 1) xs))) passes)
 
     -- If the element at a place fails, the search continues in the rest after it.
     pub find_on : (p : X → Bool) → find p xs ≡ find p (drop i xs) → p x ≡ false → find p xs ≡ find p (drop (i + 1) xs)
@@ -33,10 +39,12 @@ module _ {X : Type 0} (xs : List X) (i : ℕ) where
 
     -- If the element at a place passes, some element of the list does.
     pub any_here : (p : X → Bool) → list_any p xs ≡ list_any p (drop i xs) → p x ≡ true → true ≡ list_any p xs
-    any_here p so_far passes = sym (so_far ∙ ap (list_any p) next_is ∙ ap (λ b. b || list_any p (drop (i + 1) xs)) passes)
+    any_here p so_far passes =
+        sym (so_far ∙ ap (list_any p) next_is ∙ ap (λ b. b || list_any p (drop (i + 1) xs)) passes)
 
     -- If the element at a place fails, some element passes if and only if one in the rest after it does.
-    pub any_on : (p : X → Bool) → list_any p xs ≡ list_any p (drop i xs) → p x ≡ false → list_any p xs ≡ list_any p (drop (i + 1) xs)
+    pub any_on : (p : X → Bool) → list_any p xs ≡ list_any p (drop i xs) → p x ≡ false
+        → list_any p xs ≡ list_any p (drop (i + 1) xs)
     any_on p so_far fails = so_far ∙ ap (list_any p) next_is ∙ ap (λ b. b || list_any p (drop (i + 1) xs)) fails
 
     -- Some element up to and with a place passes if and only if the one here or an earlier one does.

@@ -6,13 +6,13 @@ use Rattle.std.proofs.lemmas.List.{map-append}
 use Rattle.drm_index_array.specs.Rows.{placed}
 use Rattle.drm_lists.proofs.Each.{none_passes}
 use Rattle.drm_lists.proofs.Lists.{all_weaker, all_filter}
-use Rattle.drm_lists.proofs.Found.{none_found}
+use Rattle.drm_lists.proofs.FoundInLists.{none_found}
 use Rattle.drm_lists.proofs.Placed.{any_placed, find_placed}
 use Rattle.drm_masters.specs.declared.rows.Member.{Member}
 use Rattle.drm_masters.specs.declared.rows.Master.{Master}
 use Rattle.drm_masters.specs.Masters.{MasterSet, AreMasters, HasOlderLessor, is_option, is_key, is_there, is_step_number, step_number_at, master_at, master_before, is_used, is_living, swept}
 use Rattle.drm_masters.specs.Calls.{lessee, kept_as, with_master, with_kept}
-use Rattle.drm_masters.proofs.Living.{IsFresh, others_apart}
+use Rattle.drm_masters.proofs.MasterChains.{IsFresh, others_apart}
 use Rattle.drm_masters.proofs.Pushed.{kept_at, there_apart, new_at, pushed_rise, pushed_older, taken_back}
 use Rattle.drm_masters.proofs.Upward.{all_stay, all_living_used, same_left}
 
@@ -33,9 +33,13 @@ module _ (v : MasterSet) (are : AreMasters v) (key step_number m id : ℕ) (unus
   fresh = (are.masters_rise, unused)
 
   others_stay : AllByRecursion (λ (x : Master). kept_at step_number false x ≡ x) ms
-  others_stay = all_weaker (λ (x : Master). is_step_number step_number x ≡ false) (λ (x : Master). kept_at step_number false x ≡ x) (λ x e. ap (λ b. cond b (kept_as false x) x) e) ms (others_apart ms step_number fresh)
+  others_stay =
+      all_weaker (λ (x : Master). is_step_number step_number x ≡ false)
+      (λ (x : Master). kept_at step_number false x ≡ x) (λ x e. ap (λ b. cond b (kept_as false x) x) e) ms
+      (others_apart ms step_number fresh)
 
-  all_same : (xs : List Master) → AllByRecursion (λ (x : Master). kept_at step_number false x ≡ x) xs → map (kept_at step_number false) xs ≡ xs
+  all_same : (xs : List Master) → AllByRecursion (λ (x : Master). kept_at step_number false x ≡ x) xs
+      → map (kept_at step_number false) xs ≡ xs
   all_same [] h = refl
   all_same (x ∷ xs) h = λ i. h.0 i ∷ all_same xs h.1 i
 
@@ -52,10 +56,13 @@ module _ (v : MasterSet) (are : AreMasters v) (key step_number m id : ℕ) (unus
 
   -- no client is of it
   not_named : list_any (λ (y : Member). y.master == step_number) v.members ≡ false
-  not_named = none_passes (λ (y : Member). y.master == step_number) v.members (all_weaker (λ (y : Member). is_some (master_at ms y.master) ≡ true) (λ (y : Member). (y.master == step_number) ≡ false) (λ y e. there_apart ms left fresh y.master e) v.members are.masters_there)
+  not_named =
+      none_passes (λ (y : Member). y.master == step_number) v.members
+      (all_weaker (λ (y : Member). is_some (master_at ms y.master) ≡ true) (λ (y : Member). (y.master == step_number) ≡ false) (λ y e. there_apart ms left fresh y.master e) v.members are.masters_there)
 
   -- nor is it a lessor
-  no_lessor : (o : Option ℕ) → ((l : ℕ) → o ≡ Some l → is_some (master_at ms l) ≡ true) → is_option step_number o ≡ false
+  no_lessor : (o : Option ℕ) → ((l : ℕ) → o ≡ Some l → is_some (master_at ms l) ≡ true)
+      → is_option step_number o ≡ false
   no_lessor None h = refl
   no_lessor (Some l) h = there_apart ms left fresh l (h l refl)
 
@@ -69,15 +76,25 @@ module _ (v : MasterSet) (are : AreMasters v) (key step_number m id : ℕ) (unus
   unmade : swept (with_kept step_number false (with_master kept v)) ≡ v
   unmade =
       let rise = pushed_rise ms left fresh in
-      let older = pushed_older ms left fresh (λ l e. subst (λ n. (is_some (master_at ms n) ≡ true) × (n < step_number)) (let s : Some m ≡ Some l = e in cc) (there, later)) are.lessors_older in
+      let older =
+      pushed_older ms left fresh
+      (λ l e. subst (λ n. (is_some (master_at ms n) ≡ true) × (n < step_number)) (let s : Some m ≡ Some l = e in cc) (there, later))
+      are.lessors_older in
       let sweep : List Master → List Master = λ xs. filter (λ (x : Master). is_living v.members xs x.step_number) xs in
-      let all : sweep more ≡ ms = sym (same_left v.members more rise older left (new_at ms left fresh) not_used) ∙ ap sweep (taken_back ms left fresh) ∙ sym (all_stay v.members ms are.masters_rise are.lessors_older (all_living_used v.members ms are.masters_rise are.lessors_older are.used)) in
+      let all : sweep more ≡ ms =
+      sym (same_left v.members more rise older left (new_at ms left fresh) not_used)
+      ∙ ap sweep (taken_back ms left fresh)
+      ∙ sym
+      (all_stay v.members ms are.masters_rise are.lessors_older (all_living_used v.members ms are.masters_rise are.lessors_older are.used))
+      in
       λ i. record v { masters = (ap sweep released ∙ all) i }
 
   -- by the key that it got
   module _ (free : find (is_key key) ms ≡ None) where
     it_found : find (is_key key) (placed master_before kept ms) ≡ Some kept
-    it_found = find_placed (is_key key) (λ (x : Master). master_before x kept) kept ms (eq-eqb key key refl) (none_found (is_key key) ms free)
+    it_found =
+        find_placed (is_key key) (λ (x : Master). master_before x kept) kept ms (eq-eqb key key refl)
+        (none_found (is_key key) ms free)
 
     -- The key of a new lessee is in use.
     pub made_there : is_there (with_master kept v).masters key ≡ true
@@ -85,4 +102,8 @@ module _ (v : MasterSet) (are : AreMasters v) (key step_number m id : ℕ) (unus
 
     -- A new lessee released by its key leaves the masters unchanged.
     pub unmade_by_key : swept (with_kept (step_number_at (with_master kept v).masters key) false (with_master kept v)) ≡ v
-    unmade_by_key = ap (λ (o : Option Master). swept (with_kept (option_map_or (λ (x : Master). x.step_number) o 0) false (with_master kept v))) it_found ∙ unmade
+    unmade_by_key =
+        ap
+        (λ (o : Option Master). swept (with_kept (option_map_or (λ (x : Master). x.step_number) o 0) false (with_master kept v)))
+        it_found
+        ∙ unmade

@@ -33,11 +33,13 @@ IsFreeKey v key = find (is_key key) v.masters ≡ None
 
 -- a client's own master
 abbrev pub founded_master : ℕ → ℕ → Master
-founded_master key step_number = record { key = key; step_number = step_number; lessor = None; lessee_id = 0; kept = false }
+founded_master key step_number =
+    record { key = key; step_number = step_number; lessor = None; lessee_id = 0; kept = false }
 
 -- a lessee, which is kept
 abbrev pub lessee : ℕ → ℕ → ℕ → ℕ → Master
-lessee key step_number lessor id = record { key = key; step_number = step_number; lessor = Some lessor; lessee_id = id; kept = true }
+lessee key step_number lessor id =
+    record { key = key; step_number = step_number; lessor = Some lessor; lessee_id = id; kept = true }
 
 -- a client with its own master
 abbrev pub owner : ℕ → ℕ → Member
@@ -83,11 +85,13 @@ kept_as kept x = record x { kept = kept }
 
 -- the master is kept, or not any more
 abbrev pub with_kept : ℕ → Bool → MasterSet → MasterSet
-with_kept m kept v = record v { masters = map (λ (x : Master). if is_step_number m x then kept_as kept x else x) v.masters }
+with_kept m kept v =
+    record v { masters = map (λ (x : Master). if is_step_number m x then kept_as kept x else x) v.masters }
 
 -- the chosen masters are kept no more
 abbrev pub released : (ℕ → Bool) → MasterSet → MasterSet
-released chosen v = record v { masters = map (λ (x : Master). if chosen x.step_number then kept_as false x else x) v.masters }
+released chosen v =
+    record v { masters = map (λ (x : Master). if chosen x.step_number then kept_as false x else x) v.masters }
 
 -- the client with a number under its master
 abbrev pub with_magic : ℕ → Bool → Member → Member
@@ -97,7 +101,9 @@ with_magic n spent x = record x { magic = Some (record { number = n; spent = spe
 
 -- without a device's master the client founds one, else it belongs to the device's and is no master
 abbrev pub Opened : MasterSet → ℕ → ℕ → Option ℕ → MasterSet → Type 0
-Opened v c step_number None new = (key : ℕ) × IsFreeKey v key × (new ≡ with_device (Some step_number) (with_member (owner c step_number) (with_master (founded_master key step_number) v)))
+Opened v c step_number None new =
+    (key : ℕ) × IsFreeKey v key ×
+    (new ≡ with_device (Some step_number) (with_member (owner c step_number) (with_master (founded_master key step_number) v)))
 Opened v c step_number (Some m) new = new ≡ with_member (non_master c m) v
 
 -- the set with a client that redeemed a lessee
@@ -124,19 +130,25 @@ drop_checks v x root =
 
 -- a new master of a client, which becomes the device's; a master that no client holds any more is freed
 abbrev pub remade : ℕ → ℕ → ℕ → MasterSet → MasterSet
-remade c key step_number v = swept (with_device (Some step_number) (changed_member (owner c step_number) (with_master (founded_master key step_number) v)))
+remade c key step_number v =
+    swept
+    (with_device (Some step_number) (changed_member (owner c step_number) (with_master (founded_master key step_number) v)))
 
 -- who is current is done, who is no master gets a new one, and any other has its own set again
 abbrev pub SetBy : MasterSet → Member → ℕ → SetDone → MasterSet → Type 0
 SetBy v x step_number Already new = (is_current_member v x ≡ true) × (new ≡ v)
-SetBy v x step_number Again new = (is_current_member v x ≡ false) × (x.is_master ≡ true) × (new ≡ with_device (Some x.master) v)
-SetBy v x step_number Made new = (is_current_member v x ≡ false) × (x.is_master ≡ false) × ((key : ℕ) × IsFreeKey v key × (new ≡ remade x.client key step_number v))
+SetBy v x step_number Again new =
+    (is_current_member v x ≡ false) × (x.is_master ≡ true) × (new ≡ with_device (Some x.master) v)
+SetBy v x step_number Made new =
+    (is_current_member v x ≡ false) × (x.is_master ≡ false) ×
+    ((key : ℕ) × IsFreeKey v key × (new ≡ remade x.client key step_number v))
 
 -- memory is refused only if a new master is made
 abbrev pub SetOf : MasterSet → Member → Bool → ℕ → Result SetDone SetFault → MasterSet → Type 0
 SetOf v x root step_number (Ok done) new = (first_failing (set_checks v x root) ≡ None) × SetBy v x step_number done new
 SetOf v x root step_number (Err (Denied rule)) new = (first_failing (set_checks v x root) ≡ Some rule) × (new ≡ v)
-SetOf v x root step_number (Err SetNoMemory) new = (first_failing (set_checks v x root) ≡ None) × (is_current_member v x ≡ false) × (x.is_master ≡ false) × (new ≡ v)
+SetOf v x root step_number (Err SetNoMemory) new =
+    (first_failing (set_checks v x root) ≡ None) × (is_current_member v x ≡ false) × (x.is_master ≡ false) × (new ≡ v)
 
 -- the result of DROP_MASTER
 abbrev pub DroppedBy : MasterSet → Member → Bool → Result (Unit {0}) Rule → MasterSet → Type 0
@@ -152,18 +164,22 @@ GaveMagic v x None n new = (free_magic v x.master ≡ Some n) × (new ≡ change
 
 -- the client under the caller's master that has the number unspent; it is spent then
 abbrev pub AuthenticatedBy : MasterSet → ℕ → ℕ → Result ℕ Rule → MasterSet → Type 0
-AuthenticatedBy v m n (Ok d) new = (y : Member) × (find (has_open_magic m n) v.members ≡ Some y) × (d ≡ y.client) × (new ≡ changed_member (with_magic n true y) v)
+AuthenticatedBy v m n (Ok d) new =
+    (y : Member) × (find (has_open_magic m n) v.members ≡ Some y) × (d ≡ y.client) ×
+    (new ≡ changed_member (with_magic n true y) v)
 AuthenticatedBy v m n (Err rule) new = (find (has_open_magic m n) v.members ≡ None) × (rule ≡ NoMagic) × (new ≡ v)
 
 -- closings
 
 -- the closing client's own master is kept, and is no longer the device's
 abbrev pub closed_own : ℕ → ℕ → MasterSet → MasterSet
-closed_own c m v = with_device (if is_option m v.device_master then None else v.device_master) (with_kept m true (without_member c v))
+closed_own c m v =
+    with_device (if is_option m v.device_master then None else v.device_master) (with_kept m true (without_member c v))
 
 -- its key is returned
 abbrev pub ClosedOf : MasterSet → Member → Bool → Option ℕ → MasterSet → Type 0
-ClosedOf v x true own new = ((key : ℕ) × (own ≡ Some key) × IsKeyOf new.masters x.master key) × (new ≡ closed_own x.client x.master v)
+ClosedOf v x true own new =
+    ((key : ℕ) × (own ≡ Some key) × IsKeyOf new.masters x.master key) × (new ≡ closed_own x.client x.master v)
 ClosedOf v x false own new = (own ≡ None) × (new ≡ swept (without_member x.client v))
 
 -- the result of a closing
@@ -175,6 +191,7 @@ ClosedBy v (Some x) own new = ClosedOf v x x.is_master own new
 
 -- the result of creating a lessee
 abbrev pub MadeLessee : MasterSet → ℕ → ℕ → Result (ℕ × ℕ) LesseeFault → MasterSet → Type 0
-MadeLessee v m step_number (Ok made) new = IsFreeKey v made.0 × (free_lessee v m ≡ Some made.1) × (new ≡ with_master (lessee made.0 step_number m made.1) v)
+MadeLessee v m step_number (Ok made) new =
+    IsFreeKey v made.0 × (free_lessee v m ≡ Some made.1) × (new ≡ with_master (lessee made.0 step_number m made.1) v)
 MadeLessee v m step_number (Err Full) new = (free_lessee v m ≡ None) × (new ≡ v)
 MadeLessee v m step_number (Err LesseeNoMemory) new = (is_some (free_lessee v m) ≡ true) × (new ≡ v)

@@ -38,7 +38,8 @@ has_id owner lessor id o i = is_some lessor && ((o == owner) && (i == id))
 
 -- a master is found by its id besides, if it is a lessee
 abbrev pub IsNamed : Ids → ℕ → Option ℕ → ℕ → ℕ → Ids → Type 0
-IsNamed old owner lessor id step_number new = (o i : ℕ) → new o i ≡ (if has_id owner lessor id o i then Some step_number else old o i)
+IsNamed old owner lessor id step_number new =
+    (o i : ℕ) → new o i ≡ (if has_id owner lessor id o i then Some step_number else old o i)
 
 -- or not any more
 abbrev pub IsUnnamed : Ids → ℕ → Option ℕ → ℕ → Ids → Type 0

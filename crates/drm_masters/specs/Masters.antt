@@ -123,7 +123,8 @@ is_used members masters x = is_held members x || list_any (λ (y : Master). is_o
 
 -- whether the master or one below it is held
 abbrev pub is_living : List Member → List Master → ℕ → Bool
-is_living members masters m = list_any (λ (x : Master). is_held members x && is_under (lessor_of masters) m x.step_number) masters
+is_living members masters m =
+    list_any (λ (x : Master). is_held members x && is_under (lessor_of masters) m x.step_number) masters
 
 -- a master is freed with the last that is held below it
 abbrev pub swept : MasterSet → MasterSet
@@ -162,7 +163,8 @@ lessee_of masters m id = find (is_lessee_of masters (owner_of masters m) id) mas
 
 -- the lowest id that no lessee has under the owner of the master (drm-uapi, leases; ids own)
 abbrev pub free_lessee : MasterSet → ℕ → Option ℕ
-free_lessee v m = least (λ id. not (list_any (is_lessee_of v.masters (owner_of v.masters m) id) v.masters)) 1 v.last_lessee
+free_lessee v m =
+    least (λ id. not (list_any (is_lessee_of v.masters (owner_of v.masters m) id) v.masters)) 1 v.last_lessee
 
 -- what is so at all times
 
@@ -182,7 +184,8 @@ pub record AreMasters (v : MasterSet) : Type 0 where
   pub masters_rise : InOrder (λ (x y : Master). x.step_number < y.step_number) v.masters
   pub lessors_older : AllByRecursion (HasOlderLessor v.masters) v.masters
   pub masters_there : AllByRecursion (λ (x : Member). is_some (master_at v.masters x.master) ≡ true) v.members
-  pub device_own : (m : ℕ) → v.device_master ≡ Some m → list_any (λ (x : Member). x.is_master && (x.master == m)) v.members ≡ true
+  pub device_own : (m : ℕ) → v.device_master ≡ Some m
+      → list_any (λ (x : Member). x.is_master && (x.master == m)) v.members ≡ true
   pub device_owner : (m : ℕ) → v.device_master ≡ Some m → lessor_of v.masters m ≡ None
   pub guests_of_owners : AllByRecursion (λ (x : Member). x.is_master ≡ false → lessor_of v.masters x.master ≡ None) v.members
   pub used : AllByRecursion (λ (x : Master). is_living v.members v.masters x.step_number ≡ true) v.masters

@@ -10,7 +10,9 @@ use Rattle.drm_masters.specs.Masters.{is_option, lessor_of}
 
 -- a client and how it belongs to masters
 abbrev pub member_row : ℕ × Membership → Member
-member_row e = record { client = e.0; once_master = e.1.once_master; is_master = e.1.is_master; master = e.1.master; magic = e.1.magic }
+member_row e =
+    record
+    { client = e.0; once_master = e.1.once_master; is_master = e.1.is_master; master = e.1.master; magic = e.1.magic }
 
 -- the clients, in the order of their numbers
 abbrev pub members_in : map.FinMap nat_cmp Membership → List Member
@@ -38,4 +40,5 @@ IsListed old lessor step_number new = (m n : ℕ) → new m n ≡ (old m n || (i
 
 -- or not any more
 abbrev pub IsUnlisted : Groups → Option ℕ → ℕ → Groups → Type 0
-IsUnlisted old lessor step_number new = (m n : ℕ) → new m n ≡ (old m n && not (is_option m lessor && (n == step_number)))
+IsUnlisted old lessor step_number new =
+    (m n : ℕ) → new m n ≡ (old m n && not (is_option m lessor && (n == step_number)))

@@ -26,20 +26,25 @@ use Rattle.drm_mode_calls.specs.Scanout.{refusal, sees_route, is_route, sees_pla
 
 module _ (s : State) (w : Rows) (k : PrimaryCaller) (is : IsPrimaryCaller s k) (h : Represents s w) where
   -- MODE_SETCRTC is denied by the first rule that fails: of the objects seen, the framebuffer, and the route.
-  pub crtc_verdict : (crtc f connector : ℕ) → first_failing (admission_checks w k.client (SetCrtc crtc f connector)) ≡ None →
-      verdict w (Ask k.client (SetCrtc crtc f connector)) ≡ refusal (sees_route s k crtc connector) (can_show s.modes f) (is_route s crtc f connector)
+  pub crtc_verdict : (crtc f connector : ℕ)
+      → first_failing (admission_checks w k.client (SetCrtc crtc f connector)) ≡ None →
+      verdict w (Ask k.client (SetCrtc crtc f connector)) ≡ refusal (sees_route s k crtc connector) (can_show s.modes f)
+      (is_route s crtc f connector)
   unfolding meaning
   crtc_verdict crtc f connector admitted =
       call_verdict w k.client (SetCrtc crtc f connector) admitted
-      ∙ (λ i. refusal (crtc_seen s w k is h crtc i && ((connector == 0) || connector_seen s w k is h connector i)) (may_show s w h f i) (if connector == 0 then f == 0 else not (f == 0) && reaches (topology_is s w h i) connector crtc))
+      ∙
+      (λ i. refusal (crtc_seen s w k is h crtc i && ((connector == 0) || connector_seen s w k is h connector i)) (may_show s w h f i) (if connector == 0 then f == 0 else not (f == 0) && reaches (topology_is s w h i) connector crtc))
 
   -- MODE_SETPLANE is denied by the first rule that fails: of the objects seen, the framebuffer, and the route.
   pub plane_verdict : (plane crtc f : ℕ) → first_failing (admission_checks w k.client (SetPlane plane crtc f)) ≡ None →
-      verdict w (Ask k.client (SetPlane plane crtc f)) ≡ refusal (sees_plane_route s k plane crtc f) (can_show s.modes f) (is_plane_route s plane crtc f)
+      verdict w (Ask k.client (SetPlane plane crtc f)) ≡ refusal (sees_plane_route s k plane crtc f)
+      (can_show s.modes f) (is_plane_route s plane crtc f)
   unfolding meaning
   plane_verdict plane crtc f admitted =
       call_verdict w k.client (SetPlane plane crtc f) admitted
-      ∙ (λ i. refusal (plane_seen s w k is h plane i && ((f == 0) || crtc_seen s w k is h crtc i)) (may_show s w h f i) ((f == 0) || drives (topology_is s w h i) plane crtc))
+      ∙
+      (λ i. refusal (plane_seen s w k is h plane i && ((f == 0) || crtc_seen s w k is h crtc i)) (may_show s w h f i) ((f == 0) || drives (topology_is s w h i) plane crtc))
 
 -- If no rule of the route fails, the caller sees the objects.
 pub seen_by : (seen there shows : Bool) → refusal seen there shows ≡ None → seen ≡ true

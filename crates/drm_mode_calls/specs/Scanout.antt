@@ -32,8 +32,10 @@ is_plane_route s plane crtc f = topology.is_plane_route s.modes.topology plane c
 
 -- the first rule of SETCRTC that fails, and that of SETPLANE
 abbrev pub crtc_refusal : State → PrimaryCaller → ℕ → ℕ → ℕ → Option Rule
-crtc_refusal s k crtc f connector = refusal (sees_route s k crtc connector) (can_show s.modes f) (is_route s crtc f connector)
+crtc_refusal s k crtc f connector =
+    refusal (sees_route s k crtc connector) (can_show s.modes f) (is_route s crtc f connector)
 
 -- the first rule of SETPLANE that fails, if one does
 abbrev pub plane_refusal : State → PrimaryCaller → ℕ → ℕ → ℕ → Option Rule
-plane_refusal s k plane crtc f = refusal (sees_plane_route s k plane crtc f) (can_show s.modes f) (is_plane_route s plane crtc f)
+plane_refusal s k plane crtc f =
+    refusal (sees_plane_route s k plane crtc f) (can_show s.modes f) (is_plane_route s plane crtc f)

@@ -12,11 +12,13 @@ use Rattle.drm_model.specs.Verdict.{verdict, checks}
 use Rattle.drm_model.specs.Change.{changed}
 use Rattle.drm_model.specs.Reply.{reply, reply_by, answer_of}
 use Rattle.drm_model.specs.Run.{Step, Growing, IsLonger, no_room}
-use Rattle.drm_model.proofs.Changes.{client_after, client_stays, framebuffer_stays, handle_after, handle_stays, magic_after, magic_stays, master_after, object_after, token_stays, grant_stays, each_edits}
+use Rattle.drm_model.proofs.EventChanges.{client_after, client_stays, framebuffer_stays, handle_after, handle_stays, magic_after, magic_stays, master_after, object_after, token_stays, grant_stays, each_edits}
 use Rattle.drm_lists.proofs.Edits.{edited, length-edited}
 
-longer-not : (w v : Rows) → length v.clients ≤ length w.clients → length v.masters ≤ length w.masters → length v.magics ≤ length w.magics →
-    length v.holds ≤ length w.holds → length v.objects ≤ length w.objects → length v.names ≤ length w.names → length v.tokens ≤ length w.tokens →
+longer-not : (w v : Rows) → length v.clients ≤ length w.clients → length v.masters ≤ length w.masters
+    → length v.magics ≤ length w.magics →
+    length v.holds ≤ length w.holds → length v.objects ≤ length w.objects → length v.names ≤ length w.names → length
+    v.tokens ≤ length w.tokens →
     length v.grants ≤ length w.grants → length v.framebuffers ≤ length w.framebuffers → IsLonger w v → ⊥
 longer-not w v a b c d e f g h i longer = omega (arith, longer)
 
@@ -38,7 +40,8 @@ closing_adds_no_row w c grows =
     (shorter (framebuffer_stays w (Close c)) (λ row. row) w.framebuffers _ (ap (λ (v : Rows). v.framebuffers) is))
     grows.1
   where
-    shorter : {X : Type 0} (stays : X → Bool) (change : X → X) (xs now : List X) → now ≡ edited stays change [] xs → length now ≤ length xs
+    shorter : {X : Type 0} (stays : X → Bool) (change : X → X) (xs now : List X) → now ≡ edited stays change [] xs
+        → length now ≤ length xs
     shorter stays change xs now e = let all = length-edited stays change [] xs in let same = ap length e in omega (arith, all, same)
 
 -- A closing is denied only if its client is not open, with `NoClient`.
@@ -51,9 +54,12 @@ pub closing_accepted : (w : Rows) (c : ℕ) → is_open w c ≡ true → verdict
 closing_accepted w c open_client = closing_verdict w c ∙ ap (λ b. cond b None (Some NoClient)) open_client
 
 -- A device answers the closing of an open client with `Closed`: the journal has room, and memory is not refused.
-pub closing_is_carried_out : (w : Rows) (c : ℕ) (result : Result Answer Apart) (v : Rows) → is_open w c ≡ true → Step w (Close c) result v → result ≡ Ok Closed
+pub closing_is_carried_out : (w : Rows) (c : ℕ) (result : Result Answer Apart) (v : Rows) → is_open w c ≡ true
+    → Step w (Close c) result v → result ≡ Ok Closed
 unfolding Step reply no_room answer_of
-closing_is_carried_out w c (Ok answer) v open_client step = ap Ok (step.1 ∙ ap (λ r. reply_by r w (Close c)) (closing_accepted w c open_client))
-closing_is_carried_out w c (Err JournalFull) v open_client step = absurd (let e : false ≡ true = rw open_client at step.0 in cc)
+closing_is_carried_out w c (Ok answer) v open_client step =
+    ap Ok (step.1 ∙ ap (λ r. reply_by r w (Close c)) (closing_accepted w c open_client))
+closing_is_carried_out w c (Err JournalFull) v open_client step =
+    absurd (let e : false ≡ true = rw open_client at step.0 in cc)
 closing_is_carried_out w c (Err NoMemory) v open_client step = absurd (closing_adds_no_row w c step.1)
 closing_is_carried_out w c (Err Worn) v open_client step = absurd step

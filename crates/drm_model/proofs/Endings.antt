@@ -39,10 +39,12 @@ closing_forgets w c open_client = subst (λ v. IsForgotten v c) (sym (closed_aft
 -- ---- what ends with a master
 
 -- a row of a master that is below
-below : (rows : List MasterRow) (top n m : ℕ) → is_under rows top m ≡ true → (n == m) ≡ true → is_under rows top n ≡ true
+below : (rows : List MasterRow) (top n m : ℕ) → is_under rows top m ≡ true → (n == m) ≡ true
+    → is_under rows top n ≡ true
 below rows top n m under e = ap (is_under rows top) (eqb-true n m e) ∙ under
 
-untokened : (row : MasterRow) (m : ℕ) (under : Bool) → ((row.master == m) ≡ true → under ≡ true) → is_open_lease m (if under then record row { lease_token = None } else row) ≡ false
+untokened : (row : MasterRow) (m : ℕ) (under : Bool) → ((row.master == m) ≡ true → under ≡ true)
+    → is_open_lease m (if under then record row { lease_token = None } else row) ≡ false
 untokened row m true h = and_right (row.master == m) false refl
 untokened row m false h =
     elim (row.master == m) as (λ b. (b ≡ true → false ≡ true) → (b && is_some row.lease_token) ≡ false) [ true ↦ λ f. absurd (let no : false ≡ true = f refl in cc) | false ↦ λ f. refl ] h
@@ -50,19 +52,28 @@ untokened row m false h =
 module _ (w : Rows) (top m : ℕ) (under : is_under w.masters top m ≡ true) where
   no_grant : list_any (is_grant_of m) (ended w top).grants ≡ false
   unfolding ended
-  no_grant = none_left (is_grant_of m) (λ row. is_under w.masters top row.master) (λ row e. below w.masters top row.master m under e) w.grants
+  no_grant =
+      none_left (is_grant_of m) (λ row. is_under w.masters top row.master)
+      (λ row e. below w.masters top row.master m under e) w.grants
 
   no_token : list_any (is_open_lease m) (ended w top).masters ≡ false
   unfolding ended
-  no_token = list_any-map (is_open_lease m) _ w.masters ∙ none_each _ (λ (row : MasterRow). untokened row m (is_under w.masters top row.master) (λ e. below w.masters top row.master m under e)) w.masters
+  no_token =
+      list_any-map (is_open_lease m) _ w.masters
+      ∙ none_each _
+      (λ (row : MasterRow). untokened row m (is_under w.masters top row.master) (λ e. below w.masters top row.master m under e))
+      w.masters
 
 -- of the client's own master
 
-own_ended : (w : Rows) (own : ℕ) (o : Option ClientRow) → option_map_or (λ (row : ClientRow). row.is_master) o false ≡ true → option_and_then (λ (row : ClientRow). row.master) o ≡ Some own → ended_own w o ≡ ended_if w true (Some own)
+own_ended : (w : Rows) (own : ℕ) (o : Option ClientRow)
+    → option_map_or (λ (row : ClientRow). row.is_master) o false ≡ true
+    → option_and_then (λ (row : ClientRow). row.master) o ≡ Some own → ended_own w o ≡ ended_if w true (Some own)
 own_ended w own None e h = absurd (let no : false ≡ true = e in cc)
 own_ended w own (Some row) e h = λ i. ended_if w (e i) (h i)
 
-closed-ended : (w : Rows) (c own m : ℕ) → is_under w.masters own m ≡ true → ended_own w (client_row w c) ≡ ended_if w true (Some own) → HasEnded (journaled (swept (closed w c))) m
+closed-ended : (w : Rows) (c own m : ℕ) → is_under w.masters own m ≡ true
+    → ended_own w (client_row w c) ≡ ended_if w true (Some own) → HasEnded (journaled (swept (closed w c))) m
 unfolding swept closed
 closed-ended w c own m under e = record {
   grants = ap (λ (v : Rows). list_any (is_grant_of m) v.grants) e ∙ no_grant w own m under;
@@ -72,9 +83,11 @@ closed-ended w c own m under e = record {
 }
 
 -- After the closing of a master client, neither its own master nor any below it has a grant or an open lease token.
-pub closing_ends : (w : Rows) (c own m : ℕ) → is_open w c ≡ true → is_master w c ≡ true → master_of w c ≡ Some own → is_under w.masters own m ≡ true → HasEnded (after w (Close c)) m
+pub closing_ends : (w : Rows) (c own m : ℕ) → is_open w c ≡ true → is_master w c ≡ true → master_of w c ≡ Some own
+    → is_under w.masters own m ≡ true → HasEnded (after w (Close c)) m
 closing_ends w c own m open_client master its_master under =
-    subst (λ v. HasEnded v m) (sym (closed_after w c open_client)) (closed-ended w c own m under (own_ended w own (client_row w c) master its_master))
+    subst (λ v. HasEnded v m) (sym (closed_after w c open_client))
+    (closed-ended w c own m under (own_ended w own (client_row w c) master its_master))
 
 -- of a lessee
 
@@ -82,13 +95,20 @@ revoked : (w : Rows) (top m : ℕ) → is_under w.masters top m ≡ true → Has
 unfolding swept
 revoked w top m under = record {
   grants = no_grant w top m under;
-  lease_token = none_filtered (is_open_lease m) (λ row. is_living (ended w top) row.master) (ended w top).masters (no_token w top m under);
+  lease_token =
+      none_filtered (is_open_lease m) (λ row. is_living (ended w top) row.master) (ended w top).masters
+      (no_token w top m under);
 }
 
-revoked_after : (w : Rows) (c lessee : ℕ) → verdict w (Ask c (RevokeLease lessee)) ≡ None → after w (Ask c (RevokeLease lessee)) ≡ journaled (swept (ended w (lessee_master w (caller_master w c) lessee)))
+revoked_after : (w : Rows) (c lessee : ℕ) → verdict w (Ask c (RevokeLease lessee)) ≡ None
+    → after w (Ask c (RevokeLease lessee)) ≡ journaled (swept (ended w (lessee_master w (caller_master w c) lessee)))
 unfolding after changed meaning
 revoked_after w c lessee accepted = ap (λ v. after_verdict v w (Ask c (RevokeLease lessee))) accepted
 
 -- After an accepted MODE_REVOKE_LEASE, neither the lessee nor any below it has a grant or an open lease token.
-pub revocation_ends : (w : Rows) (c lessee m : ℕ) → verdict w (Ask c (RevokeLease lessee)) ≡ None → is_under w.masters (lessee_master w (caller_master w c) lessee) m ≡ true → HasEnded (after w (Ask c (RevokeLease lessee))) m
-revocation_ends w c lessee m accepted under = subst (λ v. HasEnded v m) (sym (revoked_after w c lessee accepted)) (revoked w (lessee_master w (caller_master w c) lessee) m under)
+pub revocation_ends : (w : Rows) (c lessee m : ℕ) → verdict w (Ask c (RevokeLease lessee)) ≡ None
+    → is_under w.masters (lessee_master w (caller_master w c) lessee) m ≡ true
+    → HasEnded (after w (Ask c (RevokeLease lessee))) m
+revocation_ends w c lessee m accepted under =
+    subst (λ v. HasEnded v m) (sym (revoked_after w c lessee accepted))
+    (revoked w (lessee_master w (caller_master w c) lessee) m under)

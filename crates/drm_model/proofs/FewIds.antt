@@ -38,7 +38,8 @@ own-few w c =
     omega (arith, sorted, ids, fewer)
 
 resources-few : (w : Rows) (c : ℕ) → IsTopology w.topology → length w.framebuffers ≤ 64 →
-    length (visible_crtcs w c) + length (visible_connectors w c) + length (encoder_ids w.topology) + length (own_framebuffers w c) ≤ 251
+    length (visible_crtcs w c) + length (visible_connectors w c) + length (encoder_ids w.topology) + length
+    (own_framebuffers w c) ≤ 251
 resources-few w c topology few =
     let crtcs = seen-few w c 1 w.topology.crtcs in
     let connectors = seen-few w c (first_connector w.topology) (length w.topology.connectors) in
@@ -51,23 +52,27 @@ framebuffer-few handle (Some row) = tt
 framebuffer-few handle None = tt
 
 -- a call that is not told here answers no resources
-asked-few : (w : Rows) (c : ℕ) (call : Call) → IsTopology w.topology → length w.framebuffers ≤ 64 → FitsOneFrame (Ok (meaning w c call).answer)
+asked-few : (w : Rows) (c : ℕ) (call : Call) → IsTopology w.topology → length w.framebuffers ≤ 64
+    → FitsOneFrame (Ok (meaning w c call).answer)
 unfolding meaning
 asked-few w c GetResources topology few = resources-few w c topology few
 asked-few w c (GetFb f) topology few = framebuffer-few _ (framebuffer_row w f)
 asked-few w c call topology few = tt
 
-answered-few : (w : Rows) (event : Event) → IsTopology w.topology → length w.framebuffers ≤ 64 → FitsOneFrame (Ok (answer_of w event))
+answered-few : (w : Rows) (event : Event) → IsTopology w.topology → length w.framebuffers ≤ 64
+    → FitsOneFrame (Ok (answer_of w event))
 unfolding answer_of
 answered-few w (Open opening) topology few = tt
 answered-few w (Ask c call) topology few = asked-few w c call topology few
 answered-few w (Close c) topology few = tt
 
-replied-few : (w : Rows) (event : Event) (v : Option Rule) → IsTopology w.topology → length w.framebuffers ≤ 64 → FitsOneFrame (Ok (reply_by v w event))
+replied-few : (w : Rows) (event : Event) (v : Option Rule) → IsTopology w.topology → length w.framebuffers ≤ 64
+    → FitsOneFrame (Ok (reply_by v w event))
 replied-few w event (Some rule) topology few = tt
 replied-few w event None topology few = answered-few w event topology few
 
 -- Each answer fits one frame if there are 64 framebuffers at most.
-pub few_reply : (w : Rows) (event : Event) → IsTopology w.topology → length w.framebuffers ≤ 64 → FitsOneFrame (Ok (reply w event))
+pub few_reply : (w : Rows) (event : Event) → IsTopology w.topology → length w.framebuffers ≤ 64
+    → FitsOneFrame (Ok (reply w event))
 unfolding reply
 few_reply w event topology few = replied-few w event (verdict w event) topology few

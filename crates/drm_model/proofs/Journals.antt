@@ -15,18 +15,20 @@ use Rattle.drm_model.specs.Verdict.{verdict}
 use Rattle.drm_model.specs.Change.{after, after_verdict, changed, swept}
 use Rattle.drm_model.specs.Clients.{closed}
 use Rattle.drm_model.specs.Run.{FoundRoom, no_room, places_left, run, rows_of, DeviceValue, journaled_in}
-use Rattle.drm_model.proofs.Changes.{client_after, opened_row, each_edits}
+use Rattle.drm_model.proofs.EventChanges.{client_after, opened_row, each_edits}
 use Rattle.drm_model.proofs.Closings.{closing_verdict}
 use Rattle.drm_lists.proofs.Edits.{added, mapped}
 
 -- A run of one more event is the run before, then the step of that event.
-pub run_push : (w : Rows) (events : List Event) (event : Event) → run w (events ++ event ∷ []) ≡ after (run w events) event
+pub run_push : (w : Rows) (events : List Event) (event : Event)
+    → run w (events ++ event ∷ []) ≡ after (run w events) event
 unfolding run
 run_push w [] event = refl
 run_push w (e ∷ es) event = run_push (after w e) es event
 
 -- If each event found room, and one more finds room after them, each of all found room.
-pub found_room_push : (w : Rows) (events : List Event) (event : Event) → FoundRoom w events → no_room (run w events) event ≡ false → FoundRoom w (events ++ event ∷ [])
+pub found_room_push : (w : Rows) (events : List Event) (event : Event) → FoundRoom w events
+    → no_room (run w events) event ≡ false → FoundRoom w (events ++ event ∷ [])
 unfolding FoundRoom run
 found_room_push w [] event h room = (room, tt)
 found_room_push w (e ∷ es) event h room = (h.0, found_room_push (after w e) es event h.1 room)
@@ -103,14 +105,19 @@ rows_of-steps h = let a = run-steps (empty_rows h.topology h.limits) h.journal i
 -- An opening adds one to the open clients.
 pub opened-count : (w : Rows) (opening : Opening) → length (changed w (Open opening)).clients ≡ length w.clients + 1
 opened-count w opening =
-    ap (λ (v : Rows). length v.clients) (each_edits w (Open opening)) ∙ ap length (sym (added w.clients (opened_row w opening ∷ []))) ∙ length-append w.clients (opened_row w opening ∷ [])
+    ap (λ (v : Rows). length v.clients) (each_edits w (Open opening))
+    ∙ ap length (sym (added w.clients (opened_row w opening ∷ [])))
+    ∙ length-append w.clients (opened_row w opening ∷ [])
 
 -- A request leaves the number of open clients unchanged.
 pub asked-count : (w : Rows) (c : ℕ) (call : Call) → length (changed w (Ask c call)).clients ≡ length w.clients
 asked-count w c call =
-    ap (λ (v : Rows). length v.clients) (each_edits w (Ask c call)) ∙ ap length (sym (mapped (client_after w (Ask c call)) w.clients)) ∙ length-map w.clients (client_after w (Ask c call))
+    ap (λ (v : Rows). length v.clients) (each_edits w (Ask c call))
+    ∙ ap length (sym (mapped (client_after w (Ask c call)) w.clients))
+    ∙ length-map w.clients (client_after w (Ask c call))
 
-without-found : {X : Type 0} (p : X → Bool) → (xs : List X) → is_some (find p xs) ≡ true → length (without p xs) + 1 ≤ length xs
+without-found : {X : Type 0} (p : X → Bool) → (xs : List X) → is_some (find p xs) ≡ true
+    → length (without p xs) + 1 ≤ length xs
 without-found p [] h = absurd (let e : false ≡ true = h in cc)
 without-found {X = X} p (x ∷ xs) h =
     let shorter = filter-shorter (λ x. not (p x)) xs in
@@ -118,30 +125,36 @@ without-found {X = X} p (x ∷ xs) h =
     [ true ↦ λ e. omega arith | false ↦ λ e. let shorter_rest = without-found p xs e in omega arith ]) h
 
 -- what a verdict leaves of the clients: an opening adds one, a closing takes one at least, a request none
-asked-room : (w : Rows) (c : ℕ) (call : Call) (v : Option Rule) → length (after_verdict v w (Ask c call)).clients ≡ length w.clients
+asked-room : (w : Rows) (c : ℕ) (call : Call) (v : Option Rule)
+    → length (after_verdict v w (Ask c call)).clients ≡ length w.clients
 unfolding swept
 asked-room w c call None = asked-count w c call
 asked-room w c call (Some rule) = refl
 
-opened-room : (w : Rows) (opening : Opening) (v : Option Rule) → length (after_verdict v w (Open opening)).clients ≤ length w.clients + 1
+opened-room : (w : Rows) (opening : Opening) (v : Option Rule)
+    → length (after_verdict v w (Open opening)).clients ≤ length w.clients + 1
 unfolding swept
 opened-room w opening None = let e = opened-count w opening in omega arith
 opened-room w opening (Some rule) = omega arith
 
-closed-room : (w : Rows) (c : ℕ) (b : Bool) → is_open w c ≡ b → (cond b (Unit {0}) (w.steps + length w.clients + 1 ≤ w.limits.journal)) → w.steps + length w.clients ≤ w.limits.journal →
+closed-room : (w : Rows) (c : ℕ) (b : Bool) → is_open w c ≡ b
+    → (cond b (Unit {0}) (w.steps + length w.clients + 1 ≤ w.limits.journal))
+    → w.steps + length w.clients ≤ w.limits.journal →
     w.steps + 1 + length (after_verdict (cond b None (Some NoClient)) w (Close c)).clients ≤ w.limits.journal
 unfolding swept changed closed
 closed-room w c true e h fits = let found = without-found (is_client c) w.clients e in omega arith
 closed-room w c false e h fits = omega arith
 
-kept_export_order : (w : Rows) (c : ℕ) (b : Bool) → is_open w c ≡ b → w.steps + length w.clients ≤ w.limits.journal → no_room w (Close c) ≡ false → cond b (Unit {0}) (w.steps + length w.clients + 1 ≤ w.limits.journal)
+kept_export_order : (w : Rows) (c : ℕ) (b : Bool) → is_open w c ≡ b → w.steps + length w.clients ≤ w.limits.journal
+    → no_room w (Close c) ≡ false → cond b (Unit {0}) (w.steps + length w.clients + 1 ≤ w.limits.journal)
 unfolding no_room
 kept_export_order w c true e fits room = tt
 kept_export_order w c false e fits room =
     let left = ltb-false (places_left w) (length w.clients + 1) (ap (λ b. not b && nat_lt (places_left w) (length w.clients + 1)) (sym e) ∙ room) in omega arith
 
 -- After an event that found room the journal still has a place for the closing of each open client.
-pub room_after : (w : Rows) (event : Event) → w.steps + length w.clients ≤ w.limits.journal → no_room w event ≡ false → (after w event).steps + length (after w event).clients ≤ w.limits.journal
+pub room_after : (w : Rows) (event : Event) → w.steps + length w.clients ≤ w.limits.journal → no_room w event ≡ false
+    → (after w event).steps + length (after w event).clients ≤ w.limits.journal
 unfolding no_room after
 room_after w (Open opening) fits room =
     let left = ltb-false (places_left w) (length w.clients + 2) room in

@@ -11,10 +11,12 @@ use Rattle.drm_modes.specs.LeaseRules.{stands_once}
 -- what is so of each number that exists, passes in all
 each_there : (p : ℕ → Bool) (xs : List ℕ) → ((x : ℕ) → is_among xs x ≡ true → p x ≡ true) → list_all p xs ≡ true
 each_there p [] h = refl
-each_there p (x ∷ xs) h = and_from (p x) (list_all p xs) (h x (among-first xs x)) (each_there p xs (λ y e. h y (among-more xs x y e)))
+each_there p (x ∷ xs) h =
+    and_from (p x) (list_all p xs) (h x (among-first xs x)) (each_there p xs (λ y e. h y (among-more xs x y e)))
 
 -- A number that a filter leaves passes the test and was in the list.
-pub passes_and_was : (p : ℕ → Bool) (xs : List ℕ) (k : ℕ) → is_among (filter p xs) k ≡ true → (p k ≡ true) × (is_among xs k ≡ true)
+pub passes_and_was : (p : ℕ → Bool) (xs : List ℕ) (k : ℕ) → is_among (filter p xs) k ≡ true
+    → (p k ≡ true) × (is_among xs k ≡ true)
 passes_and_was p [] k h = absurd (false≢true h)
 passes_and_was p (x ∷ xs) k h =
     (elim (p x) as (λ b. p x ≡ b → is_among (cond b (x ∷ filter p xs) (filter p xs)) k ≡ true → (p k ≡ true) × (is_among (x ∷ xs) k ≡ true)) [
@@ -31,7 +33,8 @@ passes_and_was p (x ∷ xs) k h =
 abbrev AtMostOnce : List ℕ → Type 0
 AtMostOnce xs = (k : ℕ) → count xs k ≤ 1
 
-one_more : (b : Bool) (n : ℕ) (xs : List ℕ) (k : ℕ) → length (filter (λ x. x == k) (cond b (n ∷ xs) xs)) ≤ length (filter (λ x. x == k) (n ∷ xs))
+one_more : (b : Bool) (n : ℕ) (xs : List ℕ) (k : ℕ)
+    → length (filter (λ x. x == k) (cond b (n ∷ xs) xs)) ≤ length (filter (λ x. x == k) (n ∷ xs))
 one_more true n xs k = omega arith
 one_more false n xs k = elim (n == k) as (λ b. length (filter (λ x. x == k) xs) ≤ length (cond b (n ∷ filter (λ x. x == k) xs) (filter (λ x. x == k) xs))) [ true ↦ omega arith | false ↦ omega arith ]
 
@@ -52,7 +55,10 @@ unfolding numbers_from
 none_below first zero k h = refl
 none_below first (suc n) k h =
     let other : (first == k) ≡ false = grind (arith, nat_tests) in
-    ap (λ b. length (cond b (first ∷ filter (λ x. x == k) (numbers_from (first + 1) n)) (filter (λ x. x == k) (numbers_from (first + 1) n)))) other ∙ none_below (first + 1) n k (omega (arith, h))
+    ap
+    (λ b. length (cond b (first ∷ filter (λ x. x == k) (numbers_from (first + 1) n)) (filter (λ x. x == k) (numbers_from (first + 1) n))))
+    other
+    ∙ none_below (first + 1) n k (omega (arith, h))
 
 once_from : (first n : ℕ) → AtMostOnce (numbers_from first n)
 unfolding numbers_from
@@ -65,7 +71,8 @@ once_from first (suc n) = λ k.
 
 -- Numbers that two filters leave of consecutive numbers occur once each.
 pub picked_once : (p q : ℕ → Bool) (first n : ℕ) → AtMostOnce (filter p (filter q (numbers_from first n)))
-picked_once p q first n = once_filtered p (filter q (numbers_from first n)) (once_filtered q (numbers_from first n) (once_from first n))
+picked_once p q first n =
+    once_filtered p (filter q (numbers_from first n)) (once_filtered q (numbers_from first n) (once_from first n))
 
 there_once : (xs : List ℕ) (k : ℕ) → count xs k ≤ 1 → is_among xs k ≡ true → count xs k ≡ 1
 there_once xs k few there = let some : (count xs k == 0) ≡ false = count-none xs k ∙ ap not there in grind (arith, nat_tests)
@@ -73,7 +80,8 @@ there_once xs k few there = let some : (count xs k == 0) ≡ false = count-none 
 -- ---- two lists
 
 -- Numbers that occur once in each of two lists, and never in both, occur once in the two together.
-pub each_once : (xs ys : List ℕ) → list_all (stands_once xs) xs ≡ true → AtMostOnce ys → ((k : ℕ) → is_among xs k ≡ true → is_among ys k ≡ false) → list_all (stands_once (xs ++ ys)) (xs ++ ys) ≡ true
+pub each_once : (xs ys : List ℕ) → list_all (stands_once xs) xs ≡ true → AtMostOnce ys
+    → ((k : ℕ) → is_among xs k ≡ true → is_among ys k ≡ false) → list_all (stands_once (xs ++ ys)) (xs ++ ys) ≡ true
 each_once xs ys first second apart = each_there (stands_once (xs ++ ys)) (xs ++ ys) (λ k there.
     elim (is_among xs k) as (λ b. is_among xs k ≡ b → (b || is_among ys k) ≡ true → stands_once (xs ++ ys) k ≡ true) [
       | true ↦ λ e j.

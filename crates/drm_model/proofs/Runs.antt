@@ -17,12 +17,15 @@ answers_push w [] (r ∷ rs) v event result u h s = absurd h
 answers_push w (e ∷ es) [] v event result u h s = absurd h
 
 -- The rows after a run are those of its recorded events alone.
-pub answers-run : (w : Rows) (events : List Event) (results : List (Result Answer Apart)) (v : Rows) → Answers w events results v → v ≡ run w (journaled_events events results)
+pub answers-run : (w : Rows) (events : List Event) (results : List (Result Answer Apart)) (v : Rows)
+    → Answers w events results v → v ≡ run w (journaled_events events results)
 unfolding Answers run Step
 answers-run w [] [] v h = h
 answers-run w (e ∷ es) (Ok a ∷ rs) v h = answers-run h.0 es rs v h.2 ∙ ap (λ x. run x (journaled_events es rs)) h.1.2
-answers-run w (e ∷ es) (Err JournalFull ∷ rs) v h = answers-run h.0 es rs v h.2 ∙ ap (λ x. run x (journaled_events es rs)) h.1.1
-answers-run w (e ∷ es) (Err NoMemory ∷ rs) v h = answers-run h.0 es rs v h.2 ∙ ap (λ x. run x (journaled_events es rs)) h.1.2
+answers-run w (e ∷ es) (Err JournalFull ∷ rs) v h =
+    answers-run h.0 es rs v h.2 ∙ ap (λ x. run x (journaled_events es rs)) h.1.1
+answers-run w (e ∷ es) (Err NoMemory ∷ rs) v h =
+    answers-run h.0 es rs v h.2 ∙ ap (λ x. run x (journaled_events es rs)) h.1.2
 answers-run w (e ∷ es) (Err Worn ∷ rs) v h = absurd h.1
 answers-run w [] (r ∷ rs) v h = absurd h
 answers-run w (e ∷ es) [] v h = absurd h

@@ -11,7 +11,7 @@ use Rattle.drm_model.specs.Rows.{Rows, ShownRow, empty_rows, is_framebuffer}
 use Rattle.drm_model.specs.Shown.{IsOtherEngine, EachShowsOne}
 use Rattle.drm_model.specs.Change.{changed, swept, journaled, after}
 use Rattle.drm_model.specs.Run.{DeviceValue, rows_of}
-use Rattle.drm_model.proofs.Changes.{along, by_verdict, new_shown_row, now_shown, shown_stays, each_edits}
+use Rattle.drm_model.proofs.EventChanges.{along, by_verdict, new_shown_row, now_shown, shown_stays, each_edits}
 use Rattle.drm_lists.proofs.Edits.{either, in_order_edited}
 use Rattle.std.proofs.lemmas.Bool.{not-true}
 
@@ -25,7 +25,9 @@ abbrev IsOther : Event → ShownRow → Type 0
 IsOther event row = shown_stays event row ≡ true → IfSome (new_shown_row event) (IsOtherEngine row)
 
 now-other : (x f : ℕ) (row : ShownRow) → not (row.engine == x) ≡ true → IfSome (now_shown x f) (IsOtherEngine row)
-now-other x f row e = either (λ (o : Option ShownRow). IfSome o (IsOtherEngine row)) (f == 0) None (Some (record { engine = x; framebuffer = f })) tt (not-true (row.engine == x) e)
+now-other x f row e =
+    either (λ (o : Option ShownRow). IfSome o (IsOtherEngine row)) (f == 0) None
+    (Some (record { engine = x; framebuffer = f })) tt (not-true (row.engine == x) e)
 
 new-other : (event : Event) (row : ShownRow) → IsOther event row
 new-other (Ask c (SetCrtc crtc f connector)) row e = now-other crtc f row e
@@ -48,9 +50,12 @@ swept-shown w h = record {
 }
 
 after-shown : (w : Rows) (event : Event) → EachShowsOne w → EachShowsOne (after w event)
-after-shown w event h = by_verdict EachShowsOne w event (record { one = h.one; there = h.there }) (λ accepted. swept-shown (changed w event) (changed-shown w event h.one))
+after-shown w event h =
+    by_verdict EachShowsOne w event (record { one = h.one; there = h.there })
+    (λ accepted. swept-shown (changed w event) (changed-shown w event h.one))
 
 -- In the rows of any history each CRTC and each plane shows one framebuffer at most, which exists.
 pub each_shows_one : (h : DeviceValue) → EachShowsOne (rows_of h)
 unfolding rows_of
-each_shows_one h = along EachShowsOne after-shown h.journal (empty_rows h.topology h.limits) (record { one = tt; there = tt })
+each_shows_one h =
+    along EachShowsOne after-shown h.journal (empty_rows h.topology h.limits) (record { one = tt; there = tt })

@@ -31,7 +31,8 @@ client_flags w row =
 -- the row of a client: client, flags, master, magic
 abbrev pub client_audit : Rows → ClientRow → AuditRow
 client_audit w row =
-    audit_row row.client (client_flags w row) (or_zero row.master) (option_map_or (λ (magic : MagicRow). magic.number) (magic_row w row.client) 0)
+    audit_row row.client (client_flags w row) (or_zero row.master)
+    (option_map_or (λ (magic : MagicRow). magic.number) (magic_row w row.client) 0)
 
 -- the number of handles of an object
 abbrev pub handle_count : Rows → ℕ → ℕ
@@ -39,7 +40,8 @@ handle_count w o = length (filter (λ row. row.object == o) w.holds)
 
 -- the number of tokens and framebuffers of an object
 abbrev pub reference_count : Rows → ℕ → ℕ
-reference_count w o = length (filter (λ row. row.object == o) w.tokens) + length (filter (λ row. row.object == o) w.framebuffers)
+reference_count w o =
+    length (filter (λ row. row.object == o) w.tokens) + length (filter (λ row. row.object == o) w.framebuffers)
 
 -- the row of a master: master, lessor, lessee id, open lease token
 abbrev pub master_audit : MasterRow → AuditRow

@@ -81,7 +81,8 @@ gem_close w c handle = record (nothing w) {
 
 -- the objects, of which one has another stamp
 unfoldable pub with_stamp : ℕ → ℕ → List ObjectRow → List ObjectRow
-with_stamp o stamp objects = map (λ (row : ObjectRow). if row.object == o then record row { stamp = stamp } else row) objects
+with_stamp o stamp objects =
+    map (λ (row : ObjectRow). if row.object == o then record row { stamp = stamp } else row) objects
 
 -- STAMP_WRITE
 abbrev pub stamp_write : Rows → ℕ → ℕ → ℕ → Meaning

@@ -40,7 +40,8 @@ meaning w c (SetCrtc crtc framebuffer connector) = set_crtc w c crtc framebuffer
 meaning w c (GetEncoder encoder) = get_encoder w c encoder
 meaning w c (GetConnector connector) = get_connector w c connector
 meaning w c (GetFb framebuffer) = get_fb w c framebuffer
-meaning w c (AddFb width height pitch bpp handle) = add_fb w c (record { width = width; height = height; pitch = pitch; bpp = bpp }) handle
+meaning w c (AddFb width height pitch bpp handle) =
+    add_fb w c (record { width = width; height = height; pitch = pitch; bpp = bpp }) handle
 meaning w c (RmFb framebuffer) = rm_fb w c framebuffer
 meaning w c (CreateDumb width height bpp) = create_dumb w c width height bpp
 meaning w c (DestroyDumb handle) = gem_close w c handle

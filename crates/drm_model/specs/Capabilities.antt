@@ -25,7 +25,10 @@ get_cap w cap = record (nothing w) {
 
 -- the clients, with one capability of one of them on or off
 unfoldable pub with_client_capability : ℕ → ℕ → Bool → List ClientRow → List ClientRow
-with_client_capability c cap on clients = map (λ (row : ClientRow). if is_client c row then record row { capabilities = with_capability cap on row.capabilities } else row) clients
+with_client_capability c cap on clients =
+    map
+    (λ (row : ClientRow). if is_client c row then record row { capabilities = with_capability cap on row.capabilities } else row)
+    clients
 
 -- SET_CLIENT_CAP: a capability, off by 0 and on by 1
 abbrev pub set_client_cap : Rows → ℕ → ℕ → ℕ → Meaning

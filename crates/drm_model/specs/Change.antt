@@ -20,7 +20,8 @@ changed w (Close c) = closed w c
 -- whether a handle, a token or a framebuffer refers to the object (drm-gem(7); tokens and framebuffers are no handles: own)
 abbrev pub is_referred : Rows → ℕ → Bool
 is_referred w o =
-    list_any (λ row. row.object == o) w.holds || list_any (λ row. row.object == o) w.tokens || list_any (λ row. row.object == o) w.framebuffers
+    list_any (λ row. row.object == o) w.holds || list_any (λ row. row.object == o) w.tokens || list_any
+    (λ row. row.object == o) w.framebuffers
 
 -- whether a client names the master or its lease token is open
 abbrev pub is_held : Rows → MasterRow → Bool

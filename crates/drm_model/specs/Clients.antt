@@ -15,20 +15,27 @@ use Rattle.drm_model.specs.Leases.{lease_master, ended}
 unfoldable pub opening_checks : Rows → Opening → List Check
 opening_checks w (Primary root universal) = check Full (has_client_room w) ∷ []
 opening_checks w Render = check Full (has_client_room w) ∷ []
-opening_checks w (Lease token root universal) = check NoLeaseToken (is_some (lease_master w token)) ∷ check Full (has_client_room w) ∷ []
+opening_checks w (Lease token root universal) =
+    check NoLeaseToken (is_some (lease_master w token)) ∷ check Full (has_client_room w) ∷ []
 
 -- the first master of a device without one: its client is a master
 abbrev pub founded : Rows → Bool → Bool → Rows
 founded w root universal = record w {
   masters = w.masters ++ new_master (step_number w) ∷ [];
   device_master = Some (step_number w);
-  clients = w.clients ++ record { client = step_number w; render = false; root = root; authenticated = true; once_master = true; is_master = true; master = Some (step_number w); capabilities = opening_capabilities universal } ∷ [];
+  clients =
+      w.clients ++ record
+      { client = step_number w; render = false; root = root; authenticated = true; once_master = true; is_master = true; master = Some (step_number w); capabilities = opening_capabilities universal }
+      ∷ [];
 }
 
 -- a client of the device's master, which isn't one itself; root is authenticated from its opening (own)
 abbrev pub joined : Rows → Bool → Bool → ℕ → Rows
 joined w root universal m = record w {
-  clients = w.clients ++ record { client = step_number w; render = false; root = root; authenticated = root; once_master = false; is_master = false; master = Some m; capabilities = opening_capabilities universal } ∷ [];
+  clients =
+      w.clients ++ record
+      { client = step_number w; render = false; root = root; authenticated = root; once_master = false; is_master = false; master = Some m; capabilities = opening_capabilities universal }
+      ∷ [];
 }
 
 -- the first primary client of a device without a master founds one (drm(7))
@@ -39,14 +46,22 @@ opened_primary w root universal (Some m) = joined w root universal m
 -- a render client has no master (drm-uapi), and universal planes on (own)
 abbrev pub opened_render : Rows → Rows
 opened_render w = record w {
-  clients = w.clients ++ record { client = step_number w; render = true; root = false; authenticated = false; once_master = false; is_master = false; master = None; capabilities = opening_capabilities true } ∷ [];
+  clients =
+      w.clients ++ record
+      { client = step_number w; render = true; root = false; authenticated = false; once_master = false; is_master = false; master = None; capabilities = opening_capabilities true }
+      ∷ [];
 }
 
 -- the token is spent, and the client is a master of the lessee
 abbrev pub opened_lease : Rows → ℕ → Bool → Bool → Rows
 opened_lease w token root universal = record w {
-  masters = map (λ (row : MasterRow). if is_option token row.lease_token then record row { lease_token = None } else row) w.masters;
-  clients = w.clients ++ record { client = step_number w; render = false; root = root; authenticated = true; once_master = false; is_master = true; master = option_map (λ (row : MasterRow). row.master) (lease_master w token); capabilities = opening_capabilities universal } ∷ [];
+  masters =
+      map (λ (row : MasterRow). if is_option token row.lease_token then record row { lease_token = None } else row)
+      w.masters;
+  clients =
+      w.clients ++ record
+      { client = step_number w; render = false; root = root; authenticated = true; once_master = false; is_master = true; master = option_map (λ (row : MasterRow). row.master) (lease_master w token); capabilities = opening_capabilities universal }
+      ∷ [];
 }
 
 -- what an accepted opening does
@@ -57,7 +72,8 @@ opened w (Lease token root universal) = opened_lease w token root universal
 
 -- a closing client that is a master: what its master lent is removed, and the device's master if it was that one
 abbrev pub ended_if : Rows → Bool → Option ℕ → Rows
-ended_if w true (Some m) = record (ended w m) { device_master = if is_option m w.device_master then None else w.device_master }
+ended_if w true (Some m) =
+    record (ended w m) { device_master = if is_option m w.device_master then None else w.device_master }
 ended_if w true None = w
 ended_if w false m = w
 

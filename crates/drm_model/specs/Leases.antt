@@ -28,7 +28,9 @@ lease_master w token = find (λ row. is_option token row.lease_token) w.masters
 unfoldable pub ended : Rows → ℕ → Rows
 ended w top = record w {
   grants = without (λ row. is_under w.masters top row.master) w.grants;
-  masters = map (λ (row : MasterRow). if is_under w.masters top row.master then record row { lease_token = None } else row) w.masters;
+  masters =
+      map (λ (row : MasterRow). if is_under w.masters top row.master then record row { lease_token = None } else row)
+      w.masters;
 }
 
 -- ---- the rules for the caller that leases, and for the ids
@@ -56,7 +58,8 @@ leased w c ids = ids ++ brought_along w c ids
 
 -- whether a direct lessee of the master has it, redeemed or not
 abbrev pub is_leased_out : Rows → ℕ → ℕ → Bool
-is_leased_out w m x = list_any (λ (grant : GrantRow). (grant.mode_object == x) && is_option m (lessor_of w.masters grant.master)) w.grants
+is_leased_out w m x =
+    list_any (λ (grant : GrantRow). (grant.mode_object == x) && is_option m (lessor_of w.masters grant.master)) w.grants
 
 -- ---- the numbers of a new lessee
 
@@ -67,7 +70,8 @@ is_lessee_of rows owner id row = is_some row.lessor && (row.lessee_id == id) && 
 -- the lowest id that no lessee with the owner of this master has (the kernel's IDR returns the lowest; the limit is
 -- own)
 abbrev pub free_lessee : Rows → ℕ → Option ℕ
-free_lessee w m = least (λ id. not (list_any (is_lessee_of w.masters (owner_of w.masters m) id) w.masters)) 1 w.limits.lessees
+free_lessee w m =
+    least (λ id. not (list_any (is_lessee_of w.masters (owner_of w.masters m) id) w.masters)) 1 w.limits.lessees
 
 -- whether no open lease token has the number
 abbrev pub is_free_lease_token : Rows → ℕ → Bool
@@ -87,7 +91,9 @@ new_lease_token w = unwrap_or (next_lease_token w) 0
 
 -- a master that this one lent, with its lease token
 abbrev pub new_lessee : Rows → ℕ → MasterRow
-new_lessee w m = record { master = step_number w; lessor = Some m; lessee_id = new_lessee_id w m; lease_token = Some (new_lease_token w) }
+new_lessee w m =
+    record
+    { master = step_number w; lessor = Some m; lessee_id = new_lessee_id w m; lease_token = Some (new_lease_token w) }
 
 -- a row with a lessee and a mode object
 abbrev pub grant : ℕ → ℕ → GrantRow
@@ -99,7 +105,8 @@ grant m x = record { master = m; mode_object = x }
 abbrev pub create_lease_of : Rows → ℕ → ℕ → List ℕ → Meaning
 create_lease_of w c m ids = record {
   checks =
-      rules.lease_checks w.topology (depth_of w.masters m) (sees w c) (is_framebuffer w) (has_universal w c) (list_any (is_leased_out w m) (leased w c ids)) (is_some (free_lessee w m) && is_some (next_lease_token w)) ids;
+      rules.lease_checks w.topology (depth_of w.masters m) (sees w c) (is_framebuffer w) (has_universal w c)
+      (list_any (is_leased_out w m) (leased w c ids)) (is_some (free_lessee w m) && is_some (next_lease_token w)) ids;
   rows = record w {
     masters = w.masters ++ new_lessee w m ∷ [];
     grants = w.grants ++ map (grant (step_number w)) (leased w c ids);
@@ -114,7 +121,9 @@ create_lease w c ids = create_lease_of w c (caller_master w c) ids
 
 -- whether the grant is in the lease of a direct lessee that has the id
 abbrev pub is_lessee_grant : List MasterRow → ℕ → ℕ → GrantRow → Bool
-is_lessee_grant rows m id grant = option_map_or (λ (row : MasterRow). is_option m row.lessor && (row.lessee_id == id)) (master_row rows grant.master) false
+is_lessee_grant rows m id grant =
+    option_map_or (λ (row : MasterRow). is_option m row.lessor && (row.lessee_id == id)) (master_row rows grant.master)
+    false
 
 -- whether a direct lessee has the id and a lease that isn't empty
 abbrev pub has_lessee : Rows → ℕ → ℕ → Bool
@@ -122,7 +131,8 @@ has_lessee w m id = list_any (is_lessee_grant w.masters m id) w.grants
 
 -- MODE_LIST_LESSEES: the ids of the direct lessees whose lease isn't empty, rising (own)
 abbrev pub list_lessees : Rows → ℕ → Meaning
-list_lessees w c = record (nothing w) { answer = ListIs (filter (has_lessee w (caller_master w c)) (numbers_from 1 w.limits.lessees)) }
+list_lessees w c =
+    record (nothing w) { answer = ListIs (filter (has_lessee w (caller_master w c)) (numbers_from 1 w.limits.lessees)) }
 
 -- what is in the lease of a master
 abbrev pub granted_of : Rows → ℕ → List ℕ
@@ -134,7 +144,9 @@ leasable_ids t = crtc_ids t ++ plane_ids t ++ connector_ids t
 
 -- MODE_GET_LEASE: what the lease of the caller's master has, rising; all that can be leased where it is no lessee
 abbrev pub get_lease : Rows → ℕ → Meaning
-get_lease w c = record (nothing w) { answer = ListIs (if is_lessee w c then rising (granted_of w (caller_master w c)) else leasable_ids w.topology) }
+get_lease w c =
+    record (nothing w)
+    { answer = ListIs (if is_lessee w c then rising (granted_of w (caller_master w c)) else leasable_ids w.topology) }
 
 -- the lessee of this id with the owner of the master
 abbrev pub lessee_row : Rows → ℕ → ℕ → Option MasterRow

@@ -33,7 +33,8 @@ free_magic w m = least (λ number. not (is_among (magics_under w m) number)) 1 w
 -- the magics, with one of the master for the client if it had none
 abbrev pub with_magic : Rows → ℕ → ℕ → Option ℕ → List MagicRow
 with_magic w c m (Some number) = w.magics
-with_magic w c m None = w.magics ++ record { master = m; number = unwrap_or (free_magic w m) 0; client = c; spent = false } ∷ []
+with_magic w c m None =
+    w.magics ++ record { master = m; number = unwrap_or (free_magic w m) 0; client = c; spent = false } ∷ []
 
 -- GET_MAGIC: the client's magic, the same each time, or else the lowest free one of its master
 abbrev pub get_magic : Rows → ℕ → Meaning
@@ -53,17 +54,21 @@ magic_client w m number = option_map (λ (row : MagicRow). row.client) (find (is
 
 -- the magics, of which this one is spent
 unfoldable pub with_spent : ℕ → ℕ → List MagicRow → List MagicRow
-with_spent m number magics = map (λ (row : MagicRow). if is_open_magic m number row then record row { spent = true } else row) magics
+with_spent m number magics =
+    map (λ (row : MagicRow). if is_open_magic m number row then record row { spent = true } else row) magics
 
 -- the clients, of which this one is authenticated
 unfoldable pub with_authenticated : Option ℕ → List ClientRow → List ClientRow
-with_authenticated c clients = map (λ (row : ClientRow). if is_option row.client c then record row { authenticated = true } else row) clients
+with_authenticated c clients =
+    map (λ (row : ClientRow). if is_option row.client c then record row { authenticated = true } else row) clients
 
 -- what it means among the magics of the master
 abbrev pub auth_under : Rows → ℕ → ℕ → Meaning
 auth_under w m number = record (nothing w) {
   checks = check NoMagic (is_some (magic_client w m number)) ∷ [];
-  rows = record w { clients = with_authenticated (magic_client w m number) w.clients; magics = with_spent m number w.magics };
+  rows =
+      record w
+      { clients = with_authenticated (magic_client w m number) w.clients; magics = with_spent m number w.magics };
 }
 
 -- AUTH_MAGIC: the client that has this magic of the caller's master is authenticated, and the magic is spent
@@ -86,7 +91,10 @@ may_be_master w c = client_has (λ row. row.once_master) w c || (credentials_of 
 
 -- the clients, of which this one is a master, authenticated, of the new master
 unfoldable pub with_master : ℕ → ℕ → List ClientRow → List ClientRow
-with_master c m clients = map (λ (row : ClientRow). if is_client c row then record row { authenticated = true; once_master = true; is_master = true; master = Some m } else row) clients
+with_master c m clients =
+    map
+    (λ (row : ClientRow). if is_client c row then record row { authenticated = true; once_master = true; is_master = true; master = Some m } else row)
+    clients
 
 -- a new master for the client, which is the device's; its magic of the master before is removed
 abbrev pub with_new_master : Rows → ℕ → Rows
@@ -99,7 +107,8 @@ with_new_master w c = record w {
 
 -- a client that is current stays so, one that is a master has its own set again, and any other gets a new one
 abbrev pub mastered : Rows → ℕ → Bool → Bool → Rows
-mastered w c current master = if current then w else if master then record w { device_master = master_of w c } else with_new_master w c
+mastered w c current master =
+    if current then w else if master then record w { device_master = master_of w c } else with_new_master w c
 
 -- SET_MASTER: a client that is current is done at once
 abbrev pub set_master : Rows → ℕ → Meaning
@@ -115,6 +124,8 @@ set_master w c = record (nothing w) {
 -- DROP_MASTER: the device has no master; the client's stays its own
 abbrev pub drop_master : Rows → ℕ → Meaning
 drop_master w c = record (nothing w) {
-  checks = check MasterPerm (may_be_master w c) ∷ check NotCurrent (is_current w c) ∷ check IsLessee (not (is_lessee w c)) ∷ [];
+  checks =
+      check MasterPerm (may_be_master w c) ∷ check NotCurrent (is_current w c) ∷ check IsLessee (not (is_lessee w c)) ∷
+      [];
   rows = record w { device_master = None };
 }

@@ -51,7 +51,8 @@ is_current_row w row = row.is_master && is_owner w.masters w.device_master row.m
 -- what the tests of drm_ioctl_permit ask of a client; of one that isn't open, nothing holds
 abbrev pub credentials_in : Rows → Option ClientRow → Standing
 credentials_in w None = record { root = false; render = false; authenticated = false; current = false }
-credentials_in w (Some row) = record { root = row.root; render = row.render; authenticated = row.authenticated; current = is_current_row w row }
+credentials_in w (Some row) =
+    record { root = row.root; render = row.render; authenticated = row.authenticated; current = is_current_row w row }
 
 -- the properties of a client that the flags of a call's row are tested against
 abbrev pub credentials_of : Rows → ℕ → Standing

@@ -24,7 +24,9 @@ use Rattle.drm_model.specs.Sees.{sees_crtc, sees_plane, sees_connector, visible_
 
 -- MODE_GETRESOURCES: the CRTCs and connectors that the caller sees, all encoders, and its own framebuffers
 abbrev pub get_resources : Rows → ℕ → Meaning
-get_resources w c = record (nothing w) { answer = Resources (visible_crtcs w c) (visible_connectors w c) (encoder_ids w.topology) (own_framebuffers w c) }
+get_resources w c =
+    record (nothing w)
+    { answer = Resources (visible_crtcs w c) (visible_connectors w c) (encoder_ids w.topology) (own_framebuffers w c) }
 
 -- MODE_GETPLANERESOURCES: the planes that the caller sees
 abbrev pub get_plane_resources : Rows → ℕ → Meaning
@@ -48,11 +50,14 @@ get_connector w c connector = record (nothing w) {
 
 -- the framebuffer that a CRTC or a plane shows; 0 if it is dark
 abbrev pub shown_by : Rows → ℕ → ℕ
-shown_by w x = unwrap_or (option_map (λ (row : ShownRow). row.framebuffer) (find (λ (row : ShownRow). row.engine == x) w.shown)) 0
+shown_by w x =
+    unwrap_or (option_map (λ (row : ShownRow). row.framebuffer) (find (λ (row : ShownRow). row.engine == x) w.shown)) 0
 
 -- it shows the framebuffer now, and is dark where that is 0
 abbrev pub with_shown : Rows → ℕ → ℕ → List ShownRow
-with_shown w x f = without (λ (row : ShownRow). row.engine == x) w.shown ++ (if f == 0 then [] else record { engine = x; framebuffer = f } ∷ [])
+with_shown w x f =
+    without (λ (row : ShownRow). row.engine == x) w.shown ++
+    (if f == 0 then [] else record { engine = x; framebuffer = f } ∷ [])
 
 -- 0 for none, or a framebuffer of any client
 abbrev pub is_framebuffer_or_none : Rows → ℕ → Bool
@@ -129,7 +134,8 @@ is_free_framebuffer w f = not (is_among (map (λ (row : FramebufferRow). row.fra
 
 -- the lowest free id above those of the fixed objects (the kernel's IDR returns the lowest)
 abbrev pub free_framebuffer : Rows → Option ℕ
-free_framebuffer w = least (is_free_framebuffer w) (first_framebuffer w.topology) (object_count w.topology + w.limits.framebuffers)
+free_framebuffer w =
+    least (is_free_framebuffer w) (first_framebuffer w.topology) (object_count w.topology + w.limits.framebuffers)
 
 -- the id of a new framebuffer; 0 if none is free
 abbrev pub new_framebuffer : Rows → ℕ
@@ -152,7 +158,8 @@ abbrev pub add_fb : Rows → ℕ → Shape → ℕ → Meaning
 add_fb w c shape handle = record {
   checks =
       check NoHandle (has_handle w c handle)
-      ∷ check BadSize (is_dumb_shape shape.width shape.height shape.bpp && fits_object shape.width shape.height shape.pitch shape.bpp (size_of w (object_of w c handle)))
+      ∷ check BadSize
+      (is_dumb_shape shape.width shape.height shape.bpp && fits_object shape.width shape.height shape.pitch shape.bpp (size_of w (object_of w c handle)))
       ∷ check Full (is_some (free_framebuffer w))
       ∷ [];
   rows = record w { framebuffers = w.framebuffers ++ framebuffer_over w c (object_of w c handle) shape ∷ [] };

@@ -10,4 +10,5 @@ use Rattle.drm_modes.specs.LeaseRules.{last_depth}
 -- lessee
 pub record LeasesNest (w : Rows) : Type 0 where
   pub depths : (m : ℕ) → depth_of w.masters m ≤ last_depth
-  pub grants : (m lessor x : ℕ) → lessor_of w.masters m ≡ Some lessor → is_some (lessor_of w.masters lessor) ≡ true → is_granted w m x ≡ true → is_granted w lessor x ≡ true
+  pub grants : (m lessor x : ℕ) → lessor_of w.masters m ≡ Some lessor → is_some (lessor_of w.masters lessor) ≡ true
+      → is_granted w m x ≡ true → is_granted w lessor x ≡ true

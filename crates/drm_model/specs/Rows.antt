@@ -195,7 +195,9 @@ has_object_room w = nat_lt (length w.objects) w.limits.objects
 
 -- a fresh handle of the object, with or without an export order
 abbrev pub with_handle_row : Rows → ℕ → ℕ → Option ℕ → List HandleRow
-with_handle_row w c o export_order = w.holds ++ record { client = c; handle = unwrap_or (free_handle w c) 0; object = o; export_order = export_order } ∷ []
+with_handle_row w c o export_order =
+    w.holds ++ record { client = c; handle = unwrap_or (free_handle w c) 0; object = o; export_order = export_order } ∷
+    []
 
 -- framebuffers
 

@@ -27,7 +27,8 @@ abbrev pub IsLonger : Rows → Rows → Type 0
 IsLonger w v =
     (length w.clients < length v.clients) ⊎ (length w.masters < length v.masters) ⊎ (length w.magics < length v.magics)
     ⊎ (length w.holds < length v.holds) ⊎ (length w.objects < length v.objects) ⊎ (length w.names < length v.names)
-    ⊎ (length w.tokens < length v.tokens) ⊎ (length w.grants < length v.grants) ⊎ (length w.framebuffers < length v.framebuffers)
+    ⊎ (length w.tokens < length v.tokens) ⊎ (length w.grants < length v.grants) ⊎
+    (length w.framebuffers < length v.framebuffers)
 
 -- an accepted event that adds a row
 unfoldable pub Growing : Rows → Event → Type 0

@@ -63,7 +63,9 @@ visible_connectors w c = filter (sees w c) (connector_ids w.topology)
 
 -- framebuffers need no lease, and only the client's own are listed (rising: own)
 abbrev pub own_framebuffers : Rows → ℕ → List ℕ
-own_framebuffers w c = rising (map (λ (row : FramebufferRow). row.framebuffer) (filter (λ (row : FramebufferRow). row.client == c) w.framebuffers))
+own_framebuffers w c =
+    rising
+    (map (λ (row : FramebufferRow). row.framebuffer) (filter (λ (row : FramebufferRow). row.client == c) w.framebuffers))
 
 -- the possible CRTCs of a plane or an encoder, as a mask over those that the client sees (for planes own)
 abbrev pub visible_mask : Rows → ℕ → ℕ → ℕ

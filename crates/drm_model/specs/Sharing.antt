@@ -77,7 +77,10 @@ new_token w = unwrap_or (next_token w) 0
 
 -- the handles, of which the client's has this export order, unless it has one already
 unfoldable pub with_export_order : ℕ → ℕ → ℕ → List HandleRow → List HandleRow
-with_export_order c handle export_order holds = map (λ (row : HandleRow). if is_handle c handle row then record row { export_order = Some (unwrap_or row.export_order export_order) } else row) holds
+with_export_order c handle export_order holds =
+    map
+    (λ (row : HandleRow). if is_handle c handle row then record row { export_order = Some (unwrap_or row.export_order export_order) } else row)
+    holds
 
 -- PRIME_HANDLE_TO_FD: a new token, and an export order for the handle
 abbrev pub prime_export : Rows → ℕ → ℕ → Meaning
@@ -105,11 +108,14 @@ export_orders_of w c o = filter_map (λ (row : HandleRow). row.export_order) (fi
 
 -- the client's handles of the object that have this export order
 abbrev pub handles_at : Rows → ℕ → ℕ → ℕ → List ℕ
-handles_at w c o export_order = map (λ (row : HandleRow). row.handle) (filter (λ row. is_option export_order row.export_order) (filter (is_handle_of c o) w.holds))
+handles_at w c o export_order =
+    map (λ (row : HandleRow). row.handle)
+    (filter (λ row. is_option export_order row.export_order) (filter (is_handle_of c o) w.holds))
 
 -- the client's handle of the object with the least export order, at a tie the least handle
 unfoldable pub prime_handle : Rows → ℕ → ℕ → Option ℕ
-prime_handle w c o = option_and_then (λ export_order. least_of (handles_at w c o export_order)) (least_of (export_orders_of w c o))
+prime_handle w c o =
+    option_and_then (λ export_order. least_of (handles_at w c o export_order)) (least_of (export_orders_of w c o))
 
 -- the handles, with one of the client for the object if it had none with an export order
 abbrev pub imported : Rows → ℕ → ℕ → Option ℕ → List HandleRow
@@ -127,7 +133,9 @@ object_exported w token = unwrap_or (exported_object w token) 0
 -- PRIME_FD_TO_HANDLE: the client's handle of the object with the least export order, or else a fresh one
 abbrev pub prime_import : Rows → ℕ → ℕ → Meaning
 prime_import w c token = record {
-  checks = check NoToken (is_some (exported_object w token)) ∷ check Full (is_some (import_handle w c (object_exported w token))) ∷ [];
+  checks =
+      check NoToken (is_some (exported_object w token)) ∷ check Full
+      (is_some (import_handle w c (object_exported w token))) ∷ [];
   rows = record w { holds = imported w c (object_exported w token) (prime_handle w c (object_exported w token)) };
   answer = Buffer (unwrap_or (import_handle w c (object_exported w token)) 0) (size_of w (object_exported w token));
 }

@@ -7,7 +7,8 @@ use Rattle.drm_model.specs.Rows.{Rows, ClientRow, MasterRow, ObjectRow, GrantRow
 
 -- the rows are in the order of the steps that made them, a step made one at most, and the last step is this one
 abbrev pub MadeInTurn : {X : Type 0} → (X → ℕ) → ℕ → List X → Type 0
-MadeInTurn step_number_of last rows = InOrder (λ x y. step_number_of x < step_number_of y) rows × AllByRecursion (λ x. step_number_of x ≤ last) rows
+MadeInTurn step_number_of last rows =
+    InOrder (λ x y. step_number_of x < step_number_of y) rows × AllByRecursion (λ x. step_number_of x ≤ last) rows
 
 -- no two clients, masters or objects have the same number, and none is of a step to come
 abbrev pub StepNumbersRise : ℕ → Rows → Type 0

@@ -9,14 +9,17 @@ use Rattle.drm_modes.specs.Numbers.{numbers_from}
 none_between : (first x : ℕ) → false ≡ (nat_le first x && nat_lt x (first + 0))
 none_between first x = grind (arith, nat_tests)
 
-one_more_between : (first count x : ℕ) → ((first == x) || (nat_le (first + 1) x && nat_lt x (first + 1 + count))) ≡ (nat_le first x && nat_lt x (first + suc count))
+one_more_between : (first count x : ℕ)
+    → ((first == x) || (nat_le (first + 1) x && nat_lt x (first + 1 + count))) ≡ (nat_le first x && nat_lt x (first + suc count))
 one_more_between first count x = grind (arith, nat_tests)
 
 -- A number is in a run if and only if it is within the run's bounds.
-pub is_among-numbers_from : (first count x : ℕ) → is_among (numbers_from first count) x ≡ (nat_le first x && nat_lt x (first + count))
+pub is_among-numbers_from : (first count x : ℕ)
+    → is_among (numbers_from first count) x ≡ (nat_le first x && nat_lt x (first + count))
 unfolding numbers_from
 is_among-numbers_from first zero x = none_between first x
-is_among-numbers_from first (suc count) x = ap (λ b. (first == x) || b) (is_among-numbers_from (first + 1) count x) ∙ one_more_between first count x
+is_among-numbers_from first (suc count) x =
+    ap (λ b. (first == x) || b) (is_among-numbers_from (first + 1) count x) ∙ one_more_between first count x
 
 -- All of a list are in a run of numbers if and only if each is within its bounds.
 pub list_all-numbers_from : (first count : ℕ) → (xs : List ℕ) →

@@ -1,6 +1,6 @@
 pub mod Ids
 pub mod Fixed
-pub mod Listed
+pub mod ListsSoFar
 mod PlanesAre
 mod Masks
 mod Mapped

@@ -9,7 +9,8 @@ use Rattle.drm_modes.specs.PlaneKinds.{fits, stands_once, are_kinds}
 use Rattle.drm_modes.specs.Topology.{are_objects, is_topology}
 use Rattle.drm_modes.specs.Topologies.{topology_of, topology_with}
 
-overlays_fit : (crtcs : ℕ) (planes : List ℕ) → list_all (fits crtcs) (zip (replicate (length planes) Overlay) planes) ≡ true
+overlays_fit : (crtcs : ℕ) (planes : List ℕ)
+    → list_all (fits crtcs) (zip (replicate (length planes) Overlay) planes) ≡ true
 overlays_fit crtcs [] = refl
 overlays_fit crtcs (mask ∷ masks) = overlays_fit crtcs masks
 
@@ -22,15 +23,21 @@ pub overlays_are : (crtcs : ℕ) (planes : List ℕ) → are_kinds crtcs (replic
 unfolding are_kinds
 overlays_are crtcs planes =
     let kinds = replicate (length planes) Overlay in
-    and_from _ _ (and_from (length kinds == length planes) (list_all (fits crtcs) (zip kinds planes)) (eq-eqb _ _ (length-replicate (length planes) Overlay)) (overlays_fit crtcs planes)) (overlays_stand kinds (length planes))
+    and_from _ _
+    (and_from (length kinds == length planes) (list_all (fits crtcs) (zip kinds planes)) (eq-eqb _ _ (length-replicate (length planes) Overlay)) (overlays_fit crtcs planes))
+    (overlays_stand kinds (length planes))
 
 -- If the objects and the kinds of planes pass their tests, the topology passes its test.
-pub topology_made : (crtcs : ℕ) (planes : List ℕ) (kinds : List PlaneKind) (encoders connectors : List ℕ) → are_objects (topology_of crtcs planes encoders connectors) ≡ true → are_kinds crtcs kinds planes ≡ true → is_topology (topology_with crtcs planes kinds encoders connectors) ≡ true
+pub topology_made : (crtcs : ℕ) (planes : List ℕ) (kinds : List PlaneKind) (encoders connectors : List ℕ)
+    → are_objects (topology_of crtcs planes encoders connectors) ≡ true → are_kinds crtcs kinds planes ≡ true
+    → is_topology (topology_with crtcs planes kinds encoders connectors) ≡ true
 unfolding are_objects
 topology_made crtcs planes kinds encoders connectors objects are = and_from _ _ objects are
 
 -- If a topology with kinds of planes passes the test, its lists of objects pass theirs.
-pub objects_named : (crtcs : ℕ) (planes : List ℕ) (kinds : List PlaneKind) (encoders connectors : List ℕ) → is_topology (topology_with crtcs planes kinds encoders connectors) ≡ true → are_objects (topology_of crtcs planes encoders connectors) ≡ true
+pub objects_named : (crtcs : ℕ) (planes : List ℕ) (kinds : List PlaneKind) (encoders connectors : List ℕ)
+    → is_topology (topology_with crtcs planes kinds encoders connectors) ≡ true
+    → are_objects (topology_of crtcs planes encoders connectors) ≡ true
 unfolding are_objects
 objects_named crtcs planes kinds encoders connectors is = first_of _ _ is
   where

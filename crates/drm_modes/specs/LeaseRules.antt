@@ -39,7 +39,8 @@ stands_once ids x = count ids x == 1
 
 -- a CRTC and a connector at least, and with universal planes on a plane
 abbrev pub is_lease : Topology → Bool → List ℕ → Bool
-is_lease t universal ids = list_any (is_crtc t) ids && list_any (is_connector t) ids && (not universal || list_any (is_plane t) ids)
+is_lease t universal ids =
+    list_any (is_crtc t) ids && list_any (is_connector t) ids && (not universal || list_any (is_plane t) ids)
 
 -- the added planes: with universal planes off, of each listed CRTC the primary and the cursor plane that is controlled
 abbrev pub brought_along : Topology → Bool → (ℕ → Bool) → List ℕ → List ℕ

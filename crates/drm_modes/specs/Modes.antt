@@ -30,7 +30,9 @@ first_framebuffer t = object_count t + 1
 
 -- no framebuffer, of this many that there may be; all is dark
 abbrev pub empty_modes : Topology → ℕ → ModeSet
-empty_modes t framebuffers = record { topology = t; framebuffers = []; scanouts = replicate (scanout_count t) 0; last = object_count t + framebuffers }
+empty_modes t framebuffers =
+    record
+    { topology = t; framebuffers = []; scanouts = replicate (scanout_count t) 0; last = object_count t + framebuffers }
 
 -- whether the row has the id
 abbrev pub is_framebuffer : ℕ → Framebuffer → Bool
@@ -82,7 +84,9 @@ dark_of f scanout = if scanout == f then 0 else scanout
 
 -- what shows it becomes dark
 abbrev pub without_framebuffer : ModeSet → ℕ → ModeSet
-without_framebuffer set f = record set { framebuffers = filter (λ row. not (is_framebuffer f row)) set.framebuffers; scanouts = map (dark_of f) set.scanouts }
+without_framebuffer set f =
+    record set
+    { framebuffers = filter (λ row. not (is_framebuffer f row)) set.framebuffers; scanouts = map (dark_of f) set.scanouts }
 
 -- what can be shown: a framebuffer, and 0 for none
 abbrev pub can_show : ModeSet → ℕ → Bool

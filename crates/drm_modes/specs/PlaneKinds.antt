@@ -35,4 +35,5 @@ fits crtcs pair = option_map_or (is_possible crtcs pair.1) (crtc_of_kind pair.0)
 
 -- what each plane is for: it fits the plane, and no CRTC has two primary or two cursor planes
 unfoldable pub are_kinds : ℕ → List PlaneKind → List ℕ → Bool
-are_kinds crtcs kinds planes = (length kinds == length planes) && list_all (fits crtcs) (zip kinds planes) && list_all (stands_once kinds) kinds
+are_kinds crtcs kinds planes =
+    (length kinds == length planes) && list_all (fits crtcs) (zip kinds planes) && list_all (stands_once kinds) kinds

@@ -19,7 +19,8 @@ abbrev pub framebuffers_in : map.FinMap nat_cmp Fb → List Framebuffer
 framebuffers_in slots = list_map framebuffer_row (map.entries slots)
 
 abbrev pub mode_set : Topology → Table Fb → List ℕ → ModeSet
-mode_set t table scanouts = record { topology = t; framebuffers = framebuffers_in table.slots; scanouts = scanouts; last = table.last }
+mode_set t table scanouts =
+    record { topology = t; framebuffers = framebuffers_in table.slots; scanouts = scanouts; last = table.last }
 
 -- dark, or a framebuffer that exists
 abbrev pub is_scanout : map.FinMap nat_cmp Fb → ℕ → Bool

@@ -6,8 +6,10 @@ use Rattle.drm_modes.specs.Topology.{Topology}
 
 -- the topology with these parts
 abbrev pub topology_with : ℕ → List ℕ → List PlaneKind → List ℕ → List ℕ → Topology
-topology_with crtcs planes kinds encoders connectors = record { crtcs = crtcs; planes = planes; kinds = kinds; encoders = encoders; connectors = connectors }
+topology_with crtcs planes kinds encoders connectors =
+    record { crtcs = crtcs; planes = planes; kinds = kinds; encoders = encoders; connectors = connectors }
 
 -- all planes are overlay planes
 abbrev pub topology_of : ℕ → List ℕ → List ℕ → List ℕ → Topology
-topology_of crtcs planes encoders connectors = topology_with crtcs planes (replicate (length planes) Overlay) encoders connectors
+topology_of crtcs planes encoders connectors =
+    topology_with crtcs planes (replicate (length planes) Overlay) encoders connectors

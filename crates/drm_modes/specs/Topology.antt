@@ -65,7 +65,9 @@ is_connector t x = is_among (connector_ids t) x
 
 -- what a mode object is, if it is one
 abbrev pub kind_of : Topology → ℕ → Option Kind
-kind_of t x = if is_crtc t x then Some Crtc else if is_plane t x then Some Plane else if is_encoder t x then Some Encoder else if is_connector t x then Some Connector else None
+kind_of t x =
+    if is_crtc t x then Some Crtc else if is_plane t x then Some Plane else if is_encoder t x then Some Encoder else if
+    is_connector t x then Some Connector else None
 
 -- whether an id is that of an object of the kind
 abbrev pub is_of_kind : Topology → Kind → ℕ → Bool
@@ -148,7 +150,8 @@ reaches t connector crtc = option_map_or (λ encoder. drives t encoder crtc) (en
 
 -- a framebuffer with a connector that the CRTC reaches, or neither, where 0 is none
 abbrev pub is_route : Topology → ℕ → ℕ → ℕ → Bool
-is_route t crtc framebuffer connector = if connector == 0 then framebuffer == 0 else not (framebuffer == 0) && reaches t connector crtc
+is_route t crtc framebuffer connector =
+    if connector == 0 then framebuffer == 0 else not (framebuffer == 0) && reaches t connector crtc
 
 -- whether the plane can be shown on the CRTC, or shows no framebuffer
 abbrev pub is_plane_route : Topology → ℕ → ℕ → ℕ → Bool

@@ -93,8 +93,12 @@ pub record IsNamed (history : List AnsweredEvent) (name buffer c step : ℕ) : T
 abbrev pub PublishedHolds : List AnsweredEvent → PublishedFact → Type 0
 PublishedHolds history (published.Never key) = last_sharing history (key_of key) ≡ None
 PublishedHolds history (published.Named name buffer c step last) = IsNamed history name buffer c step
-PublishedHolds history (published.Published key c step) = (publisher (last_sharing history (key_of key)) ≡ Some (c, step)) × (first_step_after step (withdraws (key_of key) c) history ≡ None)
-PublishedHolds history (published.Withdrawn key c step by) = (publisher (last_sharing history (key_of key)) ≡ Some (c, step)) × (first_step_after step (withdraws (key_of key) c) history ≡ Some by.step)
+PublishedHolds history (published.Published key c step) =
+    (publisher (last_sharing history (key_of key)) ≡ Some (c, step)) ×
+    (first_step_after step (withdraws (key_of key) c) history ≡ None)
+PublishedHolds history (published.Withdrawn key c step by) =
+    (publisher (last_sharing history (key_of key)) ≡ Some (c, step)) ×
+    (first_step_after step (withdraws (key_of key) c) history ≡ Some by.step)
 
 -- ---- magics
 
@@ -104,8 +108,10 @@ spending a = (a.magic, a.by, a.step)
 
 -- a fact of a magic
 abbrev pub MagicHolds : List AnsweredEvent → MagicFact → Type 0
-MagicHolds history (magics.OfClosed master magic c step) = (magic_in history master magic ≡ Some c) × (closed_step history c ≡ Some step)
-MagicHolds history (magics.Spent magic c by step) = option_map spending (authentication_of (authentications_in history) c) ≡ Some (magic, by, step)
+MagicHolds history (magics.OfClosed master magic c step) =
+    (magic_in history master magic ≡ Some c) × (closed_step history c ≡ Some step)
+MagicHolds history (magics.Spent magic c by step) =
+    option_map spending (authentication_of (authentications_in history) c) ≡ Some (magic, by, step)
 MagicHolds history (magics.Lost master magic c) = magic_in history master magic ≡ Some c
 MagicHolds history (magics.Unknown master magic) = magic_in history master magic ≡ None
 
@@ -120,7 +126,8 @@ abbrev pub LeaseHolds : Topology → List AnsweredEvent → LeaseFact → Type 0
 LeaseHolds t history (leases.LacksPlane c) = is_universal_in history c ≡ true
 LeaseHolds t history (leases.LeasedOut id lease) = granted t history lease.master id ≡ true
 LeaseHolds t history (leases.NoLessee c lessee) = lease_meant history c lessee ≡ None
-LeaseHolds t history (leases.OtherLessor c lessee lessor master) = (lessor_meant history c lessee ≡ Some lessor) × (master_in history c ≡ Some master)
+LeaseHolds t history (leases.OtherLessor c lessee lessor master) =
+    (lessor_meant history c lessee ≡ Some lessor) × (master_in history c ≡ Some master)
 LeaseHolds t history (leases.TokenUsed token) = is_some (lease_of_token (leases_in history) token) ≡ true
 LeaseHolds t history (leases.TokenUnknown token) = lease_of_token (leases_in history) token ≡ None
 
@@ -132,7 +139,8 @@ ModeObjectHolds t history (objects.Nothing id count) = (kind_of t id ≡ None) �
 ModeObjectHolds t history (objects.OfKind id kind wanted) = kind_of t id ≡ Some kind
 ModeObjectHolds t history (objects.Encoder id) = kind_of t id ≡ Some Encoder
 ModeObjectHolds t history (objects.NotControlled c id kind) = controls_in t history c id ≡ false
-ModeObjectHolds t history (objects.Hidden c plane crtc) = (crtc_of_plane t plane ≡ Some crtc) × (is_universal_in history c ≡ false)
+ModeObjectHolds t history (objects.Hidden c plane crtc) =
+    (crtc_of_plane t plane ≡ Some crtc) × (is_universal_in history c ≡ false)
 ModeObjectHolds t history (objects.EncoderOf crtc connector encoder) = encoder_of t connector ≡ Some encoder
 
 -- ---- numbers

@@ -8,4 +8,5 @@ use Rattle.drm_rights.specs.declared.notes.Lease.{Lease}
 
 -- the last lease with the id under the owner of the client's master
 abbrev pub lease_meant : List AnsweredEvent → ℕ → ℕ → Option Lease
-lease_meant history c id = option_and_then (λ m. lease_of_id (leases_in history) (top_in history m) id) (master_in history c)
+lease_meant history c id =
+    option_and_then (λ m. lease_of_id (leases_in history) (top_in history m) id) (master_in history c)

@@ -52,7 +52,8 @@ not_set number c lessee =
     of false = refl
 
 -- who opens by a token redeems its lessee, which is older
-redeems : (number lessee : ℕ) (lease : Option ℕ) → ((m : ℕ) → lease ≡ Some m → (number == m) ≡ false) → is_redemption lessee (noted number number true lease) ≡ is_option lessee lease
+redeems : (number lessee : ℕ) (lease : Option ℕ) → ((m : ℕ) → lease ≡ Some m → (number == m) ≡ false)
+    → is_redemption lessee (noted number number true lease) ≡ is_option lessee lease
 redeems number lessee None older = and-false (number == number)
 redeems number lessee (Some m) older =
     ap (λ b. b && ((m == lessee) && not (number == lessee))) (eq-eqb number number refl)
@@ -62,26 +63,37 @@ redeems number lessee (Some m) older =
     ]) refl
 
 newest : (past : List AnsweredEvent) (lessee : ℕ) (d : told.Effect) (s : standings.MasterState) →
-    client_of (find (is_redemption lessee) (option_to_list (new_master_state d (next_number past) (lease_in past) s))) ≡ redeemed_by d past lessee
-newest past lessee (told.OpensPrimary root capabilities) s = no_client (opened (next_number past) s.owner) _ (not_opened (next_number past) lessee s.owner)
-newest past lessee told.OpensRender s = no_client (noted (next_number past) (next_number past) false None) _ (not_joined (next_number past) (next_number past) lessee None)
+    client_of (find (is_redemption lessee) (option_to_list (new_master_state d (next_number past) (lease_in past) s))) ≡
+    redeemed_by d past lessee
+newest past lessee (told.OpensPrimary root capabilities) s =
+    no_client (opened (next_number past) s.owner) _ (not_opened (next_number past) lessee s.owner)
+newest past lessee told.OpensRender s =
+    no_client (noted (next_number past) (next_number past) false None) _
+    (not_joined (next_number past) (next_number past) lessee None)
 newest past lessee (told.Redeems token root capabilities) s =
-    let older = λ (m : ℕ) (e : lease_in past token ≡ Some m). flipped m (next_number past) (less-differ m (next_number past) (let old = lease_up past token m e in omega (arith, old))) in
-    ap (λ b. client_of (cond b (Some (noted (next_number past) (next_number past) true (lease_in past token))) None)) (redeems (next_number past) lessee (lease_in past token) older)
+    let older =
+    λ (m : ℕ) (e : lease_in past token ≡ Some m). flipped m (next_number past)
+    (less-differ m (next_number past) (let old = lease_up past token m e in omega (arith, old))) in
+    ap (λ b. client_of (cond b (Some (noted (next_number past) (next_number past) true (lease_in past token))) None))
+    (redeems (next_number past) lessee (lease_in past token) older)
     ∙ of (is_option lessee (lease_in past token))
   where
-    of : (b : Bool) → client_of (cond b (Some (noted (next_number past) (next_number past) true (lease_in past token))) None) ≡ cond b (Some (next_number past)) None
+    of : (b : Bool)
+        → client_of (cond b (Some (noted (next_number past) (next_number past) true (lease_in past token))) None) ≡ cond b (Some (next_number past)) None
     of true = refl
     of false = refl
 newest past lessee (told.SetsMaster c) s = of (s.is_master c)
   where
-    of : (b : Bool) → client_of (find (is_redemption lessee) (option_to_list (cond b None (Some (noted (next_number past) c true (Some (next_number past))))))) ≡ None
+    of : (b : Bool)
+        → client_of (find (is_redemption lessee) (option_to_list (cond b None (Some (noted (next_number past) c true (Some (next_number past))))))) ≡ None
     of true = refl
-    of false = no_client (noted (next_number past) c true (Some (next_number past))) _ (not_set (next_number past) c lessee)
+    of false =
+        no_client (noted (next_number past) c true (Some (next_number past))) _ (not_set (next_number past) c lessee)
 newest past lessee _ s = refl
 
 -- The client that the notes say redeemed a lease is the one that the history says.
-pub lease_client_told : (history : List AnsweredEvent) (lessee : ℕ) → client_of (find (is_redemption lessee) (standings_in history)) ≡ lease_client_in history lessee
+pub lease_client_told : (history : List AnsweredEvent) (lessee : ℕ)
+    → client_of (find (is_redemption lessee) (standings_in history)) ≡ lease_client_in history lessee
 unfolding standings_in lease_client_in
 lease_client_told [] lessee = refl
 lease_client_told (step ∷ past) lessee =

@@ -58,7 +58,8 @@ is_ended_by notes m e = nat_lt m e.step && is_under (lessor_noted notes) e.maste
 -- the lease that a step creates
 abbrev pub new_lease : told.Effect → List AnsweredEvent → Option Lease
 new_lease (told.Leases c ids lessee token) past =
-    Some (record { master = next_number past; client = c; lessor = master_in past c; owner = top_in past (caller_master_in past c); id = lessee; token = token; universal = is_universal_in past c })
+    Some
+    (record { master = next_number past; client = c; lessor = master_in past c; owner = top_in past (caller_master_in past c); id = lessee; token = token; universal = is_universal_in past c })
 new_lease _ past = None
 
 -- all leases, the oldest first
@@ -95,7 +96,8 @@ listed_in (step ∷ past) m = if m == next_number past then listed_by (effect st
 -- whether the step of this number lent the mode object
 unfoldable pub lent_in : Topology → List AnsweredEvent → ℕ → ℕ → Bool
 lent_in t [] m x = false
-lent_in t (step ∷ past) m x = if m == next_number past then is_lent t (effect step) past x (λ n. granted t past n x) else lent_in t past m x
+lent_in t (step ∷ past) m x =
+    if m == next_number past then is_lent t (effect step) past x (λ n. granted t past n x) else lent_in t past m x
 
 -- whether a step before this one ended the master
 abbrev pub is_ended_before : List AnsweredEvent → ℕ → ℕ → Bool
@@ -104,7 +106,8 @@ is_ended_before history m step = option_map_or (λ ended. nat_lt ended step) (en
 -- whether the lessor of a lease, created by the step of this number, had the mode object to lend
 abbrev pub had_to_lend : Topology → List AnsweredEvent → ℕ → ℕ → Option ℕ → Bool
 had_to_lend t history step x None = false
-had_to_lend t history step x (Some m) = not (is_some (lessor_in history m)) || (lent_in t history m x && not (is_ended_before history m step))
+had_to_lend t history step x (Some m) =
+    not (is_some (lessor_in history m)) || (lent_in t history m x && not (is_ended_before history m step))
 
 -- whether a lease of these also has the mode object, with universal planes on or off
 abbrev pub comes_along : Topology → Bool → List ℕ → ℕ → Bool
@@ -113,4 +116,6 @@ comes_along t universal ids x = not universal && is_plane_of t ids x
 -- what a lease lends, by its entry
 abbrev pub lent_by : Topology → List AnsweredEvent → ℕ → ℕ → Option Lease → Bool
 lent_by t history m x None = false
-lent_by t history m x (Some l) = is_among (listed_in history m) x || (comes_along t l.universal (listed_in history m) x && had_to_lend t history m x l.lessor)
+lent_by t history m x (Some l) =
+    is_among (listed_in history m) x ||
+    (comes_along t l.universal (listed_in history m) x && had_to_lend t history m x l.lessor)

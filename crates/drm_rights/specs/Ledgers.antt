@@ -71,12 +71,14 @@ abbrev pub new_master_state : told.Effect → ℕ → (ℕ → Option ℕ) → s
 new_master_state (told.OpensPrimary root capabilities) number lease s = Some (opened number s.owner)
 new_master_state told.OpensRender number lease s = Some (noted number number false None)
 new_master_state (told.Redeems token root capabilities) number lease s = Some (noted number number true (lease token))
-new_master_state (told.SetsMaster c) number lease s = if s.is_master c then None else Some (noted number c true (Some number))
+new_master_state (told.SetsMaster c) number lease s =
+    if s.is_master c then None else Some (noted number c true (Some number))
 new_master_state _ number lease s = None
 
 -- the entry of a step that answers a magic
 abbrev pub new_magic : told.Effect → ℕ → (ℕ → ℕ) → Option Magic
-new_magic (told.GetsMagic c answered) number own = Some (record { step = number; master = own c; number = answered; client = c })
+new_magic (told.GetsMagic c answered) number own =
+    Some (record { step = number; master = own c; number = answered; client = c })
 new_magic _ number own = None
 
 -- the entry of an AUTH_MAGIC, if a client has the magic
@@ -86,7 +88,8 @@ authenticated_by number caller magic (Some c) = Some (record { step = number; cl
 
 -- the entry of a step that authenticates a client
 abbrev pub new_authentication : told.Effect → ℕ → (ℕ → ℕ) → (ℕ → ℕ → Option ℕ) → Option Authentication
-new_authentication (told.Authenticates caller magic) number own client = authenticated_by number caller magic (client (own caller) magic)
+new_authentication (told.Authenticates caller magic) number own client =
+    authenticated_by number caller magic (client (own caller) magic)
 new_authentication _ number own client = None
 
 -- the client that a step opens as root
@@ -103,8 +106,10 @@ capable number c universal = record { step = number; client = c; universal = uni
 abbrev pub new_capability : told.Effect → ℕ → Option Capability
 new_capability (told.OpensPrimary root capabilities) number = Some (capable number number capabilities.universal_planes)
 new_capability told.OpensRender number = Some (capable number number true)
-new_capability (told.Redeems token root capabilities) number = Some (capable number number capabilities.universal_planes)
-new_capability (told.SetsCapability c cap on) number = if cap == cap_universal_planes then Some (capable number c on) else None
+new_capability (told.Redeems token root capabilities) number =
+    Some (capable number number capabilities.universal_planes)
+new_capability (told.SetsCapability c cap on) number =
+    if cap == cap_universal_planes then Some (capable number c on) else None
 new_capability _ number = None
 
 -- ---- the entries of a history, the oldest first
@@ -112,12 +117,16 @@ new_capability _ number = None
 -- the master states
 unfoldable pub standings_in : List AnsweredEvent → List MasterState
 standings_in [] = []
-standings_in (step ∷ past) = standings_in past ++ option_to_list (new_master_state (effect step) (next_number past) (lease_in past) (standings.master_state past))
+standings_in (step ∷ past) =
+    standings_in past ++ option_to_list
+    (new_master_state (effect step) (next_number past) (lease_in past) (standings.master_state past))
 
 -- the authentications
 unfoldable pub authentications_in : List AnsweredEvent → List Authentication
 authentications_in [] = []
-authentications_in (step ∷ past) = authentications_in past ++ option_to_list (new_authentication (effect step) (next_number past) (caller_master_in past) (magic_in past))
+authentications_in (step ∷ past) =
+    authentications_in past ++ option_to_list
+    (new_authentication (effect step) (next_number past) (caller_master_in past) (magic_in past))
 
 -- the capabilities
 unfoldable pub capabilities_in : List AnsweredEvent → List Capability
@@ -137,15 +146,18 @@ is_same_master _ _ = false
 -- the step since which the device's master has been the same; 0 if it never changed
 unfoldable pub owner_since_in : List AnsweredEvent → ℕ
 owner_since_in [] = 0
-owner_since_in (step ∷ past) = if is_same_master (owner_in past) (owner_in (step ∷ past)) then owner_since_in past else next_number past
+owner_since_in (step ∷ past) =
+    if is_same_master (owner_in past) (owner_in (step ∷ past)) then owner_since_in past else next_number past
 
 -- whether a master state is that of a client opened by the token of this lessee
 abbrev pub is_redemption : ℕ → MasterState → Bool
-is_redemption lessee s = (s.step == s.client) && (s.is_master && (is_option lessee s.master && not (s.client == lessee)))
+is_redemption lessee s =
+    (s.step == s.client) && (s.is_master && (is_option lessee s.master && not (s.client == lessee)))
 
 -- the client that a step opens by the token of a lessee
 abbrev pub redeemed_by : told.Effect → List AnsweredEvent → ℕ → Option ℕ
-redeemed_by (told.Redeems token root capabilities) past lessee = if is_option lessee (lease_in past token) then Some (next_number past) else None
+redeemed_by (told.Redeems token root capabilities) past lessee =
+    if is_option lessee (lease_in past token) then Some (next_number past) else None
 redeemed_by _ past lessee = None
 
 -- the client that redeemed the lease of a lessee, named by the step that opened it
@@ -171,7 +183,9 @@ pub record IsLedger (history : List AnsweredEvent) (owner : Option ℕ) (owner_s
 
 -- whether the client is current: it is a master, whose owner is the device's master
 abbrev pub is_current_in : List AnsweredEvent → ℕ → Bool
-is_current_in history c = is_master_in history c && option_map_or (λ m. is_option (top_in history m) (owner_in history)) (master_in history c) false
+is_current_in history c =
+    is_master_in history c && option_map_or (λ m. is_option (top_in history m) (owner_in history)) (master_in history c)
+    false
 
 -- whether the client's master controls a mode object: a master without a lessor controls all, a lessee what its lease
 -- has

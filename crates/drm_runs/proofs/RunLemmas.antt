@@ -26,10 +26,13 @@ use Rattle.drm_runs.proofs.LineStepLemmas.{covers_lines}
 -- The text of two lists of results is the text of each, one after the other.
 pub script_text-append : (xs ys : Results) → script_text (xs ++ ys) ≡ script_text xs ++ script_text ys
 script_text-append [] ys = refl
-script_text-append (x ∷ xs) ys = ap (λ z. answer_line x ++ z) (script_text-append xs ys) ∙ sym (append_assoc (answer_line x) (script_text xs) (script_text ys))
+script_text-append (x ∷ xs) ys =
+    ap (λ z. answer_line x ++ z) (script_text-append xs ys)
+    ∙ sym (append_assoc (answer_line x) (script_text xs) (script_text ys))
 
 -- Before the device is made a script has no result.
-pub unmade : {setting : Setting} {lines : List (List ℕ)} {results : Results} {device : Place} {labels : List ℕ} → Script setting lines results device labels → IsNowhere device
+pub unmade : {setting : Setting} {lines : List (List ℕ)} {results : Results} {device : Place} {labels : List ℕ}
+    → Script setting lines results device labels → IsNowhere device
     → (results ≡ []) × (device ≡ Planned setting)
 unmade start e = (refl, refl)
 unmade (line s b (skipped h)) e = let u = unmade s e in (ap (λ r. r ++ []) u.0, u.1)
@@ -39,7 +42,9 @@ unmade (line s b (asked w h i t)) e = absurd e
 module _ {setting : Setting} {s0 s : SourceTrace} {k0 k : SinkTrace} {read : List ℕ} {lines : List (List ℕ)} {results : Results} (turns has : ℕ) (old : InterpreterState)
     (given : IsGiven s0 s read) (took : Took k0 k (script_text results)) (cost : s.counts.calls + k.counts.calls + has ≡ s0.counts.calls + k0.counts.calls + turns)
     (script : Script setting lines results old.device old.labels) where
-  ran : (device : Place) (labels : List ℕ) (end : ScriptEnd) → Ends setting end s0 s k0 k turns read (script_text results) device labels → RunsOn setting s0 s k0 k turns end device labels
+  ran : (device : Place) (labels : List ℕ) (end : ScriptEnd)
+      → Ends setting end s0 s k0 k turns read (script_text results) device labels
+      → RunsOn setting s0 s k0 k turns end device labels
   ran device labels end h = record {
     read = read;
     written = script_text results;
@@ -50,12 +55,18 @@ module _ {setting : Setting} {s0 s : SourceTrace} {k0 k : SinkTrace} {read : Lis
     ends = h;
   }
 
-  cut_short : (rest : List ℕ) → read ≡ joined lines ++ rest → IsPart rest → IsCutShort setting read (script_text results) old.device old.labels
-  cut_short rest whole part = record { lines = lines; results = results; rest = rest; script = script; whole = whole; bare = part.0; short = part.1; text = refl }
+  cut_short : (rest : List ℕ) → read ≡ joined lines ++ rest → IsPart rest
+      → IsCutShort setting read (script_text results) old.device old.labels
+  cut_short rest whole part =
+      record
+      { lines = lines; results = results; rest = rest; script = script; whole = whole; bare = part.0; short = part.1; text = refl }
 
   -- A run without a further line ends with its device and labels so far.
-  pub run_ends : (end : ScriptEnd) → IsEndOfLines end s0 s has read lines → RunsOn setting s0 s k0 k turns end old.device old.labels
-  run_ends ends.Done h = ran old.device old.labels ends.Done (record { lines = lines; results = results; script = script; covers = h.0; text = refl }, h.1)
+  pub run_ends : (end : ScriptEnd) → IsEndOfLines end s0 s has read lines
+      → RunsOn setting s0 s k0 k turns end old.device old.labels
+  run_ends ends.Done h =
+      ran old.device old.labels ends.Done
+      (record { lines = lines; results = results; script = script; covers = h.0; text = refl }, h.1)
   run_ends (ends.Malformed number) h =
       let t = h.5 in
       ran old.device old.labels (ends.Malformed number) (record {
@@ -74,13 +85,15 @@ module _ {setting : Setting} {s0 s : SourceTrace} {k0 k : SinkTrace} {read : Lis
         text = refl;
       })
   run_ends ends.ReadFault h = ran old.device old.labels ends.ReadFault (cut_short h.0 h.1 h.2, h.3)
-  run_ends ends.TurnsUsed h = ran old.device old.labels ends.TurnsUsed (inl (cut_short h.0 h.1 h.2), omega (arith, cost, h.3))
+  run_ends ends.TurnsUsed h =
+      ran old.device old.labels ends.TurnsUsed (inl (cut_short h.0 h.1 h.2), omega (arith, cost, h.3))
   run_ends ends.WriteFault h = absurd h
   run_ends ends.NoMemory h = absurd h
 
   -- a line is held that was not used
   module _ {state : LinesState} (h : HoldsNext s0 s state read lines) (new : InterpreterState) (k' : SinkTrace) (has' : ℕ) where
-    stopped : (result : Result Answer Apart) → Uses old.device old.labels state.held (result ∷ []) new.device new.labels → (p : PartialWriteCost k k' (answer_line result) has has')
+    stopped : (result : Result Answer Apart) → Uses old.device old.labels state.held (result ∷ []) new.device new.labels
+        → (p : PartialWriteCost k k' (answer_line result) has has')
         → IsStopped setting (s0.counts.ends < s.counts.ends) read (script_text results ++ p.front) new.device new.labels
     stopped result u p = record {
       lines = lines ++ state.held ∷ [];
@@ -89,15 +102,19 @@ module _ {setting : Setting} {s0 s : SourceTrace} {k0 k : SinkTrace} {read : Lis
       script = line script h.bare u;
       covers = covers_lines state.is_last h.so_far.are_lines;
       behind = h.short_pending;
-      cut = record { before = results; last = result; sent = p.front; unsent = p.rest; whole = refl; parts = p.parts; more = p.more; text = refl };
+      cut =
+          record
+          { before = results; last = result; sent = p.front; unsent = p.rest; whole = refl; parts = p.parts; more = p.more; text = refl };
     }
 
     -- If a line stops the run, the run ends there, with what the line left.
-    pub run_stop : (end : ScriptEnd) → UsesLine old new state k k' has has' (Some end) → RunsOn setting s0 s k0 k' turns end new.device new.labels
+    pub run_stop : (end : ScriptEnd) → UsesLine old new state k k' has has' (Some end)
+        → RunsOn setting s0 s k0 k' turns end new.device new.labels
     run_stop ends.Done u = absurd u
     run_stop ends.ReadFault u = absurd u
     run_stop (ends.Malformed number) u =
-        let P : InterpreterState → Type 0 = λ z. RunsOn setting s0 s k0 k' turns (ends.Malformed number) z.device z.labels in
+        let P : InterpreterState → Type 0 =
+        λ z. RunsOn setting s0 s k0 k' turns (ends.Malformed number) z.device z.labels in
         subst P (sym u.4)
         (subst (λ q. RunsOn setting s0 s k0 q turns (ends.Malformed number) old.device old.labels) (sym u.2)
         (ran old.device old.labels (ends.Malformed number) (record {
@@ -141,7 +158,9 @@ module _ {setting : Setting} {s0 s : SourceTrace} {k0 k : SinkTrace} {read : Lis
           lines = lines;
           next = state.held;
           rest = h.behind;
-          script = subst (λ d. Script setting lines [] d old.labels) nothing.1 (subst (λ r. Script setting lines r old.device old.labels) nothing.0 script);
+          script =
+              subst (λ d. Script setting lines [] d old.labels) nothing.1
+              (subst (λ r. Script setting lines r old.device old.labels) nothing.0 script);
           whole = h.whole;
           bare = h.bare;
           until = h.until;
@@ -152,7 +171,8 @@ module _ {setting : Setting} {s0 s : SourceTrace} {k0 k : SinkTrace} {read : Lis
         })))
 
     -- After one more line was used, each line so far was used.
-    pub so_far_used : UsesLine old new state k k' has has' None → SoFar setting s0 s k0 k' turns (record { lines = state; interpreter = new; turns = has' })
+    pub so_far_used : UsesLine old new state k k' has has' None
+        → SoFar setting s0 s k0 k' turns (record { lines = state; interpreter = new; turns = has' })
     so_far_used u = record {
       read = read;
       lines = lines ++ state.held ∷ [];

@@ -43,7 +43,8 @@ abbrev pub Interprets : InterpreterState → InterpreterState → List ℕ → L
 Interprets old new line results.Unanswered answer = Uses old.device old.labels line [] new.device new.labels
 Interprets old new line results.Answered answer = Uses old.device old.labels line (answer ∷ []) new.device new.labels
 Interprets old new line (results.Malformed malformed) answer = IsMisplaced old.device line × (new ≡ old)
-Interprets old new line results.NoMemory answer = IsNowhere old.device × WantsDevice line × IsNowhere new.device × (new.labels ≡ old.labels)
+Interprets old new line results.NoMemory answer =
+    IsNowhere old.device × WantsDevice line × IsNowhere new.device × (new.labels ≡ old.labels)
 
 -- the result of a line of limits
 abbrev pub SetsLimits : InterpreterState → InterpreterState → Limits → LineResult → Type 0
@@ -64,6 +65,7 @@ pub record Steps (old new : InterpreterState) (binds : Option ℕ) (event : Even
 
 -- the result of an event that a line makes: the step was made, and its answer is in its place, or memory for the device
 -- was refused
-abbrev pub Asks : InterpreterState → InterpreterState → Option ℕ → Event → Option (Unit {0}) → Result Answer Apart → Type 0
+abbrev pub Asks : InterpreterState → InterpreterState → Option ℕ → Event → Option (Unit {0}) → Result Answer Apart
+    → Type 0
 Asks old new binds event (Some done) answer = Steps old new binds event answer
 Asks old new binds event None answer = IsNowhere old.device × IsNowhere new.device × (new.labels ≡ old.labels)

@@ -18,7 +18,8 @@ pub record LinesState : Type 0 where
 
 -- the bytes that a reader holds, and the rest
 abbrev pub lines_state : Buffered → ℕ → Bool → LinesState
-lines_state reader number is_last = record { held = reader.held; pending = reader.pending; number = number; is_last = is_last }
+lines_state reader number is_last =
+    record { held = reader.held; pending = reader.pending; number = number; is_last = is_last }
 
 -- the state before the first line
 abbrev pub no_lines : LinesState
@@ -37,7 +38,9 @@ pub record IsGiven (source source' : SourceTrace) (read : List ℕ) : Type 0 whe
 -- no end.
 abbrev pub AreLines : (is_last : Bool) (ended : Type 0) (read : List ℕ) (lines : List (List ℕ)) (rest : List ℕ) → Type 0
 AreLines false ended read lines rest = read ≡ joined lines ++ rest
-AreLines true ended read lines rest = (front : List (List ℕ)) × (last : List ℕ) × (lines ≡ front ++ last ∷ []) × (read ≡ joined front ++ last) × (rest ≡ []) × ended
+AreLines true ended read lines rest =
+    (front : List (List ℕ)) × (last : List ℕ) × (lines ≡ front ++ last ∷ []) × (read ≡ joined front ++ last) ×
+    (rest ≡ []) × ended
 
 -- These lines were read so far.
 pub record LinesRead (source source' : SourceTrace) (state : LinesState) (read : List ℕ) (lines : List (List ℕ)) : Type 0 where
@@ -61,12 +64,17 @@ abbrev pub IsPart : List ℕ → Type 0
 IsPart rest = IsBare rest × (length rest ≤ 255)
 
 -- the reason no line follows these
-abbrev pub IsEndOfLines : ScriptEnd → SourceTrace → SourceTrace → (turns : ℕ) (read : List ℕ) (lines : List (List ℕ)) → Type 0
-IsEndOfLines ends.Done source source' turns read lines = Covers (source.counts.ends < source'.counts.ends) read lines [] × (source.counts.ends < source'.counts.ends)
+abbrev pub IsEndOfLines : ScriptEnd → SourceTrace → SourceTrace → (turns : ℕ) (read : List ℕ) (lines : List (List ℕ))
+    → Type 0
+IsEndOfLines ends.Done source source' turns read lines =
+    Covers (source.counts.ends < source'.counts.ends) read lines [] × (source.counts.ends < source'.counts.ends)
 IsEndOfLines (ends.Malformed number) source source' turns read lines =
-    (number ≡ length lines + 1) × (rest : List ℕ) × (read ≡ joined lines ++ rest) × (front : List ℕ) × (more : List ℕ) × IsTooLong rest front more
-IsEndOfLines ends.ReadFault source source' turns read lines = (rest : List ℕ) × (read ≡ joined lines ++ rest) × IsPart rest × (source.counts.faults < source'.counts.faults)
-IsEndOfLines ends.TurnsUsed source source' turns read lines = (rest : List ℕ) × (read ≡ joined lines ++ rest) × IsPart rest × (turns ≡ 0)
+    (number ≡ length lines + 1) × (rest : List ℕ) × (read ≡ joined lines ++ rest) × (front : List ℕ) × (more : List ℕ) ×
+    IsTooLong rest front more
+IsEndOfLines ends.ReadFault source source' turns read lines =
+    (rest : List ℕ) × (read ≡ joined lines ++ rest) × IsPart rest × (source.counts.faults < source'.counts.faults)
+IsEndOfLines ends.TurnsUsed source source' turns read lines =
+    (rest : List ℕ) × (read ≡ joined lines ++ rest) × IsPart rest × (turns ≡ 0)
 IsEndOfLines ends.WriteFault source source' turns read lines = ⊥
 IsEndOfLines ends.NoMemory source source' turns read lines = ⊥
 
@@ -76,7 +84,8 @@ pub record EndsLines (end : ScriptEnd) (source source' : SourceTrace) (turns : �
   pub why : IsEndOfLines end source source' turns read lines
 
 -- what was read by then, with one line more, or with none
-abbrev pub Reaches : Option ScriptEnd → SourceTrace → SourceTrace → LinesState → (turns : ℕ) (read : List ℕ) (lines : List (List ℕ)) → Type 0
+abbrev pub Reaches : Option ScriptEnd → SourceTrace → SourceTrace → LinesState
+    → (turns : ℕ) (read : List ℕ) (lines : List (List ℕ)) → Type 0
 Reaches None source source' state turns read lines = HoldsNext source source' state read lines
 Reaches (Some end) source source' state turns read lines = EndsLines end source source' turns read lines
 
@@ -85,7 +94,8 @@ pub record ReadsNext (old new : LinesState) (source source' : SourceTrace) (had 
   pub cost : source'.counts.calls + has ≡ source.counts.calls + had
   pub at_most : has ≤ had
   pub onward : end ≡ None → (new.number ≡ old.number + 1) × (fuel_of new has < fuel_of old had)
-  pub reaches : (start : SourceTrace) (read : List ℕ) (lines : List (List ℕ)) → LinesRead start source old read lines → (all : List ℕ) × Reaches end start source' new has all lines
+  pub reaches : (start : SourceTrace) (read : List ℕ) (lines : List (List ℕ)) → LinesRead start source old read lines
+      → (all : List ℕ) × Reaches end start source' new has all lines
 
 -- the text after the last line end: nothing, or a line
 abbrev pub HoldsLast : LinesState → LinesState → Option ScriptEnd → Type 0

@@ -31,7 +31,8 @@ pub record IsCountable (run : Run) (source : SourceTrace) (sink : SinkTrace) : T
 
 -- One more line was used.
 pub record GoesOn (old new : Run) (source source' : SourceTrace) (sink sink' : SinkTrace) : Type 0 where
-  pub so_far : (setting : Setting) (start : SourceTrace) (first : SinkTrace) (turns : ℕ) → SoFar setting start source first sink turns old → SoFar setting start source' first sink' turns new
+  pub so_far : (setting : Setting) (start : SourceTrace) (first : SinkTrace) (turns : ℕ)
+      → SoFar setting start source first sink turns old → SoFar setting start source' first sink' turns new
   pub number : new.lines.number ≡ old.lines.number + 1
   pub source_calls : source'.counts.calls + new.turns ≤ source.counts.calls + old.turns
   pub sink_calls : sink'.counts.calls + new.turns ≤ sink.counts.calls + old.turns
@@ -41,4 +42,6 @@ pub record GoesOn (old new : Run) (source source' : SourceTrace) (sink sink' : S
 abbrev pub Advances : Run → Run → SourceTrace → SourceTrace → SinkTrace → SinkTrace → Option ScriptEnd → Type 0
 Advances old new source source' sink sink' None = GoesOn old new source source' sink sink'
 Advances old new source source' sink sink' (Some end) =
-    (setting : Setting) (start : SourceTrace) (first : SinkTrace) (turns : ℕ) → SoFar setting start source first sink turns old → RunsOn setting start source' first sink' turns end new.interpreter.device new.interpreter.labels
+    (setting : Setting) (start : SourceTrace) (first : SinkTrace) (turns : ℕ)
+    → SoFar setting start source first sink turns old
+    → RunsOn setting start source' first sink' turns end new.interpreter.device new.interpreter.labels

@@ -18,7 +18,8 @@ Results = List (Result Answer Apart)
 -- The lines are the front of what was read. If the input has ended, the last one may have no end.
 abbrev pub Covers : Type 0 → List ℕ → List (List ℕ) → List ℕ → Type 0
 Covers ended read lines rest =
-    (read ≡ joined lines ++ rest) ⊎ ((front : List (List ℕ)) × (last : List ℕ) × (lines ≡ front ++ last ∷ []) × (read ≡ joined front ++ last) × (rest ≡ []) × ended)
+    (read ≡ joined lines ++ rest) ⊎
+    ((front : List (List ℕ)) × (last : List ℕ) × (lines ≡ front ++ last ∷ []) × (read ≡ joined front ++ last) × (rest ≡ []) × ended)
 
 -- Every line that was read was used, and the lines of all results were written.
 pub record IsDone (setting : Setting) (ended : Type 0) (read written : List ℕ) (device : Place) (labels : List ℕ) : Type 0 where
@@ -108,15 +109,18 @@ is_malformed ends.TurnsUsed = false
 is_malformed ends.NoMemory = false
 
 -- each end with its cause, and the device and the labels at it
-abbrev pub Ends : Setting → ScriptEnd → SourceTrace → SourceTrace → SinkTrace → SinkTrace → ℕ → List ℕ → List ℕ → Place → List ℕ → Type 0
+abbrev pub Ends : Setting → ScriptEnd → SourceTrace → SourceTrace → SinkTrace → SinkTrace → ℕ → List ℕ → List ℕ → Place
+    → List ℕ → Type 0
 Ends setting ends.Done source source' sink sink' turns read written device labels =
-    IsDone setting (source.counts.ends < source'.counts.ends) read written device labels × (source.counts.ends < source'.counts.ends)
+    IsDone setting (source.counts.ends < source'.counts.ends) read written device labels ×
+    (source.counts.ends < source'.counts.ends)
 Ends setting (ends.Malformed number) source source' sink sink' turns read written device labels =
     IsMalformed setting (source.counts.ends < source'.counts.ends) number read written device labels
 Ends setting ends.ReadFault source source' sink sink' turns read written device labels =
     IsCutShort setting read written device labels × (source.counts.faults < source'.counts.faults)
 Ends setting ends.WriteFault source source' sink sink' turns read written device labels =
-    IsStopped setting (source.counts.ends < source'.counts.ends) read written device labels × (sink.counts.faults < sink'.counts.faults)
+    IsStopped setting (source.counts.ends < source'.counts.ends) read written device labels ×
+    (sink.counts.faults < sink'.counts.faults)
 Ends setting ends.TurnsUsed source source' sink sink' turns read written device labels =
     (IsCutShort setting read written device labels ⊎ IsStopped setting (source.counts.ends < source'.counts.ends) read written device labels)
     × (source'.counts.calls + sink'.counts.calls ≡ source.counts.calls + sink.counts.calls + turns)
@@ -136,4 +140,5 @@ pub record RunsOn (setting : Setting) (source source' : SourceTrace) (sink sink'
 
 -- a run on a device of the test topology, with the program's limits by default
 abbrev pub Runs : SourceTrace → SourceTrace → SinkTrace → SinkTrace → ℕ → ScriptEnd → Type 0
-Runs source source' sink sink' turns end = (device : Place) × (labels : List ℕ) × RunsOn usual source source' sink sink' turns end device labels
+Runs source source' sink sink' turns end =
+    (device : Place) × (labels : List ℕ) × RunsOn usual source source' sink sink' turns end device labels

@@ -19,11 +19,15 @@ use Rattle.drm_runs.specs.Lines.{IsBare}
 
 -- two CRTCs, two planes, two encoders and two connectors
 abbrev pub test_topology : Topology
-test_topology = record { crtcs = 2; planes = 1 ∷ 2 ∷ []; kinds = PrimaryPlane 1 ∷ OverlayPlane ∷ []; encoders = 3 ∷ 2 ∷ []; connectors = 5 ∷ 6 ∷ [] }
+test_topology =
+    record
+    { crtcs = 2; planes = 1 ∷ 2 ∷ []; kinds = PrimaryPlane 1 ∷ OverlayPlane ∷ []; encoders = 3 ∷ 2 ∷ []; connectors = 5 ∷ 6 ∷ [] }
 
 -- the limits of a script without a line of them: the greatest, except 64 clients
 abbrev pub program_limits : Limits
-program_limits = record { clients = 64; handles = 65535; names = 65535; tokens = 65535; objects = 65535; framebuffers = 64; lessees = 64; journal = 100000 }
+program_limits =
+    record
+    { clients = 64; handles = 65535; names = 65535; tokens = 65535; objects = 65535; framebuffers = 64; lessees = 64; journal = 100000 }
 
 -- the topology of a script's device, and its default limits
 pub record Setting : Type 0 where
@@ -91,10 +95,13 @@ bound labels None result = labels
 -- the result of one line: the results that it adds, and the device and the labels after it
 pub data Uses (device : Place) (labels line : List ℕ) : List (Result Answer Apart) → Place → List ℕ → Type 0 where
   skipped : reading_of line ≡ Some readings.Skipped → Uses device labels line [] device labels
-  limited : {setting : Setting} {limits : Limits} → device ≡ Planned setting → reading_of line ≡ Some (readings.Limits limits)
+  limited : {setting : Setting} {limits : Limits} → device ≡ Planned setting
+      → reading_of line ≡ Some (readings.Limits limits)
       → Uses device labels line [] (Made (empty_device (limited_to setting limits))) labels
-  asked : {command : Command} {result : Result Answer Apart} {after : DeviceValue} (before : DeviceValue) → reading_of line ≡ Some (readings.Says command) → IsAt device before
-      → StepsOn before (event_of labels command) result after → Uses device labels line (result ∷ []) (Made after) (bound labels (label_bound command) result)
+  asked : {command : Command} {result : Result Answer Apart} {after : DeviceValue} (before : DeviceValue)
+      → reading_of line ≡ Some (readings.Says command) → IsAt device before
+      → StepsOn before (event_of labels command) result after
+      → Uses device labels line (result ∷ []) (Made after) (bound labels (label_bound command) result)
 
 -- no label is bound yet
 abbrev pub unbound : List ℕ
@@ -104,7 +111,8 @@ unbound = replicate 26 0
 pub data Script (setting : Setting) : List (List ℕ) → List (Result Answer Apart) → Place → List ℕ → Type 0 where
   start : Script setting [] [] (Planned setting) unbound
   line : {lines : List (List ℕ)} {results more : List (Result Answer Apart)} {device device' : Place} {labels labels' next : List ℕ}
-      → Script setting lines results device labels → IsBare next → Uses device labels next more device' labels' → Script setting (lines ++ next ∷ []) (results ++ more) device' labels'
+      → Script setting lines results device labels → IsBare next → Uses device labels next more device' labels'
+      → Script setting (lines ++ next ∷ []) (results ++ more) device' labels'
 
 -- the text of the results, a line each
 abbrev pub script_text : List (Result Answer Apart) → List ℕ
@@ -114,7 +122,8 @@ script_text (result ∷ results) = answer_line result ++ script_text results
 -- a line that can't be used here: it is malformed, or it sets limits after the device exists
 pub data IsMisplaced (device : Place) (line : List ℕ) : Type 0 where
   malformed : reading_of line ≡ None → IsMisplaced device line
-  late : {limits : Limits} {made : DeviceValue} → device ≡ Made made → reading_of line ≡ Some (readings.Limits limits) → IsMisplaced device line
+  late : {limits : Limits} {made : DeviceValue} → device ≡ Made made → reading_of line ≡ Some (readings.Limits limits)
+      → IsMisplaced device line
 
 -- a line that needs a device when there is none yet
 pub data WantsDevice (line : List ℕ) : Type 0 where
@@ -125,9 +134,11 @@ pub data WantsDevice (line : List ℕ) : Type 0 where
 -- accepted opening by it. The last list has the clients that the labels name after the lines.
 pub data AskFor : List (List ℕ) → List (Result Answer Apart) → List Event → List ℕ → Type 0 where
   nothing : AskFor [] [] [] unbound
-  skipped_line : {lines : List (List ℕ)} {results : List (Result Answer Apart)} {events : List Event} {labels : List ℕ} (next : List ℕ) → AskFor lines results events labels
+  skipped_line : {lines : List (List ℕ)} {results : List (Result Answer Apart)} {events : List Event} {labels : List ℕ} (next : List ℕ)
+      → AskFor lines results events labels
       → reading_of next ≡ Some readings.Skipped → AskFor (lines ++ next ∷ []) results events labels
-  limits_line : {lines : List (List ℕ)} {results : List (Result Answer Apart)} {events : List Event} {labels : List ℕ} (next : List ℕ) (limits : Limits) → AskFor lines results events labels
+  limits_line : {lines : List (List ℕ)} {results : List (Result Answer Apart)} {events : List Event} {labels : List ℕ} (next : List ℕ) (limits : Limits)
+      → AskFor lines results events labels
       → reading_of next ≡ Some (readings.Limits limits) → AskFor (lines ++ next ∷ []) results events labels
   command_line : {lines : List (List ℕ)} {results : List (Result Answer Apart)} {events : List Event} {labels : List ℕ} (next : List ℕ) (command : Command) (result : Result Answer Apart)
       → AskFor lines results events labels → reading_of next ≡ Some (readings.Says command)
@@ -143,5 +154,7 @@ AnswersFromEmpty topology lines results device labels =
 
 -- the law of scripts: each script's results are the answers of a device that is empty at first
 abbrev pub ScriptsAreAnswered : Type 0
-ScriptsAreAnswered = (setting : Setting) (lines : List (List ℕ)) (results : List (Result Answer Apart)) (device : Place) (labels : List ℕ)
+ScriptsAreAnswered =
+    (setting : Setting) (lines : List (List ℕ)) (results : List (Result Answer Apart)) (device : Place)
+    (labels : List ℕ)
     → Script setting lines results device labels → AnswersFromEmpty setting.topology lines results device labels

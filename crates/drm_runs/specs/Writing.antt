@@ -21,7 +21,8 @@ end_of_writing written.TurnsUsed = Some ends.TurnsUsed
 
 -- the result of the line that is held: it was used and its results written, or a front of its answer, or the state is
 -- unchanged
-abbrev pub UsesLine : InterpreterState → InterpreterState → LinesState → SinkTrace → SinkTrace → ℕ → ℕ → Option ScriptEnd → Type 0
+abbrev pub UsesLine : InterpreterState → InterpreterState → LinesState → SinkTrace → SinkTrace → ℕ → ℕ
+    → Option ScriptEnd → Type 0
 UsesLine old new lines before after had has None =
     (results : List (Result Answer Apart)) × Uses old.device old.labels lines.held results new.device new.labels × WriteCost before after (script_text results) had has
 UsesLine old new lines before after had has (Some ends.WriteFault) =
@@ -30,8 +31,10 @@ UsesLine old new lines before after had has (Some ends.WriteFault) =
 UsesLine old new lines before after had has (Some ends.TurnsUsed) =
     (result : Result Answer Apart) × Uses old.device old.labels lines.held (result ∷ []) new.device new.labels
     × PartialWriteCost before after (answer_line result) had has × (has ≡ 0)
-UsesLine old new lines before after had has (Some (ends.Malformed number)) = (number ≡ lines.number) × IsMisplaced old.device lines.held × (after ≡ before) × (has ≡ had) × (new ≡ old)
+UsesLine old new lines before after had has (Some (ends.Malformed number)) =
+    (number ≡ lines.number) × IsMisplaced old.device lines.held × (after ≡ before) × (has ≡ had) × (new ≡ old)
 UsesLine old new lines before after had has (Some ends.NoMemory) =
-    IsNowhere old.device × WantsDevice lines.held × (after ≡ before) × (has ≡ had) × IsNowhere new.device × (new.labels ≡ old.labels)
+    IsNowhere old.device × WantsDevice lines.held × (after ≡ before) × (has ≡ had) × IsNowhere new.device ×
+    (new.labels ≡ old.labels)
 UsesLine old new lines before after had has (Some ends.Done) = ⊥
 UsesLine old new lines before after had has (Some ends.ReadFault) = ⊥

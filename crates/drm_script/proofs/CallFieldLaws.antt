@@ -46,7 +46,8 @@ pub record WereSpelled (vs : List Width) (ws : Words) (fs : List Field) (rest : 
 none_were : (ws : Words) → WereSpelled [] ws [] ws
 none_were ws = record { front = []; words = refl; spells = tt; widths = refl; fits = none-fit }
 
-more_were : (v : Width) (vs : List Width) (ws : Words) (one : Field × Words) (more : List Field × Words) → field_at v ws ≡ Some one → WereSpelled vs one.1 more.0 more.1
+more_were : (v : Width) (vs : List Width) (ws : Words) (one : Field × Words) (more : List Field × Words)
+    → field_at v ws ≡ Some one → WereSpelled vs one.1 more.0 more.1
     → WereSpelled (v ∷ vs) ws (one.0 ∷ more.0) more.1
 more_were v vs ws one more e were =
     let was = field_was v ws one e in
@@ -75,7 +76,8 @@ numbers_were vs ws fs e =
     (record { spells = subst (λ (x : Words). SpellEach (map field_part a.step.0) x) words were.spells; widths = were.widths; fits = were.fits })
 
 -- Words that are read as fields spell these fields, and the fields fit the layout.
-pub fields_were : (layout : Layout) (ws : Words) (fs : List Field) → IsShort layout → fields_at layout ws ≡ Some fs → SpellEach (map field_part fs) ws × FitsLayout layout fs
+pub fields_were : (layout : Layout) (ws : Words) (fs : List Field) → IsShort layout → fields_at layout ws ≡ Some fs
+    → SpellEach (map field_part fs) ws × FitsLayout layout fs
 unfolding fields_at
 fields_were (numbers vs) ws fs few e =
     let are = numbers_were vs ws fs e in
@@ -83,24 +85,28 @@ fields_were (numbers vs) ws fs few e =
 fields_were ids ws fs few e =
     let count : ℕ = id_count ws in
     let are = numbers_were (replicate count widths.U32) ws fs e in
-    let len : length fs ≡ count = sym (length-map fs width_of) ∙ ap length are.widths ∙ length-replicate count widths.U32 in
+    let len : length fs ≡ count =
+    sym (length-map fs width_of) ∙ ap length are.widths ∙ length-replicate count widths.U32 in
     let most : count ≤ 32 = min-le_right (length ws) 32 in
     (are.spells, record { widths = are.widths ∙ ap (λ (n : ℕ). replicate n widths.U32) (sym len); few = omega (arith, most, len); each = are.fits })
 
 -- ---- what is spelled is read
 
-field_read : (f : Field) (w : List ℕ) (ws : Words) → Spells (field_part f) w → field_at (width_of f) (w ∷ ws) ≡ Some (f, ws)
+field_read : (f : Field) (w : List ℕ) (ws : Words) → Spells (field_part f) w
+    → field_at (width_of f) (w ∷ ws) ≡ Some (f, ws)
 unfolding field_at
 field_read (fields.U32 n) w ws s = rw (number32_at_some w ws n s) refl
 field_read (fields.U64 n) w ws s = rw (number_at_some 64 w ws n (lit≤ tt) s) refl
 
-each_read : (fs : List Field) (ws : Words) → SpellEach (map field_part fs) ws → read_each field_at (map width_of fs) ws ≡ Some (fs, [])
+each_read : (fs : List Field) (ws : Words) → SpellEach (map field_part fs) ws
+    → read_each field_at (map width_of fs) ws ≡ Some (fs, [])
 each_read [] [] s = refl
 each_read [] (w ∷ ws) s = absurd s
 each_read (f ∷ fs) [] s = absurd s
 each_read (f ∷ fs) (w ∷ ws) s = rw (field_read f w ws s.0, each_read fs ws s.1) refl
 
-numbers_read : (fs : List Field) (ws : Words) → SpellEach (map field_part fs) ws → numbers_at (map width_of fs) ws ≡ Some fs
+numbers_read : (fs : List Field) (ws : Words) → SpellEach (map field_part fs) ws
+    → numbers_at (map width_of fs) ws ≡ Some fs
 unfolding numbers_at
 numbers_read fs ws s = rw (each_read fs ws s) refl
 
@@ -111,7 +117,8 @@ length_spelled (part ∷ parts) [] s = absurd s
 length_spelled (part ∷ parts) (w ∷ ws) s = ap (λ (n : ℕ). suc n) (length_spelled parts ws s.1)
 
 -- Words that spell fields of a layout are read as these fields.
-pub fields_read : (layout : Layout) (fs : List Field) (ws : Words) → FitsLayout layout fs → SpellEach (map field_part fs) ws → fields_at layout ws ≡ Some fs
+pub fields_read : (layout : Layout) (fs : List Field) (ws : Words) → FitsLayout layout fs
+    → SpellEach (map field_part fs) ws → fields_at layout ws ≡ Some fs
 unfolding fields_at
 fields_read (numbers vs) fs ws h s = ap (λ (us : List Width). numbers_at us ws) (sym h.widths) ∙ numbers_read fs ws s
 fields_read ids fs ws h s =

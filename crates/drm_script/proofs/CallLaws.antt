@@ -35,7 +35,8 @@ raw_read (w ∷ []) n s = rw (number16_at_some w [] n s.0) refl
 raw_read [] n s = absurd s
 raw_read (w ∷ v ∷ ws) n s = absurd s.1
 
-has_row : (o : Option TableRow) (n : ℕ) → IsSome o → cond (is_some o) (calls.BadLayout n) (calls.Unknown n) ≡ calls.BadLayout n
+has_row : (o : Option TableRow) (n : ℕ) → IsSome o
+    → cond (is_some o) (calls.BadLayout n) (calls.Unknown n) ≡ calls.BadLayout n
 has_row None n s = absurd (cc)
 has_row (Some row) n s = refl
 
@@ -56,11 +57,13 @@ row_call_spells (calls.BadLayout n) ws h = absurd h
 row_call_spells call ws h = h
 
 -- the call that is made of the fields
-made : (kind : CallKind) (fs : List Field) (o : Option Call) (call : Call) (ws : Words) → AreFieldsOf kind fs o → o ≡ Some call → SpellsRow kind fs ws → SpellsCall call ws
+made : (kind : CallKind) (fs : List Field) (o : Option Call) (call : Call) (ws : Words) → AreFieldsOf kind fs o
+    → o ≡ Some call → SpellsRow kind fs ws → SpellsCall call ws
 made kind fs None call ws are e h = absurd (cc)
 made kind fs (Some c) call ws are e h =
     let same : c ≡ call = some_same c call e in
-    row_call_spells call ws (subst (λ (o : Option (CallKind × List Field)). SpellsBy o ws) (sym (ap call_row (sym same) ∙ are)) h)
+    row_call_spells call ws
+    (subst (λ (o : Option (CallKind × List Field)). SpellsBy o ws) (sym (ap call_row (sym same) ∙ are)) h)
 
 row_call_reads : (w : List ℕ) (ws : Words) (call : Call) → row_call_at w ws ≡ Some call → SpellsCall call (w ∷ ws)
 unfolding row_call_at
@@ -71,7 +74,8 @@ row_call_reads w ws call e =
     made a.step b.step (call_with a.step b.step) call (w ∷ ws) (fields-of a.step b.step) b.goes_on
     (record { fits = were.1; words = (sym (word-of-its-own w a.step a.made), were.0) })
 
-row_call_read : (w : List ℕ) (ws : Words) (call : Call) (kind : CallKind) (fs : List Field) → call_with kind fs ≡ Some call → SpellsRow kind fs (w ∷ ws) → row_call_at w ws ≡ Some call
+row_call_read : (w : List ℕ) (ws : Words) (call : Call) (kind : CallKind) (fs : List Field)
+    → call_with kind fs ≡ Some call → SpellsRow kind fs (w ∷ ws) → row_call_at w ws ≡ Some call
 unfolding row_call_at
 row_call_read w ws call kind fs back h =
     let named : call_kind_of_word w ≡ Some kind = ap call_kind_of_word h.words.0 ∙ word-found kind in
@@ -96,7 +100,8 @@ call_reads ws call e =
     let a = word_bind ws _ call e in
     subst (λ (v : Words). SpellsCall call v) (sym a.words) (behind_reads (bytes_eq a.w (codes "raw")) a.w a.rest call refl a.goes_on)
 
-behind_read : (w : List ℕ) (ws : Words) (call : Call) (o : Option (CallKind × List Field)) → IsReadBack call o → SpellsBy o (w ∷ ws) → call_behind w ws ≡ Some call
+behind_read : (w : List ℕ) (ws : Words) (call : Call) (o : Option (CallKind × List Field)) → IsReadBack call o
+    → SpellsBy o (w ∷ ws) → call_behind w ws ≡ Some call
 behind_read w ws call None back s = absurd s
 behind_read w ws call (Some row) back s =
     let other : bytes_eq w (codes "raw") ≡ false = ap (λ (v : List ℕ). bytes_eq v (codes "raw")) s.words.0 ∙ not_raw row.0 in

@@ -8,7 +8,8 @@ use Rattle.drm_script.specs.Words.{words_of, with_byte, begins_word, is_space, t
 pub end_of-end : {text rest end : List ℕ} → IsEndOf text rest → IsEndOf rest end → IsEndOf text end
 end_of-end h g = (h.0 ++ g.0, h.1 ∙ ap (λ x. h.0 ++ x) g.1 ∙ sym (append_assoc h.0 g.0 _))
 
-trimmed_case : (x : ℕ) (xs : List ℕ) (b : Bool) → IsEndOf xs (trimmed xs) → IsEndOf (x ∷ xs) (cond b (trimmed xs) (x ∷ xs))
+trimmed_case : (x : ℕ) (xs : List ℕ) (b : Bool) → IsEndOf xs (trimmed xs)
+    → IsEndOf (x ∷ xs) (cond b (trimmed xs) (x ∷ xs))
 trimmed_case x xs true h = (x ∷ h.0, ap (λ y. x ∷ y) h.1)
 trimmed_case x xs false h = ([], refl)
 
@@ -45,7 +46,8 @@ with_byte_few b true (w ∷ ws) = omega arith
 with_byte_few b true [] = omega arith
 with_byte_few b false ws = omega arith
 
-few_case : (x : ℕ) (xs : List ℕ) (b : Bool) → length (words_of xs) ≤ length xs → length (cond b (words_of xs) (with_byte x (begins_word xs) (words_of xs))) ≤ length (x ∷ xs)
+few_case : (x : ℕ) (xs : List ℕ) (b : Bool) → length (words_of xs) ≤ length xs
+    → length (cond b (words_of xs) (with_byte x (begins_word xs) (words_of xs))) ≤ length (x ∷ xs)
 few_case x xs true h = omega (arith, h)
 few_case x xs false h = omega (arith, h, with_byte_few x (begins_word xs) (words_of xs))
 
@@ -57,7 +59,8 @@ words_few (x ∷ xs) = few_case x xs (is_space x) (words_few xs)
 -- ---- words that are left
 
 -- If the words left begin with w, the words after it are left next.
-pub drop_next : (n : ℕ) (ws : List (List ℕ)) (w : List ℕ) (rest : List (List ℕ)) → drop n ws ≡ w ∷ rest → drop (suc n) ws ≡ rest
+pub drop_next : (n : ℕ) (ws : List (List ℕ)) (w : List ℕ) (rest : List (List ℕ)) → drop n ws ≡ w ∷ rest
+    → drop (suc n) ws ≡ rest
 drop_next zero [] w rest e = absurd (cc)
 drop_next zero (v ∷ vs) w rest e = cc
 drop_next (suc n) [] w rest e = absurd (cc)

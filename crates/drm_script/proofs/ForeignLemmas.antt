@@ -25,7 +25,8 @@ next_lt m n = lt_case m n _ _ refl refl
 some_place : (n : ℕ) → nat_lt 0 (suc n) ≡ true
 some_place n = grind (arith, nat_tests)
 
-place_case : (x : ℕ) (xs : List ℕ) (b : Bool) → nat_lt 127 x ≡ b → not (nat_lt (position_or_len (nat_lt 127) xs) (length xs)) ≡ list_all is_ascii xs
+place_case : (x : ℕ) (xs : List ℕ) (b : Bool) → nat_lt 127 x ≡ b
+    → not (nat_lt (position_or_len (nat_lt 127) xs) (length xs)) ≡ list_all is_ascii xs
     → not (nat_lt (cond (not b) (1 + position_or_len (nat_lt 127) xs) 0) (length (x ∷ xs))) ≡ list_all is_ascii (x ∷ xs)
 place_case x xs true e h = rw (ascii_case x true e, some_place (length xs)) refl
 place_case x xs false e h =

@@ -6,7 +6,8 @@ abbrev pub front : (ℕ → Bool) → List ℕ → List ℕ
 front p [] = []
 front p (b ∷ bs) = cond (p b) [] (b ∷ front p bs)
 
-front_at : (p : ℕ → Bool) (b : ℕ) (bs : List ℕ) (t : Bool) → front p bs ≡ take (position_or_len p bs) bs → cond t [] (b ∷ front p bs) ≡ take (cond (not t) (1 + position_or_len p bs) 0) (b ∷ bs)
+front_at : (p : ℕ → Bool) (b : ℕ) (bs : List ℕ) (t : Bool) → front p bs ≡ take (position_or_len p bs) bs
+    → cond t [] (b ∷ front p bs) ≡ take (cond (not t) (1 + position_or_len p bs) 0) (b ∷ bs)
 front_at p b bs true h = refl
 front_at p b bs false h =
     let e : 1 + position_or_len p bs ≡ suc (position_or_len p bs) = omega arith in

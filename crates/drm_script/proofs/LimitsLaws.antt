@@ -20,21 +20,25 @@ record ReadsLimit {B : Type 0} (limit : Limit) (ws : Words) (f : ℕ × Words �
   pub fits : are_in_range (with_limit limit n) ≡ true
   pub goes_on : f (n, rest) ≡ Some y
 
-fits_case : {B : Type 0} (b : Bool) (limit : Limit) (w : List ℕ) (ws rest : Words) (n : ℕ) (f : ℕ × Words → Option B) (y : B) → are_in_range (with_limit limit n) ≡ b → ws ≡ w ∷ rest → SpellsNumber 32 n w
+fits_case : {B : Type 0} (b : Bool) (limit : Limit) (w : List ℕ) (ws rest : Words) (n : ℕ) (f : ℕ × Words → Option B) (y : B)
+    → are_in_range (with_limit limit n) ≡ b → ws ≡ w ∷ rest → SpellsNumber 32 n w
     → ((cond b (Some n) None >>= (λ fitting. Some (fitting, rest))) >>= f) ≡ Some y → ReadsLimit limit ws f y
-fits_case true limit w ws rest n f y t words spells e = record { w = w; rest = rest; n = n; words = words; spells = spells; fits = t; goes_on = e }
+fits_case true limit w ws rest n f y t words spells e =
+    record { w = w; rest = rest; n = n; words = words; spells = spells; fits = t; goes_on = e }
 fits_case false limit w ws rest n f y t words spells e = absurd (cc)
 
 -- the words after a limit, as they are read
 behind_limit : {B : Type 0} (limit : Limit) (f : ℕ × Words → Option B) (number : ℕ × Words) → Option B
 behind_limit limit f number = (in_range limit number.0 >>= (λ fitting. Some (fitting, number.1))) >>= f
 
-joined : {B : Type 0} (limit : Limit) (f : ℕ × Words → Option B) (o : Option (ℕ × Words)) → ((o >>= (λ number. in_range limit number.0 >>= (λ fitting. Some (fitting, number.1)))) >>= f) ≡ (o >>= behind_limit limit f)
+joined : {B : Type 0} (limit : Limit) (f : ℕ × Words → Option B) (o : Option (ℕ × Words))
+    → ((o >>= (λ number. in_range limit number.0 >>= (λ fitting. Some (fitting, number.1)))) >>= f) ≡ (o >>= behind_limit limit f)
 unfolding behind_limit
 joined limit f None = refl
 joined limit f (Some number) = refl
 
-limit_bind : {B : Type 0} (limit : Limit) (ws : Words) (f : ℕ × Words → Option B) (y : B) → (limit_at limit ws >>= f) ≡ Some y → ReadsLimit limit ws f y
+limit_bind : {B : Type 0} (limit : Limit) (ws : Words) (f : ℕ × Words → Option B) (y : B)
+    → (limit_at limit ws >>= f) ≡ Some y → ReadsLimit limit ws f y
 unfolding limit_at behind_limit
 limit_bind limit ws f y e =
     let a = number_bind 32 ws (behind_limit limit f) y (sym (joined limit f _) ∙ e) in
@@ -126,9 +130,15 @@ limits_reads ws limits e =
     let lessees = limit_bind each.Lessees framebuffers.rest _ limits framebuffers.goes_on in
     let journal = limit_bind each.Journal lessees.rest _ limits lessees.goes_on in
     let end = end_bind journal.rest _ limits journal.goes_on in
-    let this : Limits = record { clients = clients.n; handles = handles.n; names = names.n; tokens = tokens.n; objects = objects.n; framebuffers = framebuffers.n; lessees = lessees.n; journal = journal.n } in
+    let this : Limits =
+    record
+    { clients = clients.n; handles = handles.n; names = names.n; tokens = tokens.n; objects = objects.n; framebuffers = framebuffers.n; lessees = lessees.n; journal = journal.n }
+    in
     let same : this ≡ limits = some_same this limits end.1 in
-    let fit : AreFit this = record { clients = clients.fits; handles = handles.fits; names = names.fits; tokens = tokens.fits; objects = objects.fits; framebuffers = framebuffers.fits; lessees = lessees.fits; journal = journal.fits } in
+    let fit : AreFit this =
+    record
+    { clients = clients.fits; handles = handles.fits; names = names.fits; tokens = tokens.fits; objects = objects.fits; framebuffers = framebuffers.fits; lessees = lessees.fits; journal = journal.fits }
+    in
     let from_journal = words_behind journal.words end.0 in
     let from_lessees = words_behind lessees.words from_journal in
     let from_framebuffers = words_behind framebuffers.words from_lessees in
@@ -137,16 +147,19 @@ limits_reads ws limits e =
     let from_names = words_behind names.words from_tokens in
     let from_handles = words_behind handles.words from_names in
     let from_clients = words_behind clients.words from_handles in
-    let words : Words = clients.w ∷ handles.w ∷ names.w ∷ tokens.w ∷ objects.w ∷ framebuffers.w ∷ lessees.w ∷ journal.w ∷ [] in
+    let words : Words =
+    clients.w ∷ handles.w ∷ names.w ∷ tokens.w ∷ objects.w ∷ framebuffers.w ∷ lessees.w ∷ journal.w ∷ [] in
     let spells : SpellEach (limits_parts this) (codes "limits" ∷ words) = (refl, (clients.spells, (handles.spells, (names.spells, (tokens.spells, (objects.spells, (framebuffers.spells, (lessees.spells, (journal.spells, tt))))))))) in
     (spelled limits_parts (codes "limits") ws words limits this from_clients same spells, subst (λ (l : Limits). IsTrue (are_in_range l)) same (all_in_range this fit))
 
-limit_read : (limit : Limit) (w : List ℕ) (ws : Words) (n : ℕ) → SpellsNumber 32 n w → are_in_range (with_limit limit n) ≡ true → limit_at limit (w ∷ ws) ≡ Some (n, ws)
+limit_read : (limit : Limit) (w : List ℕ) (ws : Words) (n : ℕ) → SpellsNumber 32 n w
+    → are_in_range (with_limit limit n) ≡ true → limit_at limit (w ∷ ws) ≡ Some (n, ws)
 unfolding limit_at
 limit_read limit w ws n s r = rw (number32_at_some w ws n s) (rw r refl)
 
 -- Words that spell limits in range are read as these limits.
-pub limits_read : (w : List ℕ) (ws : Words) (limits : Limits) → SpellEach (limits_parts limits) (w ∷ ws) → IsTrue (are_in_range limits) → limits_at ws ≡ Some limits
+pub limits_read : (w : List ℕ) (ws : Words) (limits : Limits) → SpellEach (limits_parts limits) (w ∷ ws)
+    → IsTrue (are_in_range limits) → limits_at ws ≡ Some limits
 unfolding limits_at
 limits_read w (a ∷ b ∷ c ∷ d ∷ f ∷ g ∷ h ∷ i ∷ []) limits s r =
     let fit = apart limits (between limits r) in

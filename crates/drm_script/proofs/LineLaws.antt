@@ -31,7 +31,8 @@ bare-from_test bs e = let all = AllPass-from_list_all (λ b. not (eqb b 10)) bs 
 glyph_above : (d : ℕ) → not (eqb (digit_glyph false d) 10) ≡ true
 glyph_above d = grind (arith, nat_tests)
 
-onto_case : (b : Bool) (this other : List ℕ) → is_bare this ≡ true → is_bare other ≡ true → is_bare (cond b this other) ≡ true
+onto_case : (b : Bool) (this other : List ℕ) → is_bare this ≡ true → is_bare other ≡ true
+    → is_bare (cond b this other) ≡ true
 onto_case true this other p q = p
 onto_case false this other p q = q
 
@@ -59,20 +60,25 @@ row_bare r = simp (list_all-append, decimal_bare)
 
 rows_bare : (rows : List AuditRow) → is_bare (flat_map row_behind rows) ≡ true
 rows_bare [] = refl
-rows_bare (r ∷ rows) = list_all-append (λ b. not (eqb b 10)) (row_behind r) (flat_map row_behind rows) ∙ both_true (row_bare r) (rows_bare rows)
+rows_bare (r ∷ rows) =
+    list_all-append (λ b. not (eqb b 10)) (row_behind r) (flat_map row_behind rows)
+    ∙ both_true (row_bare r) (rows_bare rows)
 
 page_bare : (rows : List AuditRow) → is_bare (page_words rows) ≡ true
 page_bare rows = simp (list_all-append, decimal_bare, rows_bare)
 
 ids_bare : (ids : List ℕ) → is_bare (flat_map id_behind ids) ≡ true
 ids_bare [] = refl
-ids_bare (id ∷ ids) = list_all-append (λ b. not (eqb b 10)) (id_behind id) (flat_map id_behind ids) ∙ both_true (decimal_bare id) (ids_bare ids)
+ids_bare (id ∷ ids) =
+    list_all-append (λ b. not (eqb b 10)) (id_behind id) (flat_map id_behind ids)
+    ∙ both_true (decimal_bare id) (ids_bare ids)
 
 joined_bare : (ids : List ℕ) → is_bare (joined_ids ids) ≡ true
 joined_bare [] = refl
 joined_bare (id ∷ ids) = simp (list_all-append, decimal_bare, ids_bare)
 
-resources_bare : (crtcs connectors encoders framebuffers : List ℕ) → is_bare (resources_words crtcs connectors encoders framebuffers) ≡ true
+resources_bare : (crtcs connectors encoders framebuffers : List ℕ)
+    → is_bare (resources_words crtcs connectors encoders framebuffers) ≡ true
 resources_bare crtcs connectors encoders framebuffers = simp (list_all-append, joined_bare)
 
 word_bare : (kind : AnswerKind) → is_bare (answer_word kind) ≡ true
@@ -82,10 +88,14 @@ word_bare _ = refl
 
 fields_bare : (fs : List Field) → is_bare (flat_map number_behind fs) ≡ true
 fields_bare [] = refl
-fields_bare (f ∷ fs) = list_all-append (λ b. not (eqb b 10)) (number_behind f) (flat_map number_behind fs) ∙ both_true (decimal_bare (number_in f)) (fields_bare fs)
+fields_bare (f ∷ fs) =
+    list_all-append (λ b. not (eqb b 10)) (number_behind f) (flat_map number_behind fs)
+    ∙ both_true (decimal_bare (number_in f)) (fields_bare fs)
 
 told_bare : (t : Told) → is_bare (told_words t) ≡ true
-told_bare (row kind fs) = list_all-append (λ b. not (eqb b 10)) (answer_word kind) (flat_map number_behind fs) ∙ both_true (word_bare kind) (fields_bare fs)
+told_bare (row kind fs) =
+    list_all-append (λ b. not (eqb b 10)) (answer_word kind) (flat_map number_behind fs)
+    ∙ both_true (word_bare kind) (fields_bare fs)
 told_bare (resources crtcs connectors encoders framebuffers) = resources_bare crtcs connectors encoders framebuffers
 told_bare (list ids) = joined_bare ids
 told_bare (page rows) = page_bare rows

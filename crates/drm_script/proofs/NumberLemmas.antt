@@ -56,7 +56,8 @@ pub number_no_text : (w : List ℕ) → (IsUtf8 w → ⊥) → None ≡ number_o
 number_no_text w n = number_none w (λ h. n (IsUtf8-from_ascii w (IsAscii-from_digits w (own.to w h.0))))
 
 -- What parsing returns for a word without a plus sign is the word's number.
-pub number_parsed : {E : Type 0} (w : List ℕ) (r : Result ℕ E) → get_or w 0 0 ≢ 43 → ParsesUnsigned 64 10 w r → result_ok r ≡ number_of w
+pub number_parsed : {E : Type 0} (w : List ℕ) (r : Result ℕ E) → get_or w 0 0 ≢ 43 → ParsesUnsigned 64 10 w r
+    → result_ok r ≡ number_of w
 number_parsed {E} w (Ok x) n h = let g = parse_plain own {E = E} 64 w (Ok x) h n in ap Some g.1 ∙ number_some w g.0
 number_parsed {E} w (Err e) n h = number_none w (λ q. parse_plain own {E = E} 64 w (Err e) h n (q.0, q.1, q.2))
 

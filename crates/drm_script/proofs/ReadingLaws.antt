@@ -38,7 +38,8 @@ short_test : (line : List ℕ) → IsPlain line → nat_lt 255 (length line) ≡
 short_test line p = grind (arith, nat_tests, p.short)
 
 ascii_test : (line : List ℕ) → IsPlain line → list_all is_ascii line ≡ true
-ascii_test line p = list_all-from_AllPass is_ascii line (λ k d h. let t = All-from_ascii line p.ascii k d h in grind (arith, nat_tests))
+ascii_test line p =
+    list_all-from_AllPass is_ascii line (λ k d h. let t = All-from_ascii line p.ascii k d h in grind (arith, nat_tests))
 
 comment_test : (line : List ℕ) → is_comment line ≡ true → IsComment line
 comment_test [] e = absurd (cc)
@@ -50,11 +51,13 @@ test_comment (b ∷ bs) h = rw h refl
 
 -- ---- the words of a line
 
-command_said_some : (o : Option Command) (command : Command) → command_said o ≡ Some (readings.Says command) → o ≡ Some command
+command_said_some : (o : Option Command) (command : Command) → command_said o ≡ Some (readings.Says command)
+    → o ≡ Some command
 command_said_some None command e = absurd (cc)
 command_said_some (Some c) command e = ap Some (cc)
 
-limits_said_some : (o : Option Limits) (limits : Limits) → limits_said o ≡ Some (readings.Limits limits) → o ≡ Some limits
+limits_said_some : (o : Option Limits) (limits : Limits) → limits_said o ≡ Some (readings.Limits limits)
+    → o ≡ Some limits
 limits_said_some None limits e = absurd (cc)
 limits_said_some (Some l) limits e = ap Some (cc)
 
@@ -79,7 +82,8 @@ named : (w : List ℕ) (name : LineWord) → line_word_of w ≡ Some name → w 
 unfolding line_word_of
 named w name e = found line_text w LINE_WORDS name e
 
-command_behind : (o : Option LineWord) (w : List ℕ) (ws : Words) (command : Command) → line_word_of w ≡ o → said_behind o w ws ≡ Some (readings.Says command) → SpellsCommand command (w ∷ ws)
+command_behind : (o : Option LineWord) (w : List ℕ) (ws : Words) (command : Command) → line_word_of w ≡ o
+    → said_behind o w ws ≡ Some (readings.Says command) → SpellsCommand command (w ∷ ws)
 command_behind (Some words.Limits) w ws command t e = absurd (limits_no_command (limits_at ws) command e)
 command_behind (Some words.Open) w ws command t e =
     let P : List ℕ → Type 0 = λ v. SpellsCommand command (v ∷ ws) in
@@ -92,11 +96,13 @@ command_behind (Some words.Close) w ws command t e =
     subst P (sym (named w words.Close t)) (close_reads ws command (command_said_some (close_at ws) command e))
 command_behind None w ws command t e = ask_reads w ws command (command_said_some (ask_at w ws) command e)
 
-words_command : (ws : Words) (command : Command) → words_said ws ≡ Some (readings.Says command) → SpellsCommand command ws
+words_command : (ws : Words) (command : Command) → words_said ws ≡ Some (readings.Says command)
+    → SpellsCommand command ws
 words_command [] command e = absurd (cc)
 words_command (w ∷ ws) command e = command_behind (line_word_of w) w ws command refl e
 
-limits_behind : (o : Option LineWord) (w : List ℕ) (ws : Words) (limits : Limits) → line_word_of w ≡ o → said_behind o w ws ≡ Some (readings.Limits limits)
+limits_behind : (o : Option LineWord) (w : List ℕ) (ws : Words) (limits : Limits) → line_word_of w ≡ o
+    → said_behind o w ws ≡ Some (readings.Limits limits)
     → SpellEach (limits_parts limits) (w ∷ ws) × IsTrue (are_in_range limits)
 limits_behind (Some words.Limits) w ws limits t e =
     let r = limits_reads ws limits (limits_said_some (limits_at ws) limits e) in
@@ -107,7 +113,8 @@ limits_behind (Some words.Open2) w ws limits t e = absurd (command_no_limits (op
 limits_behind (Some words.Close) w ws limits t e = absurd (command_no_limits (close_at ws) limits e)
 limits_behind None w ws limits t e = absurd (command_no_limits (ask_at w ws) limits e)
 
-words_limits : (ws : Words) (limits : Limits) → words_said ws ≡ Some (readings.Limits limits) → SpellEach (limits_parts limits) ws × IsTrue (are_in_range limits)
+words_limits : (ws : Words) (limits : Limits) → words_said ws ≡ Some (readings.Limits limits)
+    → SpellEach (limits_parts limits) ws × IsTrue (are_in_range limits)
 words_limits [] limits e = absurd (cc)
 words_limits (w ∷ ws) limits e = limits_behind (line_word_of w) w ws limits refl e
 
@@ -127,12 +134,15 @@ letter_no_word : (b : ℕ) → line_word_of (b ∷ []) ≡ None
 unfolding line_word_of
 letter_no_word b = rw (and-false (eqb 108 b)) (rw (and-false (eqb 111 b)) (rw (and-false (eqb 99 b)) refl))
 
-open_words : (universal : Bool) (w : List ℕ) (ws : Words) (place : ℕ) (opening : Opening) → Opens universal opening → SpellEach (word (open_text universal) ∷ label place ∷ opening_parts opening) (w ∷ ws) → said_behind (line_word_of w) w ws ≡ Some (readings.Says (commands.Open place opening))
+open_words : (universal : Bool) (w : List ℕ) (ws : Words) (place : ℕ) (opening : Opening) → Opens universal opening
+    → SpellEach (word (open_text universal) ∷ label place ∷ opening_parts opening) (w ∷ ws)
+    → said_behind (line_word_of w) w ws ≡ Some (readings.Says (commands.Open place opening))
 unfolding line_word_of
 open_words true w ws place opening o s = rw s.0 (ap command_said (open_read true ws place opening o s.1))
 open_words false w ws place opening o s = rw s.0 (ap command_said (open_read false ws place opening o s.1))
 
-command_words : (w : List ℕ) (ws : Words) (command : Command) → SpellsCommand command (w ∷ ws) → said_behind (line_word_of w) w ws ≡ Some (readings.Says command)
+command_words : (w : List ℕ) (ws : Words) (command : Command) → SpellsCommand command (w ∷ ws)
+    → said_behind (line_word_of w) w ws ≡ Some (readings.Says command)
 unfolding line_word_of
 command_words w ws (commands.Open place opening) s = open_words s.0 w ws place opening s.1 s.2
 command_words w ws (commands.Close place) s = rw s.0 (ap command_said (close_read ws place s.1))
@@ -140,7 +150,8 @@ command_words w ws (commands.Ask place call) s =
     let none : line_word_of w ≡ None = ap line_word_of s.0.1 ∙ letter_no_word (97 + place) in
     rw none (ap command_said (ask_read w ws place call s.0 s.1))
 
-limits_words : (w : List ℕ) (ws : Words) (limits : Limits) → SpellEach (limits_parts limits) (w ∷ ws) → IsTrue (are_in_range limits) → said_behind (line_word_of w) w ws ≡ Some (readings.Limits limits)
+limits_words : (w : List ℕ) (ws : Words) (limits : Limits) → SpellEach (limits_parts limits) (w ∷ ws)
+    → IsTrue (are_in_range limits) → said_behind (line_word_of w) w ws ≡ Some (readings.Limits limits)
 unfolding line_word_of
 limits_words w ws limits s r = rw s.0 (ap limits_said (limits_read w ws limits s r))
 
@@ -149,11 +160,13 @@ no_command (commands.Open place opening) s = s.2
 no_command (commands.Close place) s = s
 no_command (commands.Ask place call) s = s
 
-command_words_said : (ws : Words) (command : Command) → SpellsCommand command ws → words_said ws ≡ Some (readings.Says command)
+command_words_said : (ws : Words) (command : Command) → SpellsCommand command ws
+    → words_said ws ≡ Some (readings.Says command)
 command_words_said [] command s = absurd (no_command command s)
 command_words_said (w ∷ ws) command s = command_words w ws command s
 
-limits_words_said : (ws : Words) (limits : Limits) → SpellEach (limits_parts limits) ws → IsTrue (are_in_range limits) → words_said ws ≡ Some (readings.Limits limits)
+limits_words_said : (ws : Words) (limits : Limits) → SpellEach (limits_parts limits) ws → IsTrue (are_in_range limits)
+    → words_said ws ≡ Some (readings.Limits limits)
 limits_words_said [] limits s r = absurd s
 limits_words_said (w ∷ ws) limits s r = limits_words w ws limits s r
 
@@ -212,7 +225,8 @@ pub record Passes (line : List ℕ) (x : Option Reading) : Type 0 where
   pub plain : IsPlain line
   pub rest : cond (is_comment line) (Some readings.Skipped) (words_said (words_of line)) ≡ x
 
-tests_pass : (a b : Bool) (r x : Option Reading) → (None ≡ x → ⊥) → cond a None (cond (not b) None r) ≡ x → ((a ≡ false) × (b ≡ true)) × (r ≡ x)
+tests_pass : (a b : Bool) (r x : Option Reading) → (None ≡ x → ⊥) → cond a None (cond (not b) None r) ≡ x
+    → ((a ≡ false) × (b ≡ true)) × (r ≡ x)
 tests_pass true b r x n e = absurd (n e)
 tests_pass false false r x n e = absurd (n e)
 tests_pass false true r x n e = ((refl, refl), e)
@@ -223,29 +237,34 @@ passes line x n e =
     let t = tests_pass (nat_lt 255 (length line)) (list_all is_ascii line) _ x n e in
     record { plain = plain-from_tests line t.0.0 t.0.1; rest = t.1 }
 
-reading-plain : (line : List ℕ) → IsPlain line → reading_of line ≡ cond (is_comment line) (Some readings.Skipped) (words_said (words_of line))
+reading-plain : (line : List ℕ) → IsPlain line
+    → reading_of line ≡ cond (is_comment line) (Some readings.Skipped) (words_said (words_of line))
 unfolding reading_of
 reading-plain line p = rw (short_test line p) (rw (ascii_test line p) refl)
 
-not_skipped : (c : Bool) (r x : Option Reading) → (Some readings.Skipped ≡ x → ⊥) → cond c (Some readings.Skipped) r ≡ x → r ≡ x
+not_skipped : (c : Bool) (r x : Option Reading) → (Some readings.Skipped ≡ x → ⊥) → cond c (Some readings.Skipped) r ≡ x
+    → r ≡ x
 not_skipped true r x n e = absurd (n e)
 not_skipped false r x n e = e
 
 -- A line that is read as a command spells it.
-pub command_line : (line : List ℕ) (command : Command) → reading_of line ≡ Some (readings.Says command) → IsCommandLine line command
+pub command_line : (line : List ℕ) (command : Command) → reading_of line ≡ Some (readings.Says command)
+    → IsCommandLine line command
 command_line line command e =
     let p = passes line (Some (readings.Says command)) (λ f. cc) e in
     let r = not_skipped (is_comment line) _ (Some (readings.Says command)) (λ f. cc) p.rest in
     record { plain = p.plain; says = words_command (words_of line) command r }
 
 -- A line that spells a command is read as this command.
-pub line_command : (line : List ℕ) (command : Command) → IsCommandLine line command → reading_of line ≡ Some (readings.Says command)
+pub line_command : (line : List ℕ) (command : Command) → IsCommandLine line command
+    → reading_of line ≡ Some (readings.Says command)
 line_command line command h =
     let no = uncommented line (λ hash. no_command_hash command (words_of line) hash h.says) in
     reading-plain line h.plain ∙ rw no (command_words_said (words_of line) command h.says)
 
 -- A line that is read as limits spells them, in range.
-pub limits_line : (line : List ℕ) (limits : Limits) → reading_of line ≡ Some (readings.Limits limits) → IsLimitsLine line limits
+pub limits_line : (line : List ℕ) (limits : Limits) → reading_of line ≡ Some (readings.Limits limits)
+    → IsLimitsLine line limits
 limits_line line limits e =
     let p = passes line (Some (readings.Limits limits)) (λ f. cc) e in
     let r = not_skipped (is_comment line) _ (Some (readings.Limits limits)) (λ f. cc) p.rest in
@@ -253,12 +272,15 @@ limits_line line limits e =
     record { plain = p.plain; says = s.0; in_range = s.1 }
 
 -- A line that spells limits in range is read as these limits.
-pub line_limits : (line : List ℕ) (limits : Limits) → IsLimitsLine line limits → reading_of line ≡ Some (readings.Limits limits)
+pub line_limits : (line : List ℕ) (limits : Limits) → IsLimitsLine line limits
+    → reading_of line ≡ Some (readings.Limits limits)
 line_limits line limits h =
     let no = uncommented line (λ hash. no_limits_hash limits (words_of line) hash h.says) in
     reading-plain line h.plain ∙ rw no (limits_words_said (words_of line) limits h.says h.in_range)
 
-says_nothing : (c : Bool) (line : List ℕ) → is_comment line ≡ c → cond c (Some readings.Skipped) (words_said (words_of line)) ≡ Some readings.Skipped → IsComment line ⊎ (words_of line ≡ [])
+says_nothing : (c : Bool) (line : List ℕ) → is_comment line ≡ c
+    → cond c (Some readings.Skipped) (words_said (words_of line)) ≡ Some readings.Skipped
+    → IsComment line ⊎ (words_of line ≡ [])
 says_nothing true line t e = inl (comment_test line t)
 says_nothing false line t e = inr (words_skipped (words_of line) e)
 
@@ -268,7 +290,8 @@ skipped_line line e =
     let p = passes line (Some readings.Skipped) (λ f. cc) e in
     record { plain = p.plain; says_nothing = says_nothing (is_comment line) line refl p.rest }
 
-nothing_said : (c : Bool) (line : List ℕ) → is_comment line ≡ c → IsComment line ⊎ (words_of line ≡ []) → cond c (Some readings.Skipped) (words_said (words_of line)) ≡ Some readings.Skipped
+nothing_said : (c : Bool) (line : List ℕ) → is_comment line ≡ c → IsComment line ⊎ (words_of line ≡ [])
+    → cond c (Some readings.Skipped) (words_said (words_of line)) ≡ Some readings.Skipped
 nothing_said true line t h = refl
 nothing_said false line t (inl h) = let u = test_comment line h in absurd (cc)
 nothing_said false line t (inr h) = ap words_said h

@@ -7,7 +7,8 @@ use Rattle.drm_script.specs.Words.AreWords.{none, space, word}
 -- ---- the words of a text are in it
 
 -- a byte that is no space, before a text that begins with a word
-longer : {bs : List ℕ} {words : List (List ℕ)} (b : ℕ) → b ≢ 32 → begins_word bs ≡ true → AreWords bs words → AreWords (b ∷ bs) (with_byte b true words)
+longer : {bs : List ℕ} {words : List (List ℕ)} (b : ℕ) → b ≢ 32 → begins_word bs ≡ true → AreWords bs words
+    → AreWords (b ∷ bs) (with_byte b true words)
 longer b n t none = absurd (cc)
 longer b n t (space h) = absurd (cc)
 longer b n t (word w is_word end h) = word (b ∷ w) (omega arith, (n, is_word.1)) end h
@@ -20,11 +21,13 @@ between (b ∷ bs) e = between_at b (is_space b) refl e
     between_at b true t e = grind (arith, nat_tests)
     between_at b false t e = absurd (cc)
 
-with_letter : (b : ℕ) (bs : List ℕ) (t : Bool) → b ≢ 32 → begins_word bs ≡ t → AreWords bs (words_of bs) → AreWords (b ∷ bs) (with_byte b t (words_of bs))
+with_letter : (b : ℕ) (bs : List ℕ) (t : Bool) → b ≢ 32 → begins_word bs ≡ t → AreWords bs (words_of bs)
+    → AreWords (b ∷ bs) (with_byte b t (words_of bs))
 with_letter b bs true n e h = longer b n e h
 with_letter b bs false n e h = word (b ∷ []) (lit< tt, (n, tt)) (between bs e) h
 
-with_first : (b : ℕ) (bs : List ℕ) (t : Bool) → t ≡ is_space b → AreWords bs (words_of bs) → AreWords (b ∷ bs) (cond t (words_of bs) (with_byte b (begins_word bs) (words_of bs)))
+with_first : (b : ℕ) (bs : List ℕ) (t : Bool) → t ≡ is_space b → AreWords bs (words_of bs)
+    → AreWords (b ∷ bs) (cond t (words_of bs) (with_byte b (begins_word bs) (words_of bs)))
 with_first b bs true t h =
     let blank : b ≡ 32 = grind (arith, nat_tests) in
     let P : ℕ → Type 0 = λ c. AreWords (c ∷ bs) (words_of bs) in
@@ -58,4 +61,5 @@ words_of-word (b ∷ c ∷ w) text h end =
 pub words_of-are : {text : List ℕ} {words : List (List ℕ)} → AreWords text words → words_of text ≡ words
 words_of-are none = refl
 words_of-are (space h) = words_of-are h
-words_of-are (word w {text = text} is_word end h) = words_of-word w text is_word end ∙ ap (λ ws. w ∷ ws) (words_of-are h)
+words_of-are (word w {text = text} is_word end h) =
+    words_of-word w text is_word end ∙ ap (λ ws. w ∷ ws) (words_of-are h)

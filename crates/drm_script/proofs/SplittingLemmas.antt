@@ -16,7 +16,8 @@ abbrev pub behind : List ℕ → List ℕ
 behind [] = []
 behind (b ∷ bs) = cond (is_line_end b) bs (behind bs)
 
-begins : (b : ℕ) (bs : List ℕ) (e : Bool) → is_line_end b ≡ e → (length bs ≢ 0 → lines_of bs ≡ front is_line_end bs ∷ lines_of (behind bs))
+begins : (b : ℕ) (bs : List ℕ) (e : Bool) → is_line_end b ≡ e
+    → (length bs ≢ 0 → lines_of bs ≡ front is_line_end bs ∷ lines_of (behind bs))
     → cond e ([] ∷ lines_of bs) (with_line_byte b (lines_of bs)) ≡ cond e [] (b ∷ front is_line_end bs) ∷ lines_of (cond e bs (behind bs))
 begins b bs true is h = refl
 begins b [] false is h = refl
@@ -26,7 +27,8 @@ lines-begin : (text : List ℕ) → length text ≢ 0 → lines_of text ≡ fron
 lines-begin [] some = absurd (some refl)
 lines-begin (b ∷ bs) some = begins b bs (is_line_end b) refl (lines-begin bs)
 
-behind_at : (b : ℕ) (bs : List ℕ) (e : Bool) → behind bs ≡ drop (end_of bs + 1) bs → cond e bs (behind bs) ≡ drop (cond (not e) (1 + end_of bs) 0 + 1) (b ∷ bs)
+behind_at : (b : ℕ) (bs : List ℕ) (e : Bool) → behind bs ≡ drop (end_of bs + 1) bs
+    → cond e bs (behind bs) ≡ drop (cond (not e) (1 + end_of bs) 0 + 1) (b ∷ bs)
 behind_at b bs true h = refl
 behind_at b bs false h =
     let e : 1 + end_of bs + 1 ≡ suc (end_of bs + 1) = omega arith in
@@ -39,7 +41,8 @@ behind-drop (b ∷ bs) = behind_at b bs (is_line_end b) (behind-drop bs)
 -- ---- the result of `first_line`
 
 -- If a text has a line end, its first line is before it and the others follow it.
-pub ended_line : (text : List ℕ) (at : ℕ) → position is_line_end text ≡ Some at → text ≢ [] → lines_of text ≡ take at text ∷ lines_of (drop (at + 1) text)
+pub ended_line : (text : List ℕ) (at : ℕ) → position is_line_end text ≡ Some at → text ≢ []
+    → lines_of text ≡ take at text ∷ lines_of (drop (at + 1) text)
 ended_line [] at p some = absurd (some refl)
 ended_line (b ∷ bs) at p some =
     let text : List ℕ = b ∷ bs in

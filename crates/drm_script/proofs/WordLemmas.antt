@@ -12,7 +12,8 @@ abbrev pub behind : List ℕ → List ℕ
 behind [] = []
 behind (b ∷ bs) = cond (is_space b) (b ∷ bs) (behind bs)
 
-trimmed_at : (x : ℕ) (xs : List ℕ) (b : Bool) → is_space x ≡ b → words_of (trimmed xs) ≡ words_of xs → words_of (cond b (trimmed xs) (x ∷ xs)) ≡ words_of (x ∷ xs)
+trimmed_at : (x : ℕ) (xs : List ℕ) (b : Bool) → is_space x ≡ b → words_of (trimmed xs) ≡ words_of xs
+    → words_of (cond b (trimmed xs) (x ∷ xs)) ≡ words_of (x ∷ xs)
 trimmed_at x xs true e h = rw e h
 trimmed_at x xs false e h = refl
 
@@ -26,7 +27,8 @@ abbrev pub BeginsWord : List ℕ → Type 0
 BeginsWord [] = Unit {0}
 BeginsWord (b ∷ bs) = is_space b ≡ false
 
-trimmed_begins_at : (x : ℕ) (xs : List ℕ) (b : Bool) → is_space x ≡ b → BeginsWord (trimmed xs) → BeginsWord (cond b (trimmed xs) (x ∷ xs))
+trimmed_begins_at : (x : ℕ) (xs : List ℕ) (b : Bool) → is_space x ≡ b → BeginsWord (trimmed xs)
+    → BeginsWord (cond b (trimmed xs) (x ∷ xs))
 trimmed_begins_at x xs true e h = h
 trimmed_begins_at x xs false e h = e
 
@@ -35,12 +37,14 @@ pub trimmed_begins : (xs : List ℕ) → BeginsWord (trimmed xs)
 trimmed_begins [] = tt
 trimmed_begins (x ∷ xs) = trimmed_begins_at x xs (is_space x) refl (trimmed_begins xs)
 
-first_word_at : (x y : ℕ) (ys : List ℕ) (b : Bool) → is_space y ≡ b → with_byte y (begins_word ys) (words_of ys) ≡ (y ∷ front is_space ys) ∷ words_of (behind ys)
+first_word_at : (x y : ℕ) (ys : List ℕ) (b : Bool) → is_space y ≡ b
+    → with_byte y (begins_word ys) (words_of ys) ≡ (y ∷ front is_space ys) ∷ words_of (behind ys)
     → with_byte x (cond b false true) (cond b (words_of ys) (with_byte y (begins_word ys) (words_of ys))) ≡ (x ∷ cond b [] (y ∷ front is_space ys)) ∷ words_of (cond b (y ∷ ys) (behind ys))
 first_word_at x y ys true e h = rw e refl
 first_word_at x y ys false e h = rw h refl
 
-first_word : (x : ℕ) (xs : List ℕ) → with_byte x (begins_word xs) (words_of xs) ≡ (x ∷ front is_space xs) ∷ words_of (behind xs)
+first_word : (x : ℕ) (xs : List ℕ)
+    → with_byte x (begins_word xs) (words_of xs) ≡ (x ∷ front is_space xs) ∷ words_of (behind xs)
 first_word x [] = refl
 first_word x (y ∷ ys) = first_word_at x y ys (is_space y) refl (first_word y ys)
 
@@ -50,7 +54,8 @@ words-begin [] h p = absurd (omega arith)
 words-begin (x ∷ xs) h p = rw p (first_word x xs)
 
 -- where the first space is
-behind_at : (x : ℕ) (xs : List ℕ) (b : Bool) → behind xs ≡ drop (position_or_len is_space xs) xs → cond b (x ∷ xs) (behind xs) ≡ drop (cond (not b) (1 + position_or_len is_space xs) 0) (x ∷ xs)
+behind_at : (x : ℕ) (xs : List ℕ) (b : Bool) → behind xs ≡ drop (position_or_len is_space xs) xs
+    → cond b (x ∷ xs) (behind xs) ≡ drop (cond (not b) (1 + position_or_len is_space xs) 0) (x ∷ xs)
 behind_at x xs true h = refl
 behind_at x xs false h =
     let e : 1 + position_or_len is_space xs ≡ suc (position_or_len is_space xs) = omega arith in

@@ -68,8 +68,10 @@ fault_at Place.label w = unless (is_some (label_of w)) (causes.Unfit wanted.Labe
 fault_at Place.opening w = unless (is_some (opening_word_of w)) (causes.Unfit wanted.Opening)
 fault_at Place.call w = unless (bytes_eq w (codes "raw") || is_some (call_kind_of_word w)) (causes.Unfit wanted.Call)
 fault_at (Place.number bits) w = unless (is_some (number_in_bits bits w)) (causes.Unfit (wanted.Number (2 ^ bits - 1)))
-fault_at Place.audit_kind w = number_fault (λ n. is_some (audits.kind_of n)) (causes.Unfit wanted.AuditKind) (number_in_bits 32 w)
-fault_at (Place.limit which) w = number_fault (λ n. are_in_range (with_limit which n)) causes.LimitRange (number_in_bits 32 w)
+fault_at Place.audit_kind w =
+    number_fault (λ n. is_some (audits.kind_of n)) (causes.Unfit wanted.AuditKind) (number_in_bits 32 w)
+fault_at (Place.limit which) w =
+    number_fault (λ n. are_in_range (with_limit which n)) causes.LimitRange (number_in_bits 32 w)
 
 -- a word is a fault, or the first one after it is
 abbrev pub fault_or : Option Malformation → Words → Option (Malformation × Words) → Option (Malformation × Words)

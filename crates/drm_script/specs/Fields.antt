@@ -31,7 +31,9 @@ end_at (w ∷ ws) = None
 
 -- the number that a word of decimal digits spells, of at most 64 bits
 unfoldable pub number_of : List ℕ → Option ℕ
-number_of w = if nat_lt 0 (length w) && all_ascii_digits w && nat_lt (digits_value 10 w) (2 ^ 64) then Some (digits_value 10 w) else None
+number_of w =
+    if nat_lt 0 (length w) && all_ascii_digits w && nat_lt (digits_value 10 w) (2 ^ 64) then Some (digits_value 10 w)
+    else None
 
 -- the same number, if it has at most n bits
 abbrev pub of_bits : ℕ → ℕ → Option ℕ

@@ -93,7 +93,9 @@ BeginsWith part Others (w ∷ ws) = Spells part w × Others ws
 
 -- The words spell the command.
 abbrev pub SpellsCommand : Command → List (List ℕ) → Type 0
-SpellsCommand (commands.Open place opening) ws = (universal : Bool) × Opens universal opening × SpellEach (word (open_text universal) ∷ label place ∷ opening_parts opening) ws
+SpellsCommand (commands.Open place opening) ws =
+    (universal : Bool) × Opens universal opening × SpellEach
+    (word (open_text universal) ∷ label place ∷ opening_parts opening) ws
 SpellsCommand (commands.Close place) ws = SpellEach (word (codes "close") ∷ label place ∷ []) ws
 SpellsCommand (commands.Ask place call) ws = BeginsWith (label place) (SpellsCall call) ws
 

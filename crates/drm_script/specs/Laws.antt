@@ -16,11 +16,13 @@ WordsStandBetweenSpaces = (line : List ℕ) (words : List (List ℕ)) → (words
 
 -- A line is read as a command exactly if the grammar says so.
 abbrev pub ReadsTheGrammar : Type 0
-ReadsTheGrammar = (line : List ℕ) (command : Command) → (reading_of line ≡ Some (readings.Says command)) ↔ IsCommandLine line command
+ReadsTheGrammar =
+    (line : List ℕ) (command : Command) → (reading_of line ≡ Some (readings.Says command)) ↔ IsCommandLine line command
 
 -- The same of the limits.
 abbrev pub ReadsLimitsLines : Type 0
-ReadsLimitsLines = (line : List ℕ) (limits : Limits) → (reading_of line ≡ Some (readings.Limits limits)) ↔ IsLimitsLine line limits
+ReadsLimitsLines =
+    (line : List ℕ) (limits : Limits) → (reading_of line ≡ Some (readings.Limits limits)) ↔ IsLimitsLine line limits
 
 -- Comments and lines with no word are skipped, and nothing else.
 abbrev pub SkipsCommentsAndBlankLines : Type 0

@@ -41,7 +41,8 @@ IsAtBreak (b ∷ bs) = b ≡ 32
 pub data AreWords : List ℕ → List (List ℕ) → Type 0 where
   none : AreWords [] []
   space : {text : List ℕ} {words : List (List ℕ)} → AreWords text words → AreWords (32 ∷ text) words
-  word : (w : List ℕ) {text : List ℕ} {words : List (List ℕ)} → IsWord w → IsAtBreak text → AreWords text words → AreWords (w ++ text) (w ∷ words)
+  word : (w : List ℕ) {text : List ℕ} {words : List (List ℕ)} → IsWord w → IsAtBreak text → AreWords text words
+      → AreWords (w ++ text) (w ∷ words)
 
 -- The text ends with this.
 abbrev pub IsEndOf : List ℕ → List ℕ → Type 0

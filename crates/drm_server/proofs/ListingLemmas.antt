@@ -19,10 +19,12 @@ nothing (suc k) (suc j) = refl
 
 module _ {X : Type 0} (line : X → List ℕ) where
   -- A text of rows is that of a page, of the next page and of all that follow.
-  pub whole-page : (rows : List X) (n m : ℕ) → flat_map line rows ≡ flat_map line (take n rows) ++ (flat_map line (take m (drop n rows)) ++ flat_map line (drop m (drop n rows)))
+  pub whole-page : (rows : List X) (n m : ℕ)
+      → flat_map line rows ≡ flat_map line (take n rows) ++ (flat_map line (take m (drop n rows)) ++ flat_map line (drop m (drop n rows)))
   whole-page rows n m =
       ap (flat_map line) (sym (take-append-drop n rows)) ∙ flat_map-append line (take n rows) (drop n rows)
-      ∙ ap (λ l. flat_map line (take n rows) ++ l) (ap (flat_map line) (sym (take-append-drop m (drop n rows))) ∙ flat_map-append line (take m (drop n rows)) (drop m (drop n rows)))
+      ∙ ap (λ l. flat_map line (take n rows) ++ l)
+      (ap (flat_map line) (sym (take-append-drop m (drop n rows))) ∙ flat_map-append line (take m (drop n rows)) (drop m (drop n rows)))
 
   take-add : (rows : List X) (n m : ℕ) → take n rows ++ take m (drop n rows) ≡ take (n + m) rows
   take-add rows zero m = ap (λ k. take k rows) (none m)
@@ -36,12 +38,16 @@ module _ {X : Type 0} (line : X → List ℕ) where
       more k j = omega arith
 
   -- The rows so far and the next page are the rows up to the end of the page.
-  pub next-page : (rows : List X) (n m : ℕ) → flat_map line (take n rows) ++ flat_map line (take m (drop n rows)) ≡ flat_map line (take (n + m) rows)
-  next-page rows n m = sym (flat_map-append line (take n rows) (take m (drop n rows))) ∙ ap (flat_map line) (take-add rows n m)
+  pub next-page : (rows : List X) (n m : ℕ)
+      → flat_map line (take n rows) ++ flat_map line (take m (drop n rows)) ≡ flat_map line (take (n + m) rows)
+  next-page rows n m =
+      sym (flat_map-append line (take n rows) (take m (drop n rows))) ∙ ap (flat_map line) (take-add rows n m)
 
   -- An empty page ends the rows.
   pub last-page : (rows : List X) (n m : ℕ) → 0 < m → take m (drop n rows) ≡ [] → take n rows ≡ rows
-  last-page rows n m h e = sym (append-nil (take n rows)) ∙ ap (λ l. take n rows ++ l) (sym (none_left (drop n rows) m h e)) ∙ take-append-drop n rows
+  last-page rows n m h e =
+      sym (append-nil (take n rows)) ∙ ap (λ l. take n rows ++ l) (sym (none_left (drop n rows) m h e))
+      ∙ take-append-drop n rows
     where
       none_left : (xs : List X) (m : ℕ) → 0 < m → take m xs ≡ [] → xs ≡ []
       none_left [] m h e = refl
@@ -62,7 +68,8 @@ listed w a b t u h = record {
 }
 
 -- If the sink fails, a listing ends with a write fault.
-pub listed-fault : (w : Rows) (a b : SinkTrace) (t u : ℕ) → PartialWriteCost a b (audit_text w) t u → a.counts.faults < b.counts.faults → Lists w a b t ends.WriteFault
+pub listed-fault : (w : Rows) (a b : SinkTrace) (t u : ℕ) → PartialWriteCost a b (audit_text w) t u
+    → a.counts.faults < b.counts.faults → Lists w a b t ends.WriteFault
 listed-fault w a b t u h f = record {
   written = h.front;
   later = h.rest;
@@ -73,7 +80,8 @@ listed-fault w a b t u h f = record {
 }
 
 -- If no turn is left, a listing ends with its turns used.
-pub listed-turns : (w : Rows) (a b : SinkTrace) (t u : ℕ) → PartialWriteCost a b (audit_text w) t u → u ≡ 0 → Lists w a b t ends.TurnsUsed
+pub listed-turns : (w : Rows) (a b : SinkTrace) (t u : ℕ) → PartialWriteCost a b (audit_text w) t u → u ≡ 0
+    → Lists w a b t ends.TurnsUsed
 listed-turns w a b t u h e = record {
   written = h.front;
   later = h.rest;

@@ -9,7 +9,9 @@ use Rattle.drm_sessions.specs.contracts.jobs.Finished as finished
 use Rattle.drm_sessions.specs.contracts.jobs.Returned as returned
 
 finished_send : (S K : RattleType) → IsSend S → IsSend K → IsSend (finished.the_field S K).row
-finished_send S K s k = struct_send (shape (finished.the_type S K)) (session.the_field_send, (s, (k, (search (participant_send, crosses, sendable) depth 20, tt))))
+finished_send S K s k =
+    struct_send (shape (finished.the_type S K))
+    (session.the_field_send, (s, (k, (search (participant_send, crosses, sendable) depth 20, tt))))
 
 -- What a job's thread returns may be sent to another thread if its source and its sink may.
 pub returned_send : (S K : RattleType) → IsSend S → IsSend K → IsSend (returned.the_row S K)

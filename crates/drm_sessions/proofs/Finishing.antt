@@ -26,12 +26,13 @@ use Rattle.drm_sessions.specs.Ends.{TruncatesLastAnswer, Leaves, Ends, Refuses, 
 use Rattle.drm_sessions.specs.Serving.{Follows, EndCondition, EndsAfter, Serves, Continues}
 use Rattle.drm_sessions.proofs.Taking.{Takes-none, Takes-then, Uses-takes, ends_in_chunk-then}
 use Rattle.drm_sessions.proofs.Composing.{none-yet, Runs-push, journaled-push, outcomes-push}
-use Rattle.drm_sessions.proofs.Ending.{leaves-write, not-behind}
+use Rattle.drm_sessions.proofs.SessionEnds.{leaves-write, not-behind}
 use Rattle.drm_sessions.proofs.Telling.{hands-closed, hands-read}
 
 -- ---- causes
 
-TruncatesLastAnswer-cons : (first : CallResult) {results : List CallResult} {later : List ℕ} → TruncatesLastAnswer results later → TruncatesLastAnswer (first ∷ results) later
+TruncatesLastAnswer-cons : (first : CallResult) {results : List CallResult} {later : List ℕ}
+    → TruncatesLastAnswer results later → TruncatesLastAnswer (first ∷ results) later
 TruncatesLastAnswer-cons first h = record {
   before = first ∷ h.before;
   last = h.last;
@@ -41,7 +42,8 @@ TruncatesLastAnswer-cons first h = record {
   more = h.more;
 }
 
-leaves-cons : (e : SessionEnd) (first : CallResult) (waits : List ℕ) (results : List CallResult) (later : List ℕ) → Leaves e waits results later → Leaves e waits (first ∷ results) later
+leaves-cons : (e : SessionEnd) (first : CallResult) (waits : List ℕ) (results : List CallResult) (later : List ℕ)
+    → Leaves e waits results later → Leaves e waits (first ∷ results) later
 leaves-cons ends.Ended first waits results later h = h
 leaves-cons ends.Truncated first waits results later h = h
 leaves-cons ends.TooLong first waits results later h = h
@@ -53,7 +55,8 @@ leaves-cons ends.BadHello first waits results later h = h
 leaves-cons (ends.OpenRefused rule) first waits results later h = h
 leaves-cons (ends.Apart apart) first waits results later h = h
 
-whole-or-cut : (e : SessionEnd) (waits : List ℕ) (results : List CallResult) (later : List ℕ) → Leaves e waits results later → (later ≡ []) ⊎ TruncatesLastAnswer results later
+whole-or-cut : (e : SessionEnd) (waits : List ℕ) (results : List CallResult) (later : List ℕ)
+    → Leaves e waits results later → (later ≡ []) ⊎ TruncatesLastAnswer results later
 whole-or-cut ends.Ended waits results later h = inl h.1
 whole-or-cut ends.Truncated waits results later h = inl h.1
 whole-or-cut ends.TooLong waits results later h = inl h.1
@@ -65,7 +68,8 @@ whole-or-cut ends.BadHello waits results later h = absurd h
 whole-or-cut (ends.OpenRefused rule) waits results later h = absurd h
 whole-or-cut (ends.Apart apart) waits results later h = absurd h
 
-end_condition-left : (e : SessionEnd) (class : Class) (rest : List ℕ) (answered closing : List RequestReply) (later : List ℕ) → Leaves e rest (outcomes answered) later → EndCondition e class rest answered closing later
+end_condition-left : (e : SessionEnd) (class : Class) (rest : List ℕ) (answered closing : List RequestReply) (later : List ℕ)
+    → Leaves e rest (outcomes answered) later → EndCondition e class rest answered closing later
 end_condition-left ends.Ended class rest answered closing later h = h
 end_condition-left ends.Truncated class rest answered closing later h = h
 end_condition-left ends.TooLong class rest answered closing later h = h
@@ -77,19 +81,28 @@ end_condition-left (ends.OpenRefused rule) class rest answered closing later h =
 end_condition-left (ends.Apart apart) class rest answered closing later h = absurd h
 
 end_condition-closed : (e : SessionEnd) (client : ℕ) (r : CallResult) (end : SessionEnd) (class : Class) (rest : List ℕ) (answered : List RequestReply) (later : List ℕ)
-    → Leaves e rest (outcomes answered) later → EndsClosed e r end → EndCondition end class rest answered (request_reply (Close client) r ∷ []) later
+    → Leaves e rest (outcomes answered) later → EndsClosed e r end
+    → EndCondition end class rest answered (request_reply (Close client) r ∷ []) later
 end_condition-closed e client (Ok answer) end class rest answered later h is =
-    subst (λ (x : SessionEnd). EndCondition x class rest answered (request_reply (Close client) (Ok answer) ∷ []) later) (sym is) (end_condition-left e class rest answered _ later h)
+    subst (λ (x : SessionEnd). EndCondition x class rest answered (request_reply (Close client) (Ok answer) ∷ []) later)
+    (sym is) (end_condition-left e class rest answered _ later h)
 end_condition-closed e client (Err aparts.JournalFull) end class rest answered later h is =
-    subst (λ (x : SessionEnd). EndCondition x class rest answered (request_reply (Close client) (Err aparts.JournalFull) ∷ []) later) (sym is) (end_condition-left e class rest answered _ later h)
+    subst
+    (λ (x : SessionEnd). EndCondition x class rest answered (request_reply (Close client) (Err aparts.JournalFull) ∷ []) later)
+    (sym is) (end_condition-left e class rest answered _ later h)
 end_condition-closed e client (Err aparts.NoMemory) end class rest answered later h is =
-    subst (λ (x : SessionEnd). EndCondition x class rest answered (request_reply (Close client) (Err aparts.NoMemory) ∷ []) later) (sym is) (end_condition-left e class rest answered _ later h)
+    subst
+    (λ (x : SessionEnd). EndCondition x class rest answered (request_reply (Close client) (Err aparts.NoMemory) ∷ []) later)
+    (sym is) (end_condition-left e class rest answered _ later h)
 end_condition-closed e client (Err aparts.Worn) end class rest answered later h is =
-    subst (λ (x : SessionEnd). EndCondition x class rest answered (request_reply (Close client) (Err aparts.Worn) ∷ []) later) (sym is)
+    subst
+    (λ (x : SessionEnd). EndCondition x class rest answered (request_reply (Close client) (Err aparts.Worn) ∷ []) later)
+    (sym is)
     (inr ((client, refl), refl, whole-or-cut e rest (outcomes answered) later h))
 
 -- no end by reading alone has an answer after it
-end_condition-read : (e : SessionEnd) (class : Class) (rest : List ℕ) → StopsAt e rest → EndCondition e class rest [] [] []
+end_condition-read : (e : SessionEnd) (class : Class) (rest : List ℕ) → StopsAt e rest
+    → EndCondition e class rest [] [] []
 end_condition-read ends.Ended class rest h = (h, refl)
 end_condition-read ends.Truncated class rest h = (h, refl)
 end_condition-read ends.TooLong class rest h = (h, refl)
@@ -102,7 +115,8 @@ end_condition-read (ends.Apart apart) class rest h = absurd h
 
 -- ---- the ends by how the opening was answered
 
-ends-requests : (e : SessionEnd) (waits : List ℕ) (results : List CallResult) (later : List ℕ) → Leaves e waits results later → EndsRequests e
+ends-requests : (e : SessionEnd) (waits : List ℕ) (results : List CallResult) (later : List ℕ)
+    → Leaves e waits results later → EndsRequests e
 ends-requests ends.Ended waits results later h = tt
 ends-requests ends.Truncated waits results later h = tt
 ends-requests ends.TooLong waits results later h = tt
@@ -137,16 +151,20 @@ ends-writing (ends.Apart apart) from to has h = h
 
 -- ---- the parts joined
 
-cut-of-part : (result : CallResult) {out0 out1 : SinkTrace} {said : List ℕ} {t u : ℕ} → said ≡ answer_text result → (p : PartialWriteCost out0 out1 said t u) → TruncatesLastAnswer (result ∷ []) p.rest
-cut-of-part result is p = record { before = []; last = result; sent = p.front; whole = refl; parts = sym is ∙ p.parts; more = p.more }
+cut-of-part : (result : CallResult) {out0 out1 : SinkTrace} {said : List ℕ} {t u : ℕ} → said ≡ answer_text result
+    → (p : PartialWriteCost out0 out1 said t u) → TruncatesLastAnswer (result ∷ []) p.rest
+cut-of-part result is p =
+    record { before = []; last = result; sent = p.front; whole = refl; parts = sym is ∙ p.parts; more = p.more }
 
 module _ {A : Type 0} (answers : A → Event → CallResult → A → Type 0) where
   -- If the answer to the opening is written whole, a session's requests end as they do after it.
   pub said-whole : {client : ℕ} {a0 a1 : A} {in0 in1 : SourceTrace} {out0 out1 out2 : SinkTrace} {said waited : List ℕ} {steps t u : ℕ} {e : SessionEnd} (result : CallResult)
-      → said ≡ answer_text result → WriteCost out0 out1 said t u → Ends answers client a0 a1 in0 in1 out1 out2 [] waited steps e
+      → said ≡ answer_text result → WriteCost out0 out1 said t u
+      → Ends answers client a0 a1 in0 in1 out1 out2 [] waited steps e
       → Ends answers client a0 a1 in0 in1 out0 out2 (result ∷ []) waited steps e
   said-whole {out0} {out1} {out2} {said} {t} {u} {e} result is p h =
-      let pays : WriteCost out0 out1 (answer_text result) t u = subst (λ (x : List ℕ). WriteCost out0 out1 x t u) is p in
+      let pays : WriteCost out0 out1 (answer_text result) t u =
+      subst (λ (x : List ℕ). WriteCost out0 out1 x t u) is p in
       record {
         waits = h.waits;
         results = h.results;
@@ -154,8 +172,12 @@ module _ {A : Type 0} (answers : A → Event → CallResult → A → Type 0) wh
         later = h.later;
         did = h.did;
         puts = record {
-          parts = ap (λ (x : List ℕ). answer_text result ++ x) h.puts.parts ∙ sym (append_assoc (answer_text result) h.front h.later);
-          commits = Appends-trans out0.written out1.written out2.written (answer_text result) h.front pays.took.taken h.puts.commits;
+          parts =
+              ap (λ (x : List ℕ). answer_text result ++ x) h.puts.parts
+              ∙ sym (append_assoc (answer_text result) h.front h.later);
+          commits =
+              Appends-trans out0.written out1.written out2.written (answer_text result) h.front pays.took.taken
+              h.puts.commits;
         };
         leaves = leaves-cons e result h.waits h.results h.later h.leaves;
         behind = h.behind;
@@ -165,7 +187,8 @@ module _ {A : Type 0} (answers : A → Event → CallResult → A → Type 0) wh
 
   -- If the answer to the opening is written in part, the session ends with no request.
   pub said-in-part : {client : ℕ} {a : A} {source : SourceTrace} {out0 out1 : SinkTrace} {said : List ℕ} {waited : List ℕ} {t u : ℕ} {e : SessionEnd} (result : CallResult)
-      → said ≡ answer_text result → (p : PartialWriteCost out0 out1 said t u) → WriteShows e out0 out1 u → HandsLater e out1 p.rest → Ends answers client a a source source out0 out1 (result ∷ []) waited 0 e
+      → said ≡ answer_text result → (p : PartialWriteCost out0 out1 said t u) → WriteShows e out0 out1 u
+      → HandsLater e out1 p.rest → Ends answers client a a source source out0 out1 (result ∷ []) waited 0 e
   said-in-part {client} {a} {source} {out0} {out1} {said} {waited} {t} {u} {e} result is p shows handed = record {
     waits = waited;
     results = [];
@@ -181,14 +204,17 @@ module _ {A : Type 0} (answers : A → Event → CallResult → A → Type 0) wh
 
   -- An opened client's session is its opening, its requests and its closing.
   pub continues-client : {class : Class} {opening : Opening} {client : ℕ} {a0 a1 a2 a3 : A} {in0 in1 : SourceTrace} {out0 out1 : SinkTrace} {waited : List ℕ} {steps : ℕ} {e : SessionEnd} {r : CallResult} {s : Session}
-      → answers a0 (Open opening) (Ok (Opened client)) a1 → Ends answers client a1 a2 in0 in1 out0 out1 (Ok (Opened client) ∷ []) waited steps e
-      → answers a2 (Close client) r a3 → s.client ≡ client → s.steps ≡ 1 + (steps + one_if_journaled r) → EndsClosed e r s.end
+      → answers a0 (Open opening) (Ok (Opened client)) a1
+      → Ends answers client a1 a2 in0 in1 out0 out1 (Ok (Opened client) ∷ []) waited steps e
+      → answers a2 (Close client) r a3 → s.client ≡ client → s.steps ≡ 1 + (steps + one_if_journaled r)
+      → EndsClosed e r s.end
       → Continues answers class opening a0 a3 in0 in1 out0 out1 waited s
   continues-client {class} {opening} {client} {a1} {a2} {a3} {out0} {out1} {e} {r} {s} opened h close c n ended =
       let log : List RequestReply = h.did.log in
       let first : RequestReply = request_reply (Open opening) (Ok (Opened client)) in
       let last : RequestReply = request_reply (Close client) r in
-      let same : Ok (Opened client) ∷ h.results ≡ outcomes (first ∷ log) = ap (λ (x : List CallResult). Ok (Opened client) ∷ x) (sym h.did.answered) in
+      let same : Ok (Opened client) ∷ h.results ≡ outcomes (first ∷ log) =
+      ap (λ (x : List CallResult). Ok (Opened client) ∷ x) (sym h.did.answered) in
       record {
         read = h.did.read;
         frames = h.did.frames;
@@ -204,11 +230,14 @@ module _ {A : Type 0} (answers : A → Event → CallResult → A → Type 0) wh
         made = (a1, opened, Runs-push answers a1 a2 a3 log last h.did.made close);
         follows = (h.did.asks, (r, refl), c);
         counted = ap (λ (k : ℕ). 1 + k) (
-            ap journaled (outcomes-push log last) ∙ journaled-push (outcomes log) r ∙ ap (λ (x : List CallResult). journaled x + one_if_journaled r) h.did.answered
+            ap journaled (outcomes-push log last) ∙ journaled-push (outcomes log) r
+            ∙ ap (λ (x : List CallResult). journaled x + one_if_journaled r) h.did.answered
             ∙ ap (λ (k : ℕ). k + one_if_journaled r) h.did.counted
             ) ∙ sym n;
         puts = record { parts = ap session_text (sym same) ∙ h.puts.parts; commits = h.puts.commits };
-        end_condition = end_condition-closed e client r s.end class h.waits (first ∷ log) h.later (subst (λ (x : List CallResult). Leaves e h.waits x h.later) same h.leaves) ended;
+        end_condition =
+            end_condition-closed e client r s.end class h.waits (first ∷ log) h.later
+            (subst (λ (x : List CallResult). Leaves e h.waits x h.later) same h.leaves) ended;
         ended = (r, e, refl, ends-requests e h.waits (Ok (Opened client) ∷ h.results) h.later h.leaves, ended);
         chunks = h.did.chunks;
         in_turn = h.did.takes;
@@ -217,8 +246,10 @@ module _ {A : Type 0} (answers : A → Event → CallResult → A → Type 0) wh
       }
 
   continues-refused : {class : Class} {opening : Opening} (result : CallResult) {a0 a1 : A} {source : SourceTrace} {out0 out1 : SinkTrace} {waited said : List ℕ} (meant : SessionEnd) {s : Session} {t u : ℕ}
-      → answers a0 (Open opening) result a1 → said ≡ answer_text result → Follows result [] [] [] s.client → journaled (result ∷ []) ≡ s.steps
-      → EndCondition meant class waited (request_reply (Open opening) result ∷ []) [] [] → ((end : SessionEnd) (later : List ℕ) → EndsRefused meant later end → EndsAfter result [] later end)
+      → answers a0 (Open opening) result a1 → said ≡ answer_text result → Follows result [] [] [] s.client
+      → journaled (result ∷ []) ≡ s.steps
+      → EndCondition meant class waited (request_reply (Open opening) result ∷ []) [] []
+      → ((end : SessionEnd) (later : List ℕ) → EndsRefused meant later end → EndsAfter result [] later end)
       → HandsLater meant out1 [] → Refuses meant s.end out0 out1 said t u
       → Continues answers class opening a0 a1 source source out0 out1 waited s
   continues-refused {class} {opening} result {a1} {source} {out1} {waited} {said} meant {s} opened is f n b after plain (inl p) = record {
@@ -236,8 +267,11 @@ module _ {A : Type 0} (answers : A → Event → CallResult → A → Type 0) wh
     made = (a1, opened, refl);
     follows = f;
     counted = n;
-    puts = record { parts = append-nil (answer_text result) ∙ sym is ∙ sym (append-nil said); commits = p.1.took.taken };
-    end_condition = subst (λ (x : SessionEnd). EndCondition x class waited (request_reply (Open opening) result ∷ []) [] []) (sym p.0) b;
+    puts =
+        record { parts = append-nil (answer_text result) ∙ sym is ∙ sym (append-nil said); commits = p.1.took.taken };
+    end_condition =
+        subst (λ (x : SessionEnd). EndCondition x class waited (request_reply (Open opening) result ∷ []) [] [])
+        (sym p.0) b;
     ended = after s.end [] (inl (p.0, refl));
     chunks = [];
     in_turn = Takes-none source waited;
@@ -272,21 +306,28 @@ module _ {A : Type 0} (answers : A → Event → CallResult → A → Type 0) wh
   -- A session with a denied opening ends as refused by its rule, unless writing stops it. The client sends no
   -- request.
   pub continues-denied : {class : Class} {opening : Opening} (rule : Rule) {a0 a1 : A} {source : SourceTrace} {out0 out1 : SinkTrace} {waited said : List ℕ} {s : Session} {t u : ℕ}
-      → answers a0 (Open opening) (Ok (Denied rule)) a1 → said ≡ answer_text (Ok (Denied rule)) → s.client ≡ 0 → s.steps ≡ 1 → Refuses (ends.OpenRefused rule) s.end out0 out1 said t u
+      → answers a0 (Open opening) (Ok (Denied rule)) a1 → said ≡ answer_text (Ok (Denied rule)) → s.client ≡ 0
+      → s.steps ≡ 1 → Refuses (ends.OpenRefused rule) s.end out0 out1 said t u
       → Continues answers class opening a0 a1 source source out0 out1 waited s
-  continues-denied {opening} rule opened is c n r = continues-refused (Ok (Denied rule)) (ends.OpenRefused rule) opened is (refl, refl, refl, c) (sym n) ((opening, refl), refl) (λ end later h. h) tt r
+  continues-denied {opening} rule opened is c n r =
+      continues-refused (Ok (Denied rule)) (ends.OpenRefused rule) opened is (refl, refl, refl, c) (sym n)
+      ((opening, refl), refl) (λ end later h. h) tt r
 
   -- A session whose opening has a fault ends with this fault, unless writing stops it. The client sends no request.
   pub continues-apart : {class : Class} {opening : Opening} (apart : Apart) {a0 a1 : A} {source : SourceTrace} {out0 out1 : SinkTrace} {waited said : List ℕ} {s : Session} {t u : ℕ}
-      → answers a0 (Open opening) (Err apart) a1 → said ≡ answer_text (Err apart) → s.client ≡ 0 → s.steps ≡ 0 → Refuses (ends.Apart apart) s.end out0 out1 said t u
+      → answers a0 (Open opening) (Err apart) a1 → said ≡ answer_text (Err apart) → s.client ≡ 0 → s.steps ≡ 0
+      → Refuses (ends.Apart apart) s.end out0 out1 said t u
       → Continues answers class opening a0 a1 source source out0 out1 waited s
-  continues-apart {opening} apart opened is c n r = continues-refused (Err apart) (ends.Apart apart) opened is (refl, refl, refl, c) (sym n) (inl ((opening, refl), refl)) (λ end later h. h) tt r
+  continues-apart {opening} apart opened is c n r =
+      continues-refused (Err apart) (ends.Apart apart) opened is (refl, refl, refl, c) (sym n)
+      (inl ((opening, refl), refl)) (λ end later h. h) tt r
 
   -- ---- from the first frame
 
   -- A session that ends before its first frame changes nothing.
   pub serves-unread : (class : Class) (a : A) (sink : SinkTrace) {in0 in1 : SourceTrace} {rest : List ℕ} {t u : ℕ} (e : SessionEnd)
-      → Comes in0 in1 [] rest t u → StopsAt e rest → Serves answers class a a in0 in1 sink sink (record { end = e; client = 0; steps = 0 })
+      → Comes in0 in1 [] rest t u → StopsAt e rest
+      → Serves answers class a a in0 in1 sink sink (record { end = e; client = 0; steps = 0 })
   serves-unread class a sink {in0} {in1} {rest} e m h = record {
     read = m.more;
     frames = [];
@@ -339,7 +380,8 @@ module _ {A : Type 0} (answers : A → Event → CallResult → A → Type 0) wh
 
   -- A session whose first frame is a hello continues with its opening.
   pub serves-session : {class : Class} {opening : Opening} {a0 a1 : A} {in0 in1 in2 : SourceTrace} {out0 out1 : SinkTrace} {waits : List ℕ} {t u : ℕ} {frame : FrameValue} {found : Option Opening} {s : Session}
-      → Uses in0 in1 [] waits t u frame → found ≡ opening_in class frame → found ≡ Some opening → Continues answers class opening a0 a1 in1 in2 out0 out1 waits s
+      → Uses in0 in1 [] waits t u frame → found ≡ opening_in class frame → found ≡ Some opening
+      → Continues answers class opening a0 a1 in1 in2 out0 out1 waits s
       → Serves answers class a0 a1 in0 in2 out0 out1 s
   serves-session {opening} {in0} {in1} {in2} {waits} {frame} m is some h =
       let frames : List ℕ = flat_map frame_text h.frames in
@@ -352,7 +394,9 @@ module _ {A : Type 0} (answers : A → Event → CallResult → A → Type 0) wh
         front = h.front;
         later = h.later;
         taken = Consumes-trans in0.left in1.left in2.left m.more h.read m.spends.gave.given h.taken;
-        parts = ap (λ (x : List ℕ). x ++ h.read) m.parts ∙ append_assoc (frame_text frame) waits h.read ∙ ap (λ (x : List ℕ). frame_text frame ++ x) h.parts
+        parts =
+            ap (λ (x : List ℕ). x ++ h.read) m.parts ∙ append_assoc (frame_text frame) waits h.read
+            ∙ ap (λ (x : List ℕ). frame_text frame ++ x) h.parts
             ∙ sym (append_assoc (frame_text frame) frames h.rest);
         fit = (m.fits, h.fit);
         made = h.made;

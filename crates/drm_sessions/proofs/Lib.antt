@@ -1,7 +1,7 @@
 pub mod Parts
 pub mod Taking
 pub mod Composing
-pub mod Ending
+pub mod SessionEnds
 pub mod Finishing
 pub mod Costing
 pub mod Mapping

@@ -14,7 +14,8 @@ module _ {A B : Type 0} (view : A → B) (p : A → Event → CallResult → A �
   Runs-map a b [] e = ap view e
   Runs-map a b (call ∷ log) r = (view r.0, seen a call.event call.outcome r.0 r.1, Runs-map r.0 b log r.2)
 
-  unfoldable pub Serves-map : {class : Class} {a b : A} {in0 in1 : SourceTrace} {out0 out1 : SinkTrace} {s : Session} → Serves p class a b in0 in1 out0 out1 s → Serves q class (view a) (view b) in0 in1 out0 out1 s
+  unfoldable pub Serves-map : {class : Class} {a b : A} {in0 in1 : SourceTrace} {out0 out1 : SinkTrace} {s : Session}
+      → Serves p class a b in0 in1 out0 out1 s → Serves q class (view a) (view b) in0 in1 out0 out1 s
   Serves-map {a} {b} h = record {
     read = h.read;
     frames = h.frames;

@@ -9,7 +9,7 @@ use Rattle.drm_turns.specs.History.{StartsWith, device_at}
 use Rattle.drm_turns.specs.Participants.{ParticipantView, entries_of}
 use Rattle.drm_model.specs.Run.{DeviceValue}
 use Rattle.drm_turns.specs.Turns.{Answered}
-use Rattle.drm_turns.proofs.Taken.{starts_on}
+use Rattle.drm_turns.proofs.ParticipantsIn.{starts_on}
 use Rattle.drm_frames.specs.Answers.{CallResult}
 use Rattle.drm_streams.specs.Streams.{SourceTrace, SinkTrace}
 use Rattle.drm_sessions.specs.declared.class.Class.{Class}
@@ -20,25 +20,29 @@ use Rattle.drm_sessions.specs.Serving.{Serves, calls_made}
 use Rattle.drm_sessions.specs.Shared.{TakesTurn, ServesShared, entries_by, journaled_by}
 use Rattle.drm_sessions.proofs.Mapping.{Runs-same}
 
-Runs-turns : (old new : ParticipantView) (log : List RequestReply) → Runs TakesTurn old log new → AllByRecursion (λ call. (device : DeviceValue) × Answered device call.event call.outcome) log
+Runs-turns : (old new : ParticipantView) (log : List RequestReply) → Runs TakesTurn old log new
+    → AllByRecursion (λ call. (device : DeviceValue) × Answered device call.event call.outcome) log
 Runs-turns old new [] r = tt
 Runs-turns old new (call ∷ log) r = ((device_at r.0.origin r.0.seen, r.1.turn), Runs-turns r.0 new log r.2)
 
 -- ---- what was seen
 
-Runs-seen : (old new : ParticipantView) (log : List RequestReply) → Runs TakesTurn old log new → StartsWith new.seen old.seen
+Runs-seen : (old new : ParticipantView) (log : List RequestReply) → Runs TakesTurn old log new
+    → StartsWith new.seen old.seen
 Runs-seen old new [] r = ([], ap (λ (s : ParticipantView). s.seen) r ∙ sym (append-nil old.seen))
 Runs-seen old new (call ∷ log) r = starts_on new.seen r.0.seen old.seen (Runs-seen r.0 new log r.2) r.1.extends.1
 
 -- ---- the participant's own entries
 
-turn-mine : (old new : ParticipantView) (event : Event) (result : CallResult) → TakesTurn old event result new → new.mine ≡ old.mine ++ journaled_by old.number event result
+turn-mine : (old new : ParticipantView) (event : Event) (result : CallResult) → TakesTurn old event result new
+    → new.mine ≡ old.mine ++ journaled_by old.number event result
 turn-mine old new event (Ok answer) h = h.ok.2
 turn-mine old new event (Err JournalFull) h = h.err.0 ∙ sym (append-nil old.mine)
 turn-mine old new event (Err NoMemory) h = h.err.0 ∙ sym (append-nil old.mine)
 turn-mine old new event (Err Worn) h = h.err.0 ∙ sym (append-nil old.mine)
 
-Runs-mine : (old new : ParticipantView) (log : List RequestReply) → Runs TakesTurn old log new → new.mine ≡ old.mine ++ entries_by old.number log
+Runs-mine : (old new : ParticipantView) (log : List RequestReply) → Runs TakesTurn old log new
+    → new.mine ≡ old.mine ++ entries_by old.number log
 Runs-mine old new [] r = ap (λ (s : ParticipantView). s.mine) r ∙ sym (append-nil old.mine)
 Runs-mine old new (call ∷ log) r =
     let mid : ParticipantView = r.0 in
@@ -53,7 +57,8 @@ entries-one : (result : CallResult) → entries_of result ≡ one_if_journaled r
 entries-one (Ok answer) = refl
 entries-one (Err apart) = refl
 
-Runs-journaled : (old new : ParticipantView) (log : List RequestReply) → Runs TakesTurn old log new → new.journaled ≡ old.journaled + journaled (outcomes log)
+Runs-journaled : (old new : ParticipantView) (log : List RequestReply) → Runs TakesTurn old log new
+    → new.journaled ≡ old.journaled + journaled (outcomes log)
 Runs-journaled old new [] r = let same = ap (λ (s : ParticipantView). s.journaled) r in omega arith
 Runs-journaled old new (call ∷ log) r =
     let more = Runs-journaled r.0 new log r.2 in
@@ -61,7 +66,8 @@ Runs-journaled old new (call ∷ log) r =
     let one = entries-one call.outcome in
     omega arith
 
-journaled-one : (number : ℕ) (event : Event) (result : CallResult) → length (journaled_by number event result) ≡ one_if_journaled result
+journaled-one : (number : ℕ) (event : Event) (result : CallResult)
+    → length (journaled_by number event result) ≡ one_if_journaled result
 journaled-one number event (Ok answer) = refl
 journaled-one number event (Err apart) = refl
 
@@ -85,13 +91,18 @@ Serves-shared {old} {new} {session} h =
       turns = Runs-turns old new log h.made;
       same = (
         Runs-same (λ (s : ParticipantView). s.table) TakesTurn (λ a event result b t. t.extends.0.0) old new log h.made,
-        Runs-same (λ (s : ParticipantView). s.number) TakesTurn (λ a event result b t. t.extends.0.1) old new log h.made,
-        Runs-same (λ (s : ParticipantView). s.origin) TakesTurn (λ a event result b t. t.extends.0.2) old new log h.made,
+        Runs-same (λ (s : ParticipantView). s.number) TakesTurn (λ a event result b t. t.extends.0.1) old new log
+            h.made,
+        Runs-same (λ (s : ParticipantView). s.origin) TakesTurn (λ a event result b t. t.extends.0.2) old new log
+            h.made,
       );
-      merged = Runs-same (λ (s : ParticipantView). s.merged) TakesTurn (λ a event result b t. t.merged) old new log h.made;
+      merged =
+          Runs-same (λ (s : ParticipantView). s.merged) TakesTurn (λ a event result b t. t.merged) old new log h.made;
       unchanged = (
-        Runs-same (λ (s : ParticipantView). s.parent) TakesTurn (λ a event result b t. t.unchanged.0) old new log h.made,
-        Runs-same (λ (s : ParticipantView). s.outstanding) TakesTurn (λ a event result b t. t.unchanged.1) old new log h.made,
+        Runs-same (λ (s : ParticipantView). s.parent) TakesTurn (λ a event result b t. t.unchanged.0) old new log
+            h.made,
+        Runs-same (λ (s : ParticipantView). s.outstanding) TakesTurn (λ a event result b t. t.unchanged.1) old new log
+            h.made,
       );
       seen = Runs-seen old new log h.made;
       mine = mine;
@@ -103,17 +114,24 @@ Serves-shared {old} {new} {session} h =
 -- ---- with the gate
 
 -- A session whose calls each took a turn is one through a shared device, also for equal participants.
-pub Serves-through : {G : Type 0} (passes : G → ℕ → G → Type 0) (g0 g1 : G) {class : Class} (before participant after done : ParticipantView) {in0 in1 : SourceTrace} {out0 out1 : SinkTrace} {session : Session} → before ≡ participant → done ≡ after
+pub Serves-through : {G : Type 0} (passes : G → ℕ → G → Type 0) (g0 g1 : G) {class : Class} (before participant after done : ParticipantView) {in0 in1 : SourceTrace} {out0 out1 : SinkTrace} {session : Session}
+    → before ≡ participant → done ≡ after
     → (s : Serves TakesTurn class before after in0 in1 out0 out1 session) × LetsAllPass passes g0 (calls_made s) g1
     → (s : ServesShared class participant done in0 in1 out0 out1 session) × LetsAllPass passes g0 (calls_made s.serves) g1
 unfolding Serves-shared
 Serves-through passes g0 g1 {class} before participant after done {in0} {in1} {out0} {out1} {session} from to served =
-    let Gated : ParticipantView → ParticipantView → Type 0 = λ x y. (s : ServesShared class x y in0 in1 out0 out1 session) × LetsAllPass passes g0 (calls_made s.serves) g1 in
-    subst (λ (y : ParticipantView). Gated participant y) (sym to) (subst (λ (x : ParticipantView). Gated x after) from (Serves-shared served.0, served.1))
+    let Gated : ParticipantView → ParticipantView → Type 0 =
+    λ x y. (s : ServesShared class x y in0 in1 out0 out1 session) × LetsAllPass passes g0 (calls_made s.serves) g1
+    in
+    subst (λ (y : ParticipantView). Gated participant y) (sym to)
+    (subst (λ (x : ParticipantView). Gated x after) from (Serves-shared served.0, served.1))
 
 -- A session through a participant that leaves one participant leaves each equal one.
-pub Served-as : {G : Type 0} (passes : G → ℕ → G → Type 0) (g0 g1 : G) {class : Class} {participant : ParticipantView} (after done : ParticipantView) {in0 in1 : SourceTrace} {out0 out1 : SinkTrace} {session : Session} → done ≡ after
+pub Served-as : {G : Type 0} (passes : G → ℕ → G → Type 0) (g0 g1 : G) {class : Class} {participant : ParticipantView} (after done : ParticipantView) {in0 in1 : SourceTrace} {out0 out1 : SinkTrace} {session : Session}
+    → done ≡ after
     → (s : ServesShared class participant after in0 in1 out0 out1 session) × LetsAllPass passes g0 (calls_made s.serves) g1
     → (s : ServesShared class participant done in0 in1 out0 out1 session) × LetsAllPass passes g0 (calls_made s.serves) g1
 Served-as passes g0 g1 {class} {participant} after done {in0} {in1} {out0} {out1} {session} to served =
-    subst (λ (y : ParticipantView). (s : ServesShared class participant y in0 in1 out0 out1 session) × LetsAllPass passes g0 (calls_made s.serves) g1) (sym to) served
+    subst
+    (λ (y : ParticipantView). (s : ServesShared class participant y in0 in1 out0 out1 session) × LetsAllPass passes g0 (calls_made s.serves) g1)
+    (sym to) served

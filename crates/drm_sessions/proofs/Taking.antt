@@ -16,7 +16,9 @@ InTurn-then a b c (Used frame ∷ xs) ys p q = (p.0, p.1, InTurn-then p.0 b c xs
 
 bytes_taken-then : (xs ys : List ReadChunk) → bytes_taken (xs ++ ys) ≡ bytes_taken xs ++ bytes_taken ys
 bytes_taken-then [] ys = refl
-bytes_taken-then (Chunk bytes ∷ xs) ys = ap (λ (l : List ℕ). bytes ++ l) (bytes_taken-then xs ys) ∙ sym (append_assoc bytes (bytes_taken xs) (bytes_taken ys))
+bytes_taken-then (Chunk bytes ∷ xs) ys =
+    ap (λ (l : List ℕ). bytes ++ l) (bytes_taken-then xs ys)
+    ∙ sym (append_assoc bytes (bytes_taken xs) (bytes_taken ys))
 bytes_taken-then (Used frame ∷ xs) ys = bytes_taken-then xs ys
 
 frames_used-then : (xs ys : List ReadChunk) → frames_used (xs ++ ys) ≡ frames_used xs ++ frames_used ys
@@ -30,7 +32,8 @@ last_chunk-then (Chunk bytes ∷ xs) ys gave = last_chunk-then xs ys (length byt
 last_chunk-then (Used frame ∷ xs) ys gave = last_chunk-then xs ys gave
 
 -- Whether bytes follow the last frame of two lists of chunks is decided by the second, if it has any.
-pub ends_in_chunk-then : (xs ys : List ReadChunk) (was : Bool) → ends_in_chunk (xs ++ ys) was ≡ ends_in_chunk ys (ends_in_chunk xs was)
+pub ends_in_chunk-then : (xs ys : List ReadChunk) (was : Bool)
+    → ends_in_chunk (xs ++ ys) was ≡ ends_in_chunk ys (ends_in_chunk xs was)
 ends_in_chunk-then [] ys was = refl
 ends_in_chunk-then (Chunk bytes ∷ xs) ys was = ends_in_chunk-then xs ys true
 ends_in_chunk-then (Used frame ∷ xs) ys was = ends_in_chunk-then xs ys false
@@ -45,8 +48,11 @@ pub Takes-then : {a b c : SourceTrace} {w0 w1 w2 : List ℕ} {xs ys : List ReadC
 Takes-then {a} {b} {c} {w0} {w1} {w2} {xs} {ys} {r} {s} {fs} {gs} p q = record {
   in_turn = InTurn-then w0 w1 w2 xs ys p.in_turn q.in_turn;
   gave = q.gave ∙ ap (λ (n : ℕ). last_chunk ys n) p.gave ∙ sym (last_chunk-then xs ys a.gave);
-  bytes = bytes_taken-then xs ys ∙ ap (λ (l : List ℕ). l ++ bytes_taken ys) p.bytes ∙ ap (λ (l : List ℕ). r ++ l) q.bytes;
-  used = frames_used-then xs ys ∙ ap (λ (l : List FrameValue). l ++ frames_used ys) p.used ∙ ap (λ (l : List FrameValue). fs ++ l) q.used;
+  bytes =
+      bytes_taken-then xs ys ∙ ap (λ (l : List ℕ). l ++ bytes_taken ys) p.bytes ∙ ap (λ (l : List ℕ). r ++ l) q.bytes;
+  used =
+      frames_used-then xs ys ∙ ap (λ (l : List FrameValue). l ++ frames_used ys) p.used
+      ∙ ap (λ (l : List FrameValue). fs ++ l) q.used;
 }
 
 -- Bytes that are taken without a frame continue what was taken.
@@ -55,11 +61,14 @@ pub Takes-read : {a b c : SourceTrace} {w0 w1 w2 : List ℕ} {xs ys : List ReadC
 Takes-read {a} {b} {c} {w0} {w1} {w2} {xs} {ys} {r} {s} {fs} p q =
     subst (λ (l : List FrameValue). Takes a c w0 w2 (xs ++ ys) (r ++ s) l) (append-nil fs) (Takes-then p q)
 
-Takes-chunk : {a b : SourceTrace} {w0 w1 : List ℕ} {s t : ℕ} → IsPart w0 → (m : Gives a b w0 w1 s t) → Takes a b w0 w1 (Chunk m.more ∷ []) m.more []
+Takes-chunk : {a b : SourceTrace} {w0 w1 : List ℕ} {s t : ℕ} → IsPart w0 → (m : Gives a b w0 w1 s t)
+    → Takes a b w0 w1 (Chunk m.more ∷ []) m.more []
 Takes-chunk part m = record { in_turn = (part, m.some, m.parts); gave = m.gave; bytes = append-nil m.more; used = refl }
 
-Takes-frame : (source : SourceTrace) (waited waits : List ℕ) (frame : FrameValue) → waited ≡ frame_text frame ++ waits → Takes source source waited waits (Used frame ∷ []) [] (frame ∷ [])
-Takes-frame source waited waits frame parts = record { in_turn = (waits, parts, refl); gave = refl; bytes = refl; used = refl }
+Takes-frame : (source : SourceTrace) (waited waits : List ℕ) (frame : FrameValue) → waited ≡ frame_text frame ++ waits
+    → Takes source source waited waits (Used frame ∷ []) [] (frame ∷ [])
+Takes-frame source waited waits frame parts =
+    record { in_turn = (waits, parts, refl); gave = refl; bytes = refl; used = refl }
 
 -- ---- reading for a frame
 
@@ -74,7 +83,8 @@ Comes-none source waits turns = record {
 }
 
 -- Bytes read in two parts, one after the other, are read together.
-pub Comes-more : {a b c : SourceTrace} {w0 w1 w2 : List ℕ} {s t u : ℕ} → Comes a b w0 w1 s t → IsPart w1 → Gives b c w1 w2 t u → Comes a c w0 w2 s u
+pub Comes-more : {a b c : SourceTrace} {w0 w1 w2 : List ℕ} {s t u : ℕ} → Comes a b w0 w1 s t → IsPart w1
+    → Gives b c w1 w2 t u → Comes a c w0 w2 s u
 Comes-more {w0} p part m = record {
   more = p.more ++ m.more;
   spends = ReadCost-then p.spends m.spends;
@@ -84,7 +94,8 @@ Comes-more {w0} p part m = record {
 }
 
 -- Bytes that are read for a frame, and the frame, are taken one after the other.
-pub Uses-takes : {a b : SourceTrace} {w0 w1 : List ℕ} {s t : ℕ} {frame : FrameValue} (m : Uses a b w0 w1 s t frame) → Takes a b w0 w1 (m.chunks ++ Used frame ∷ []) m.more (frame ∷ [])
+pub Uses-takes : {a b : SourceTrace} {w0 w1 : List ℕ} {s t : ℕ} {frame : FrameValue} (m : Uses a b w0 w1 s t frame)
+    → Takes a b w0 w1 (m.chunks ++ Used frame ∷ []) m.more (frame ∷ [])
 Uses-takes {a} {b} {w0} {w1} {frame} m =
     subst (λ (l : List ℕ). Takes a b w0 w1 (m.chunks ++ Used frame ∷ []) l (frame ∷ [])) (append-nil m.more)
     (Takes-then m.takes (Takes-frame b (frame_text frame ++ w1) w1 frame refl))

@@ -53,19 +53,24 @@ put-fault {old} {new} (inl h) =
 put-fault {old} {new} (inr p) =
     let before = pieces-untold p.rows old in record {
       ends = ap (λ (c : Counts). c.ends) p.counts ∙ before.ends;
-      fault = inr (ap (λ (c : Counts). c.failures) p.counts ∙ before.failures, (let more = ap (λ (c : Counts). c.faults) p.counts in omega arith));
+      fault =
+          inr
+          (ap (λ (c : Counts). c.failures) p.counts ∙ before.failures, (let more = ap (λ (c : Counts). c.faults) p.counts in omega arith));
     }
 
 -- A text that the sink took whole is written whole.
-pub wrote-whole : {from to : SinkTrace} {text : List ℕ} {had has : ℕ} → Writes written.Whole from to text had has → PutCalls written.Whole from.counts to.counts → Wrote (Ok tt) from to text had has
+pub wrote-whole : {from to : SinkTrace} {text : List ℕ} {had has : ℕ} → Writes written.Whole from to text had has
+    → PutCalls written.Whole from.counts to.counts → Wrote (Ok tt) from to text had has
 wrote-whole w calls = (w.0, w.1, put-untold 0 calls)
 
 -- If no turn is left, a text is written in part, which ends the session.
-pub wrote-used : {from to : SinkTrace} {text : List ℕ} {had has : ℕ} → Writes written.TurnsUsed from to text had has → PutCalls written.TurnsUsed from.counts to.counts → Wrote (Err ends.TurnsUsed) from to text had has
+pub wrote-used : {from to : SinkTrace} {text : List ℕ} {had has : ℕ} → Writes written.TurnsUsed from to text had has
+    → PutCalls written.TurnsUsed from.counts to.counts → Wrote (Err ends.TurnsUsed) from to text had has
 wrote-used w calls = (w.0, w.1, tt, put-untold calls.0 calls.2)
 
 -- If the sink fails, a text is written in part, which ends the session.
-pub wrote-fault : {from to : SinkTrace} {text : List ℕ} {had has : ℕ} → Writes written.Fault from to text had has → PutCalls written.Fault from.counts to.counts → HandsRest written.Fault from to text
+pub wrote-fault : {from to : SinkTrace} {text : List ℕ} {had has : ℕ} → Writes written.Fault from to text had has
+    → PutCalls written.Fault from.counts to.counts → HandsRest written.Fault from to text
     → Wrote (Err ends.WriteFault) from to text had has
 wrote-fault {from} {to} {text} {had} {has} w calls hands =
     let part : PartialWriteCost from to text had has = record {
@@ -81,7 +86,9 @@ wrote-fault {from} {to} {text} {had} {has} w calls hands =
 end-later : {a b c : Counts} → Untold a b → EndTold b c → EndTold a c
 end-later p q = record { ends = q.ends ∙ ap (λ (n : ℕ). n + 1) p.ends; failures = q.failures ∙ p.failures }
 
-fault-by : (a b c : Counts) → Untold a b → (c.failures ≡ b.failures + 1) ⊎ ((c.failures ≡ b.failures) × (b.faults + 1000 ≤ c.faults)) → (c.failures ≡ a.failures + 1) ⊎ ((c.failures ≡ a.failures) × (a.faults + 1000 ≤ c.faults))
+fault-by : (a b c : Counts) → Untold a b
+    → (c.failures ≡ b.failures + 1) ⊎ ((c.failures ≡ b.failures) × (b.faults + 1000 ≤ c.faults))
+    → (c.failures ≡ a.failures + 1) ⊎ ((c.failures ≡ a.failures) × (a.faults + 1000 ≤ c.faults))
 fault-by a b c p (inl e) = inl (e ∙ ap (λ (n : ℕ). n + 1) p.failures)
 fault-by a b c p (inr h) = inr (h.0 ∙ p.failures, (let more = p.faults in let many = h.1 in omega arith))
 
@@ -111,11 +118,13 @@ sink-later ends.TurnsUsed a b c p q = Untold-then p q
 sink-later (ends.Apart apart) a b c p q = Untold-then p q
 
 -- What is reported at an end is the same after earlier calls that reported nothing.
-pub Tells-later : (e : SessionEnd) {in0 in1 in2 out0 out1 out2 : Counts} → Untold in0 in1 → Untold out0 out1 → Tells e in1 in2 out1 out2 → Tells e in0 in2 out0 out2
+pub Tells-later : (e : SessionEnd) {in0 in1 in2 out0 out1 out2 : Counts} → Untold in0 in1 → Untold out0 out1
+    → Tells e in1 in2 out1 out2 → Tells e in0 in2 out0 out2
 Tells-later e p q t = record { source = source-later e _ _ _ p t.source; sink = sink-later e _ _ _ q t.sink }
 
 -- What is reported at a session's end is the same after earlier calls that reported nothing.
-pub TellsStop-later : {e : SessionEnd} {in0 in1 in2 out0 out1 out2 : Counts} → Untold in0 in1 → Untold out0 out1 → TellsStop e in1 in2 out1 out2 → TellsStop e in0 in2 out0 out2
+pub TellsStop-later : {e : SessionEnd} {in0 in1 in2 out0 out1 out2 : Counts} → Untold in0 in1 → Untold out0 out1
+    → TellsStop e in1 in2 out1 out2 → TellsStop e in0 in2 out0 out2
 TellsStop-later p q t = record { stopped = t.stopped; same = t.same; tells = Tells-later t.stopped p q t.tells }
 
 -- ---- where reading stops, and where writing does
@@ -131,7 +140,8 @@ sink-quiet (ends.OpenRefused rule) waits h u = u
 sink-quiet ends.TurnsUsed waits h u = u
 sink-quiet (ends.Apart apart) waits h u = u
 
-source-quiet : (e : SessionEnd) (from to : SinkTrace) (has : ℕ) {a b : Counts} → WriteShows e from to has → Untold a b → SourceTells e a b
+source-quiet : (e : SessionEnd) (from to : SinkTrace) (has : ℕ) {a b : Counts} → WriteShows e from to has → Untold a b
+    → SourceTells e a b
 source-quiet ends.WriteFault from to has h u = u
 source-quiet ends.TurnsUsed from to has h u = u
 source-quiet ends.Ended from to has h u = absurd h
@@ -143,12 +153,15 @@ source-quiet (ends.OpenRefused rule) from to has h u = u
 source-quiet (ends.Apart apart) from to has h u = u
 
 -- If reading stops a session, the source says why and the sink reports nothing.
-pub tells-read : (e : SessionEnd) (waits : List ℕ) {in0 in1 in2 out0 out1 : Counts} → StopsAt e waits → Untold in0 in1 → Untold out0 out1 → SourceTells e in1 in2 → Tells e in0 in2 out0 out1
+pub tells-read : (e : SessionEnd) (waits : List ℕ) {in0 in1 in2 out0 out1 : Counts} → StopsAt e waits → Untold in0 in1
+    → Untold out0 out1 → SourceTells e in1 in2 → Tells e in0 in2 out0 out1
 tells-read e waits h p q told = record { source = source-later e _ _ _ p told; sink = sink-quiet e waits h q }
 
 -- If writing stops a session, the sink says why and the source reports nothing.
-pub tells-write : (e : SessionEnd) (from to : SinkTrace) (has : ℕ) {in0 in1 out0 : Counts} → WriteShows e from to has → Untold in0 in1 → Untold out0 from.counts → SinkTells e from.counts to.counts → Tells e in0 in1 out0 to.counts
-tells-write e from to has h p q told = record { source = source-quiet e from to has h p; sink = sink-later e _ _ _ q told }
+pub tells-write : (e : SessionEnd) (from to : SinkTrace) (has : ℕ) {in0 in1 out0 : Counts} → WriteShows e from to has
+    → Untold in0 in1 → Untold out0 from.counts → SinkTells e from.counts to.counts → Tells e in0 in1 out0 to.counts
+tells-write e from to has h p q told =
+    record { source = source-quiet e from to has h p; sink = sink-later e _ _ _ q told }
 
 -- If reading stops a session, no answer remains to be written.
 pub hands-read : (e : SessionEnd) (waits : List ℕ) (to : SinkTrace) → StopsAt e waits → HandsLater e to []
@@ -165,22 +178,26 @@ hands-read (ends.Apart apart) waits to h = tt
 -- ---- after the closing
 
 -- A closing leaves what the sink was handed at the end.
-pub hands-closed : (e : SessionEnd) (r : CallResult) (end : SessionEnd) (to : SinkTrace) (later : List ℕ) → EndsClosed e r end → HandsLater e to later → HandsLater end to later
+pub hands-closed : (e : SessionEnd) (r : CallResult) (end : SessionEnd) (to : SinkTrace) (later : List ℕ)
+    → EndsClosed e r end → HandsLater e to later → HandsLater end to later
 hands-closed e (Ok answer) end to later is h = subst (λ (x : SessionEnd). HandsLater x to later) (sym is) h
 hands-closed e (Err aparts.JournalFull) end to later is h = subst (λ (x : SessionEnd). HandsLater x to later) (sym is) h
 hands-closed e (Err aparts.NoMemory) end to later is h = subst (λ (x : SessionEnd). HandsLater x to later) (sym is) h
 hands-closed e (Err aparts.Worn) end to later is h = subst (λ (x : SessionEnd). HandsLater x to later) (sym is) tt
 
 -- A closing leaves what source and sink reported at the end.
-pub tells-closed : (e : SessionEnd) (r : CallResult) (end : SessionEnd) {in0 in1 out0 out1 : Counts} → EndsClosed e r end → Tells e in0 in1 out0 out1 → TellsStop end in0 in1 out0 out1
+pub tells-closed : (e : SessionEnd) (r : CallResult) (end : SessionEnd) {in0 in1 out0 out1 : Counts}
+    → EndsClosed e r end → Tells e in0 in1 out0 out1 → TellsStop end in0 in1 out0 out1
 tells-closed e (Ok answer) end is t = record { stopped = e; same = inl is; tells = t }
 tells-closed e (Err aparts.JournalFull) end is t = record { stopped = e; same = inl is; tells = t }
 tells-closed e (Err aparts.NoMemory) end is t = record { stopped = e; same = inl is; tells = t }
 tells-closed e (Err aparts.Worn) end is t = record { stopped = e; same = inr is; tells = t }
 
 -- A refusal that ends as is meant reports nothing further.
-pub tells-refused : (meant : SessionEnd) {end : SessionEnd} {from to : SinkTrace} {text : List ℕ} {had has : ℕ} (c : Counts) → SourceTells meant c c → (Untold from.counts to.counts → SinkTells meant from.counts to.counts)
+pub tells-refused : (meant : SessionEnd) {end : SessionEnd} {from to : SinkTrace} {text : List ℕ} {had has : ℕ} (c : Counts)
+    → SourceTells meant c c → (Untold from.counts to.counts → SinkTells meant from.counts to.counts)
     → Refuses meant end from to text had has → TellsStop end c c from.counts to.counts
-tells-refused meant c source sink (inl p) = record { stopped = meant; same = inl p.0; tells = record { source = source; sink = sink p.2 } }
+tells-refused meant c source sink (inl p) =
+    record { stopped = meant; same = inl p.0; tells = record { source = source; sink = sink p.2 } }
 tells-refused meant {end} {from} {to} {has} c source sink (inr p) =
     record { stopped = end; same = inl refl; tells = tells-write end from to has p.1 (Untold-none c) (Untold-none from.counts) p.3 }

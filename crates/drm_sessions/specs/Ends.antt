@@ -27,7 +27,8 @@ Leaves ends.Truncated waits results later = StopsAt ends.Truncated waits × (lat
 Leaves ends.TooLong waits results later = StopsAt ends.TooLong waits × (later ≡ [])
 Leaves ends.ReadFault waits results later = StopsAt ends.ReadFault waits × (later ≡ [])
 Leaves ends.WriteFault waits results later = TruncatesLastAnswer results later
-Leaves ends.TurnsUsed waits results later = (StopsAt ends.TurnsUsed waits × (later ≡ [])) ⊎ TruncatesLastAnswer results later
+Leaves ends.TurnsUsed waits results later =
+    (StopsAt ends.TurnsUsed waits × (later ≡ [])) ⊎ TruncatesLastAnswer results later
 Leaves ends.BadHello waits results later = ⊥
 Leaves (ends.OpenRefused rule) waits results later = ⊥
 Leaves (ends.Apart apart) waits results later = ⊥
@@ -69,7 +70,8 @@ pub record Ends {A : Type 0} (answers : A → Event → CallResult → A → Typ
 -- The text of a refusal is written whole and the session ends as is meant, or writing stopped it.
 abbrev pub Refuses : SessionEnd → SessionEnd → SinkTrace → SinkTrace → List ℕ → ℕ → ℕ → Type 0
 Refuses meant end from to text had has = ((end ≡ meant) × WriteCost from to text had has × Untold from.counts to.counts)
-    ⊎ ((part : PartialWriteCost from to text had has) × WriteShows end from to has × HandsLater end to part.rest × SinkTells end from.counts to.counts)
+    ⊎
+    ((part : PartialWriteCost from to text had has) × WriteShows end from to has × HandsLater end to part.rest × SinkTells end from.counts to.counts)
 
 -- A closing that finds the ticket counter exhausted is the end.
 abbrev pub EndsClosed : SessionEnd → CallResult → SessionEnd → Type 0

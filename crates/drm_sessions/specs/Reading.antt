@@ -74,9 +74,14 @@ pub record Uses (from to : SourceTrace) (waited waits : List ℕ) (had has : ℕ
 -- what resulted from taking bytes after those that wait
 abbrev pub Supplies : Refill → SourceTrace → SourceTrace → List ℕ → List ℕ → ℕ → ℕ → Type 0
 Supplies (refill.Got n) from to waited waits had has = Gives from to waited waits had has × (has < had)
-Supplies refill.End from to waited waits had has = ReadCost from to [] had has × (waits ≡ waited) × IsAtEnd to.left × (from.counts.ends < to.counts.ends) × (to.gave ≡ from.gave) × EndTold from.counts to.counts
-Supplies refill.Fault from to waited waits had has = ReadCost from to [] had has × (waits ≡ waited) × (from.counts.faults < to.counts.faults) × (to.gave ≡ from.gave) × FaultTold from.counts to.counts
-Supplies refill.TurnsUsed from to waited waits had has = ReadCost from to [] had has × (waits ≡ waited) × (has ≡ 0) × (to.gave ≡ from.gave) × Untold from.counts to.counts
+Supplies refill.End from to waited waits had has =
+    ReadCost from to [] had has × (waits ≡ waited) × IsAtEnd to.left × (from.counts.ends < to.counts.ends) ×
+    (to.gave ≡ from.gave) × EndTold from.counts to.counts
+Supplies refill.Fault from to waited waits had has =
+    ReadCost from to [] had has × (waits ≡ waited) × (from.counts.faults < to.counts.faults) × (to.gave ≡ from.gave) ×
+    FaultTold from.counts to.counts
+Supplies refill.TurnsUsed from to waited waits had has =
+    ReadCost from to [] had has × (waits ≡ waited) × (has ≡ 0) × (to.gave ≡ from.gave) × Untold from.counts to.counts
 
 -- what waits where reading stops: never a whole frame
 abbrev pub StopsAt : SessionEnd → List ℕ → Type 0
@@ -99,9 +104,13 @@ ReadShows ends.TurnsUsed from to has = has ≡ 0
 ReadShows _ from to has = ⊤
 
 -- what the next frame says, or how reading for it stopped
-abbrev pub Reads : {M : Type 0} → (FrameValue → M) → Result M SessionEnd → SourceTrace → SourceTrace → List ℕ → List ℕ → ℕ → ℕ → Type 0
-Reads said (Ok message) from to waited waits had has = (frame : FrameValue) × Uses from to waited waits had has frame × (message ≡ said frame)
-Reads said (Err end) from to waited waits had has = Comes from to waited waits had has × StopsAt end waits × ReadShows end from to has × SourceTells end from.counts to.counts
+abbrev pub Reads : {M : Type 0} → (FrameValue → M) → Result M SessionEnd → SourceTrace → SourceTrace → List ℕ → List ℕ
+    → ℕ → ℕ → Type 0
+Reads said (Ok message) from to waited waits had has =
+    (frame : FrameValue) × Uses from to waited waits had has frame × (message ≡ said frame)
+Reads said (Err end) from to waited waits had has =
+    Comes from to waited waits had has × StopsAt end waits × ReadShows end from to has × SourceTells end from.counts
+    to.counts
 
 -- what the sink's trace shows where writing stops a session
 abbrev pub WriteShows : SessionEnd → SinkTrace → SinkTrace → ℕ → Type 0
@@ -111,8 +120,11 @@ WriteShows _ from to has = ⊥
 
 -- all of the text is written, or a front of it and not the whole
 abbrev pub Wrote : Result ⊤ SessionEnd → SinkTrace → SinkTrace → List ℕ → ℕ → ℕ → Type 0
-Wrote (Ok _) from to text had has = WriteCost from to text had has × (0 < length text → has < had) × Untold from.counts to.counts
-Wrote (Err end) from to text had has = (part : PartialWriteCost from to text had has) × WriteShows end from to has × HandsLater end to part.rest × SinkTells end from.counts to.counts
+Wrote (Ok _) from to text had has =
+    WriteCost from to text had has × (0 < length text → has < had) × Untold from.counts to.counts
+Wrote (Err end) from to text had has =
+    (part : PartialWriteCost from to text had has) × WriteShows end from to has × HandsLater end to part.rest ×
+    SinkTells end from.counts to.counts
 
 -- A front of the text was written to the sink, and the later part wasn't.
 pub record WritesFront (from to : SinkTrace) (text front later : List ℕ) : Type 0 where

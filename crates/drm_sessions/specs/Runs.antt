@@ -22,7 +22,8 @@ request_reply event outcome = record { event = event; outcome = outcome }
 -- From `old` these calls lead to `new`, one after the other.
 abbrev pub Runs : {A : Type 0} → (A → Event → CallResult → A → Type 0) → A → List RequestReply → A → Type 0
 Runs answers old [] new = new ≡ old
-Runs {A = A} answers old (call ∷ log) new = (mid : A) × answers old call.event call.outcome mid × Runs answers mid log new
+Runs {A = A} answers old (call ∷ log) new =
+    (mid : A) × answers old call.event call.outcome mid × Runs answers mid log new
 
 -- what the client asks by a frame
 abbrev pub asked : ℕ → FrameValue → Event

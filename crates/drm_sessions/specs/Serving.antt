@@ -22,7 +22,9 @@ use Rattle.drm_sessions.specs.Ends.{TruncatesLastAnswer, EndsClosed, EndsRefused
 
 -- After the opening: of a client its requests and one closing, and else nothing.
 abbrev pub Follows : CallResult → List FrameValue → List RequestReply → List RequestReply → ℕ → Type 0
-Follows (Ok (Opened c)) frames asks closing client = (events asks ≡ map (asked c) frames) × ((result : CallResult) × (closing ≡ request_reply (Close c) result ∷ [])) × (client ≡ c)
+Follows (Ok (Opened c)) frames asks closing client =
+    (events asks ≡ map (asked c) frames) × ((result : CallResult) × (closing ≡ request_reply (Close c) result ∷ [])) ×
+    (client ≡ c)
 Follows _ frames asks closing client = (frames ≡ []) × (asks ≡ []) × (closing ≡ []) × (client ≡ 0)
 
 -- The calls that a session makes of its frames: those whose answers it writes, and the closing.
@@ -30,11 +32,14 @@ abbrev pub Makes : Class → List FrameValue → List RequestReply → List Requ
 Makes class [] answered closing client = (answered ≡ []) × (closing ≡ []) × (client ≡ 0)
 Makes class (hello ∷ frames) answered closing client =
     (opening : Opening) × (result : CallResult) × (asks : List RequestReply)
-    × (opening_in class hello ≡ Some opening) × (answered ≡ request_reply (Open opening) result ∷ asks) × Follows result frames asks closing client
+    × (opening_in class hello ≡ Some opening) × (answered ≡ request_reply (Open opening) result ∷ asks) × Follows result
+    frames asks closing client
 
 -- The bytes begin with a frame that is no hello, or not one of this class.
 abbrev pub IsNoHello : Class → List ℕ → Type 0
-IsNoHello class rest = (frame : FrameValue) × (more : List ℕ) × (rest ≡ frame_text frame ++ more) × IsFrame frame × (opening_in class frame ≡ None)
+IsNoHello class rest =
+    (frame : FrameValue) × (more : List ℕ) × (rest ≡ frame_text frame ++ more) × IsFrame frame ×
+    (opening_in class frame ≡ None)
 
 -- Each end has its cause: in the bytes that were read and not used, in what wasn't written, or in what the
 -- opening or the closing was answered. All answers were written, but where writing stopped in the last.
@@ -44,12 +49,15 @@ EndCondition ends.Truncated class rest answered closing later = StopsAt ends.Tru
 EndCondition ends.TooLong class rest answered closing later = StopsAt ends.TooLong rest × (later ≡ [])
 EndCondition ends.ReadFault class rest answered closing later = StopsAt ends.ReadFault rest × (later ≡ [])
 EndCondition ends.BadHello class rest answered closing later = IsNoHello class rest × (answered ≡ []) × (later ≡ [])
-EndCondition (ends.OpenRefused rule) class rest answered closing later = ((opening : Opening) × (answered ≡ request_reply (Open opening) (Ok (Denied rule)) ∷ [])) × (later ≡ [])
+EndCondition (ends.OpenRefused rule) class rest answered closing later =
+    ((opening : Opening) × (answered ≡ request_reply (Open opening) (Ok (Denied rule)) ∷ [])) × (later ≡ [])
 EndCondition (ends.Apart apart) class rest answered closing later =
     (((opening : Opening) × (answered ≡ request_reply (Open opening) (Err apart) ∷ [])) × (later ≡ []))
-    ⊎ (((client : ℕ) × (closing ≡ request_reply (Close client) (Err apart) ∷ [])) × (apart ≡ Worn) × ((later ≡ []) ⊎ TruncatesLastAnswer (outcomes answered) later))
+    ⊎
+    (((client : ℕ) × (closing ≡ request_reply (Close client) (Err apart) ∷ [])) × (apart ≡ Worn) × ((later ≡ []) ⊎ TruncatesLastAnswer (outcomes answered) later))
 EndCondition ends.WriteFault class rest answered closing later = TruncatesLastAnswer (outcomes answered) later
-EndCondition ends.TurnsUsed class rest answered closing later = (StopsAt ends.TurnsUsed rest × (later ≡ [])) ⊎ TruncatesLastAnswer (outcomes answered) later
+EndCondition ends.TurnsUsed class rest answered closing later =
+    (StopsAt ends.TurnsUsed rest × (later ≡ [])) ⊎ TruncatesLastAnswer (outcomes answered) later
 
 -- The answer to the opening decides how the session ends. An accepted one ends as the requests did, or with an
 -- exhausted ticket counter if the closing found it so. A denied one ends as refused by its rule, and one with a fault

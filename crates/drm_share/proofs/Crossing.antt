@@ -18,7 +18,9 @@ pub names_send : IsSend names.the_row
 names_send = view_send names_inside.the_row _ _ _ _ names_inside_send
 
 export_send : IsSend export.the_row
-export_send = recorded_send export.the_field.row _ _ export.the_type.to_one (struct_send (shape export.the_type) (search sendable depth 20, (search sendable depth 20, tt)))
+export_send =
+    recorded_send export.the_field.row _ _ export.the_type.to_one
+    (struct_send (shape export.the_type) (search sendable depth 20, (search sendable depth 20, tt)))
 
 tokens_inside_send : IsSend tokens_inside.the_row
 tokens_inside_send =

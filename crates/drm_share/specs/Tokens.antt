@@ -44,7 +44,8 @@ is_free list t = not (is_among (map (λ row. row.token) list.tokens) t)
 -- the lowest free token above the last one given or, if there is none, the lowest free one (the kernel's cyclic IDR;
 -- that tokens are assigned so is own)
 abbrev pub next_token : TokenList → Option ℕ
-next_token list = or_else (least (is_free list) (unwrap_or list.last_given 0 + 1) list.last) (least (is_free list) 1 list.last)
+next_token list =
+    or_else (least (is_free list) (unwrap_or list.last_given 0 + 1) list.last) (least (is_free list) 1 list.last)
 
 -- the list with a token more, which is the last one allocated
 abbrev pub with_token : TokenList → SharedToken → TokenList

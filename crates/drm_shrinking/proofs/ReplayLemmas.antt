@@ -28,10 +28,13 @@ pub record ReplaySoFar (setting : Setting) (text rest written : List ℕ) (numbe
   pub all : kept ≡ 0 → count ≡ before
 
 -- A replay that begins has used no line.
-pub none_so_far : (setting : Setting) (text written : List ℕ) (number kept : ℕ) (interpreter : InterpreterState) → interpreter ≡ at_start setting → written ≡ [] → ReplaySoFar setting text text written number 0 0 kept interpreter
+pub none_so_far : (setting : Setting) (text written : List ℕ) (number kept : ℕ) (interpreter : InterpreterState)
+    → interpreter ≡ at_start setting → written ≡ [] → ReplaySoFar setting text text written number 0 0 kept interpreter
 none_so_far setting text written number kept interpreter at none = record {
   lines = [];
-  selected = subst (λ (i : InterpreterState). Selected setting [] 0 written i.device i.labels) (sym at) (subst (λ (u : List ℕ). Selected setting [] 0 u (at_start setting).device (at_start setting).labels) (sym none) start);
+  selected =
+      subst (λ (i : InterpreterState). Selected setting [] 0 written i.device i.labels) (sym at)
+      (subst (λ (u : List ℕ). Selected setting [] 0 u (at_start setting).device (at_start setting).labels) (sym none) start);
   whole = refl;
   counted = refl;
   bounded = omega arith;
@@ -48,10 +51,14 @@ module _ {setting : Setting} {text rest written : List ℕ} {number before count
   module _ (first behind : List ℕ) (f : FirstLine rest first behind) where
     -- the first line of the rest has the next number
     here : LineAt text (before + 1) so.lines first
-    here = record { others = lines_of behind; lines = so.whole ∙ ap (λ (ls : List (List ℕ)). so.lines ++ ls) f.lines; number_is = ap (λ n. n + 1) so.counted }
+    here =
+        record
+        { others = lines_of behind; lines = so.whole ∙ ap (λ (ls : List (List ℕ)). so.lines ++ ls) f.lines; number_is = ap (λ n. n + 1) so.counted }
 
     whole_next : lines_of text ≡ (so.lines ++ first ∷ []) ++ lines_of behind
-    whole_next = so.whole ∙ ap (λ (ls : List (List ℕ)). so.lines ++ ls) f.lines ∙ sym (append_assoc so.lines (first ∷ []) (lines_of behind))
+    whole_next =
+        so.whole ∙ ap (λ (ls : List (List ℕ)). so.lines ++ ls) f.lines
+        ∙ sym (append_assoc so.lines (first ∷ []) (lines_of behind))
 
     counted_next : before + 1 ≡ length (so.lines ++ first ∷ [])
     counted_next = let a = so.counted in let b = length_push so.lines first in omega (arith, a, b)
@@ -67,11 +74,15 @@ module _ {setting : Setting} {text rest written : List ℕ} {number before count
         later (inr past) = inr (grind (arith, nat_tests))
 
     -- After one more line was used, it is selected.
-    pub one_used : (next : InterpreterState) (came : Option (Result Answer Apart)) (grown : List ℕ) → (before + 1 == number) ≡ false → UsesLine interpreter next (before + 1) first (Ok came)
-        → grown ≡ written ++ ended (with_answer (script_part first) came) → ReplaySoFar setting text behind grown number (before + 1) (count + 1) kept next
+    pub one_used : (next : InterpreterState) (came : Option (Result Answer Apart)) (grown : List ℕ)
+        → (before + 1 == number) ≡ false → UsesLine interpreter next (before + 1) first (Ok came)
+        → grown ≡ written ++ ended (with_answer (script_part first) came)
+        → ReplaySoFar setting text behind grown number (before + 1) (count + 1) kept next
     one_used next came grown e u g = record {
       lines = so.lines ++ first ∷ [];
-      selected = subst (λ (t : List ℕ). Selected setting (so.lines ++ first ∷ []) (count + 1) t next.device next.labels) (sym g) (used first came so.selected u.0 u.1);
+      selected =
+          subst (λ (t : List ℕ). Selected setting (so.lines ++ first ∷ []) (count + 1) t next.device next.labels)
+          (sym g) (used first came so.selected u.0 u.1);
       whole = whole_next;
       counted = counted_next;
       bounded = bounded_next;
@@ -81,7 +92,8 @@ module _ {setting : Setting} {text rest written : List ℕ} {number before count
     }
 
     -- A line that is left out changes nothing but the number of lines.
-    pub one_left_out : (is_kept : Bool) → (kept ≡ 0 → is_kept ≡ true) → is_kept ≡ false → (before + 1 == number) ≡ false → ReplaySoFar setting text behind written number (before + 1) count kept interpreter
+    pub one_left_out : (is_kept : Bool) → (kept ≡ 0 → is_kept ≡ true) → is_kept ≡ false → (before + 1 == number) ≡ false
+        → ReplaySoFar setting text behind written number (before + 1) count kept interpreter
     one_left_out is_kept always left e = record {
       lines = so.lines ++ first ∷ [];
       selected = left_out first so.selected;
@@ -94,7 +106,8 @@ module _ {setting : Setting} {text rest written : List ℕ} {number before count
     }
 
     -- A replay stops at a line that can't be used, or without memory.
-    pub fault_of_use : (next : InterpreterState) (fault : UpdateFault) → UsesLine interpreter next (before + 1) first (Err fault) → HasShrinkFault setting text number (fault_of fault)
+    pub fault_of_use : (next : InterpreterState) (fault : UpdateFault)
+        → UsesLine interpreter next (before + 1) first (Err fault) → HasShrinkFault setting text number (fault_of fault)
     fault_of_use next (updates.Malformed told cause) u = subst (HasUnfit setting text) (sym u.0) (record {
       before = so.lines;
       unfit = first;
@@ -111,7 +124,8 @@ module _ {setting : Setting} {text rest written : List ℕ} {number before count
 -- The same after values that are equal.
 pub joined_so_far : {setting : Setting} {text rest written written' : List ℕ} {number before count count' kept : ℕ} {interpreter interpreter' : InterpreterState}
     → interpreter ≡ interpreter' → written ≡ written' → count ≡ count'
-    → ReplaySoFar setting text rest written' number before count' kept interpreter' → ReplaySoFar setting text rest written number before count kept interpreter
+    → ReplaySoFar setting text rest written' number before count' kept interpreter'
+    → ReplaySoFar setting text rest written number before count kept interpreter
 joined_so_far {setting} {text} {rest} {written} {written'} {number} {before} {count} {count'} {kept} {interpreter} {interpreter'} i w c so =
     subst (λ (s : InterpreterState). ReplaySoFar setting text rest written number before count kept s) (sym i)
     (subst (λ (t : List ℕ). ReplaySoFar setting text rest t number before count kept interpreter') (sym w)

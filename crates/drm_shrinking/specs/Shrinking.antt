@@ -19,7 +19,8 @@ use Rattle.drm_shrinking.specs.declared.faults.ShrinkFault.TheVariants as faults
 pub data Selected (setting : Setting) : List (List ℕ) → ℕ → List ℕ → Place → List ℕ → Type 0 where
   start : Selected setting [] 0 [] (Planned setting) unbound
   used : {lines : List (List ℕ)} {count : ℕ} {text : List ℕ} {device device' : Place} {labels labels' : List ℕ} (next : List ℕ) (came : Option (Result Answer Apart))
-      → Selected setting lines count text device labels → length next ≤ 255 → Uses device labels (script_part next) (results_of came) device' labels'
+      → Selected setting lines count text device labels → length next ≤ 255
+      → Uses device labels (script_part next) (results_of came) device' labels'
       → Selected setting (lines ++ next ∷ []) (count + 1) (text ++ ended (with_answer (script_part next) came)) device' labels'
   left_out : {lines : List (List ℕ)} {count : ℕ} {text : List ℕ} {device : Place} {labels : List ℕ} (next : List ℕ)
       → Selected setting lines count text device labels → Selected setting (lines ++ next ∷ []) count text device labels

@@ -11,4 +11,6 @@ use Rattle.drm_state.specs.contracts.state.State as state
 
 -- A state may be sent to another thread.
 pub state_send : IsSend state.the_field.row
-state_send = struct_send (shape state.the_type) (files_send, (masters_send, (leases_send, (objects_send, (names_send, (tokens_send, (modes_send, tt)))))))
+state_send =
+    struct_send (shape state.the_type)
+    (files_send, (masters_send, (leases_send, (objects_send, (names_send, (tokens_send, (modes_send, tt)))))))

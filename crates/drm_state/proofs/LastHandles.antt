@@ -17,18 +17,21 @@ use Rattle.drm_state.proofs.Contents.{unheld_step, unhold_limit}
 use Rattle.drm_index_array.proofs.Entries.{differ}
 
 -- no other handle names the object
-forgotten : (names : NameList) (k : ℕ) (keys : List ℕ) → is_among keys k ≡ false → AreNamed (k ∷ keys) names.names → without_name_of names k ≡ names_among keys names
+forgotten : (names : NameList) (k : ℕ) (keys : List ℕ) → is_among keys k ≡ false → AreNamed (k ∷ keys) names.names
+    → without_name_of names k ≡ names_among keys names
 forgotten names k keys none h =
     ap (λ l. record names { names = l })
     (filter-same (λ (x : SharedName). not (x.object == k)) (λ (x : SharedName). is_among keys x.object) names.names
     (all_weaker (λ (x : SharedName). is_among (k ∷ keys) x.object ≡ true) (λ (x : SharedName). not (x.object == k) ≡ is_among keys x.object) (λ x e. left_alone keys k x.object none e) names.names h))
 
-one_yet : (keys : List ℕ) (k n : ℕ) → is_among keys k ≡ true → (k == n || is_among keys n) ≡ true → is_among keys n ≡ true
+one_yet : (keys : List ℕ) (k n : ℕ) → is_among keys k ≡ true → (k == n || is_among keys n) ≡ true
+    → is_among keys n ≡ true
 one_yet keys k n more h =
     elim (k == n) as (λ b. (k == n) ≡ b → (b || is_among keys n) ≡ true → is_among keys n ≡ true) [ true ↦ λ is j. already keys k n more is | false ↦ λ is j. j ] refl h
 
 -- another one does
-kept : (names : NameList) (k : ℕ) (keys : List ℕ) → is_among keys k ≡ true → AreNamed (k ∷ keys) names.names → names ≡ names_among keys names
+kept : (names : NameList) (k : ℕ) (keys : List ℕ) → is_among keys k ≡ true → AreNamed (k ∷ keys) names.names
+    → names ≡ names_among keys names
 kept names k keys more h =
     ap (λ l. record names { names = l })
     (sym (filter_all (λ (x : SharedName). is_among keys x.object) names.names

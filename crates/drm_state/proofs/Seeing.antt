@@ -26,7 +26,7 @@ use Rattle.drm_state.specs.Refinement.{Represents}
 use Rattle.drm_state.specs.Seeing.{controls, sees, sees_object, visible}
 use Rattle.drm_state.proofs.Represented.{bounds_are, masters_are, grants_are, framebuffers_are, modes_so}
 use Rattle.drm_state.proofs.Lookups.{client_row_is}
-use Rattle.drm_state.proofs.Living.{lessors_are}
+use Rattle.drm_state.proofs.StayingMasters.{lessors_are}
 
 -- The rows have the fixed mode objects of the state.
 pub topology_is : (s : State) (w : Rows) → Represents s w → w.topology ≡ s.modes.topology
@@ -36,7 +36,9 @@ topology_is s w h = sym (bounds_are s w h).7
 
 module _ (s : State) (w : Rows) (k : PrimaryCaller) (is : IsPrimaryCaller s k) (h : Represents s w) where
   row_here : client_row w k.client ≡ Some (client_row_by (record { client = k.client; flags = k.flags }) (Some k.member))
-  row_here = client_row_is s w h k.client k.flags is.flags ∙ ap (λ o. Some (client_row_by (record { client = k.client; flags = k.flags }) o)) (sym is.member)
+  row_here =
+      client_row_is s w h k.client k.flags is.flags
+      ∙ ap (λ o. Some (client_row_by (record { client = k.client; flags = k.flags }) o)) (sym is.member)
 
   master_is : master_of w k.client ≡ Some k.member.master
   master_is = ap (option_and_then (λ (row : ClientRow). row.master)) row_here
@@ -52,14 +54,18 @@ module _ (s : State) (w : Rows) (k : PrimaryCaller) (is : IsPrimaryCaller s k) (
   controls_is x =
       ap (λ m. model.master_controls w m x) master_is
       ∙ (λ i. not (is_some (lessor_of (masters_are s w h i) k.member.master)) || granted_is k.member.master x i)
-      ∙ ap (λ o. not (is_some o) || leases.is_granted s.leases.grants k.member.master x) (lessors_are s.leases.tokens s.masters.masters k.member.master)
+      ∙ ap (λ o. not (is_some o) || leases.is_granted s.leases.grants k.member.master x)
+      (lessors_are s.leases.tokens s.masters.masters k.member.master)
 
   pub universal_is : model.has_universal w k.client ≡ k.flags.universal
-  universal_is = ap (λ o. (option_map_or (λ (row : ClientRow). row.capabilities) o no_capabilities).universal_planes) row_here
+  universal_is =
+      ap (λ o. (option_map_or (λ (row : ClientRow). row.capabilities) o no_capabilities).universal_planes) row_here
 
   pub seen_is : (x : ℕ) → model.sees w k.client x ≡ sees s k x
   unfolding model.sees
-  seen_is x = λ i. is_encoder (topology_is s w h i) x || (controls_is x i && (not (is_primary_or_cursor (topology_is s w h i) x) || universal_is i))
+  seen_is x =
+      λ i. is_encoder (topology_is s w h i) x ||
+      (controls_is x i && (not (is_primary_or_cursor (topology_is s w h i) x) || universal_is i))
 
   pub crtc_seen : (x : ℕ) → model.sees_crtc w k.client x ≡ sees_object s k Crtc x
   crtc_seen x = λ i. is_crtc (topology_is s w h i) x && seen_is x i
@@ -83,7 +89,8 @@ module _ (s : State) (w : Rows) (k : PrimaryCaller) (is : IsPrimaryCaller s k) (
   mask_visible x = λ i. mask_over (topology_is s w h i) x (crtcs_visible i)
 
 -- Each client sees each encoder.
-pub encoder_seen : (s : State) (w : Rows) (k : PrimaryCaller) → Represents s w → (x : ℕ) → is_encoder w.topology x ≡ (is_encoder s.modes.topology x && sees s k x)
+pub encoder_seen : (s : State) (w : Rows) (k : PrimaryCaller) → Represents s w → (x : ℕ)
+    → is_encoder w.topology x ≡ (is_encoder s.modes.topology x && sees s k x)
 encoder_seen s w k h x = ap (λ t. is_encoder t x) (topology_is s w h) ∙ itself (is_encoder s.modes.topology x) _
   where
     itself : (encoder other : Bool) → encoder ≡ (encoder && (encoder || other))
@@ -99,12 +106,15 @@ encoders_listed s w h = ap encoder_ids (topology_is s w h)
 rises : (a b : ℕ) → nat_lt a b ≡ true → RisesTo nat_le a b
 rises a b lt = (grind (arith, nat_tests), grind (arith, nat_tests))
 
-in_order : (fs : List Framebuffer) → arrays.InOrder framebuffer_before fs → InOrder (λ (x y : Framebuffer). RisesTo nat_le x.framebuffer y.framebuffer) fs
+in_order : (fs : List Framebuffer) → arrays.InOrder framebuffer_before fs
+    → InOrder (λ (x y : Framebuffer). RisesTo nat_le x.framebuffer y.framebuffer) fs
 in_order [] h = tt
-in_order (x ∷ xs) h = (all_weaker (λ (y : Framebuffer). framebuffer_before x y ≡ true) (λ (y : Framebuffer). RisesTo nat_le x.framebuffer y.framebuffer) (λ y lt. rises x.framebuffer y.framebuffer lt) xs h.0, in_order xs h.1)
+in_order (x ∷ xs) h =
+    (all_weaker (λ (y : Framebuffer). framebuffer_before x y ≡ true) (λ (y : Framebuffer). RisesTo nat_le x.framebuffer y.framebuffer) (λ y lt. rises x.framebuffer y.framebuffer lt) xs h.0, in_order xs h.1)
 
 -- A client's framebuffers are the same by rows as in the state.
-pub framebuffers_listed : (s : State) (w : Rows) → MeetsInvariants s → Represents s w → (c : ℕ) → model.own_framebuffers w c ≡ modes.framebuffers_of s.modes c
+pub framebuffers_listed : (s : State) (w : Rows) → MeetsInvariants s → Represents s w → (c : ℕ)
+    → model.own_framebuffers w c ≡ modes.framebuffers_of s.modes c
 framebuffers_listed s w t h c =
     let mine = λ (row : FramebufferRow). row.client == c in
     let id = λ (row : FramebufferRow). row.framebuffer in
@@ -114,5 +124,6 @@ framebuffers_listed s w t h c =
     let rise : InOrder (RisesTo nat_le) (modes.framebuffers_of s.modes c) =
     in_order_map (RisesTo nat_le) (λ (x : Framebuffer). x.framebuffer) own
     (in_order_filter (λ (x y : Framebuffer). RisesTo nat_le x.framebuffer y.framebuffer) (is_made_by c) s.modes.framebuffers (in_order s.modes.framebuffers (modes_so s t).framebuffers_rise)) in
-    sorted-same nat_le (λ x y. x == y) order_of_numbers (map id (filter mine w.framebuffers)) (modes.framebuffers_of s.modes c) rise
+    sorted-same nat_le (λ x y. x == y) order_of_numbers (map id (filter mine w.framebuffers))
+    (modes.framebuffers_of s.modes c) rise
     (λ test. same-map id (filter mine w.framebuffers) (filter mine (framebuffers_of s)) (same-filter mine w.framebuffers (framebuffers_of s) (framebuffers_are s w h)) test ∙ ap (λ l. length (filter test l)) theirs)

@@ -16,7 +16,8 @@ pub record IsCaller (s : State) (caller : Caller) : Type 0 where
 
 -- a caller that is not a render client, as a caller
 abbrev pub as_caller : PrimaryCaller → Caller
-as_caller caller = record { client = caller.client; flags = caller.flags; member = Some caller.member; current = caller.current }
+as_caller caller =
+    record { client = caller.client; flags = caller.flags; member = Some caller.member; current = caller.current }
 
 -- the same of a caller that is not a render client, which has a master
 abbrev pub IsPrimaryCaller : State → PrimaryCaller → Type 0

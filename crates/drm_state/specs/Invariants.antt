@@ -97,7 +97,8 @@ pub data Invariant : Type 0 where
 
 -- the state meets the invariant
 unfoldable pub meets_invariant : Invariant → State → Type 0
-meets_invariant MembersOpen s = AllByRecursion (λ (x : Member). is_open_client s.files x.client ≡ true) s.masters.members
+meets_invariant MembersOpen s =
+    AllByRecursion (λ (x : Member). is_open_client s.files x.client ≡ true) s.masters.members
 meets_invariant ClientsHave s = AllByRecursion (HasMaster s.masters) s.files.clients
 meets_invariant MastersAre s = AreMasters s.masters
 meets_invariant MagicsSuffice s = s.masters.last_magic ≡ s.files.limit

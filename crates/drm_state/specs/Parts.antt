@@ -56,7 +56,9 @@ client_row_of members f = client_row_by f (member_of members f.client)
 
 -- a lessee that no client redeemed has an open lease token
 abbrev pub master_row_of : List LeaseToken → Master → MasterRow
-master_row_of tokens x = record { master = x.step_number; lessor = x.lessor; lessee_id = x.lessee_id; lease_token = token_of tokens x.step_number }
+master_row_of tokens x =
+    record
+    { master = x.step_number; lessor = x.lessor; lessee_id = x.lessee_id; lease_token = token_of tokens x.step_number }
 
 -- the row of a grant
 abbrev pub grant_row_of : Grant → GrantRow
@@ -64,7 +66,9 @@ grant_row_of g = record { master = g.master; mode_object = g.mode_object }
 
 -- a client's magic, if it has one
 abbrev pub magic_row_of : Member → Option MagicRow
-magic_row_of x = option_map (λ (g : Magic). record { master = x.master; number = g.number; client = x.client; spent = g.spent }) x.magic
+magic_row_of x =
+    option_map (λ (g : Magic). record { master = x.master; number = g.number; client = x.client; spent = g.spent })
+    x.magic
 
 -- the number of the object of a key; 0 if none has it
 abbrev pub step_number_at : List Object → ℕ → ℕ
@@ -199,7 +203,9 @@ keys_of holds = map (λ (x : FileHandle). x.object) holds
 
 -- the device's master without a client: none where it is the client's own
 abbrev pub device_without : MasterSet → ℕ → Option ℕ
-device_without v c = option_map_or (λ (x : Member). if x.is_master && is_option x.master v.device_master then None else v.device_master) (member_of v.members c) v.device_master
+device_without v c =
+    option_map_or (λ (x : Member). if x.is_master && is_option x.master v.device_master then None else v.device_master)
+    (member_of v.members c) v.device_master
 
 -- the own master of a client that is one
 abbrev pub own_master : Option Member → Option ℕ

@@ -80,35 +80,41 @@ RefinesAnswer old event answer new = (w : Rows) → Represents old w → IsRefin
 -- the same for a call that is known, laid out, of an open client, and permitted
 unfoldable pub RefinesCall : State → ℕ → ℕ → Call → Result Answer AllocError → State → Type 0
 RefinesCall old step_number c call result new =
-    (w : Rows) → RepresentsAt old step_number w → first_failing (admission_checks w c call) ≡ None → IsRefined w (Ask c call) result new
+    (w : Rows) → RepresentsAt old step_number w → first_failing (admission_checks w c call) ≡ None
+    → IsRefined w (Ask c call) result new
 
 -- the answer is the reply of the definitions, and the state represents the rows after the call, whichever rows it
 -- represents
 unfoldable pub RefinesReply : State → ℕ → Call → Answer → State → Type 0
 RefinesReply old c call answer new =
-    (w : Rows) → Represents old w → first_failing (admission_checks w c call) ≡ None → IsRefined w (Ask c call) (Ok answer) new
+    (w : Rows) → Represents old w → first_failing (admission_checks w c call) ≡ None
+    → IsRefined w (Ask c call) (Ok answer) new
 
 -- The result of creating a buffer: its new handle, or none if the client may have no more handles or the limit of
 -- objects is reached. Or memory was refused, and the state represents the rows before.
 abbrev pub MadeBuffer : Rows → ℕ → ℕ → Result (Option ℕ) AllocError → State → Type 0
 MadeBuffer w c size (Ok None) s = (has_buffer_room w c ≡ false) × Represents s w
-MadeBuffer w c size (Ok (Some handle)) s = (has_buffer_room w c ≡ true) × (handle ≡ new_handle w c) × Represents s (swept (with_object w c size))
+MadeBuffer w c size (Ok (Some handle)) s =
+    (has_buffer_room w c ≡ true) × (handle ≡ new_handle w c) × Represents s (swept (with_object w c size))
 MadeBuffer w c size (Err e) s = (has_buffer_room w c ≡ true) × Represents s w
 
 -- the state represents the rows after a buffer was created, whichever rows it represents
 unfoldable pub MakesBuffer : State → ℕ → ℕ → ℕ → Result (Option ℕ) AllocError → State → Type 0
-MakesBuffer old step_number c size result new = (w : Rows) → RepresentsAt old step_number w → MadeBuffer w c size result new
+MakesBuffer old step_number c size result new =
+    (w : Rows) → RepresentsAt old step_number w → MadeBuffer w c size result new
 
 -- The result of a new handle of an object that exists: the handle, or none if the client has every handle. Or memory
 -- was refused, and the state represents the rows before.
 abbrev pub AddedHandle : Rows → ℕ → ℕ → Option ℕ → Result (Option ℕ) AllocError → State → Type 0
 AddedHandle w c o export_order (Ok None) s = (free_handle w c ≡ None) × Represents s w
-AddedHandle w c o export_order (Ok (Some handle)) s = (free_handle w c ≡ Some handle) × Represents s (swept (record w { holds = with_handle_row w c o export_order }))
+AddedHandle w c o export_order (Ok (Some handle)) s =
+    (free_handle w c ≡ Some handle) × Represents s (swept (record w { holds = with_handle_row w c o export_order }))
 AddedHandle w c o export_order (Err e) s = (is_some (free_handle w c) ≡ true) × Represents s w
 
 -- the object is that of a key
 unfoldable pub AddsHandle : State → ℕ → ℕ → Option ℕ → Result (Option ℕ) AllocError → State → Type 0
-AddsHandle old c key export_order result new = (w : Rows) → Represents old w → AddedHandle w c (step_number_at old.objects.objects key) export_order result new
+AddsHandle old c key export_order result new =
+    (w : Rows) → Represents old w → AddedHandle w c (step_number_at old.objects.objects key) export_order result new
 
 -- the first rule of admission that fails, whichever rows the state represents
 unfoldable pub IsAdmission : State → ℕ → Call → Option Rule → Type 0

@@ -1,4 +1,4 @@
 pub mod Traces
-pub mod Calls
+pub mod CallCounts
 pub mod PutSoFar
 pub mod TextLemmas

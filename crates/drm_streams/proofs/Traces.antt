@@ -23,13 +23,16 @@ record IsNext (old new : Counts) : Type 0 where
   counts : NeverFall old new
 
 IsNext-one_call : (c : Counts) → IsNext c (one_call c)
-IsNext-one_call c = record { calls = refl; counts = record { calls = omega arith; ends = omega arith; faults = omega arith } }
+IsNext-one_call c =
+    record { calls = refl; counts = record { calls = omega arith; ends = omega arith; faults = omega arith } }
 
 IsNext-one_interruption : (c : Counts) → IsNext c (one_interruption c)
-IsNext-one_interruption c = record { calls = refl; counts = record { calls = omega arith; ends = omega arith; faults = omega arith } }
+IsNext-one_interruption c =
+    record { calls = refl; counts = record { calls = omega arith; ends = omega arith; faults = omega arith } }
 
 IsNext-one_failure : (c : Counts) → IsNext c (one_failure c)
-IsNext-one_failure c = record { calls = refl; counts = record { calls = omega arith; ends = omega arith; faults = omega arith } }
+IsNext-one_failure c =
+    record { calls = refl; counts = record { calls = omega arith; ends = omega arith; faults = omega arith } }
 
 IsNext-counts_put : (r : Put) (text : List ℕ) (c : Counts) → IsNext c (counts_put r text c)
 IsNext-counts_put (put.Took n) [] c = IsNext-one_call c
@@ -66,13 +69,15 @@ bytes_put (put.Took n) text = take n text
 bytes_put put.Interrupted text = []
 bytes_put put.Fault text = []
 
-PutGives-Appends : (r : Put) (old new : Option (List ℕ)) (text : List ℕ) → PutGives r old new text → Appends old new (bytes_put r text)
+PutGives-Appends : (r : Put) (old new : Option (List ℕ)) (text : List ℕ) → PutGives r old new text
+    → Appends old new (bytes_put r text)
 PutGives-Appends (put.Took n) old new text h = h.1
 PutGives-Appends put.Interrupted old new text h = Appends-kept old old new [] (Appends-nil old) h
 PutGives-Appends put.Fault old new text h = Appends-kept old old new [] (Appends-nil old) h
 
 -- In one call the sink takes the bytes that its result counts.
-pub Took-one : (a b : SinkTrace) (r : Put) (text : List ℕ) → PutGives r a.written b.written text → b.counts ≡ counts_put r text a.counts
+pub Took-one : (a b : SinkTrace) (r : Put) (text : List ℕ) → PutGives r a.written b.written text
+    → b.counts ≡ counts_put r text a.counts
     → Took a b (bytes_put r text)
 Took-one a b r text h e = record {
   taken = PutGives-Appends r a.written b.written text h;
@@ -82,7 +87,8 @@ Took-one a b r text h e = record {
 -- ---- the bytes that a source returned, with its turns
 
 -- Two runs return the bytes of both and cost the turns of both.
-pub ReadCost-then : {a b c : SourceTrace} {x y : List ℕ} {s t u : ℕ} → ReadCost a b x s t → ReadCost b c y t u → ReadCost a c (x ++ y) s u
+pub ReadCost-then : {a b c : SourceTrace} {x y : List ℕ} {s t u : ℕ} → ReadCost a b x s t → ReadCost b c y t u
+    → ReadCost a c (x ++ y) s u
 ReadCost-then p q = record { gave = Gave-then p.gave q.gave; cost = omega arith }
 
 -- ---- what a sink took, with its turns
@@ -92,12 +98,15 @@ pub WriteCost-none : (a : SinkTrace) (turns : ℕ) → WriteCost a a [] turns tu
 WriteCost-none a turns = record { took = Took-none a; cost = refl }
 
 -- In two runs the sink takes the bytes of both, at the cost of the turns of both.
-pub WriteCost-then : {a b c : SinkTrace} {x y : List ℕ} {s t u : ℕ} → WriteCost a b x s t → WriteCost b c y t u → WriteCost a c (x ++ y) s u
+pub WriteCost-then : {a b c : SinkTrace} {x y : List ℕ} {s t u : ℕ} → WriteCost a b x s t → WriteCost b c y t u
+    → WriteCost a c (x ++ y) s u
 WriteCost-then p q = record { took = Took-then p.took q.took; cost = omega arith }
 
 -- In one call the sink takes the bytes that its result counts, at the cost of one turn.
-pub WriteCost-one : (a b : SinkTrace) (r : Put) (text : List ℕ) (turns : ℕ) → 0 < turns → PutGives r a.written b.written text
+pub WriteCost-one : (a b : SinkTrace) (r : Put) (text : List ℕ) (turns : ℕ) → 0 < turns
+    → PutGives r a.written b.written text
     → b.counts ≡ counts_put r text a.counts → WriteCost a b (bytes_put r text) turns (turns - 1)
 WriteCost-one a b r text turns some h e =
-    let called = subst (λ (c : Counts). c.calls ≡ a.counts.calls + 1) (sym e) (IsNext-counts_put r text a.counts).calls in
+    let called =
+    subst (λ (c : Counts). c.calls ≡ a.counts.calls + 1) (sym e) (IsNext-counts_put r text a.counts).calls in
     record { took = Took-one a b r text h e; cost = omega arith }

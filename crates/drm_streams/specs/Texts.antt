@@ -10,7 +10,8 @@ use Rattle.drm_streams.specs.declared.turns.Written.TheVariants as written
 -- the result of writing a text: the whole was written, or a front that is not the whole; each call used a turn
 abbrev pub WritesOut : Written → SinkTrace → SinkTrace → List ℕ → ℕ → ℕ → Type 0
 WritesOut written.Whole old new text had has = WriteCost old new text had has
-WritesOut written.Fault old new text had has = PartialWriteCost old new text had has × (old.counts.faults < new.counts.faults)
+WritesOut written.Fault old new text had has =
+    PartialWriteCost old new text had has × (old.counts.faults < new.counts.faults)
 WritesOut written.TurnsUsed old new text had has = PartialWriteCost old new text had has × (has ≡ 0)
 
 -- texts, joined

@@ -49,15 +49,18 @@ pub record Tries (old new : Counts) (most : ℕ) : Type 0 where
 
 -- The result of a refill. The 1,000th interruption in a row is a fault. A call without a turn isn't made.
 abbrev pub Refills : Refill → SourceTrace → SourceTrace → List ℕ → ℕ → ℕ → Type 0
-Refills (refill.Got n) old new buffer had has = ReadCost old new (take n buffer) had has × (0 < n) × (n ≤ length buffer) × (has < had)
-Refills refill.End old new buffer had has = ReadCost old new [] had has × IsAtEnd new.left × (old.counts.ends < new.counts.ends)
+Refills (refill.Got n) old new buffer had has =
+    ReadCost old new (take n buffer) had has × (0 < n) × (n ≤ length buffer) × (has < had)
+Refills refill.End old new buffer had has =
+    ReadCost old new [] had has × IsAtEnd new.left × (old.counts.ends < new.counts.ends)
 Refills refill.Fault old new buffer had has = ReadCost old new [] had has × (old.counts.faults < new.counts.faults)
 Refills refill.TurnsUsed old new buffer had has = ReadCost old new [] had has × (has ≡ 0)
 
 -- The result of putting a text. A text that isn't empty uses at least one turn.
 abbrev pub Writes : Written → SinkTrace → SinkTrace → List ℕ → ℕ → ℕ → Type 0
 Writes written.Whole old new text had has = WriteCost old new text had has × (0 < length text → has < had)
-Writes written.Fault old new text had has = PartialWriteCost old new text had has × (old.counts.faults < new.counts.faults)
+Writes written.Fault old new text had has =
+    PartialWriteCost old new text had has × (old.counts.faults < new.counts.faults)
 Writes written.TurnsUsed old new text had has = PartialWriteCost old new text had has × (has ≡ 0)
 
 -- ---- each call of a loop
@@ -71,7 +74,8 @@ interrupted row c = record c { calls = c.calls + row; faults = c.faults + row }
 abbrev pub TakeCalls : Refill → Counts → Counts → ℕ → Type 0
 TakeCalls (refill.Got n) old new had = (row : ℕ) × (row < 1000) × (new ≡ one_call (interrupted row old))
 TakeCalls refill.End old new had = (row : ℕ) × (row < 1000) × (new ≡ one_end (interrupted row old))
-TakeCalls refill.Fault old new had = ((row : ℕ) × (row < 1000) × (new ≡ one_failure (interrupted row old))) ⊎ (new ≡ interrupted 1000 old)
+TakeCalls refill.Fault old new had =
+    ((row : ℕ) × (row < 1000) × (new ≡ one_failure (interrupted row old))) ⊎ (new ≡ interrupted 1000 old)
 TakeCalls refill.TurnsUsed old new had = (had < 1000) × (new ≡ interrupted had old)
 
 -- the number of bytes of the last call that returned some
@@ -97,11 +101,15 @@ pub record PutPieces (old new : Counts) (row : ℕ) : Type 0 where
 -- turns are used up, one more was needed.
 abbrev pub PutCalls : Written → Counts → Counts → Type 0
 PutCalls written.Whole old new = PutPieces old new 0
-PutCalls written.Fault old new = ((row : ℕ) × (mid : Counts) × (row < 1000) × PutPieces old mid row × (new ≡ one_failure mid)) ⊎ PutPieces old new 1000
+PutCalls written.Fault old new =
+    ((row : ℕ) × (mid : Counts) × (row < 1000) × PutPieces old mid row × (new ≡ one_failure mid)) ⊎ PutPieces old new
+    1000
 PutCalls written.TurnsUsed old new = (row : ℕ) × (row < 1000) × PutPieces old new row
 
 -- A call that faults was handed all that the sink hasn't taken.
 abbrev pub HandsRest : Written → SinkTrace → SinkTrace → List ℕ → Type 0
-HandsRest written.Fault old new text = (front : List ℕ) × (rest : List ℕ) × (text ≡ front ++ rest) × Appends old.written new.written front × (new.handed ≡ length rest) × (0 < length rest)
+HandsRest written.Fault old new text =
+    (front : List ℕ) × (rest : List ℕ) × (text ≡ front ++ rest) × Appends old.written new.written front ×
+    (new.handed ≡ length rest) × (0 < length rest)
 HandsRest written.Whole old new text = ⊤
 HandsRest written.TurnsUsed old new text = ⊤

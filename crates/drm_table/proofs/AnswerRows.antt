@@ -9,7 +9,7 @@ use Rattle.drm_table.specs.declared.answers.Answer.TheVariants as answers
 use Rattle.drm_table.specs.declared.fields.Field.{Field}
 use Rattle.drm_table.specs.declared.fields.Field.TheVariants.{U32, U64}
 use Rattle.drm_table.specs.Answers.{answer_kind_row, answer_number, answer_widths, answer_kind_of, all_kinds, told, answer_with, TellsBack, AreToldBy, HasToldWidths}
-use Rattle.drm_table.proofs.Found.{found-passes}
+use Rattle.drm_table.proofs.FoundPasses.{found-passes}
 
 -- The number of each kind of answer fits 16 bits.
 pub number-small : (kind : AnswerKind) → answer_number kind < 2 ^ 16
@@ -32,7 +32,8 @@ kind-found _ = refl
 -- A number finds only the kind of answer that has it.
 pub kind-of-its-own : (number : ℕ) (kind : AnswerKind) → answer_kind_of number ≡ Some kind → answer_number kind ≡ number
 unfolding answer_kind_of
-kind-of-its-own number kind e = eqb-true (answer_number kind) number (found-passes (λ (k : AnswerKind). answer_number k == number) all_kinds kind e)
+kind-of-its-own number kind e =
+    eqb-true (answer_number kind) number (found-passes (λ (k : AnswerKind). answer_number k == number) all_kinds kind e)
 
 -- An answer that is no refusal is made again from its parts.
 pub tells-back : (answer : Answer) → TellsBack answer (told answer)

@@ -5,7 +5,7 @@ use Rattle.std.proofs.lemmas.Bool.{eqb-true}
 use Rattle.drm_table.specs.declared.audits.AuditKind.{AuditKind}
 use Rattle.drm_table.specs.declared.audits.AuditKind.TheVariants.{Client, Master, Object, Name, Token, Hold, Grant, Framebuffer, Shown, Device}
 use Rattle.drm_table.specs.Audits.{kinds, kind_number, kind_of}
-use Rattle.drm_table.proofs.Found.{found-passes}
+use Rattle.drm_table.proofs.FoundPasses.{found-passes}
 
 -- The number of each kind of audit fits 32 bits.
 pub kind-small : (kind : AuditKind) → kind_number kind < 2 ^ 32
@@ -30,4 +30,5 @@ kind-found _ = refl
 -- A number finds only the kind of audit that has it.
 pub kind-of-its-own : (number : ℕ) (kind : AuditKind) → kind_of number ≡ Some kind → kind_number kind ≡ number
 unfolding kind_of
-kind-of-its-own number kind e = eqb-true (kind_number kind) number (found-passes (λ (k : AuditKind). kind_number k == number) kinds kind e)
+kind-of-its-own number kind e =
+    eqb-true (kind_number kind) number (found-passes (λ (k : AuditKind). kind_number k == number) kinds kind e)

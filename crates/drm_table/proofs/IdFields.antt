@@ -14,7 +14,9 @@ pub ids-back : (ids : List ℕ) → ids_in (map U32 ids) ≡ Some ids
 ids-back [] = refl
 ids-back (id ∷ ids) = rw (ids-back ids) refl
 
-ids-before : (id : ℕ) (fs : List Field) (o : Option (List ℕ)) (ids : List ℕ) → ((more : List ℕ) → o ≡ Some more → map U32 more ≡ fs) → option_map (λ more. id ∷ more) o ≡ Some ids → map U32 ids ≡ U32 id ∷ fs
+ids-before : (id : ℕ) (fs : List Field) (o : Option (List ℕ)) (ids : List ℕ)
+    → ((more : List ℕ) → o ≡ Some more → map U32 more ≡ fs) → option_map (λ more. id ∷ more) o ≡ Some ids
+    → map U32 ids ≡ U32 id ∷ fs
 ids-before id fs None ids each e = absurd (cc)
 ids-before id fs (Some more) ids each e = let same : ids ≡ id ∷ more = cc in ap (map U32) same ∙ ap (λ (xs : List Field). U32 id ∷ xs) (each more refl)
 

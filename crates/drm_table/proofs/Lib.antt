@@ -1,4 +1,4 @@
-pub mod Found
+pub mod FoundPasses
 pub mod AuditKinds
 pub mod IdFields
 pub mod TableRows

@@ -15,23 +15,29 @@ ahead fs o = option_map (λ more. (fs ++ more.0, more.1)) o
 -- ---- what holds for one field after another holds for all that was read
 
 more-by : {S : Type 0} (P : List Width → S → List Field → S → Type 0) (w : Width) (ws : List Width) (s : S) (f : Field) (o : Option (List Field × S)) (read : List Field × S)
-    → ((more : List Field × S) → o ≡ Some more → P (w ∷ ws) s (f ∷ more.0) more.1) → option_map (put_before f) o ≡ Some read → P (w ∷ ws) s read.0 read.1
+    → ((more : List Field × S) → o ≡ Some more → P (w ∷ ws) s (f ∷ more.0) more.1)
+    → option_map (put_before f) o ≡ Some read → P (w ∷ ws) s read.0 read.1
 more-by P w ws s f None read each e = absurd (cc)
-more-by P w ws s f (Some more) read each e = subst (λ p. P (w ∷ ws) s p.0 p.1) (some-is (f ∷ more.0, more.1) read e) (each more refl)
+more-by P w ws s f (Some more) read each e =
+    subst (λ p. P (w ∷ ws) s p.0 p.1) (some-is (f ∷ more.0, more.1) read e) (each more refl)
 
 first-by : {S : Type 0} (read_one : Width → S → Option (Field × S)) (P : List Width → S → List Field → S → Type 0) (w : Width) (ws : List Width) (s : S) (o : Option (Field × S)) (read : List Field × S)
     → ((one : Field × S) (more : List Field × S) → o ≡ Some one → read_each read_one ws one.1 ≡ Some more → P (w ∷ ws) s (one.0 ∷ more.0) more.1)
-    → option_and_then (λ one. option_map (put_before one.0) (read_each read_one ws one.1)) o ≡ Some read → P (w ∷ ws) s read.0 read.1
+    → option_and_then (λ one. option_map (put_before one.0) (read_each read_one ws one.1)) o ≡ Some read
+    → P (w ∷ ws) s read.0 read.1
 first-by read_one P w ws s None read each e = absurd (cc)
-first-by read_one P w ws s (Some one) read each e = more-by P w ws s one.0 (read_each read_one ws one.1) read (λ more. each one more refl) e
+first-by read_one P w ws s (Some one) read each e =
+    more-by P w ws s one.0 (read_each read_one ws one.1) read (λ more. each one more refl) e
 
 -- What holds of no fields, and of one more in front of others, holds of all that are read.
-pub each-by : {S : Type 0} (read_one : Width → S → Option (Field × S)) (P : List Width → S → List Field → S → Type 0) → ((s : S) → P [] s [] s)
+pub each-by : {S : Type 0} (read_one : Width → S → Option (Field × S)) (P : List Width → S → List Field → S → Type 0)
+    → ((s : S) → P [] s [] s)
     → ((w : Width) (ws : List Width) (s : S) (one : Field × S) (more : List Field × S) → read_one w s ≡ Some one → P ws one.1 more.0 more.1 → P (w ∷ ws) s (one.0 ∷ more.0) more.1)
     → (ws : List Width) (s : S) (read : List Field × S) → read_each read_one ws s ≡ Some read → P ws s read.0 read.1
 each-by read_one P none step [] s read e = subst (λ p. P [] s p.0 p.1) (some-is ([], s) read e) (none s)
 each-by read_one P none step (w ∷ ws) s read e =
-    first-by read_one P w ws s (read_one w s) read (λ one more t u. step w ws s one more t (each-by read_one P none step ws one.1 more u)) e
+    first-by read_one P w ws s (read_one w s) read
+    (λ one more t u. step w ws s one more t (each-by read_one P none step ws one.1 more u)) e
 
 -- ---- fields that fit, one by one
 

@@ -19,7 +19,7 @@ use Rattle.drm_table.specs.declared.rows.Family.{Family}
 use Rattle.drm_table.specs.declared.rows.Family.TheVariants.{Device, Masters, Buffers, Sharing, Modes, Framebuffers, Leases}
 use Rattle.drm_table.specs.Table.{TableRow, asked_number, call_number, flags_of, row_of, kind_row, kind_number, kind_word, kind_layout, call_kind_of, call_kind_of_word, all_kinds, buffer_call, share_call, master_call, mode_call, framebuffer_call, lease_call, device_call, call_row, call_with, family_call, kind_family, IsReadBack, AreFieldsOf, HasWidths}
 use Rattle.drm_table.proofs.AuditKinds as kinds_of_audits
-use Rattle.drm_table.proofs.Found.{found-passes}
+use Rattle.drm_table.proofs.FoundPasses.{found-passes}
 use Rattle.drm_table.proofs.IdFields.{ids-back, ids-are, ids-widths}
 
 -- ---- a row by its number and by its word
@@ -50,18 +50,24 @@ kind-found _ = refl
 -- A number finds only the kind of call that has it.
 pub kind-of-its-own : (number : ℕ) (kind : CallKind) → call_kind_of number ≡ Some kind → kind_number kind ≡ number
 unfolding call_kind_of
-kind-of-its-own number kind e = eqb-true (kind_number kind) number (found-passes (λ (k : CallKind). kind_number k == number) all_kinds kind e)
+kind-of-its-own number kind e =
+    eqb-true (kind_number kind) number (found-passes (λ (k : CallKind). kind_number k == number) all_kinds kind e)
 
-numbered : (row : Option (CallKind × List Field)) (asked : ℕ) (kind : CallKind) → option_map (λ (row : CallKind × List Field). row.0) row ≡ Some kind → option_map_or (λ (row : CallKind × List Field). kind_number row.0) row asked ≡ kind_number kind
+numbered : (row : Option (CallKind × List Field)) (asked : ℕ) (kind : CallKind)
+    → option_map (λ (row : CallKind × List Field). row.0) row ≡ Some kind
+    → option_map_or (λ (row : CallKind × List Field). kind_number row.0) row asked ≡ kind_number kind
 numbered None asked kind e = absurd cc
 numbered (Some row) asked kind e = let same : row.0 ≡ kind = cc in ap kind_number same
 
 -- The flags of a call are those of its kind's row.
-pub flags-by-kind : (call : Call) (kind : CallKind) → option_map (λ (row : CallKind × List Field). row.0) (call_row call) ≡ Some kind → flags_of call ≡ (kind_row kind).flags
+pub flags-by-kind : (call : Call) (kind : CallKind)
+    → option_map (λ (row : CallKind × List Field). row.0) (call_row call) ≡ Some kind
+    → flags_of call ≡ (kind_row kind).flags
 unfolding flags_of call_number row_of
 flags-by-kind call kind e =
     let number : call_number call ≡ kind_number kind = numbered (call_row call) (asked_number call) kind e in
-    let found : row_of (call_number call) ≡ Some (kind_row kind) = ap row_of number ∙ ap (option_map kind_row) (kind-found kind) in
+    let found : row_of (call_number call) ≡ Some (kind_row kind) =
+    ap row_of number ∙ ap (option_map kind_row) (kind-found kind) in
     ap (λ (row : Option TableRow). option_map_or (λ (r : TableRow). r.flags) row no_flags) found
 
 -- Each kind of call is found by its word.
@@ -73,11 +79,14 @@ word-found _ = refl
 -- A word finds only the kind of call that has it.
 pub word-of-its-own : (word : List ℕ) (kind : CallKind) → call_kind_of_word word ≡ Some kind → kind_word kind ≡ word
 unfolding call_kind_of_word
-word-of-its-own word kind e = (bytes_eq-Decides (kind_word kind) word).0 (found-passes (λ (k : CallKind). bytes_eq (kind_word k) word) all_kinds kind e)
+word-of-its-own word kind e =
+    (bytes_eq-Decides (kind_word kind) word).0
+    (found-passes (λ (k : CallKind). bytes_eq (kind_word k) word) all_kinds kind e)
 
 -- ---- a call by its row and its fields
 
-audit-back : (kind : AuditKind) (from : ℕ) → call_with kinds.Audit (U32 (audits.kind_number kind) ∷ U32 from ∷ []) ≡ Some (calls.Audit kind from)
+audit-back : (kind : AuditKind) (from : ℕ)
+    → call_with kinds.Audit (U32 (audits.kind_number kind) ∷ U32 from ∷ []) ≡ Some (calls.Audit kind from)
 unfolding call_with kind_row
 audit-back kind from = rw (kinds_of_audits.kind-found kind) refl
 
@@ -91,11 +100,13 @@ read-back (calls.CreateLease ids) = ap (λ (o : Option (List ℕ)). option_map c
 read-back _ = refl
 
 -- The call made of a call's kind and fields is this call.
-pub read-again : (call : Call) (kind : CallKind) (fs : List Field) → call_row call ≡ Some (kind, fs) → call_with kind fs ≡ Some call
+pub read-again : (call : Call) (kind : CallKind) (fs : List Field) → call_row call ≡ Some (kind, fs)
+    → call_with kind fs ≡ Some call
 read-again call kind fs e = subst (IsReadBack call) e (read-back call)
 
 -- A call that is neither unknown nor of a bad layout has a row.
-pub has-row : (call : Call) → ((n : ℕ) → call ≡ calls.Unknown n → ⊥) → ((n : ℕ) → call ≡ calls.BadLayout n → ⊥) → is_some (call_row call) ≡ true
+pub has-row : (call : Call) → ((n : ℕ) → call ≡ calls.Unknown n → ⊥) → ((n : ℕ) → call ≡ calls.BadLayout n → ⊥)
+    → is_some (call_row call) ≡ true
 unfolding call_row
 has-row (calls.Unknown n) known laid_out = absurd (known n refl)
 has-row (calls.BadLayout n) known laid_out = absurd (laid_out n refl)
@@ -157,10 +168,12 @@ framebuffer-made kinds.AddFb (U32 a ∷ U32 b ∷ U32 c ∷ U32 d ∷ U32 e ∷ 
 framebuffer-made kinds.RmFb (U32 a ∷ []) = refl
 framebuffer-made _ _ = refl
 
-audit-made : (number from : ℕ) (found : Option AuditKind) → audits.kind_of number ≡ found → MadeOf kinds.Audit (U32 number ∷ U32 from ∷ []) (option_map (λ kind. calls.Audit kind from) found)
+audit-made : (number from : ℕ) (found : Option AuditKind) → audits.kind_of number ≡ found
+    → MadeOf kinds.Audit (U32 number ∷ U32 from ∷ []) (option_map (λ kind. calls.Audit kind from) found)
 unfolding call_row
 audit-made number from None e = refl
-audit-made number from (Some kind) e = ap (λ (n : ℕ). Some (kinds.Audit, U32 n ∷ U32 from ∷ [])) (kinds_of_audits.kind-of-its-own number kind e)
+audit-made number from (Some kind) e =
+    ap (λ (n : ℕ). Some (kinds.Audit, U32 n ∷ U32 from ∷ [])) (kinds_of_audits.kind-of-its-own number kind e)
 
 device-made : (kind : CallKind) (fs : List Field) → MadeOf kind fs (device_call kind fs)
 unfolding call_row
@@ -170,7 +183,8 @@ device-made kinds.SetClientCap (U64 cap ∷ U64 value ∷ []) = refl
 device-made kinds.Audit (U32 number ∷ U32 from ∷ []) = audit-made number from (audits.kind_of number) refl
 device-made _ _ = refl
 
-lease-made-by : (fs : List Field) (found : Option (List ℕ)) → ids_in fs ≡ found → MadeOf kinds.CreateLease fs (option_map calls.CreateLease found)
+lease-made-by : (fs : List Field) (found : Option (List ℕ)) → ids_in fs ≡ found
+    → MadeOf kinds.CreateLease fs (option_map calls.CreateLease found)
 unfolding call_row
 lease-made-by fs None e = refl
 lease-made-by fs (Some ids) e = ap (λ (xs : List Field). Some (kinds.CreateLease, xs)) (ids-are fs ids e)

@@ -42,7 +42,9 @@ answer_kind_row kinds.Closed = answer_row 0x100C (codes "closed") []
 
 -- all kinds, rising by number
 abbrev pub all_kinds : List AnswerKind
-all_kinds = kinds.Done ∷ kinds.Opened ∷ kinds.Version ∷ kinds.Number ∷ kinds.Dumb ∷ kinds.Buffer ∷ kinds.Plane ∷ kinds.Framebuffer ∷ kinds.Lease ∷ kinds.Closed ∷ []
+all_kinds =
+    kinds.Done ∷ kinds.Opened ∷ kinds.Version ∷ kinds.Number ∷ kinds.Dumb ∷ kinds.Buffer ∷ kinds.Plane ∷
+    kinds.Framebuffer ∷ kinds.Lease ∷ kinds.Closed ∷ []
 
 -- the content of an answer: a fixed number of fields, the four lists of resources, a list of ids, rows of an audit, or
 -- a denial
@@ -57,13 +59,16 @@ pub data Told : Type 0 where
 unfoldable pub told : Answer → Told
 told answers.Done = row kinds.Done []
 told (answers.Opened client) = row kinds.Opened (fields.U32 client ∷ [])
-told (answers.Version major minor patch) = row kinds.Version (fields.U32 major ∷ fields.U32 minor ∷ fields.U32 patch ∷ [])
+told (answers.Version major minor patch) =
+    row kinds.Version (fields.U32 major ∷ fields.U32 minor ∷ fields.U32 patch ∷ [])
 told (answers.Number value) = row kinds.Number (fields.U64 value ∷ [])
 told (answers.Dumb handle pitch size) = row kinds.Dumb (fields.U32 handle ∷ fields.U32 pitch ∷ fields.U64 size ∷ [])
 told (answers.Buffer handle size) = row kinds.Buffer (fields.U32 handle ∷ fields.U64 size ∷ [])
 told (answers.Resources crtcs connectors encoders framebuffers) = resources crtcs connectors encoders framebuffers
 told (answers.Plane framebuffer mask) = row kinds.Plane (fields.U32 framebuffer ∷ fields.U32 mask ∷ [])
-told (answers.Framebuffer width height pitch bpp handle) = row kinds.Framebuffer (fields.U32 width ∷ fields.U32 height ∷ fields.U32 pitch ∷ fields.U32 bpp ∷ fields.U32 handle ∷ [])
+told (answers.Framebuffer width height pitch bpp handle) =
+    row kinds.Framebuffer
+    (fields.U32 width ∷ fields.U32 height ∷ fields.U32 pitch ∷ fields.U32 bpp ∷ fields.U32 handle ∷ [])
 told (answers.Lease id token) = row kinds.Lease (fields.U32 id ∷ fields.U32 token ∷ [])
 told (answers.List ids) = list ids
 told (answers.Audit rows) = page rows
@@ -81,7 +86,8 @@ is_mode_answer _ = false
 -- the answer of a call of mode setting or of leases
 abbrev pub mode_answer : AnswerKind → List Field → Option Answer
 mode_answer kinds.Plane (fields.U32 framebuffer ∷ fields.U32 mask ∷ []) = Some (answers.Plane framebuffer mask)
-mode_answer kinds.Framebuffer (fields.U32 width ∷ fields.U32 height ∷ fields.U32 pitch ∷ fields.U32 bpp ∷ fields.U32 handle ∷ []) = Some (answers.Framebuffer width height pitch bpp handle)
+mode_answer kinds.Framebuffer (fields.U32 width ∷ fields.U32 height ∷ fields.U32 pitch ∷ fields.U32 bpp ∷ fields.U32 handle ∷ []) =
+    Some (answers.Framebuffer width height pitch bpp handle)
 mode_answer kinds.Lease (fields.U32 id ∷ fields.U32 token ∷ []) = Some (answers.Lease id token)
 mode_answer _ _ = None
 
@@ -89,9 +95,11 @@ mode_answer _ _ = None
 abbrev pub plain_answer : AnswerKind → List Field → Option Answer
 plain_answer kinds.Done [] = Some answers.Done
 plain_answer kinds.Opened (fields.U32 client ∷ []) = Some (answers.Opened client)
-plain_answer kinds.Version (fields.U32 major ∷ fields.U32 minor ∷ fields.U32 patch ∷ []) = Some (answers.Version major minor patch)
+plain_answer kinds.Version (fields.U32 major ∷ fields.U32 minor ∷ fields.U32 patch ∷ []) =
+    Some (answers.Version major minor patch)
 plain_answer kinds.Number (fields.U64 value ∷ []) = Some (answers.Number value)
-plain_answer kinds.Dumb (fields.U32 handle ∷ fields.U32 pitch ∷ fields.U64 size ∷ []) = Some (answers.Dumb handle pitch size)
+plain_answer kinds.Dumb (fields.U32 handle ∷ fields.U32 pitch ∷ fields.U64 size ∷ []) =
+    Some (answers.Dumb handle pitch size)
 plain_answer kinds.Buffer (fields.U32 handle ∷ fields.U64 size ∷ []) = Some (answers.Buffer handle size)
 plain_answer kinds.Closed [] = Some answers.Closed
 plain_answer _ _ = None
@@ -121,7 +129,8 @@ answer_kind_of number = find (λ kind. answer_number kind == number) all_kinds
 -- the content of an answer, from its parts
 abbrev pub told_of : ToldValue → Told
 told_of (values.Fields kind fs) = row kind fs
-told_of (values.Resources crtcs connectors encoders framebuffers) = resources crtcs.now connectors.now encoders.now framebuffers.now
+told_of (values.Resources crtcs connectors encoders framebuffers) =
+    resources crtcs.now connectors.now encoders.now framebuffers.now
 told_of (values.List ids) = list ids.now
 told_of (values.Page rows) = page rows.now
 told_of (values.Denial rule) = denial rule
@@ -131,7 +140,8 @@ told_of (values.Denial rule) = denial rule
 -- The answer is the one with its content.
 abbrev pub TellsBack : Answer → Told → Type 0
 TellsBack answer (row kind fs) = answer_with kind fs ≡ Some answer
-TellsBack answer (resources crtcs connectors encoders framebuffers) = answer ≡ answers.Resources crtcs connectors encoders framebuffers
+TellsBack answer (resources crtcs connectors encoders framebuffers) =
+    answer ≡ answers.Resources crtcs connectors encoders framebuffers
 TellsBack answer (list ids) = answer ≡ answers.List ids
 TellsBack answer (page rows) = answer ≡ answers.Audit rows
 TellsBack answer (denial rule) = answer ≡ answers.Denied rule

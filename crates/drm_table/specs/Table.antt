@@ -30,7 +30,8 @@ pub record TableRow : Type 0 where
 
 -- a row with these columns
 abbrev pub table_row : ℕ → List ℕ → List ℕ → RowFlags → Layout → Family → TableRow
-table_row number name word flags layout family = record { number = number; name = name; word = word; flags = flags; layout = layout; family = family }
+table_row number name word flags layout family =
+    record { number = number; name = name; word = word; flags = flags; layout = layout; family = family }
 
 -- the columns of a row
 abbrev pub columns : Row → TableRow
@@ -125,7 +126,8 @@ buffer_row (calls.BufCreate size) = Some (kinds.BufCreate, fields.U64 size ∷ [
 buffer_row (calls.StampWrite handle stamp) = Some (kinds.StampWrite, fields.U32 handle ∷ fields.U64 stamp ∷ [])
 buffer_row (calls.StampRead handle) = Some (kinds.StampRead, fields.U32 handle ∷ [])
 buffer_row (calls.ListHandles from) = Some (kinds.ListHandles, fields.U32 from ∷ [])
-buffer_row (calls.CreateDumb width height bpp) = Some (kinds.CreateDumb, fields.U32 width ∷ fields.U32 height ∷ fields.U32 bpp ∷ [])
+buffer_row (calls.CreateDumb width height bpp) =
+    Some (kinds.CreateDumb, fields.U32 width ∷ fields.U32 height ∷ fields.U32 bpp ∷ [])
 buffer_row (calls.DestroyDumb handle) = Some (kinds.DestroyDumb, fields.U32 handle ∷ [])
 buffer_row _ = None
 
@@ -136,7 +138,8 @@ buffer_call kinds.BufCreate (fields.U64 size ∷ []) = Some (calls.BufCreate siz
 buffer_call kinds.StampWrite (fields.U32 handle ∷ fields.U64 stamp ∷ []) = Some (calls.StampWrite handle stamp)
 buffer_call kinds.StampRead (fields.U32 handle ∷ []) = Some (calls.StampRead handle)
 buffer_call kinds.ListHandles (fields.U32 from ∷ []) = Some (calls.ListHandles from)
-buffer_call kinds.CreateDumb (fields.U32 width ∷ fields.U32 height ∷ fields.U32 bpp ∷ []) = Some (calls.CreateDumb width height bpp)
+buffer_call kinds.CreateDumb (fields.U32 width ∷ fields.U32 height ∷ fields.U32 bpp ∷ []) =
+    Some (calls.CreateDumb width height bpp)
 buffer_call kinds.DestroyDumb (fields.U32 handle ∷ []) = Some (calls.DestroyDumb handle)
 buffer_call _ _ = None
 
@@ -178,37 +181,44 @@ master_call _ _ = None
 abbrev pub mode_row : Call → Option (CallKind × List Field)
 mode_row calls.GetResources = Some (kinds.GetResources, [])
 mode_row (calls.GetCrtc crtc) = Some (kinds.GetCrtc, fields.U32 crtc ∷ [])
-mode_row (calls.SetCrtc crtc framebuffer connector) = Some (kinds.SetCrtc, fields.U32 crtc ∷ fields.U32 framebuffer ∷ fields.U32 connector ∷ [])
+mode_row (calls.SetCrtc crtc framebuffer connector) =
+    Some (kinds.SetCrtc, fields.U32 crtc ∷ fields.U32 framebuffer ∷ fields.U32 connector ∷ [])
 mode_row (calls.GetEncoder encoder) = Some (kinds.GetEncoder, fields.U32 encoder ∷ [])
 mode_row (calls.GetConnector connector) = Some (kinds.GetConnector, fields.U32 connector ∷ [])
 mode_row calls.GetPlaneResources = Some (kinds.GetPlaneResources, [])
 mode_row (calls.GetPlane plane) = Some (kinds.GetPlane, fields.U32 plane ∷ [])
-mode_row (calls.SetPlane plane crtc framebuffer) = Some (kinds.SetPlane, fields.U32 plane ∷ fields.U32 crtc ∷ fields.U32 framebuffer ∷ [])
+mode_row (calls.SetPlane plane crtc framebuffer) =
+    Some (kinds.SetPlane, fields.U32 plane ∷ fields.U32 crtc ∷ fields.U32 framebuffer ∷ [])
 mode_row _ = None
 
 -- the call of mode objects with a row and fields
 abbrev pub mode_call : CallKind → List Field → Option Call
 mode_call kinds.GetResources [] = Some calls.GetResources
 mode_call kinds.GetCrtc (fields.U32 crtc ∷ []) = Some (calls.GetCrtc crtc)
-mode_call kinds.SetCrtc (fields.U32 crtc ∷ fields.U32 framebuffer ∷ fields.U32 connector ∷ []) = Some (calls.SetCrtc crtc framebuffer connector)
+mode_call kinds.SetCrtc (fields.U32 crtc ∷ fields.U32 framebuffer ∷ fields.U32 connector ∷ []) =
+    Some (calls.SetCrtc crtc framebuffer connector)
 mode_call kinds.GetEncoder (fields.U32 encoder ∷ []) = Some (calls.GetEncoder encoder)
 mode_call kinds.GetConnector (fields.U32 connector ∷ []) = Some (calls.GetConnector connector)
 mode_call kinds.GetPlaneResources [] = Some calls.GetPlaneResources
 mode_call kinds.GetPlane (fields.U32 plane ∷ []) = Some (calls.GetPlane plane)
-mode_call kinds.SetPlane (fields.U32 plane ∷ fields.U32 crtc ∷ fields.U32 framebuffer ∷ []) = Some (calls.SetPlane plane crtc framebuffer)
+mode_call kinds.SetPlane (fields.U32 plane ∷ fields.U32 crtc ∷ fields.U32 framebuffer ∷ []) =
+    Some (calls.SetPlane plane crtc framebuffer)
 mode_call _ _ = None
 
 -- framebuffers (drm-uapi, kernel mode setting)
 abbrev pub framebuffer_row : Call → Option (CallKind × List Field)
 framebuffer_row (calls.GetFb framebuffer) = Some (kinds.GetFb, fields.U32 framebuffer ∷ [])
-framebuffer_row (calls.AddFb width height pitch bpp handle) = Some (kinds.AddFb, fields.U32 width ∷ fields.U32 height ∷ fields.U32 pitch ∷ fields.U32 bpp ∷ fields.U32 handle ∷ [])
+framebuffer_row (calls.AddFb width height pitch bpp handle) =
+    Some
+    (kinds.AddFb, fields.U32 width ∷ fields.U32 height ∷ fields.U32 pitch ∷ fields.U32 bpp ∷ fields.U32 handle ∷ [])
 framebuffer_row (calls.RmFb framebuffer) = Some (kinds.RmFb, fields.U32 framebuffer ∷ [])
 framebuffer_row _ = None
 
 -- the call of framebuffers with a row and fields
 abbrev pub framebuffer_call : CallKind → List Field → Option Call
 framebuffer_call kinds.GetFb (fields.U32 framebuffer ∷ []) = Some (calls.GetFb framebuffer)
-framebuffer_call kinds.AddFb (fields.U32 width ∷ fields.U32 height ∷ fields.U32 pitch ∷ fields.U32 bpp ∷ fields.U32 handle ∷ []) = Some (calls.AddFb width height pitch bpp handle)
+framebuffer_call kinds.AddFb (fields.U32 width ∷ fields.U32 height ∷ fields.U32 pitch ∷ fields.U32 bpp ∷ fields.U32 handle ∷ []) =
+    Some (calls.AddFb width height pitch bpp handle)
 framebuffer_call kinds.RmFb (fields.U32 framebuffer ∷ []) = Some (calls.RmFb framebuffer)
 framebuffer_call _ _ = None
 
@@ -241,14 +251,18 @@ abbrev pub device_call : CallKind → List Field → Option Call
 device_call kinds.Version [] = Some calls.Version
 device_call kinds.GetCap (fields.U64 cap ∷ []) = Some (calls.GetCap cap)
 device_call kinds.SetClientCap (fields.U64 cap ∷ fields.U64 value ∷ []) = Some (calls.SetClientCap cap value)
-device_call kinds.Audit (fields.U32 number ∷ fields.U32 from ∷ []) = option_map (λ kind. calls.Audit kind from) (audits.kind_of number)
+device_call kinds.Audit (fields.U32 number ∷ fields.U32 from ∷ []) =
+    option_map (λ kind. calls.Audit kind from) (audits.kind_of number)
 device_call _ _ = None
 
 -- ---- all families
 
 -- the row of each call and its fields in order, on the wire and in a script alike; none for a call without a row
 unfoldable pub call_row : Call → Option (CallKind × List Field)
-call_row call = option_or (option_or (option_or (option_or (option_or (option_or (buffer_row call) (share_row call)) (master_row call)) (mode_row call)) (framebuffer_row call)) (lease_row call)) (device_row call)
+call_row call =
+    option_or
+    (option_or (option_or (option_or (option_or (option_or (buffer_row call) (share_row call)) (master_row call)) (mode_row call)) (framebuffer_row call)) (lease_row call))
+    (device_row call)
 
 -- ---- what follows from it
 
@@ -302,7 +316,8 @@ asked_number _ = 0
 
 -- the number of a call's row; for a call without a row, the number that the client sent
 unfoldable pub call_number : Call → ℕ
-call_number call = option_map_or (λ (row : CallKind × List Field). kind_number row.0) (call_row call) (asked_number call)
+call_number call =
+    option_map_or (λ (row : CallKind × List Field). kind_number row.0) (call_row call) (asked_number call)
 
 -- the flags of a call's row; none for a call without a row
 unfoldable pub flags_of : Call → RowFlags

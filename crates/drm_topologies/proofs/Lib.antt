@@ -1,5 +1,5 @@
 pub mod MaskLemmas
 pub mod LineLemmas
-pub mod Sound
+pub mod FittingLines
 pub mod SoFar
-pub mod Made
+pub mod TopologyOfParts

@@ -23,7 +23,9 @@ first-append [] ys = refl
 first-append (x ∷ xs) ys = refl
 
 behind-append : (name : LineWord) (xs ys : List Words) → behind name (xs ++ ys) ≡ behind name xs ++ behind name ys
-behind-append name xs ys = ap (map others) (filter-append (begins_with name) xs ys) ∙ map-append others (filter (begins_with name) xs) (filter (begins_with name) ys)
+behind-append name xs ys =
+    ap (map others) (filter-append (begins_with name) xs ys)
+    ∙ map-append others (filter (begins_with name) xs) (filter (begins_with name) ys)
 
 -- The parts of two lists of lines are those of the first, joined with those of the second.
 pub told-append : (xs ys : List Words) → told (xs ++ ys) ≡ joined (told xs) (told ys)
@@ -35,11 +37,20 @@ told-append xs ys =
     ∙ ap (λ l. slice_get l 0) (filter_map-append only_number (behind words.Crtcs xs) (behind words.Crtcs ys))
     ∙ first-append (counts (behind words.Crtcs xs)) (counts (behind words.Crtcs ys)) in
     let masks : Words → ℕ = λ line. mask_of (others line) in
-    let planes = ap (map masks) (filter-append tells_plane xs ys) ∙ map-append masks (filter tells_plane xs) (filter tells_plane ys) in
-    let kinds = ap (map kind_told) (filter-append tells_plane xs ys) ∙ map-append kind_told (filter tells_plane xs) (filter tells_plane ys) in
-    let encoders = ap (map mask_of) (behind-append words.Encoder xs ys) ∙ map-append mask_of (behind words.Encoder xs) (behind words.Encoder ys) in
-    let connectors = ap (map encoder_place) (behind-append words.Connector xs ys) ∙ map-append encoder_place (behind words.Connector xs) (behind words.Connector ys) in
-    λ i. record { crtcs = crtcs i; planes = planes i; kinds = kinds i; encoders = encoders i; connectors = connectors i }
+    let planes =
+    ap (map masks) (filter-append tells_plane xs ys)
+    ∙ map-append masks (filter tells_plane xs) (filter tells_plane ys) in
+    let kinds =
+    ap (map kind_told) (filter-append tells_plane xs ys)
+    ∙ map-append kind_told (filter tells_plane xs) (filter tells_plane ys) in
+    let encoders =
+    ap (map mask_of) (behind-append words.Encoder xs ys)
+    ∙ map-append mask_of (behind words.Encoder xs) (behind words.Encoder ys) in
+    let connectors =
+    ap (map encoder_place) (behind-append words.Connector xs ys)
+    ∙ map-append encoder_place (behind words.Connector xs) (behind words.Connector ys) in
+    λ i. record
+    { crtcs = crtcs i; planes = planes i; kinds = kinds i; encoders = encoders i; connectors = connectors i }
 
 -- No lines define no parts.
 pub told-nil : told [] ≡ nothing_told
@@ -68,7 +79,8 @@ unfolding told
 blank_tells_nothing t = sym (joined-nothing t)
 
 -- A comment adds no part.
-pub comment_tells_nothing : (t : Told) (w : List ℕ) (ws : Words) → is_comment w ≡ true → t ≡ joined t (told ((w ∷ ws) ∷ []))
+pub comment_tells_nothing : (t : Told) (w : List ℕ) (ws : Words) → is_comment w ≡ true
+    → t ≡ joined t (told ((w ∷ ws) ∷ []))
 unfolding told
 comment_tells_nothing t [] ws is = absurd (false≢true is)
 comment_tells_nothing t (b ∷ bs) ws is =
@@ -90,7 +102,8 @@ module _ (t : Told) (w : List ℕ) (ws : Words) where
   told_with w = joined t (told ((w ∷ ws) ∷ []))
 
   -- If no line above sets the number of CRTCs, a `crtcs` line sets it.
-  pub crtcs_told : line_word_of w ≡ Some words.Crtcs → t.crtcs ≡ None → record t { crtcs = only_number ws } ≡ told_with w
+  pub crtcs_told : line_word_of w ≡ Some words.Crtcs → t.crtcs ≡ None
+      → record t { crtcs = only_number ws } ≡ told_with w
   unfolding told
   crtcs_told is none =
       let crtcs : option_or t.crtcs (slice_get (cons_option (only_number ws) []) 0) ≡ only_number ws =
@@ -104,7 +117,8 @@ module _ (t : Told) (w : List ℕ) (ws : Words) where
       }))
 
   -- A `plane` line adds an overlay plane with its CRTCs.
-  pub overlay_told : line_word_of w ≡ Some words.Plane → record t { planes = t.planes ++ mask_of ws ∷ []; kinds = t.kinds ++ plane_kinds.Overlay ∷ [] } ≡ told_with w
+  pub overlay_told : line_word_of w ≡ Some words.Plane
+      → record t { planes = t.planes ++ mask_of ws ∷ []; kinds = t.kinds ++ plane_kinds.Overlay ∷ [] } ≡ told_with w
   unfolding told
   overlay_told is =
       sym (ap told_with (first_word w words.Plane is) ∙ (λ i. record {
@@ -116,7 +130,8 @@ module _ (t : Told) (w : List ℕ) (ws : Words) where
       }))
 
   -- A `primary` line adds a primary plane with its CRTCs.
-  pub primary_told : line_word_of w ≡ Some words.Primary → record t { planes = t.planes ++ mask_of ws ∷ []; kinds = t.kinds ++ plane_kinds.Primary (own_crtc ws) ∷ [] } ≡ told_with w
+  pub primary_told : line_word_of w ≡ Some words.Primary
+      → record t { planes = t.planes ++ mask_of ws ∷ []; kinds = t.kinds ++ plane_kinds.Primary (own_crtc ws) ∷ [] } ≡ told_with w
   unfolding told
   primary_told is =
       sym (ap told_with (first_word w words.Primary is) ∙ (λ i. record {
@@ -128,7 +143,8 @@ module _ (t : Told) (w : List ℕ) (ws : Words) where
       }))
 
   -- A `cursor` line adds a cursor plane with its CRTCs.
-  pub cursor_told : line_word_of w ≡ Some words.Cursor → record t { planes = t.planes ++ mask_of ws ∷ []; kinds = t.kinds ++ plane_kinds.Cursor (own_crtc ws) ∷ [] } ≡ told_with w
+  pub cursor_told : line_word_of w ≡ Some words.Cursor
+      → record t { planes = t.planes ++ mask_of ws ∷ []; kinds = t.kinds ++ plane_kinds.Cursor (own_crtc ws) ∷ [] } ≡ told_with w
   unfolding told
   cursor_told is =
       sym (ap told_with (first_word w words.Cursor is) ∙ (λ i. record {
@@ -140,7 +156,8 @@ module _ (t : Told) (w : List ℕ) (ws : Words) where
       }))
 
   -- An `encoder` line adds an encoder with its CRTCs.
-  pub encoder_told : line_word_of w ≡ Some words.Encoder → record t { encoders = t.encoders ++ mask_of ws ∷ [] } ≡ told_with w
+  pub encoder_told : line_word_of w ≡ Some words.Encoder
+      → record t { encoders = t.encoders ++ mask_of ws ∷ [] } ≡ told_with w
   unfolding told
   encoder_told is =
       sym (ap told_with (first_word w words.Encoder is) ∙ (λ i. record {
@@ -152,7 +169,8 @@ module _ (t : Told) (w : List ℕ) (ws : Words) where
       }))
 
   -- A `connector` line adds a connector with its encoder.
-  pub connector_told : line_word_of w ≡ Some words.Connector → record t { connectors = t.connectors ++ encoder_place ws ∷ [] } ≡ told_with w
+  pub connector_told : line_word_of w ≡ Some words.Connector
+      → record t { connectors = t.connectors ++ encoder_place ws ∷ [] } ≡ told_with w
   unfolding told
   connector_told is =
       sym (ap told_with (first_word w words.Connector is) ∙ (λ i. record {

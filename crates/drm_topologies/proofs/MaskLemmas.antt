@@ -42,9 +42,11 @@ shifted : (i count : ℕ) → nat_lt i count ≡ nat_lt (suc i) (suc count)
 shifted i count = grind (arith, nat_tests)
 
 -- a bit says whether the number at its place passes
-bit_at_place : (p : ℕ → Bool) (first count i : ℕ) → (bit_at (bits_of p (numbers_from first count)) i == 1) ≡ (nat_lt i count && p (first + i))
+bit_at_place : (p : ℕ → Bool) (first count i : ℕ)
+    → (bit_at (bits_of p (numbers_from first count)) i == 1) ≡ (nat_lt i count && p (first + i))
 unfolding numbers_from
-bit_at_place p first zero i = ap (λ n. n == 1) (bit_at-zero i) ∙ sym (ap (λ b. b && p (first + i)) (le-ltb i 0 (omega arith)))
+bit_at_place p first zero i =
+    ap (λ n. n == 1) (bit_at-zero i) ∙ sym (ap (λ b. b && p (first + i)) (le-ltb i 0 (omega arith)))
 bit_at_place p first (suc count) zero =
     let same : first ≡ first + 0 = omega arith in
     ap (λ n. n == 1) (bit_at_lowest (bits_of p (first ∷ numbers_from (first + 1) count)))
@@ -53,7 +55,8 @@ bit_at_place p first (suc count) zero =
 bit_at_place p first (suc count) (suc i) =
     let same : first + 1 + i ≡ first + suc i = omega arith in
     let rest = bits_of p (numbers_from (first + 1) count) in
-    ap (λ n. n == 1) (bit_at-suc (bits_of p (first ∷ numbers_from (first + 1) count)) i ∙ ap (λ n. bit_at n i) (higher (p first) rest))
+    ap (λ n. n == 1)
+    (bit_at-suc (bits_of p (first ∷ numbers_from (first + 1) count)) i ∙ ap (λ n. bit_at n i) (higher (p first) rest))
     ∙ bit_at_place p (first + 1) count i
     ∙ ap (λ n. nat_lt i count && p n) same ∙ ap (λ b. b && p (first + suc i)) (shifted i count)
 
@@ -65,7 +68,8 @@ is_one n false low is = let ne = eqb-false n 1 is in low_one n low ne
     low_one : (n : ℕ) → n < 2 → n ≢ 1 → n ≡ 0
     low_one n low ne = omega (arith, low, ne)
 
-either : (hit within q : Bool) → (hit ≡ true → within ≡ true) → cond (within && (hit || q)) 1 0 ≡ max (cond hit 1 0) (cond (within && q) 1 0)
+either : (hit within q : Bool) → (hit ≡ true → within ≡ true)
+    → cond (within && (hit || q)) 1 0 ≡ max (cond hit 1 0) (cond (within && q) 1 0)
 either true true true inside = refl
 either true true false inside = refl
 either true false q inside = absurd (false≢true (inside refl))
@@ -84,7 +88,8 @@ within_all : (n i : ℕ) → n ≤ 8 → 1 ≤ n → (n - 1 == i) ≡ true → n
 within_all n i high low is = let same = eqb-true (n - 1) i is in lt-ltb i 8 (omega (arith, same, high, low))
 
 -- One more CRTC is one more bit of the mask.
-pub set_bit : (p : ℕ → Bool) (n : ℕ) → 1 ≤ n → n ≤ 8 → bits_of (λ x. (n == x) || p x) (numbers_from 1 8) ≡ bit_or (2 ^ (n - 1)) (bits_of p (numbers_from 1 8))
+pub set_bit : (p : ℕ → Bool) (n : ℕ) → 1 ≤ n → n ≤ 8
+    → bits_of (λ x. (n == x) || p x) (numbers_from 1 8) ≡ bit_or (2 ^ (n - 1)) (bits_of p (numbers_from 1 8))
 set_bit p n low high = same_from_bits _ _ (λ i.
     let with_it : ℕ → Bool = λ x. (n == x) || p x in
     let without = bits_of p (numbers_from 1 8) in
@@ -102,14 +107,16 @@ no_bit first (suc count) = let rest = no_bit (first + 1) count in rw rest refl
 
 -- ---- the CRTC that a word names
 
-of_crtcs_some : (count m n : ℕ) (b : Bool) → (nat_le 1 m && nat_le m count) ≡ b → cond b (Some m) None ≡ Some n → (m ≡ n) × (1 ≤ n) × (n ≤ count)
+of_crtcs_some : (count m n : ℕ) (b : Bool) → (nat_le 1 m && nat_le m count) ≡ b → cond b (Some m) None ≡ Some n
+    → (m ≡ n) × (1 ≤ n) × (n ≤ count)
 of_crtcs_some count m n true within is =
     let same : m ≡ n = let e = is in cc in
     let ends = and_parts (nat_le 1 m) (nat_le m count) within in
     (same, omega (arith, same, leb-true 1 m ends.0), omega (arith, same, leb-true m count ends.1))
 of_crtcs_some count m n false within is = absurd (cc)
 
-crtc_some_at : (count n : ℕ) (o : Option ℕ) → option_and_then (of_crtcs count) o ≡ Some n → (o ≡ Some n) × (1 ≤ n) × (n ≤ count)
+crtc_some_at : (count n : ℕ) (o : Option ℕ) → option_and_then (of_crtcs count) o ≡ Some n
+    → (o ≡ Some n) × (1 ≤ n) × (n ≤ count)
 crtc_some_at count n None is = absurd (cc)
 crtc_some_at count n (Some m) is = let found = of_crtcs_some count m n (nat_le 1 m && nat_le m count) refl is in (ap Some found.0, found.1, found.2)
 
@@ -125,7 +132,8 @@ unfolding mask_of
 mask-nil = no_bit 1 8
 
 -- The mask of a CRTC's number and more words is its bit and the mask of these words.
-pub mask-cons : (w : List ℕ) (ws : Words) (n : ℕ) → number_in w ≡ Some n → 1 ≤ n → n ≤ 8 → mask_of (w ∷ ws) ≡ bit_or (2 ^ (n - 1)) (mask_of ws)
+pub mask-cons : (w : List ℕ) (ws : Words) (n : ℕ) → number_in w ≡ Some n → 1 ≤ n → n ≤ 8
+    → mask_of (w ∷ ws) ≡ bit_or (2 ^ (n - 1)) (mask_of ws)
 unfolding mask_of
 mask-cons w ws n is low high =
     ap (λ o. bits_of (is_among (cons_option o (filter_map number_in ws))) (numbers_from 1 8)) is
@@ -138,54 +146,65 @@ double true r m less = omega (arith, less, pow-suc 2 m)
 double false r m less = omega (arith, less, pow-suc 2 m)
 
 -- If no number from `first + n` on passes, the bits of a run are below 2^n.
-pub bits_below : (p : ℕ → Bool) (first count n : ℕ) → ((x : ℕ) → first + n ≤ x → p x ≡ false) → bits_of p (numbers_from first count) < 2 ^ n
+pub bits_below : (p : ℕ → Bool) (first count n : ℕ) → ((x : ℕ) → first + n ≤ x → p x ≡ false)
+    → bits_of p (numbers_from first count) < 2 ^ n
 unfolding numbers_from
 bits_below p first zero n none = pow_pos n
 bits_below p first (suc count) zero none =
-    let rest : bits_of p (numbers_from (first + 1) count) < 2 ^ 0 = bits_below p (first + 1) count zero (λ x le. none x (omega arith)) in
+    let rest : bits_of p (numbers_from (first + 1) count) < 2 ^ 0 =
+    bits_below p (first + 1) count zero (λ x le. none x (omega arith)) in
     let off : p first ≡ false = none first (omega arith) in
     rw off (omega (arith, rest))
 bits_below p first (suc count) (suc m) none =
-    double (p first) (bits_of p (numbers_from (first + 1) count)) m (bits_below p (first + 1) count m (λ x le. none x (omega arith)))
+    double (p first) (bits_of p (numbers_from (first + 1) count)) m
+    (bits_below p (first + 1) count m (λ x le. none x (omega arith)))
 
 named_some : (b : Bool) (n : ℕ) → is_some (cond b (Some n) None) ≡ true → b ≡ true
 named_some true n some = refl
 named_some false n some = some
 
 -- a word that names a CRTC is its number
-named_at : (count : ℕ) (o : Option ℕ) → is_some (option_and_then (of_crtcs count) o) ≡ true → (n : ℕ) × (o ≡ Some n) × (1 ≤ n) × (n ≤ count)
+named_at : (count : ℕ) (o : Option ℕ) → is_some (option_and_then (of_crtcs count) o) ≡ true
+    → (n : ℕ) × (o ≡ Some n) × (1 ≤ n) × (n ≤ count)
 named_at count None some = absurd (false≢true some)
 named_at count (Some n) some =
     let ends = and_parts (nat_le 1 n) (nat_le n count) (named_some (nat_le 1 n && nat_le n count) n some) in
     (n, refl, leb-true 1 n ends.0, leb-true n count ends.1)
 
-named_more : (o : Option ℕ) (rest : List ℕ) (n x : ℕ) → o ≡ Some n → n < x → is_among rest x ≡ false → is_among (cons_option o rest) x ≡ false
-named_more o rest n x is less none = rw is (or_from (n == x) (is_among rest x) (ne_eqb n x (λ same. omega (arith, same, less))) none)
+named_more : (o : Option ℕ) (rest : List ℕ) (n x : ℕ) → o ≡ Some n → n < x → is_among rest x ≡ false
+    → is_among (cons_option o rest) x ≡ false
+named_more o rest n x is less none =
+    rw is (or_from (n == x) (is_among rest x) (ne_eqb n x (λ same. omega (arith, same, less))) none)
 
 -- each word is the number of a CRTC, out of `count`
 abbrev pub name_crtcs : ℕ → Words → Bool
 name_crtcs count ws = list_all (λ w. is_some (crtc_in count w)) ws
 
-none_above : (count : ℕ) (ws : Words) → name_crtcs count ws ≡ true → (x : ℕ) → count < x → is_among (filter_map number_in ws) x ≡ false
+none_above : (count : ℕ) (ws : Words) → name_crtcs count ws ≡ true → (x : ℕ) → count < x
+    → is_among (filter_map number_in ws) x ≡ false
 none_above count [] all x less = refl
 none_above count (w ∷ ws) all x less =
     let each = and_parts (is_some (crtc_in count w)) (name_crtcs count ws) all in
     let n = named_at count (number_in w) each.0 in
-    named_more (number_in w) (filter_map number_in ws) n.0 x n.1 (omega (arith, n.3, less)) (none_above count ws each.1 x less)
+    named_more (number_in w) (filter_map number_in ws) n.0 x n.1 (omega (arith, n.3, less))
+    (none_above count ws each.1 x less)
 
 -- If all words name CRTCs, their mask is below 2 to the number of CRTCs.
 pub mask_below : (count : ℕ) (ws : Words) → name_crtcs count ws ≡ true → mask_of ws < 2 ^ count
 unfolding mask_of
-mask_below count ws all = bits_below (is_among (filter_map number_in ws)) 1 8 count (λ x le. none_above count ws all x (omega (arith, le)))
+mask_below count ws all =
+    bits_below (is_among (filter_map number_in ws)) 1 8 count (λ x le. none_above count ws all x (omega (arith, le)))
 
 first_bit : (n : ℕ) (rest : List ℕ) → 1 ≤ n → n ≤ 8 → (nat_lt (n - 1) 8 && is_among (n ∷ rest) (1 + (n - 1))) ≡ true
 first_bit n rest low high =
     let within : nat_lt (n - 1) 8 ≡ true = lt-ltb (n - 1) 8 (omega (arith, low, high)) in
     let same : (n == 1 + (n - 1)) ≡ true = eq-eqb n (1 + (n - 1)) (omega (arith, low)) in
-    and_from (nat_lt (n - 1) 8) (is_among (n ∷ rest) (1 + (n - 1))) within (or_left (n == 1 + (n - 1)) (is_among rest (1 + (n - 1))) same)
+    and_from (nat_lt (n - 1) 8) (is_among (n ∷ rest) (1 + (n - 1))) within
+    (or_left (n == 1 + (n - 1)) (is_among rest (1 + (n - 1))) same)
 
 -- The first CRTC that the words name is one of their mask.
-pub own_possible : (count : ℕ) (ws : Words) (n : ℕ) → count ≤ 8 → name_crtcs count ws ≡ true → first_number ws ≡ Some n → is_possible count (mask_of ws) n ≡ true
+pub own_possible : (count : ℕ) (ws : Words) (n : ℕ) → count ≤ 8 → name_crtcs count ws ≡ true → first_number ws ≡ Some n
+    → is_possible count (mask_of ws) n ≡ true
 unfolding mask_of
 own_possible count [] n few all first = absurd (cc)
 own_possible count (w ∷ ws) n few all first =
@@ -203,7 +222,9 @@ own_possible count (w ∷ ws) n few all first =
 -- ---- the loop over the words
 
 -- After one more word, the mask with its CRTC and the rest are still the whole mask.
-pub mask_more : (mask n whole : ℕ) (w : List ℕ) (ws rest : Words) (count : ℕ) → count ≤ 8 → rest ≡ w ∷ ws → crtc_in count w ≡ Some n → bit_or mask (mask_of rest) ≡ whole → bit_or (bit_or mask (2 ^ (n - 1))) (mask_of ws) ≡ whole
+pub mask_more : (mask n whole : ℕ) (w : List ℕ) (ws rest : Words) (count : ℕ) → count ≤ 8 → rest ≡ w ∷ ws
+    → crtc_in count w ≡ Some n → bit_or mask (mask_of rest) ≡ whole
+    → bit_or (bit_or mask (2 ^ (n - 1))) (mask_of ws) ≡ whole
 mask_more mask n whole w ws rest count few is named so_far =
     let crtc = crtc_some count n w named in
     or-or mask (2 ^ (n - 1)) (mask_of ws)
@@ -211,13 +232,18 @@ mask_more mask n whole w ws rest count few is named so_far =
     ∙ so_far
 
 -- If the first word names a CRTC, all words do if and only if the others do.
-pub named_more_words : (w : List ℕ) (ws rest : Words) (count n : ℕ) (all : Bool) → rest ≡ w ∷ ws → crtc_in count w ≡ Some n → name_crtcs count rest ≡ all → name_crtcs count ws ≡ all
-named_more_words w ws rest count n all is named so_far = sym (ap (λ o. is_some o && name_crtcs count ws) named) ∙ sym (ap (name_crtcs count) is) ∙ so_far
+pub named_more_words : (w : List ℕ) (ws rest : Words) (count n : ℕ) (all : Bool) → rest ≡ w ∷ ws
+    → crtc_in count w ≡ Some n → name_crtcs count rest ≡ all → name_crtcs count ws ≡ all
+named_more_words w ws rest count n all is named so_far =
+    sym (ap (λ o. is_some o && name_crtcs count ws) named) ∙ sym (ap (name_crtcs count) is) ∙ so_far
 
 -- If the first word names no CRTC, not all words do.
-pub not_named : (w : List ℕ) (ws rest : Words) (count : ℕ) (all : Bool) → rest ≡ w ∷ ws → crtc_in count w ≡ None → name_crtcs count rest ≡ all → all ≡ false
-not_named w ws rest count all is none so_far = sym so_far ∙ ap (name_crtcs count) is ∙ ap (λ o. is_some o && name_crtcs count ws) none
+pub not_named : (w : List ℕ) (ws rest : Words) (count : ℕ) (all : Bool) → rest ≡ w ∷ ws → crtc_in count w ≡ None
+    → name_crtcs count rest ≡ all → all ≡ false
+not_named w ws rest count all is none so_far =
+    sym so_far ∙ ap (name_crtcs count) is ∙ ap (λ o. is_some o && name_crtcs count ws) none
 
 -- If no words are left, the mask so far is the whole mask.
 pub whole_mask : (mask whole : ℕ) (rest : Words) → rest ≡ [] → bit_or mask (mask_of rest) ≡ whole → mask ≡ whole
-whole_mask mask whole rest none so_far = sym (or-none mask) ∙ ap (bit_or mask) (sym (ap mask_of none ∙ mask-nil)) ∙ so_far
+whole_mask mask whole rest none so_far =
+    sym (or-none mask) ∙ ap (bit_or mask) (sym (ap mask_of none ∙ mask-nil)) ∙ so_far

@@ -16,7 +16,7 @@ use Rattle.drm_topologies.specs.Lines.{lines_in}
 use Rattle.drm_topologies.specs.Told.{Told, told, joined, nothing_told, topology_told}
 use Rattle.drm_topologies.specs.Causes.{cause_of, next_cause, cause_below, AllFit, IsFirstUnfit}
 use Rattle.drm_topologies.proofs.LineLemmas.{told-append, told-nil}
-use Rattle.drm_topologies.proofs.Sound.{IsSound, IsPlace, sound_above, topology_is}
+use Rattle.drm_topologies.proofs.FittingLines.{IsSound, IsPlace, sound_above, topology_is}
 
 -- `above` lines were read, they fit, and these are their parts
 pub record SoFar (lines rest : List Words) (above : ℕ) (t : Told) : Type 0 where
@@ -36,7 +36,8 @@ none_so_far lines t none = record {
 
 -- ---- the next line
 
-next_at : (lines : List Words) (n : ℕ) (line : Words) (rest : List Words) → drop n lines ≡ line ∷ rest → n < length lines
+next_at : (lines : List Words) (n : ℕ) (line : Words) (rest : List Words) → drop n lines ≡ line ∷ rest
+    → n < length lines
 next_at lines n line rest is =
     elim (cases_lt n (length lines)) [
       | inl less ↦ less
@@ -64,7 +65,8 @@ module _ (lines rest : List Words) (line : Words) (above : ℕ) (t : Told) (so_f
       ∙ ap (λ u. cause_of u line) (sym so_far.told_is)
 
   -- If the next line fits, its parts are joined to the parts so far.
-  pub line_read : (t' : Told) → cause_of t line ≡ None → t' ≡ joined t (told (line ∷ [])) → SoFar lines rest (above + 1) t'
+  pub line_read : (t' : Told) → cause_of t line ≡ None → t' ≡ joined t (told (line ∷ []))
+      → SoFar lines rest (above + 1) t'
   line_read t' none tells =
       let lt = there in record {
         rest_is = rest_next;
@@ -84,8 +86,10 @@ module _ (lines rest : List Words) (line : Words) (above : ℕ) (t : Told) (so_f
           ap (cause_below lines) same ∙ next_cause_is ∙ none
 
   -- If the next line does not fit, it is the first unfit line.
-  pub line_unfit : (unfit : UnfitLine) → unfit.number ≡ above + 1 → cause_of t line ≡ Some unfit.cause → IsFirstUnfit lines unfit
-  line_unfit unfit number cause = record { above = above; number = number; fit = so_far.fit; cause = next_cause_is ∙ cause }
+  pub line_unfit : (unfit : UnfitLine) → unfit.number ≡ above + 1 → cause_of t line ≡ Some unfit.cause
+      → IsFirstUnfit lines unfit
+  line_unfit unfit number cause =
+      record { above = above; number = number; fit = so_far.fit; cause = next_cause_is ∙ cause }
 
 -- ---- the end
 
@@ -115,7 +119,8 @@ module _ (lines : List Words) (above : ℕ) (t : Told) (so_far : SoFar lines [] 
       fits_at i (inr past) = let read = all_read in end_cause i (omega (arith, read, past)) ∙ rw some refl
 
   -- If no lines are left and the number of CRTCs is not set, the end is the first unfit line.
-  pub end_unfit : (unfit : UnfitLine) → unfit.number ≡ above + 1 → unfit.cause ≡ causes.NoCrtcs → t.crtcs ≡ None → IsFirstUnfit lines unfit
+  pub end_unfit : (unfit : UnfitLine) → unfit.number ≡ above + 1 → unfit.cause ≡ causes.NoCrtcs → t.crtcs ≡ None
+      → IsFirstUnfit lines unfit
   end_unfit unfit number cause none = record {
     above = above;
     number = number;
@@ -131,7 +136,8 @@ module _ (lines : List Words) (above : ℕ) (t : Told) (so_far : SoFar lines [] 
   pub few_places : AllByRecursion (λ place. place ≤ 64) t.connectors
   few_places =
       let sound = all_sound in
-      all_weaker (IsPlace (length t.encoders)) (λ place. place ≤ 64) (λ place is. omega (arith, is.1, sound.few)) t.connectors sound.places
+      all_weaker (IsPlace (length t.encoders)) (λ place. place ≤ 64) (λ place is. omega (arith, is.1, sound.few))
+      t.connectors sound.places
 
   -- If no lines are left and the number of CRTCs is set, the parts are a topology.
   pub topology_sound : is_some t.crtcs ≡ true → is_topology (topology_told t) ≡ true
@@ -150,13 +156,15 @@ pub nonempty : (text : List ℕ) (empty : Bool) → empty ≡ (length text == 0)
 nonempty text empty is not_empty none = eqb-false (length text) 0 (sym is ∙ not_empty) (ap length none)
 
 -- If a text is not empty, its first line and the lines of the text after it are left.
-pub at_line : (lines : List Words) (text line behind : List ℕ) (above : ℕ) (t : Told) → SoFar lines (lines_in text) above t → text ≢ [] → (text ≢ [] → lines_of text ≡ line ∷ lines_of behind)
+pub at_line : (lines : List Words) (text line behind : List ℕ) (above : ℕ) (t : Told)
+    → SoFar lines (lines_in text) above t → text ≢ [] → (text ≢ [] → lines_of text ≡ line ∷ lines_of behind)
     → SoFar lines (words_of line ∷ lines_in behind) above t
 at_line lines text line behind above t so_far some first =
     let P : List Words → Type 0 = λ rest. SoFar lines rest above t in subst P (ap (map words_of) (first some)) so_far
 
 -- If the text is empty, no lines are left.
-pub at_end : (lines : List Words) (text : List ℕ) (above : ℕ) (t : Told) (empty : Bool) → SoFar lines (lines_in text) above t → empty ≡ (length text == 0) → empty ≡ true → SoFar lines [] above t
+pub at_end : (lines : List Words) (text : List ℕ) (above : ℕ) (t : Told) (empty : Bool)
+    → SoFar lines (lines_in text) above t → empty ≡ (length text == 0) → empty ≡ true → SoFar lines [] above t
 at_end lines text above t empty so_far is end =
     let none : text ≡ [] = nil_from_length text (eqb-true (length text) 0 (sym is ∙ end)) in
     let P : List Words → Type 0 = λ rest. SoFar lines rest above t in subst P (ap lines_in none) so_far

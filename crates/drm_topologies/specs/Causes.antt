@@ -78,7 +78,8 @@ encoder_cause t ws = first_cause (mask_cause t ws ∷ unless causes.TooMany (has
 abbrev pub connector_cause : Told → Words → Option Unfit
 connector_cause t ws =
     first_cause (
-    unless (causes.Encoder (length t.encoders)) (nat_le 1 (encoder_place ws) && nat_le (encoder_place ws) (length t.encoders))
+    unless (causes.Encoder (length t.encoders))
+    (nat_le 1 (encoder_place ws) && nat_le (encoder_place ws) (length t.encoders))
     ∷ unless causes.TooMany (has_room t)
     ∷ [])
 

@@ -9,8 +9,8 @@ use Rattle.std.proofs.Math.Seq.{get_or-append_seam}
 use Rattle.drm_history.specs.History.{AnsweredEvent, next_number}
 use Rattle.drm_history.specs.Steps.{Key, Source, Creation, Transfer, Giving, given, takes}
 use Rattle.drm_history.specs.Holds.{Has}
-use Rattle.drm_history.proofs.Told.{has_is_told, Held, Kept, none_some, told_is_so}
-use Rattle.drm_history.proofs.Runs.{agrees}
+use Rattle.drm_history.proofs.HistoryFunctions.{has_is_told, Held, Kept, none_some, told_is_so}
+use Rattle.drm_history.proofs.RunsAgree.{agrees}
 use Rattle.drm_trails.specs.Chains.{HasNone, IsOfDevice}
 use Rattle.drm_trails.specs.Handles.{is_given_at}
 use Rattle.drm_trails.specs.Objects.{AreObjects, object_given, object_held, object_under}
@@ -28,41 +28,53 @@ use Rattle.drm_trails.proofs.TrailLemmas.{lt_of}
 gift_object : (g : Gift) → told_from_gift (Some g) ≡ object_given g.past g.source
 gift_object g = of g.source
   where
-    of : (source : Source) → told_from_gift (Some (record { source = source; past = g.past })) ≡ object_given g.past source
+    of : (source : Source)
+        → told_from_gift (Some (record { source = source; past = g.past })) ≡ object_given g.past source
     of Creation = refl
     of (Transfer key) = refl
 
 -- The object of a handle is that of its last assignment.
-pub held_by_gift : (history : List AnsweredEvent) (c h : ℕ) (g : Gift) → last_gift history c h ≡ Some g → object_held history c h ≡ object_given g.past g.source
+pub held_by_gift : (history : List AnsweredEvent) (c h : ℕ) (g : Gift) → last_gift history c h ≡ Some g
+    → object_held history c h ≡ object_given g.past g.source
 held_by_gift history c h g e = told-last_gift history c h ∙ ap told_from_gift e ∙ gift_object g
 
 -- A handle that no step assigned has no object.
-pub held_by_none : (history : List AnsweredEvent) (c h : ℕ) → last_gift history c h ≡ None → object_held history c h ≡ None
+pub held_by_none : (history : List AnsweredEvent) (c h : ℕ) → last_gift history c h ≡ None
+    → object_held history c h ≡ None
 held_by_none history c h e = told-last_gift history c h ∙ ap told_from_gift e
 
 -- ---- by the last publishing
 
 module _ (steps : List Step) (notes : List Publication) (noted : AreNoted steps notes) (key : Key) where
   shared : last_sharing (history_of steps) key ≡ option_map (sharing_by steps) (publication_in notes (length steps) key)
-  shared = ap (λ xs. last_sharing (history_of xs) key) (sym (take_all (length steps) steps (omega arith))) ∙ sym (noted.told (length steps) key)
+  shared =
+      ap (λ xs. last_sharing (history_of xs) key) (sym (take_all (length steps) steps (omega arith)))
+      ∙ sym (noted.told (length steps) key)
 
   -- Without a note of it, a key has no object.
   pub under_none : None ≡ publication_in notes (length steps) key → object_under (history_of steps) key ≡ None
-  under_none none = told-last_sharing (history_of steps) key ∙ ap told_from_sharing (shared ∙ ap (option_map (sharing_by steps)) (sym none))
+  under_none none =
+      told-last_sharing (history_of steps) key
+      ∙ ap told_from_sharing (shared ∙ ap (option_map (sharing_by steps)) (sym none))
 
   -- The object under a key is that of the handle in the newest note of it.
-  pub under_found : (p : Publication) → Some p ≡ publication_in notes (length steps) key → object_under (history_of steps) key ≡ object_held (history_of (take p.past steps)) p.client p.handle
-  under_found p found = told-last_sharing (history_of steps) key ∙ ap told_from_sharing (shared ∙ ap (option_map (sharing_by steps)) (sym found))
+  pub under_found : (p : Publication) → Some p ≡ publication_in notes (length steps) key
+      → object_under (history_of steps) key ≡ object_held (history_of (take p.past steps)) p.client p.handle
+  under_found p found =
+      told-last_sharing (history_of steps) key
+      ∙ ap told_from_sharing (shared ∙ ap (option_map (sharing_by steps)) (sym found))
 
 -- ---- what it means
 
 -- The object that was found for a handle is the one that the history grants.
-pub held_is_had : (history : List AnsweredEvent) (c h : ℕ) (found : Option ℕ) → found ≡ object_held history c h → IfSome found (Has history c h)
+pub held_is_had : (history : List AnsweredEvent) (c h : ℕ) (found : Option ℕ) → found ≡ object_held history c h
+    → IfSome found (Has history c h)
 held_is_had history c h None e = tt
 held_is_had history c h (Some o) e = told_is_so history (Held c h) o (sym e)
 
 -- If no object was found for a handle, a device's history grants none.
-pub held_is_none : (history : List AnsweredEvent) (c h : ℕ) (found : Option ℕ) → found ≡ object_held history c h → IfNone found (IsOfDevice history → HasNone history c h)
+pub held_is_none : (history : List AnsweredEvent) (c h : ℕ) (found : Option ℕ) → found ≡ object_held history c h
+    → IfNone found (IsOfDevice history → HasNone history c h)
 held_is_none history c h None e = has_none history c h (sym e)
 held_is_none history c h (Some o) e = tt
 
@@ -70,12 +82,18 @@ kept : (history : List AnsweredEvent) → IsOfDevice history → Kept history
 kept history of_device = subst Kept (sym of_device.1) (agrees of_device.0).facts.held.kept
 
 -- In a device's history a handle has one object.
-pub had_once : (history : List AnsweredEvent) (c h o p : ℕ) → IsOfDevice history → Has history c h o → Has history c h p → o ≡ p
-had_once history c h o p of_device one other = same_Some o p (sym (has_is_told o history c h (kept history of_device) one) ∙ has_is_told p history c h (kept history of_device) other)
+pub had_once : (history : List AnsweredEvent) (c h o p : ℕ) → IsOfDevice history → Has history c h o → Has history c h p
+    → o ≡ p
+had_once history c h o p of_device one other =
+    same_Some o p
+    (sym (has_is_told o history c h (kept history of_device) one) ∙ has_is_told p history c h (kept history of_device) other)
 
 -- In a device's history a handle that a client has was assigned by a step.
-pub had_is_given : (history : List AnsweredEvent) (c h o : ℕ) → IsOfDevice history → Has history c h o → (s : ℕ) × (is_given_at (last_gift history c h) s ≡ true)
-had_is_given history c h o of_device has = of (last_gift history c h) (sym (told-last_gift history c h) ∙ has_is_told o history c h (kept history of_device) has)
+pub had_is_given : (history : List AnsweredEvent) (c h o : ℕ) → IsOfDevice history → Has history c h o
+    → (s : ℕ) × (is_given_at (last_gift history c h) s ≡ true)
+had_is_given history c h o of_device has =
+    of (last_gift history c h)
+    (sym (told-last_gift history c h) ∙ has_is_told o history c h (kept history of_device) has)
   where
     of : (gift : Option Gift) → told_from_gift gift ≡ Some o → (s : ℕ) × (is_given_at gift s ≡ true)
     of None e = none_some o e
@@ -87,18 +105,22 @@ had_is_given history c h o of_device has = of (last_gift history c h) (sym (told
 pub none_known : AreObjects [] []
 unfolding last_gift followed_by
 none_known = record {
-  told = λ moment c h g e. none_some g (ap (λ (steps : List Step). last_gift (history_of steps) c h) (sym (take_all moment [] (omega arith))) ∙ e);
+  told =
+      λ moment c h g e. none_some g
+      (ap (λ (steps : List Step). last_gift (history_of steps) c h) (sym (take_all moment [] (omega arith))) ∙ e);
   count = refl;
 }
 
 get_front : {X : Type 0} (xs ys : List X) (n : ℕ) (x : X) → slice_get xs n ≡ Some x → slice_get (xs ++ ys) n ≡ Some x
 get_front xs ys n x e =
     let within = slice_get_within xs n x e in
-    slice_get-get_or (xs ++ ys) n x (let size = length-append xs ys in omega (arith, within, size)) ∙ ap Some (get_or-append xs ys x n within ∙ get_or_from_slice_get xs n x x e)
+    slice_get-get_or (xs ++ ys) n x (let size = length-append xs ys in omega (arith, within, size))
+    ∙ ap Some (get_or-append xs ys x n within ∙ get_or_from_slice_get xs n x x e)
 
 get_last : {X : Type 0} (xs : List X) (n : ℕ) (x : X) → n ≡ length xs → slice_get (xs ++ x ∷ []) n ≡ Some x
 get_last xs n x e =
-    slice_get-get_or (xs ++ x ∷ []) n x (let size = length-append xs (x ∷ []) in omega (arith, e, size)) ∙ ap (λ k. Some (get_or (xs ++ x ∷ []) k x)) e ∙ ap Some (get_or-append_seam xs x [] x)
+    slice_get-get_or (xs ++ x ∷ []) n x (let size = length-append xs (x ∷ []) in omega (arith, e, size))
+    ∙ ap (λ k. Some (get_or (xs ++ x ∷ []) k x)) e ∙ ap Some (get_or-append_seam xs x [] x)
 
 module _ (steps : List Step) (step : Step) (objects : List (Option ℕ)) (known : AreObjects steps objects) (object : Option ℕ) where
   abbrev longer : List Step
@@ -108,7 +130,9 @@ module _ (steps : List Step) (step : Step) (objects : List (Option ℕ)) (known 
   more = objects ++ object ∷ []
 
   -- the object of the gift of this step, if it is the one that is found, and else of an older
-  by_step : (c h : ℕ) (source : Option Source) (taken : Bool) (g : Gift) → ((s : Source) → source ≡ Some s → object ≡ object_given (history_of steps) s) → gift_or source taken (history_of steps) (last_gift (history_of steps) c h) ≡ Some g →
+  by_step : (c h : ℕ) (source : Option Source) (taken : Bool) (g : Gift)
+      → ((s : Source) → source ≡ Some s → object ≡ object_given (history_of steps) s)
+      → gift_or source taken (history_of steps) (last_gift (history_of steps) c h) ≡ Some g →
       slice_get more (length g.past) ≡ Some (object_given g.past g.source)
   by_step c h (Some source) taken g its_object e =
       subst (λ (g : Gift). slice_get more (length g.past) ≡ Some (object_given g.past g.source)) (same_Some _ g e)
@@ -121,8 +145,11 @@ module _ (steps : List Step) (step : Step) (objects : List (Option ℕ)) (known 
   one_longer : length longer ≡ length steps + 1
   one_longer = length-append steps (step ∷ [])
 
-  known_if : (moment c h : ℕ) (g : Gift) (b : Bool) → ((s : Source) → source_for c h (given (entry_of step)) ≡ Some s → object ≡ object_given (history_of steps) s) → nat_lt (length steps) moment ≡ b →
-      last_gift (history_of (take moment longer)) c h ≡ Some g → slice_get more (length g.past) ≡ Some (object_given g.past g.source)
+  known_if : (moment c h : ℕ) (g : Gift) (b : Bool)
+      → ((s : Source) → source_for c h (given (entry_of step)) ≡ Some s → object ≡ object_given (history_of steps) s)
+      → nat_lt (length steps) moment ≡ b →
+      last_gift (history_of (take moment longer)) c h ≡ Some g → slice_get more (length g.past) ≡ Some
+      (object_given g.past g.source)
   unfolding last_gift
   known_if moment c h g true its_object past e =
       by_step c h (source_for c h (given (entry_of step))) (takes (entry_of step) c h) g its_object
@@ -131,7 +158,9 @@ module _ (steps : List Step) (step : Step) (objects : List (Option ℕ)) (known 
       get_front objects (object ∷ []) (length g.past) (object_given g.past g.source)
       (known.told moment c h g (ap (λ xs. last_gift (history_of xs) c h) (sym (take-append-le moment steps (step ∷ []) (grind (arith, nat_tests)))) ∙ e))
 
-source_object : (c h : ℕ) (g : Option Giving) (past : List AnsweredEvent) (object : Option ℕ) → IfSome g (λ (giving : Giving). object ≡ object_given past giving.source) → (s : Source) → source_for c h g ≡ Some s → object ≡ object_given past s
+source_object : (c h : ℕ) (g : Option Giving) (past : List AnsweredEvent) (object : Option ℕ)
+    → IfSome g (λ (giving : Giving). object ≡ object_given past giving.source) → (s : Source)
+    → source_for c h g ≡ Some s → object ≡ object_given past s
 source_object c h None past object its s e = none_some s e
 source_object c h (Some g) past object its s e = of ((g.client == c) && (g.handle == h)) e
   where
@@ -140,22 +169,33 @@ source_object c h (Some g) past object its s e = of ((g.client == c) && (g.handl
     of false e = none_some s e
 
 -- With one more step, the object that the step assigned is known, as those before.
-pub known_more : (steps : List Step) (step : Step) (objects : List (Option ℕ)) (object : Option ℕ) → AreObjects steps objects → IfSome (given (entry_of step)) (λ (giving : Giving). object ≡ object_given (history_of steps) giving.source) →
+pub known_more : (steps : List Step) (step : Step) (objects : List (Option ℕ)) (object : Option ℕ)
+    → AreObjects steps objects
+    → IfSome (given (entry_of step)) (λ (giving : Giving). object ≡ object_given (history_of steps) giving.source) →
     AreObjects (steps ++ step ∷ []) (objects ++ object ∷ [])
 known_more steps step objects object known its = record {
-  told = λ moment c h g e. known_if steps step objects known object moment c h g (nat_lt (length steps) moment) (source_object c h (given (entry_of step)) (history_of steps) object its) refl e;
+  told =
+      λ moment c h g e. known_if steps step objects known object moment c h g (nat_lt (length steps) moment)
+      (source_object c h (given (entry_of step)) (history_of steps) object its) refl e;
   count = length-append objects (object ∷ []) ∙ ap (λ n. n + 1) known.count ∙ sym (length-append steps (step ∷ []));
 }
 
 -- What is known of the objects of handles carries over to equal lists.
-pub known_along : (steps same : List Step) (objects also : List (Option ℕ)) → same ≡ steps → also ≡ objects → AreObjects steps objects → AreObjects same also
-known_along steps same objects also is are known = subst (λ (x : List Step × List (Option ℕ)). AreObjects x.0 x.1) (λ i. (sym is i, sym are i)) known
+pub known_along : (steps same : List Step) (objects also : List (Option ℕ)) → same ≡ steps → also ≡ objects
+    → AreObjects steps objects → AreObjects same also
+known_along steps same objects also is are known =
+    subst (λ (x : List Step × List (Option ℕ)). AreObjects x.0 x.1) (λ i. (sym is i, sym are i)) known
 
 -- If the object of the handle that was found in a step is known, so is that of the step's assignment.
-pub given_known : (found : Option GivenHandle) (g : Option Giving) (object : Option ℕ) (past : List AnsweredEvent) → givings_of found ≡ g → IfSome found (λ (giving : GivenHandle). object ≡ object_given past (source_of giving.source)) →
+pub given_known : (found : Option GivenHandle) (g : Option Giving) (object : Option ℕ) (past : List AnsweredEvent)
+    → givings_of found ≡ g
+    → IfSome found (λ (giving : GivenHandle). object ≡ object_given past (source_of giving.source)) →
     IfSome g (λ (giving : Giving). object ≡ object_given past giving.source)
-given_known found g object past is its = subst (λ o. IfSome o (λ (giving : Giving). object ≡ object_given past giving.source)) is (of found its)
+given_known found g object past is its =
+    subst (λ o. IfSome o (λ (giving : Giving). object ≡ object_given past giving.source)) is (of found its)
   where
-    of : (found : Option GivenHandle) → IfSome found (λ (giving : GivenHandle). object ≡ object_given past (source_of giving.source)) → IfSome (givings_of found) (λ (giving : Giving). object ≡ object_given past giving.source)
+    of : (found : Option GivenHandle)
+        → IfSome found (λ (giving : GivenHandle). object ≡ object_given past (source_of giving.source))
+        → IfSome (givings_of found) (λ (giving : Giving). object ≡ object_given past giving.source)
     of None its = tt
     of (Some giving) its = its

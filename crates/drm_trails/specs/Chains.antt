@@ -29,10 +29,14 @@ LeadsTo history c h o (link ∷ links) = (link.client ≡ c) × (link.handle ≡
 -- the object. The source of any other is the key under which the object was published, and the number of that step.
 unfoldable pub IsExplained : List AnsweredEvent → ℕ → List Link → Type 0
 IsExplained history o [] = ⊥
-IsExplained history o (link ∷ []) = (past : List AnsweredEvent) × WasGiven history link.client link.handle Creation past × (link.step ≡ next_number past) × (link.step ≡ o) × (link.origin ≡ Made)
+IsExplained history o (link ∷ []) =
+    (past : List AnsweredEvent) × WasGiven history link.client link.handle Creation past ×
+    (link.step ≡ next_number past) × (link.step ≡ o) × (link.origin ≡ Made)
 IsExplained history o (link ∷ before ∷ links) =
-    (past older : List AnsweredEvent) × (key : Key) × WasGiven history link.client link.handle (Transfer (key_of key)) past × (link.step ≡ next_number past)
-    × WasPublished past (key_of key) before.client before.handle older × (before.step < link.step) × (link.origin ≡ Published key (next_number older)) × IsExplained older o (before ∷ links)
+    (past older : List AnsweredEvent) × (key : Key) × WasGiven history link.client link.handle (Transfer (key_of key))
+    past × (link.step ≡ next_number past)
+    × WasPublished past (key_of key) before.client before.handle older × (before.step < link.step) ×
+    (link.origin ≡ Published key (next_number older)) × IsExplained older o (before ∷ links)
 
 -- the links lead to the client's handle, and are explained
 abbrev pub Explains : List AnsweredEvent → ℕ → ℕ → ℕ → List Link → Type 0
@@ -43,7 +47,8 @@ Explains history c h o (link ∷ links) = (link.client ≡ c) × (link.handle �
 -- handle, after these links
 abbrev pub EndsChain : List AnsweredEvent → List AnsweredEvent → ℕ → ℕ → ℕ → ℕ → List Link → Type 0
 EndsChain history earlier c h d k links =
-    (o : ℕ) (link : Link) (rest : List Link) → link.client ≡ d → link.handle ≡ k → IsExplained earlier o (link ∷ rest) → Explains history c h o (links ++ link ∷ rest)
+    (o : ℕ) (link : Link) (rest : List Link) → link.client ≡ d → link.handle ≡ k → IsExplained earlier o (link ∷ rest)
+    → Explains history c h o (links ++ link ∷ rest)
 
 -- the history is that of a device
 abbrev pub IsOfDevice : List AnsweredEvent → Type 0

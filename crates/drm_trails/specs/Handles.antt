@@ -34,4 +34,5 @@ is_taken h All = true
 
 -- the step that assigned the client's handle, after the step of this number, by that before it
 abbrev pub since_after : AnsweredEvent → ℕ → ℕ → ℕ → Option ℕ → Option ℕ
-since_after step number c h before = if is_some (source_for c h (given step)) then Some number else (if takes step c h then None else before)
+since_after step number c h before =
+    if is_some (source_for c h (given step)) then Some number else (if takes step c h then None else before)

@@ -2,7 +2,7 @@
 use Rattle.std.specs.Prelude.{◌≡◌, ℕ, List, Option, Some, length, slice_get, take}
 use Rattle.drm_history.specs.History.{AnsweredEvent, next_number}
 use Rattle.drm_history.specs.Steps.{Key, Source, Creation, Transfer}
-use Rattle.drm_history.proofs.Told.{told, Held, Published}
+use Rattle.drm_history.proofs.HistoryFunctions.{told, Held, Published}
 use Rattle.drm_trails.specs.Searches.{Gift, last_gift}
 use Rattle.drm_trails.specs.Steps.{history_of}
 use Rattle.drm_trails.specs.declared.steps.Step.{Step}
@@ -22,5 +22,6 @@ object_given past (Transfer key) = object_under past key
 
 -- these are the objects of the steps that assigned a handle
 pub record AreObjects (steps : List Step) (objects : List (Option ℕ)) : Type 0 where
-  pub told : (moment c h : ℕ) (g : Gift) → last_gift (history_of (take moment steps)) c h ≡ Some g → slice_get objects (length g.past) ≡ Some (object_given g.past g.source)
+  pub told : (moment c h : ℕ) (g : Gift) → last_gift (history_of (take moment steps)) c h ≡ Some g
+      → slice_get objects (length g.past) ≡ Some (object_given g.past g.source)
   pub count : length objects ≡ length steps

@@ -11,4 +11,6 @@ last_step passes (step ∷ past) = if passes step then Some (next_number past) e
 -- the first step that passes, of those after step `number`
 unfoldable pub first_step_after : ℕ → (AnsweredEvent → Bool) → List AnsweredEvent → Option ℕ
 first_step_after number passes [] = None
-first_step_after number passes (step ∷ past) = option_or (first_step_after number passes past) (if nat_lt number (next_number past) && passes step then Some (next_number past) else None)
+first_step_after number passes (step ∷ past) =
+    option_or (first_step_after number passes past)
+    (if nat_lt number (next_number past) && passes step then Some (next_number past) else None)

@@ -54,7 +54,8 @@ pub record Sharing : Type 0 where
 -- the sharing of a step under the key, or else the older one
 abbrev pub sharing_or : Key → Option Publishing → List AnsweredEvent → Option Sharing → Option Sharing
 sharing_or key None past older = older
-sharing_or key (Some p) past older = if is_key p.key key then Some (record { client = p.client; handle = p.handle; past = past }) else older
+sharing_or key (Some p) past older =
+    if is_key p.key key then Some (record { client = p.client; handle = p.handle; past = past }) else older
 
 -- the last step that published under the key
 unfoldable pub last_sharing : List AnsweredEvent → Key → Option Sharing
@@ -122,13 +123,16 @@ pub record AreTouched (steps : List Step) (notes : List Touch) : Type 0 where
   pub rise : TouchesRise notes
   pub among : AllByRecursion (λ (t : Touch). t.past < length steps) notes
   pub within : (moment c h : ℕ) → IfSome (touch_in notes moment c h) (λ t. t.past < length steps)
-  pub told : (moment c h : ℕ) → last_gift (history_of (take moment steps)) c h ≡ gift_behind steps c h (touch_in notes moment c h)
+  pub told : (moment c h : ℕ)
+      → last_gift (history_of (take moment steps)) c h ≡ gift_behind steps c h (touch_in notes moment c h)
 
 -- ---- entries of publications
 
 -- the entry of a step after `past` others
 abbrev pub publications_of : Option PublishedHandle → ℕ → Option Publication
-publications_of published past = option_map (λ (p : PublishedHandle). record { past = past; key = p.key; client = p.client; handle = p.handle }) published
+publications_of published past =
+    option_map (λ (p : PublishedHandle). record { past = past; key = p.key; client = p.client; handle = p.handle })
+    published
 
 -- whether an entry is for a step before this moment that published under the key
 abbrev pub is_before : ℕ → Key → Publication → Bool
@@ -151,4 +155,5 @@ pub record AreNoted (steps : List Step) (notes : List Publication) : Type 0 wher
   pub rise : PublicationsRise notes
   pub among : AllByRecursion (λ (p : Publication). p.past < length steps) notes
   pub within : (moment : ℕ) (key : Key) → IfSome (publication_in notes moment key) (λ p. p.past < length steps)
-  pub told : (moment : ℕ) (key : Key) → option_map (sharing_by steps) (publication_in notes moment key) ≡ last_sharing (history_of (take moment steps)) key
+  pub told : (moment : ℕ) (key : Key)
+      → option_map (sharing_by steps) (publication_in notes moment key) ≡ last_sharing (history_of (take moment steps)) key

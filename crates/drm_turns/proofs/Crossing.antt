@@ -18,14 +18,18 @@ use Rattle.drm_turns.specs.contracts.shared.SharedDevice as shared
 use Rattle.drm_turns.specs.contracts.shared.SharedDevice.TheInside as inside
 
 inside_sync : IsSync inside.the_row
-inside_sync = recorded_sync inside.the_field.row _ _ inside.the_type.to_one (struct_sync (shape inside.the_type) (search (lease.the_sync, steps.the_sync, send, frees, device_send, crosses, sendable) depth 20, (search (crosses, sendable) depth 20, tt)))
+inside_sync =
+    recorded_sync inside.the_field.row _ _ inside.the_type.to_one
+    (struct_sync (shape inside.the_type) (search (lease.the_sync, steps.the_sync, send, frees, device_send, crosses, sendable) depth 20, (search (crosses, sendable) depth 20, tt)))
 
 -- Threads may share a shared device.
 pub shared_sync : IsSync shared.the_row
 shared_sync = view_sync inside.the_row _ _ _ _ inside_sync
 
 participant_inside_send : IsSend participant_inside.the_row
-participant_inside_send = recorded_send participant_inside.the_field.row _ _ participant_inside.the_type.to_one (struct_send (shape participant_inside.the_type) (search (place.the_send, device_send, crosses, sendable) depth 20, tt))
+participant_inside_send =
+    recorded_send participant_inside.the_field.row _ _ participant_inside.the_type.to_one
+    (struct_send (shape participant_inside.the_type) (search (place.the_send, device_send, crosses, sendable) depth 20, tt))
 
 -- A participant may be sent to another thread.
 pub participant_send : IsSend participant.the_row

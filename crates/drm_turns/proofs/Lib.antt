@@ -1,11 +1,11 @@
-pub mod Histories
+pub mod GrowingHistories
 pub mod Totals
 pub mod Rule
 pub mod Moves
-pub mod Kept
-pub mod Lent
-pub mod Counts
+pub mod MergedNumbers
+pub mod SplitAndReturned
+pub mod FirstCounts
 pub mod Ends
-pub mod Held
+pub mod HeldDevice
 pub mod Crossing
-pub mod Taken
+pub mod ParticipantsIn

@@ -18,33 +18,40 @@ use Rattle.drm_turns.specs.declared.history.Stage.TheVariants.{Idle, Waiting, Se
 use Rattle.drm_turns.specs.History.{IsLegal, device_at, calls_by, StartsWith, rows_after}
 use Rattle.drm_turns.specs.Rule.{Slot, Sat, World, Fits, Knows, has_ticket, Placed, AllKnow, AllHeld, Table, TicketsDiffer, Orderly}
 use Rattle.drm_turns.specs.Views.{counted, found_at, passed, serving, waiting}
-use Rattle.drm_turns.proofs.Counts.{first_counts}
+use Rattle.drm_turns.proofs.FirstCounts.{first_counts}
 use Rattle.drm_turns.proofs.Totals.{total_kept, total_set}
 use Rattle.drm_turns.specs.Plays.{Reads, finds, draws, looks, counts, passes}
-use Rattle.drm_turns.proofs.Histories.{calls_other, calls_own, legal-more, starts_more, starts_whole}
+use Rattle.drm_turns.proofs.GrowingHistories.{calls_other, calls_own, legal-more, starts_more, starts_whole}
 use Rattle.drm_turns.proofs.Rule.{at_below, all_held_set, held_set, lent_set, same_ticket, no_ticket, placed_set, taken_set, unchanged, stays_put, stays_whole, ticketless, word_same, word_is, refits}
 
 -- the next ticket is as many as the first participant drew, where none is out of it
-found_all : (s : Table) (r : Orderly s) (id : ℕ) (v : View) → get_elem? s.views id ≡ some v → v.stage ≡ Idle → v.number ≡ 1 → v.outstanding ≡ 0 → slice_index s.words 1 ≡ v.drawn
+found_all : (s : Table) (r : Orderly s) (id : ℕ) (v : View) → get_elem? s.views id ≡ some v → v.stage ≡ Idle
+    → v.number ≡ 1 → v.outstanding ≡ 0 → slice_index s.words 1 ≡ v.drawn
 found_all s r id v at idle first none_outstanding =
     let fits : Fits r.world.origin r.world.log id v = subst (Knows r.world id v) idle (r.know id v at) in
-    let is_first : id ≡ 0 = ⊎_elim (λ (z : v.number ≡ 0). absurd (omega arith)) (λ (z : v.number ≡ suc id). omega arith) fits.number in
+    let is_first : id ≡ 0 =
+    ⊎_elim (λ (z : v.number ≡ 0). absurd (omega arith)) (λ (z : v.number ≡ suc id). omega arith) fits.number in
     (word_is s r).1 ∙ (first_counts s r v (ap (get_elem? s.views) (sym is_first) ∙ at) idle none_outstanding).0
 
 -- To look for the next ticket keeps the rule.
-pub finds_moves : (slots id : ℕ) (me : Sat) → me.0.stage ≡ Idle → Allows Orderly slots id me 1 (λ n. n) (finds (step slots 1 0 0 none) me)
+pub finds_moves : (slots id : ℕ) (me : Sat) → me.0.stage ≡ Idle
+    → Allows Orderly slots id me 1 (λ n. n) (finds (step slots 1 0 0 none) me)
 finds_moves slots id me idle s r wide at small =
     let fits : Fits r.world.origin r.world.log id me.0 = subst (Knows r.world id me.0) idle (r.know id me.0 at) in
     let w : View = found_at me.0 (slice_index s.words 1) in (
       w,
       keeps,
       tt,
-      stays_put s r 1 id me.1 me.0 w (word_same s r).1 at (λ is. absurd (cc)) (refits r.world.origin r.world.log id me.0 w.ticket Idle me.0.drawn fits) (λ has. absurd (ticketless me.0.stage idle has)) (no_ticket s.views id w refl) (λ is. absurd (cc)) refl refl refl refl refl,
+      stays_put s r 1 id me.1 me.0 w (word_same s r).1 at (λ is. absurd (cc))
+          (refits r.world.origin r.world.log id me.0 w.ticket Idle me.0.drawn fits)
+          (λ has. absurd (ticketless me.0.stage idle has)) (no_ticket s.views id w refl) (λ is. absurd (cc)) refl refl refl
+          refl refl,
       (refl, λ first none_outstanding. found_all s r id me.0 at idle first none_outstanding),
     )
 
 -- what the others know, where the next ticket is a later one
-later : (x : World) (next j : ℕ) (u : View) (g : Stage) → x.next ≤ next → Knows x j u g → Knows (record x { next = next }) j u g
+later : (x : World) (next j : ℕ) (u : View) (g : Stage) → x.next ≤ next → Knows x j u g
+    → Knows (record x { next = next }) j u g
 later x next j u Idle le k = k
 later x next j u Waiting le k = (k.0, k.1, (let h = k.2 in omega arith))
 later x next j u Serving le k = (k.0, k.1, (let h = k.2 in omega arith), k.3, k.4)
@@ -57,13 +64,16 @@ tickets_below x j u Waiting has k is = let h = k.2 in absurd (omega arith)
 tickets_below x j u Serving has k is = let h = k.1 in let h2 = k.2 in absurd (omega arith)
 tickets_below x j u Spent has k is = absurd (cc)
 
-placed_drawn : (b : Bool) (x : World) (old : ℕ) (homes : List (maybe Slot)) (views : List View) (id : ℕ) (v w : View) → get_elem? views id ≡ some v → (v.stage ≡ Serving → w.stage ≡ Serving)
+placed_drawn : (b : Bool) (x : World) (old : ℕ) (homes : List (maybe Slot)) (views : List View) (id : ℕ) (v w : View)
+    → get_elem? views id ≡ some v → (v.stage ≡ Serving → w.stage ≡ Serving)
     → Placed b x homes views → Placed b (record x { next = old + 1 }) homes (set views id w)
 placed_drawn false x old homes views id v w at still p = p
 placed_drawn true x old homes views id v w at still p = placed_set true x homes views id v w at still p
 
 -- the ticket that is drawn is held next to those that were
-held_drawn : (x : World) (views : List View) (id : ℕ) (v : View) (old : ℕ) → get_elem? views id ≡ some v → v.stage ≡ Idle → x.next ≡ old → AllHeld x views → AllHeld (record x { next = old + 1 }) (set views id (waiting v old))
+held_drawn : (x : World) (views : List View) (id : ℕ) (v : View) (old : ℕ) → get_elem? views id ≡ some v
+    → v.stage ≡ Idle → x.next ≡ old → AllHeld x views
+    → AllHeld (record x { next = old + 1 }) (set views id (waiting v old))
 held_drawn x views id v old at idle is held t from to = let below : t < old + 1 = to in dite (ℕ_discrete old t)
     (λ e. (id, waiting v old, set_here views id (waiting v old) (at_below views id v at), refl, e))
     (λ ne. held_set views id v (waiting v old) t at (λ has. absurd (ticketless v.stage idle has)) (held t from (omega arith)))
@@ -92,7 +102,8 @@ draws_moves slots id me old idle room s r wide at small =
           (refits x.origin x.log id me.0 old Waiting (me.0.drawn + 1) fits, omega arith, omega arith)
           (held_drawn x s.views id me.0 old at idle next_is r.held)
           (λ j u ne e has _ same. tickets_below x j u u.stage has (r.know j u e) (same ∙ sym next_is))
-          r.unborn (taken_set s.views id me.0 w r.taken_in at (λ k. absurd (cc)) refl) (lent_set s.views id me.0 w r.lent at (λ k. absurd (cc)) (λ _. (refl, omega arith)))
+          r.unborn (taken_set s.views id me.0 w r.taken_in at (λ k. absurd (cc)) refl)
+          (lent_set s.views id me.0 w r.lent at (λ k. absurd (cc)) (λ _. (refl, omega arith)))
           (let more = total_set (λ u. u.drawn) s.views id me.0 w at in let drawn = r.drawn in omega (arith, more, drawn, next_is))
           (ap (λ (n : ℕ). length x.origin.journal + n) (total_kept (λ u. u.journaled) s.views id me.0 w at refl) ∙ r.journaled)),
       ((λ _. refl), λ not. absurd (not hit)),
@@ -101,13 +112,16 @@ draws_moves slots id me old idle room s r wide at small =
       me.0,
       keeps,
       tt,
-      subst (λ (b : Bool). Orderly (stepped s 1 (either b (old + 1) n) id me.1 me.0 keeps)) (sym (ne_eqb n old miss)) (stays_whole s r 1 id me.1 me.0 (word_same s r).1 at (λ k. absurd (cc))),
+      subst (λ (b : Bool). Orderly (stepped s 1 (either b (old + 1) n) id me.1 me.0 keeps)) (sym (ne_eqb n old miss))
+          (stays_whole s r 1 id me.1 me.0 (word_same s r).1 at (λ k. absurd (cc))),
       ((λ hit. absurd (miss hit)), λ _. refl),
     ))
 
 -- the device is at home, where the participant that is served has not taken it
-is_home : (b : Bool) (x : World) (homes : List (maybe Slot)) (views : List View) (id : ℕ) (v : View) → get_elem? views id ≡ some v → v.stage ≡ Waiting → v.ticket ≡ x.serving
-    → AllKnow x views → TicketsDiffer views → Placed b x homes views → get_elem? homes 0 ≡ some (some (Some (device_at x.origin x.log)))
+is_home : (b : Bool) (x : World) (homes : List (maybe Slot)) (views : List View) (id : ℕ) (v : View)
+    → get_elem? views id ≡ some v → v.stage ≡ Waiting → v.ticket ≡ x.serving
+    → AllKnow x views → TicketsDiffer views → Placed b x homes views
+    → get_elem? homes 0 ≡ some (some (Some (device_at x.origin x.log)))
 is_home false x homes views id v at stage is know differ p = p
 is_home true x homes views id v at stage is know differ p =
     let u : View = p.1 in
@@ -125,19 +139,27 @@ taken x j u Serving k = (k.0, k.1, k.2, refl, k.4)
 taken x j u Spent k = k
 
 -- a participant's own entries in the history
-own_calls : (origin : DeviceValue) (log : List Entry) (id : ℕ) (v : View) → Fits origin log id v → v.number ≢ 0 → calls_by v.number log ≡ v.mine
-own_calls origin log id v f some_number = ⊎_elim (λ (z : v.number ≡ 0). absurd (some_number z)) (λ (z : v.number ≡ suc id). ap (λ (n : ℕ). calls_by n log) z ∙ f.mine) f.number
+own_calls : (origin : DeviceValue) (log : List Entry) (id : ℕ) (v : View) → Fits origin log id v → v.number ≢ 0
+    → calls_by v.number log ≡ v.mine
+own_calls origin log id v f some_number =
+    ⊎_elim (λ (z : v.number ≡ 0). absurd (some_number z))
+    (λ (z : v.number ≡ suc id). ap (λ (n : ℕ). calls_by n log) z ∙ f.mine) f.number
 
 -- A participant's own entries in the history are those that it made.
 pub reads : (x : World) (id : ℕ) (v : View) → Fits x.origin x.log id v → IsLegal x.origin x.log → Reads v x.log
-reads x id v f legal = (f.seen, f.told, subst (λ (d : DeviceValue). IsLegal d x.log) (sym f.origin_is) legal, own_calls x.origin x.log id v f)
+reads x id v f legal =
+    (f.seen, f.told, subst (λ (d : DeviceValue). IsLegal d x.log) (sym f.origin_is) legal, own_calls x.origin x.log id v f)
 
 -- the view, where it has seen all
-sees : (origin : DeviceValue) (log : List Entry) (id : ℕ) (v : View) (stage : Stage) → Fits origin log id v → Fits origin log id (record v { seen = log; stage = stage })
-sees origin log id v stage f = record { origin_is = f.origin_is; number = f.number; parent = f.parent; seen = starts_whole log; told = f.told; mine = f.mine }
+sees : (origin : DeviceValue) (log : List Entry) (id : ℕ) (v : View) (stage : Stage) → Fits origin log id v
+    → Fits origin log id (record v { seen = log; stage = stage })
+sees origin log id v stage f =
+    record
+    { origin_is = f.origin_is; number = f.number; parent = f.parent; seen = starts_whole log; told = f.told; mine = f.mine }
 
 -- To look for the ticket that is served keeps the rule.
-pub looks_moves : (slots id : ℕ) (me : Sat) → me.0.stage ≡ Waiting → Allows Orderly slots id me 2 (λ n. n) (looks (step slots 2 0 0 none) me)
+pub looks_moves : (slots id : ℕ) (me : Sat) → me.0.stage ≡ Waiting
+    → Allows Orderly slots id me 2 (λ n. n) (looks (step slots 2 0 0 none) me)
 looks_moves slots id me waits s r wide at small =
     let x = r.world in
     let n : ℕ = slice_index s.words 2 in
@@ -151,7 +173,8 @@ looks_moves slots id me waits s r wide at small =
       w,
       takes 0 (Some (device_at x.origin x.log)),
       is_home x.outstanding x s.homes s.views id me.0 at waits (sym hit ∙ is) r.know r.differ r.placed,
-      unchanged s r y 2 n id me.1 w (takes 0 (Some (device_at x.origin x.log))) ((word_same s r).2 ∙ r.words) r.few r.behind r.legal
+      unchanged s r y 2 n id me.1 w (takes 0 (Some (device_at x.origin x.log))) ((word_same s r).2 ∙ r.words) r.few
+          r.behind r.legal
           (id, w, set_here s.views id w (at_below s.views id me.0 at), refl)
           (λ j u _ e. taken x j u u.stage (r.know j u e))
           (sees x.origin x.log id me.0 Serving fits, sym hit ∙ is, (let a = known.1 in let b = known.2 in let e : me.0.ticket ≡ x.serving = sym hit ∙ is in omega arith), refl, refl)
@@ -173,7 +196,8 @@ looks_moves slots id me waits s r wide at small =
     ))
 
 -- what others know, where an entry is added that is not theirs
-fits_more : (origin : DeviceValue) (log : List Entry) (j : ℕ) (u : View) (e : Entry) → e.by ≢ suc j → Fits origin log j u → Fits origin (log ++ e ∷ []) j u
+fits_more : (origin : DeviceValue) (log : List Entry) (j : ℕ) (u : View) (e : Entry) → e.by ≢ suc j
+    → Fits origin log j u → Fits origin (log ++ e ∷ []) j u
 fits_more origin log j u e other f = record {
   origin_is = f.origin_is;
   number = f.number;
@@ -183,24 +207,30 @@ fits_more origin log j u e other f = record {
   mine = calls_other (suc j) log e other ∙ f.mine;
 }
 
-others_count : (x : World) (j : ℕ) (u : View) (g : Stage) (e : Entry) → e.by ≢ suc j → (g ≡ Serving → ⊥) → Knows x j u g → Knows (record x { log = x.log ++ e ∷ [] }) j u g
+others_count : (x : World) (j : ℕ) (u : View) (g : Stage) (e : Entry) → e.by ≢ suc j → (g ≡ Serving → ⊥) → Knows x j u g
+    → Knows (record x { log = x.log ++ e ∷ [] }) j u g
 others_count x j u Idle e other idles k = fits_more x.origin x.log j u e other k
 others_count x j u Waiting e other idles k = (fits_more x.origin x.log j u e other k.0, k.1, k.2)
 others_count x j u Serving e other idles k = absurd (idles refl)
 others_count x j u Spent e other idles k = k
 
 -- there is one participant that is served
-alone : (x : World) (views : List View) (id j : ℕ) (v u : View) → TicketsDiffer views → get_elem? views id ≡ some v → v.stage ≡ Serving → v.ticket ≡ x.serving → j ≢ id → get_elem? views j ≡ some u
+alone : (x : World) (views : List View) (id j : ℕ) (v u : View) → TicketsDiffer views → get_elem? views id ≡ some v
+    → v.stage ≡ Serving → v.ticket ≡ x.serving → j ≢ id → get_elem? views j ≡ some u
     → Knows x j u u.stage → u.stage ≡ Serving → ⊥
 alone x views id j v u differ at is ticket ne at_j k serves =
     let known : Knows x j u Serving = subst (Knows x j u) serves k in ne (differ j id u v at_j at (ap has_ticket serves) (ap has_ticket is) (known.1 ∙ sym ticket))
 
-placed_here : (b : Bool) (y : World) (homes : List (maybe Slot)) (views : List View) (id : ℕ) (w : View) → b ≡ true → get_elem? views id ≡ some w → w.stage ≡ Serving → Placed b y homes views
-placed_here b y homes views id w outstanding at is = subst (λ (z : Bool). Placed z y homes views) (sym outstanding) (id, w, at, is)
+placed_here : (b : Bool) (y : World) (homes : List (maybe Slot)) (views : List View) (id : ℕ) (w : View) → b ≡ true
+    → get_elem? views id ≡ some w → w.stage ≡ Serving → Placed b y homes views
+placed_here b y homes views id w outstanding at is =
+    subst (λ (z : Bool). Placed z y homes views) (sym outstanding) (id, w, at, is)
 
 -- To add an entry to the history keeps the rule.
-pub counts_moves : (slots id : ℕ) (me : Sat) (e : Entry) → me.0.stage ≡ Serving → e.by ≡ me.0.number → me.0.number ≢ 0 → length me.0.seen < 2 ^ 64 - 1
-    → no_room (rows_after me.0.origin me.0.seen) e.event ≡ false → e.answer ≡ reply (rows_after me.0.origin me.0.seen) e.event
+pub counts_moves : (slots id : ℕ) (me : Sat) (e : Entry) → me.0.stage ≡ Serving → e.by ≡ me.0.number → me.0.number ≢ 0
+    → length me.0.seen < 2 ^ 64 - 1
+    → no_room (rows_after me.0.origin me.0.seen) e.event ≡ false
+    → e.answer ≡ reply (rows_after me.0.origin me.0.seen) e.event
     → Allows Orderly slots id me 0 (λ n. (n + 1) % 2 ^ 64) (counts e (step slots 0 1 0 none) me)
 counts_moves slots id me e serves by some_number few room answer s r wide at small =
     let x = r.world in
@@ -212,11 +242,14 @@ counts_moves slots id me e serves by some_number few room answer s r wide at sma
     let seen_is : v.seen ≡ x.log = known.4 in
     let w : View = counted v e in
     let y : World = record x { log = x.log ++ e ∷ [] } in
-    let by_id : e.by ≡ suc id = by ∙ ⊎_elim (λ (z : v.number ≡ 0). absurd (some_number z)) (λ (z : v.number ≡ suc id). z) fits.number in
+    let by_id : e.by ≡ suc id =
+    by ∙ ⊎_elim (λ (z : v.number ≡ 0). absurd (some_number z)) (λ (z : v.number ≡ suc id). z) fits.number in
     let len : length (x.log ++ e ∷ []) ≡ length x.log + 1 = length-append x.log (e ∷ []) in
     let seen_len : length v.seen ≡ length x.log = ap length seen_is in
     let word : (n + 1) % 2 ^ 64 ≡ length (x.log ++ e ∷ []) = omega arith in
-    let words : slice_set s.words 0 ((n + 1) % 2 ^ 64) ≡ length (x.log ++ e ∷ []) ∷ x.next ∷ x.serving ∷ [] = ap (λ (l : List ℕ). slice_set l 0 ((n + 1) % 2 ^ 64)) r.words ∙ ap (λ (k : ℕ). k ∷ x.next ∷ x.serving ∷ []) word in
+    let words : slice_set s.words 0 ((n + 1) % 2 ^ 64) ≡ length (x.log ++ e ∷ []) ∷ x.next ∷ x.serving ∷ [] =
+    ap (λ (l : List ℕ). slice_set l 0 ((n + 1) % 2 ^ 64)) r.words
+    ∙ ap (λ (k : ℕ). k ∷ x.next ∷ x.serving ∷ []) word in
     let rows_are : rows_after v.origin v.seen ≡ rows_after x.origin x.log = λ i. rows_after (fits.origin_is i) (seen_is i) in (
       w,
       keeps,
@@ -230,7 +263,9 @@ counts_moves slots id me e serves by some_number few room answer s r wide at sma
               origin_is = fits.origin_is;
               number = fits.number;
               parent = fits.parent;
-              seen = subst (λ (l : List Entry). StartsWith (l ++ e ∷ []) (v.seen ++ e ∷ [])) seen_is (starts_whole (v.seen ++ e ∷ []));
+              seen =
+                  subst (λ (l : List Entry). StartsWith (l ++ e ∷ []) (v.seen ++ e ∷ [])) seen_is
+                  (starts_whole (v.seen ++ e ∷ []));
               told = starts_more x.log v.told e fits.told;
               mine = calls_own (suc id) x.log e by_id ∙ ap (λ (l : List Entry). l ++ e ∷ []) fits.mine;
             },
@@ -250,14 +285,17 @@ counts_moves slots id me e serves by some_number few room answer s r wide at sma
     )
 
 -- what others know, where the ticket that was served is passed
-others_pass : (x : World) (j : ℕ) (u : View) (g : Stage) → (g ≡ Serving → ⊥) → (has_ticket g ≡ true → u.ticket ≢ x.serving) → Knows x j u g → Knows (record x { serving = x.serving + 1; outstanding = false }) j u g
+others_pass : (x : World) (j : ℕ) (u : View) (g : Stage) → (g ≡ Serving → ⊥)
+    → (has_ticket g ≡ true → u.ticket ≢ x.serving) → Knows x j u g
+    → Knows (record x { serving = x.serving + 1; outstanding = false }) j u g
 others_pass x j u Idle idles other k = k
 others_pass x j u Waiting idles other k = let ne = other refl in (k.0, (let h = k.1 in omega arith), k.2)
 others_pass x j u Serving idles other k = absurd (idles refl)
 others_pass x j u Spent idles other k = k
 
 -- To pass on the ticket that was served keeps the rule.
-pub passes_moves : (slots id : ℕ) (me : Sat) (more : List (ℕ × Slot)) → 0 < slots → me.0.stage ≡ Serving → me.1 ≡ (0, Some (device_at me.0.origin me.0.seen)) ∷ more
+pub passes_moves : (slots id : ℕ) (me : Sat) (more : List (ℕ × Slot)) → 0 < slots → me.0.stage ≡ Serving
+    → me.1 ≡ (0, Some (device_at me.0.origin me.0.seen)) ∷ more
     → Allows Orderly slots id me 2 (λ n. (n + 1) % 2 ^ 64) (passes (step slots 2 1 0 none) me)
 passes_moves slots id me more some_slot serves holds s r wide at small =
     let x = r.world in
@@ -271,7 +309,9 @@ passes_moves slots id me more some_slot serves holds s r wide at small =
     let few = r.few in
     let below = known.2 in
     let word : (n + 1) % 2 ^ 64 ≡ x.serving + 1 = omega arith in
-    let words : slice_set s.words 2 ((n + 1) % 2 ^ 64) ≡ length x.log ∷ x.next ∷ (x.serving + 1) ∷ [] = ap (λ (l : List ℕ). slice_set l 2 ((n + 1) % 2 ^ 64)) r.words ∙ ap (λ (k : ℕ). length x.log ∷ x.next ∷ k ∷ []) word in
+    let words : slice_set s.words 2 ((n + 1) % 2 ^ 64) ≡ length x.log ∷ x.next ∷ (x.serving + 1) ∷ [] =
+    ap (λ (l : List ℕ). slice_set l 2 ((n + 1) % 2 ^ 64)) r.words
+    ∙ ap (λ (k : ℕ). length x.log ∷ x.next ∷ k ∷ []) word in
     let device_is : device_at v.origin v.seen ≡ device_at x.origin x.log = λ i. device_at (fits.origin_is i) (known.4 i) in (
       w,
       gives,

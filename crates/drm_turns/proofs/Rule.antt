@@ -23,7 +23,9 @@ at_below (x ∷ xs) zero a e = omega arith
 at_below (x ∷ xs) (suc i) a e = let h = at_below xs i a e in omega arith
 
 -- Participants still know what is so when one changes its view, if the new view knows it too.
-pub know_set : (y : World) (views : List View) (id : ℕ) (w : View) → ((j : ℕ) (u : View) → j ≢ id → get_elem? views j ≡ some u → Knows y j u u.stage) → Knows y id w w.stage → AllKnow y (set views id w)
+pub know_set : (y : World) (views : List View) (id : ℕ) (w : View)
+    → ((j : ℕ) (u : View) → j ≢ id → get_elem? views j ≡ some u → Knows y j u u.stage) → Knows y id w w.stage
+    → AllKnow y (set views id w)
 know_set y views id w others mine j u at =
     ⊎_elim
     (λ (t : (j ≡ id) × (w ≡ u)). subst (λ (z : ℕ × View). Knows y z.0 z.1 z.1.stage) (λ i. (sym t.0 i, t.1 i)) mine)
@@ -31,21 +33,27 @@ know_set y views id w others mine j u at =
     (at_set views id j w u at)
 
 -- A participant that is spent stays so when another changes its view.
-pub spent_stays : (views : List View) (id : ℕ) (v w : View) (k : ℕ) → get_elem? views id ≡ some v → (v.stage ≡ Spent → ⊥) → IsSpent views k → IsSpent (set views id w) k
+pub spent_stays : (views : List View) (id : ℕ) (v w : View) (k : ℕ) → get_elem? views id ≡ some v
+    → (v.stage ≡ Spent → ⊥) → IsSpent views k → IsSpent (set views id w) k
 spent_stays views id v w k at unspent s = (
   s.0,
   s.1,
   s.2,
-  set_else views id s.0 w (λ same. unspent (ap (λ (u : View). u.stage) (some-injective v s.1 (sym at ∙ (ap (get_elem? views) (sym same) ∙ s.3))) ∙ s.4)) ∙ s.3,
+  set_else views id s.0 w
+      (λ same. unspent (ap (λ (u : View). u.stage) (some-injective v s.1 (sym at ∙ (ap (get_elem? views) (sym same) ∙ s.3))) ∙ s.4))
+      ∙ s.3,
   s.4,
 )
 
 -- no other participant has the ticket of w
 abbrev pub IsFresh : List View → ℕ → View → Type 0
-IsFresh views id w = (j : ℕ) (u : View) → j ≢ id → get_elem? views j ≡ some u → has_ticket u.stage ≡ true → has_ticket w.stage ≡ true → u.ticket ≡ w.ticket → ⊥
+IsFresh views id w =
+    (j : ℕ) (u : View) → j ≢ id → get_elem? views j ≡ some u → has_ticket u.stage ≡ true → has_ticket w.stage ≡ true →
+    u.ticket ≡ w.ticket → ⊥
 
 -- Tickets still differ when one participant changes its view, if no other has its new ticket.
-pub differ_set : (views : List View) (id : ℕ) (w : View) → TicketsDiffer views → IsFresh views id w → TicketsDiffer (set views id w)
+pub differ_set : (views : List View) (id : ℕ) (w : View) → TicketsDiffer views → IsFresh views id w
+    → TicketsDiffer (set views id w)
 differ_set views id w old fresh i j a b at_i at_j has_i has_j same =
     ⊎_elim
     (λ (t : (i ≡ id) × (w ≡ a)). ⊎_elim
@@ -59,15 +67,18 @@ differ_set views id w old fresh i j a b at_i at_j has_i has_j same =
     (at_set views id i w a at_i)
 
 -- No other participant has the ticket of one that keeps it.
-pub same_ticket : (views : List View) (id : ℕ) (v w : View) → TicketsDiffer views → get_elem? views id ≡ some v → has_ticket v.stage ≡ true → w.ticket ≡ v.ticket → IsFresh views id w
-same_ticket views id v w differ at has is j u ne at_j has_j has_w same = ne (differ j id u v at_j at has_j has (same ∙ is))
+pub same_ticket : (views : List View) (id : ℕ) (v w : View) → TicketsDiffer views → get_elem? views id ≡ some v
+    → has_ticket v.stage ≡ true → w.ticket ≡ v.ticket → IsFresh views id w
+same_ticket views id v w differ at has is j u ne at_j has_j has_w same =
+    ne (differ j id u v at_j at has_j has (same ∙ is))
 
 -- A participant without a ticket shares none.
 pub no_ticket : (views : List View) (id : ℕ) (w : View) → has_ticket w.stage ≡ false → IsFresh views id w
 no_ticket views id w none_now j u ne at_j has_j has_w same = absurd (cc)
 
 -- The device is still in its place when one participant changes its view, and is still served if it was.
-pub placed_set : (b : Bool) (x : World) (homes : List (maybe Slot)) (views : List View) (id : ℕ) (v w : View) → get_elem? views id ≡ some v → (v.stage ≡ Serving → w.stage ≡ Serving)
+pub placed_set : (b : Bool) (x : World) (homes : List (maybe Slot)) (views : List View) (id : ℕ) (v w : View)
+    → get_elem? views id ≡ some v → (v.stage ≡ Serving → w.stage ≡ Serving)
     → Placed b x homes views → Placed b x homes (set views id w)
 placed_set false x homes views id v w at still p = p
 placed_set true x homes views id v w at still p = dite (ℕ_discrete p.0 id)
@@ -76,7 +87,8 @@ placed_set true x homes views id v w at still p = dite (ℕ_discrete p.0 id)
     (λ ne. (p.0, p.1, set_else views id p.0 w ne ∙ p.2, p.3))
 
 -- The rule of kept numbers holds if one participant changes its view but keeps its numbers.
-pub taken_set : (views : List View) (id : ℕ) (v w : View) → TakenIn views → get_elem? views id ≡ some v → (v.stage ≡ Spent → ⊥) → w.kept ≡ v.kept → TakenIn (set views id w)
+pub taken_set : (views : List View) (id : ℕ) (v w : View) → TakenIn views → get_elem? views id ≡ some v
+    → (v.stage ≡ Spent → ⊥) → w.kept ≡ v.kept → TakenIn (set views id w)
 taken_set views id v w t at unspent same =
     let back : (j : ℕ) (u : View) → get_elem? (set views id w) j ≡ some u → (z : View) × (get_elem? views j ≡ some z) × (u.kept ≡ z.kept) = λ j u at_j. ⊎_elim
     (λ (h : (j ≡ id) × (w ≡ u)). (v, ap (get_elem? views) h.0 ∙ at, ap (λ (z : View). z.kept) (sym h.1) ∙ same))
@@ -92,7 +104,8 @@ pub ticketless : (g : Stage) → g ≡ Idle → has_ticket g ≡ true → ⊥
 ticketless g idle has = let none : false ≡ true = sym (ap has_ticket idle) ∙ has in absurd (cc)
 
 -- A ticket that is held stays held if its participant keeps it.
-pub held_set : (views : List View) (id : ℕ) (v w : View) (t : ℕ) → get_elem? views id ≡ some v → (has_ticket v.stage ≡ true → v.ticket ≡ t → (has_ticket w.stage ≡ true) × (w.ticket ≡ t))
+pub held_set : (views : List View) (id : ℕ) (v w : View) (t : ℕ) → get_elem? views id ≡ some v
+    → (has_ticket v.stage ≡ true → v.ticket ≡ t → (has_ticket w.stage ≡ true) × (w.ticket ≡ t))
     → IsHeld views t → IsHeld (set views id w) t
 held_set views id v w t at keeps h = dite (ℕ_discrete h.0 id)
     (λ is. let same : v ≡ h.1 = some-injective v h.1 (sym at ∙ (ap (get_elem? views) (sym is) ∙ h.2)) in
@@ -101,13 +114,17 @@ held_set views id v w t at keeps h = dite (ℕ_discrete h.0 id)
     (λ ne. (h.0, h.1, set_else views id h.0 w ne ∙ h.2, h.3, h.4))
 
 -- Each ticket that was drawn is still held when one participant changes its view and keeps its ticket.
-pub all_held_set : (x : World) (views : List View) (id : ℕ) (v w : View) → get_elem? views id ≡ some v → (has_ticket v.stage ≡ true → (has_ticket w.stage ≡ true) × (w.ticket ≡ v.ticket))
+pub all_held_set : (x : World) (views : List View) (id : ℕ) (v w : View) → get_elem? views id ≡ some v
+    → (has_ticket v.stage ≡ true → (has_ticket w.stage ≡ true) × (w.ticket ≡ v.ticket))
     → AllHeld x views → AllHeld x (set views id w)
-all_held_set x views id v w at keeps held t from to = held_set views id v w t at (λ has is. let k = keeps has in (k.0, k.1 ∙ is)) (held t from to)
+all_held_set x views id v w at keeps held t from to =
+    held_set views id v w t at (λ has is. let k = keeps has in (k.0, k.1 ∙ is)) (held t from to)
 
 -- The count of those that are out stays right if one participant changes its view but not its parent, and counts no
 -- fewer.
-pub lent_set : (views : List View) (id : ℕ) (v w : View) → Lent views → get_elem? views id ≡ some v → (v.stage ≡ Spent → ⊥) → ((w.stage ≡ Spent → ⊥) → (w.parent ≡ v.parent) × (v.outstanding ≤ w.outstanding)) → Lent (set views id w)
+pub lent_set : (views : List View) (id : ℕ) (v w : View) → Lent views → get_elem? views id ≡ some v
+    → (v.stage ≡ Spent → ⊥) → ((w.stage ≡ Spent → ⊥) → (w.parent ≡ v.parent) × (v.outstanding ≤ w.outstanding))
+    → Lent (set views id w)
 lent_set views id v w t at unspent keeps =
     let before : (j : ℕ) (u : View) → get_elem? (set views id w) j ≡ some u → (u.stage ≡ Spent → ⊥) → (z : View) × (get_elem? views j ≡ some z) × (z.stage ≡ Spent → ⊥) × (u.parent ≡ z.parent) × (z.outstanding ≤ u.outstanding) =
     λ j u at_j live. ⊎_elim
@@ -178,18 +195,27 @@ pub stays_put : (s : Table) (r : Orderly s) (i id : ℕ) (c : List (ℕ × Slot)
     → w.drawn ≡ v.drawn
     → w.journaled ≡ v.journaled
     → Orderly (stepped s i (slice_index s.words i) id c w Rattle.atomic_table.specs.Table.keeps)
-stays_put s r i id c v w words at still mine keeps fresh unspent same parent outstanding drawn journaled = unchanged s r r.world i (slice_index s.words i) id c w Rattle.atomic_table.specs.Table.keeps (words ∙ r.words) r.few r.behind r.legal
+stays_put s r i id c v w words at still mine keeps fresh unspent same parent outstanding drawn journaled =
+    unchanged s r r.world i (slice_index s.words i) id c w Rattle.atomic_table.specs.Table.keeps (words ∙ r.words) r.few
+    r.behind r.legal
     (placed_set r.world.outstanding r.world s.homes s.views id v w at still r.placed) (λ j u _ e. r.know j u e) mine
-    (all_held_set r.world s.views id v w at keeps r.held) fresh r.unborn (taken_set s.views id v w r.taken_in at unspent same) (lent_set s.views id v w r.lent at unspent (λ _. (parent, (let o = outstanding in omega arith))))
-    (total_kept (λ u. u.drawn) s.views id v w at drawn ∙ r.drawn) (ap (λ (n : ℕ). length r.world.origin.journal + n) (total_kept (λ u. u.journaled) s.views id v w at journaled) ∙ r.journaled)
+    (all_held_set r.world s.views id v w at keeps r.held) fresh r.unborn
+    (taken_set s.views id v w r.taken_in at unspent same)
+    (lent_set s.views id v w r.lent at unspent (λ _. (parent, (let o = outstanding in omega arith))))
+    (total_kept (λ u. u.drawn) s.views id v w at drawn ∙ r.drawn)
+    (ap (λ (n : ℕ). length r.world.origin.journal + n) (total_kept (λ u. u.journaled) s.views id v w at journaled) ∙ r.journaled)
 
 -- The rule still holds if nothing changes.
-pub stays_whole : (s : Table) (r : Orderly s) (i id : ℕ) (c : List (ℕ × Slot)) (v : View) → slice_set s.words i (slice_index s.words i) ≡ s.words → get_elem? s.views id ≡ some v → (v.stage ≡ Spent → ⊥)
+pub stays_whole : (s : Table) (r : Orderly s) (i id : ℕ) (c : List (ℕ × Slot)) (v : View)
+    → slice_set s.words i (slice_index s.words i) ≡ s.words → get_elem? s.views id ≡ some v → (v.stage ≡ Spent → ⊥)
     → Orderly (stepped s i (slice_index s.words i) id c v Rattle.atomic_table.specs.Table.keeps)
-stays_whole s r i id c v words at unspent = stays_put s r i id c v v words at (λ e. e) (r.know id v at) (λ has. (has, refl)) (λ j u ne at_j has_j has same. ne (r.differ j id u v at_j at has_j has same)) unspent refl refl refl refl refl
+stays_whole s r i id c v words at unspent =
+    stays_put s r i id c v v words at (λ e. e) (r.know id v at) (λ has. (has, refl))
+    (λ j u ne at_j has_j has same. ne (r.differ j id u v at_j at has_j has same)) unspent refl refl refl refl refl
 
 -- A write of the value that a word has leaves the three words.
-pub word_same : (s : Table) (r : Orderly s) → (slice_set s.words 0 (slice_index s.words 0) ≡ s.words) × (slice_set s.words 1 (slice_index s.words 1) ≡ s.words) × (slice_set s.words 2 (slice_index s.words 2) ≡ s.words)
+pub word_same : (s : Table) (r : Orderly s)
+    → (slice_set s.words 0 (slice_index s.words 0) ≡ s.words) × (slice_set s.words 1 (slice_index s.words 1) ≡ s.words) × (slice_set s.words 2 (slice_index s.words 2) ≡ s.words)
 word_same s r = (
   subst (λ (l : List ℕ). slice_set l 0 (slice_index l 0) ≡ l) (sym r.words) refl,
   subst (λ (l : List ℕ). slice_set l 1 (slice_index l 1) ≡ l) (sym r.words) refl,
@@ -197,17 +223,23 @@ word_same s r = (
 )
 
 -- The three words are the length of the history, the next ticket and the ticket that is served.
-pub word_is : (s : Table) (r : Orderly s) → (slice_index s.words 0 ≡ length r.world.log) × (slice_index s.words 1 ≡ r.world.next) × (slice_index s.words 2 ≡ r.world.serving)
-word_is s r = (ap (λ (l : List ℕ). slice_index l 0) r.words, ap (λ (l : List ℕ). slice_index l 1) r.words, ap (λ (l : List ℕ). slice_index l 2) r.words)
+pub word_is : (s : Table) (r : Orderly s)
+    → (slice_index s.words 0 ≡ length r.world.log) × (slice_index s.words 1 ≡ r.world.next) × (slice_index s.words 2 ≡ r.world.serving)
+word_is s r =
+    (ap (λ (l : List ℕ). slice_index l 0) r.words, ap (λ (l : List ℕ). slice_index l 1) r.words, ap (λ (l : List ℕ). slice_index l 2) r.words)
 
 -- A participant's view fits the history with any other ticket, stage and count of tickets.
-pub refits : (origin : DeviceValue) (log : List Entry) (id : ℕ) (v : View) (ticket : ℕ) (stage : Stage) (drawn : ℕ) → Fits origin log id v → Fits origin log id (record v { ticket = ticket; stage = stage; drawn = drawn })
-refits origin log id v ticket stage drawn f = record { origin_is = f.origin_is; number = f.number; parent = f.parent; seen = f.seen; told = f.told; mine = f.mine }
+pub refits : (origin : DeviceValue) (log : List Entry) (id : ℕ) (v : View) (ticket : ℕ) (stage : Stage) (drawn : ℕ)
+    → Fits origin log id v → Fits origin log id (record v { ticket = ticket; stage = stage; drawn = drawn })
+refits origin log id v ticket stage drawn f =
+    record
+    { origin_is = f.origin_is; number = f.number; parent = f.parent; seen = f.seen; told = f.told; mine = f.mine }
 
 -- The device is in its slot with a legal history, or the participant that is served has it.
 pub placed_at : (b : Bool) (s : Table) (r : Orderly s) → Placed b r.world s.homes s.views
     → ((origin : DeviceValue) × (log : List Entry) × (get_elem? s.homes 0 ≡ some (some (Some (device_at origin log)))) × IsLegal origin log)
-    ⊎ ((id : ℕ) × (v : View) × (get_elem? s.views id ≡ some v) × (v.stage ≡ Serving) × (v.ticket ≡ slice_index s.words 2))
+    ⊎
+    ((id : ℕ) × (v : View) × (get_elem? s.views id ≡ some v) × (v.stage ≡ Serving) × (v.ticket ≡ slice_index s.words 2))
 placed_at false s r p = inl (r.world.origin, r.world.log, p, r.legal)
 placed_at true s r p = let k : Knows r.world p.0 p.1 Serving = subst (Knows r.world p.0 p.1) p.3 (r.know p.0 p.1 p.2) in inr (p.0, p.1, p.2, p.3, k.1 ∙ sym (word_is s r).2)
 
@@ -219,6 +251,8 @@ fits_unspent x id v Serving live k = k.0
 fits_unspent x id v Spent live k = absurd (live refl)
 
 -- A participant that is not spent has the number of its place.
-pub number_is : (s : Table) (r : Orderly s) (id : ℕ) (v : View) → get_elem? s.views id ≡ some v → (v.stage ≡ Spent → ⊥) → v.number ≢ 0 → v.number ≡ suc id
+pub number_is : (s : Table) (r : Orderly s) (id : ℕ) (v : View) → get_elem? s.views id ≡ some v → (v.stage ≡ Spent → ⊥)
+    → v.number ≢ 0 → v.number ≡ suc id
 number_is s r id v at live some_number =
-    ⊎_elim (λ (z : v.number ≡ 0). absurd (some_number z)) (λ (z : v.number ≡ suc id). z) (fits_unspent r.world id v v.stage live (r.know id v at)).number
+    ⊎_elim (λ (z : v.number ≡ 0). absurd (some_number z)) (λ (z : v.number ≡ suc id). z)
+    (fits_unspent r.world id v v.stage live (r.know id v at)).number

@@ -97,7 +97,8 @@ Closes s device = (log : List Entry) × (device ≡ device_at s.origin log) × I
 -- some participant has the ticket that is served.
 abbrev pub IsTurnOut : ParticipantView → Type 0
 IsTurnOut s = (state : Table) × Orderly state
-    × ((id : ℕ) × (v : View) × (get_elem? state.views id ≡ some v) × (v.stage ≡ Idle) × (v.number ≡ s.number) × (v.outstanding ≡ s.outstanding) × (v.seen ≡ s.seen))
+    ×
+    ((id : ℕ) × (v : View) × (get_elem? state.views id ≡ some v) × (v.stage ≡ Idle) × (v.number ≡ s.number) × (v.outstanding ≡ s.outstanding) × (v.seen ≡ s.seen))
     × IsHeld state.views (slice_index state.words 2)
 
 -- ---- participants that are split off and taken in

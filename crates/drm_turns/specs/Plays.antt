@@ -14,7 +14,9 @@ Play = Step Slot → Sat → ℕ → Sat → Type 0
 -- the history so far, which begins with all that was seen and reported, and in which the participant's own entries are
 -- those that it made
 abbrev pub Reads : View → List Entry → Type 0
-Reads v seen = StartsWith seen v.seen × StartsWith seen v.told × IsLegal v.origin seen × (v.number ≢ 0 → calls_by v.number seen ≡ v.mine)
+Reads v seen =
+    StartsWith seen v.seen × StartsWith seen v.told × IsLegal v.origin seen ×
+    (v.number ≢ 0 → calls_by v.number seen ≡ v.mine)
 
 -- the next ticket is as many as the first participant drew, where none is out of it
 abbrev pub finds : Play
@@ -26,7 +28,8 @@ draws st m r n = (r ≡ st.first → n ≡ (waiting m.0 st.first, m.1)) × (r �
 
 -- the participant is served, and has the device, with the history for its journal
 abbrev pub IsServed : Sat → Sat → Type 0
-IsServed m n = (seen : List Entry) × (n ≡ (serving m.0 seen, (0, Some (device_at m.0.origin seen)) ∷ m.1)) × Reads m.0 seen
+IsServed m n =
+    (seen : List Entry) × (n ≡ (serving m.0 seen, (0, Some (device_at m.0.origin seen)) ∷ m.1)) × Reads m.0 seen
 
 -- looks at the ticket that is served
 abbrev pub looks : Play
@@ -42,7 +45,9 @@ passes st m r n = n ≡ (passed m.0, rest m.1)
 
 -- a new participant learns its number
 abbrev pub IsNumbered : Sat → Sat → Type 0
-IsNumbered m n = (number : ℕ) × (n ≡ (numbered m.0 number, m.1)) × (number ≢ 0) × (number ≢ m.0.parent) × (m.0.mine ≡ [] → calls_by number m.0.seen ≡ [])
+IsNumbered m n =
+    (number : ℕ) × (n ≡ (numbered m.0 number, m.1)) × (number ≢ 0) × (number ≢ m.0.parent) ×
+    (m.0.mine ≡ [] → calls_by number m.0.seen ≡ [])
 
 -- sets the number of a new participant
 abbrev pub settles : Play
@@ -50,7 +55,9 @@ settles st m r n = IsNumbered m n
 
 -- the participant has seen the history
 abbrev pub IsInformed : Sat → Sat → Type 0
-IsInformed m n = (seen : List Entry) × (n ≡ (informed m.0 seen, m.1)) × Reads m.0 seen × (m.0.number ≢ 0 → AllDiffer (m.0.number ∷ m.0.kept))
+IsInformed m n =
+    (seen : List Entry) × (n ≡ (informed m.0 seen, m.1)) × Reads m.0 seen ×
+    (m.0.number ≢ 0 → AllDiffer (m.0.number ∷ m.0.kept))
 
 -- reads the history
 abbrev pub learns : Play

@@ -49,7 +49,8 @@ pub record Fits (origin : DeviceValue) (log : List Entry) (id : ℕ) (v : View) 
 abbrev pub Knows : World → ℕ → View → Stage → Type 0
 Knows x id v Idle = Fits x.origin x.log id v
 Knows x id v Waiting = Fits x.origin x.log id v × (x.serving ≤ v.ticket) × (v.ticket < x.next)
-Knows x id v Serving = Fits x.origin x.log id v × (v.ticket ≡ x.serving) × (x.serving < x.next) × (x.outstanding ≡ true) × (v.seen ≡ x.log)
+Knows x id v Serving =
+    Fits x.origin x.log id v × (v.ticket ≡ x.serving) × (x.serving < x.next) × (x.outstanding ≡ true) × (v.seen ≡ x.log)
 Knows x id v Spent = (v.drawn ≡ 0) × (v.journaled ≡ 0)
 
 -- a participant in these stages has a ticket
@@ -93,7 +94,8 @@ IsSpent views k = (j : ℕ) × (u : View) × (k ≡ suc j) × (get_elem? views j
 pub record TakenIn (views : List View) : Type 0 where
   pub spent : (id : ℕ) (v : View) (k : ℕ) → get_elem? views id ≡ some v → Has k v.kept → IsSpent views k
   pub apart : (id : ℕ) (v : View) → get_elem? views id ≡ some v → AllDiffer v.kept
-  pub once : (i j : ℕ) (v w : View) (k : ℕ) → get_elem? views i ≡ some v → get_elem? views j ≡ some w → Has k v.kept → Has k w.kept → i ≡ j
+  pub once : (i j : ℕ) (v w : View) (k : ℕ) → get_elem? views i ≡ some v → get_elem? views j ≡ some w → Has k v.kept
+      → Has k w.kept → i ≡ j
 
 -- the view is spent, and all that was split off it is returned
 abbrev pub IsBack : List View → (ℕ → List ℕ) → ℕ → Type 0
@@ -104,10 +106,13 @@ IsBack views away id = IsSpent views (suc id) × (away id ≡ [])
 pub record Lent (views : List View) : Type 0 where
   pub away : ℕ → List ℕ
   pub within : (p c : ℕ) → Has c (away p) → (p < c) × (c < length views)
-  pub back : (c : ℕ) (u : View) → get_elem? views (suc c) ≡ some u → IsBack views away (suc c) ⊎ ((p : ℕ) × Has (suc c) (away p))
-  pub parent : (p c : ℕ) (u : View) → Has c (away p) → get_elem? views c ≡ some u → (u.stage ≡ Spent → ⊥) → u.parent ≡ suc p
+  pub back : (c : ℕ) (u : View) → get_elem? views (suc c) ≡ some u
+      → IsBack views away (suc c) ⊎ ((p : ℕ) × Has (suc c) (away p))
+  pub parent : (p c : ℕ) (u : View) → Has c (away p) → get_elem? views c ≡ some u → (u.stage ≡ Spent → ⊥)
+      → u.parent ≡ suc p
   pub first : (u : View) → get_elem? views 0 ≡ some u → (u.stage ≡ Spent → ⊥) → u.parent ≡ 0
-  pub count : (id : ℕ) (v : View) → get_elem? views id ≡ some v → (v.stage ≡ Spent → ⊥) → length (away id) ≤ v.outstanding
+  pub count : (id : ℕ) (v : View) → get_elem? views id ≡ some v → (v.stage ≡ Spent → ⊥)
+      → length (away id) ≤ v.outstanding
 
 -- the facts about the table
 pub record Orderly (s : Table) : Type 0 where

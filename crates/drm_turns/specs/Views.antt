@@ -71,21 +71,28 @@ numbered v number = record v { number = number }
 -- How many are out of a participant of this number, once one with this parent is returned, of which this many are out
 -- itself. It counts if it was split off this participant and all that were split off it are returned.
 abbrev pub outstanding_after : ℕ → ℕ → ℕ → ℕ → ℕ
-outstanding_after number outstanding parent theirs = cond ((parent == number) && (theirs == 0)) (outstanding - 1) outstanding
+outstanding_after number outstanding parent theirs =
+    cond ((parent == number) && (theirs == 0)) (outstanding - 1) outstanding
 
 -- the view after another was merged into it
 abbrev pub told_of : View → View → View
-told_of v w = record v { told = w.seen; kept = v.kept ++ w.number ∷ w.kept; outstanding = outstanding_after v.number v.outstanding w.parent w.outstanding; drawn = v.drawn + w.drawn; journaled = v.journaled + w.journaled }
+told_of v w =
+    record v
+    { told = w.seen; kept = v.kept ++ w.number ∷ w.kept; outstanding = outstanding_after v.number v.outstanding w.parent w.outstanding; drawn = v.drawn + w.drawn; journaled = v.journaled + w.journaled }
 
 -- the same of a note, which has no number
 abbrev pub met_of : View → View → View
-met_of v w = record v { told = w.seen; outstanding = outstanding_after v.number v.outstanding w.parent w.outstanding; drawn = v.drawn + w.drawn; journaled = v.journaled + w.journaled }
+met_of v w =
+    record v
+    { told = w.seen; outstanding = outstanding_after v.number v.outstanding w.parent w.outstanding; drawn = v.drawn + w.drawn; journaled = v.journaled + w.journaled }
 
 -- some device, where a view knows none
 abbrev pub no_device : DeviceValue
 no_device = record {
   topology = record { crtcs = 0; planes = []; kinds = []; encoders = []; connectors = [] };
-  limits = record { clients = 0; handles = 0; names = 0; tokens = 0; objects = 0; framebuffers = 0; lessees = 0; journal = 0 };
+  limits =
+      record
+      { clients = 0; handles = 0; names = 0; tokens = 0; objects = 0; framebuffers = 0; lessees = 0; journal = 0 };
   journal = [];
 }
 

@@ -1,4 +1,4 @@
-use Rattle.drm_authority.proofs.Closed.{closings_are_for_good}
+use Rattle.drm_authority.proofs.ClosedForGood.{closings_are_for_good}
 use Rattle.drm_authority.proofs.laws.closings_are_for_good.Goals as goal
 
 pub returns : goal.returns

@@ -30,5 +30,7 @@ returns-in-Some-clause-checks g c =
     let command = c.as_bytes-command.result.now in
     let named : file_of name command ≡ file_of c.args.name.now c.args.command.now =
     ap (λ (n : List ℕ). file_of n command) c.as_bytes-name.ensures.value ∙ ap (file_of c.args.name.now) c.as_bytes-command.ensures.value in
-    let P : File → Type 0 = λ f. SoFar c.args.setup f (source c.args.source.now) (source c.lines.source) (sink c.args.sink.now) (sink c.lines.sink) c.args.turns c.lines.check in
+    let P : File → Type 0 =
+    λ f. SoFar c.args.setup f (source c.args.source.now) (source c.lines.source) (sink c.args.sink.now)
+    (sink c.lines.sink) c.args.turns c.lines.check in
     ends_as c.end.ensures named (c.in-Some.ensures _ _ _ _ (subst P (sym named) c.lines.invariant.so_far))

@@ -26,15 +26,19 @@ returns-in_default-clause-refines c = rw c.set_denied.ensures.denied (λ w h adm
 
 pub returns-clause-invariants : goal.returns-clause-invariants
 returns-clause-invariants c =
-    subst (λ fs. MeetsInvariants (record c.args.state.now { files = fs })) (sym c.set_capability.ensures) (shown_invariants c.args.state.now c.args.client c.in-Some.capability (c.args.value == 1) c.requires.invariants)
+    subst (λ fs. MeetsInvariants (record c.args.state.now { files = fs })) (sym c.set_capability.ensures)
+    (shown_invariants c.args.state.now c.args.client c.in-Some.capability (c.args.value == 1) c.requires.invariants)
 
 pub returns-clause-refines : goal.returns-clause-refines
 unfolding RefinesReply meaning changed answer_of
 returns-clause-refines c = rw c.set_done.ensures.done (λ w h admitted.
     let s = c.args.state.now in
     let on = c.args.value == 1 in
-    let number : capability_number c.in-Some.capability ≡ c.args.cap = subst (λ o. IfSome o (λ k. capability_number k ≡ c.args.cap)) c.in-Some.is c.settable.ensures.number in
-    carried_on (record s { files = c.set_capability.new.self }) w (Ask c.args.client (SetClientCap c.args.cap c.args.value)) Done (returns-clause-invariants c)
-    (call_verdict w c.args.client (SetClientCap c.args.cap c.args.value) admitted ∙ ap (λ b. first_failing (check BadCap b ∷ [])) (sym c.settable.ensures.settable ∙ ap is_some c.in-Some.is)) refl
+    let number : capability_number c.in-Some.capability ≡ c.args.cap =
+    subst (λ o. IfSome o (λ k. capability_number k ≡ c.args.cap)) c.in-Some.is c.settable.ensures.number in
+    carried_on (record s { files = c.set_capability.new.self }) w
+    (Ask c.args.client (SetClientCap c.args.cap c.args.value)) Done (returns-clause-invariants c)
+    (call_verdict w c.args.client (SetClientCap c.args.cap c.args.value) admitted ∙ ap (λ b. first_failing (check BadCap b ∷ [])) (sym c.settable.ensures.settable ∙ ap is_some c.in-Some.is))
+    refl
     (subst (λ fs. Represents (record s { files = fs }) (record w { clients = with_client_capability c.args.client c.args.cap on w.clients })) (sym c.set_capability.ensures)
     (subst (λ n. Represents (record s { files = with_capability s.files c.args.client c.in-Some.capability on }) (record w { clients = with_client_capability c.args.client n on w.clients })) number (shown_represents s c.args.client c.in-Some.capability on w h))))

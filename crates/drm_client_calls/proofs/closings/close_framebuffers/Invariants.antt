@@ -14,7 +14,8 @@ invariant-loop-taken l = record {
   last : l.modes.last ≡ l.fn.modes.last;
   others : filter (λ (x : Framebuffer). not (is_made_by l.client x)) l.modes.framebuffers ≡ filter (λ (x : Framebuffer). not (is_made_by l.client x)) l.fn.modes.framebuffers;
   shown : shown_rows l.modes ≡ filter (λ (x : Shown). has_framebuffer l.modes x.framebuffer) (shown_rows l.fn.modes);
-  left : (keys more : List ℕ) → AreCounted keys (more ++ framebuffer_keys l.fn.modes.framebuffers) l.fn.objects.objects → IsStep l.fn.objects.objects keys (more ++ framebuffer_keys l.modes.framebuffers) l.objects;
+  left : (keys more : List ℕ) → AreCounted keys (more ++ framebuffer_keys l.fn.modes.framebuffers) l.fn.objects.objects
+      → IsStep l.fn.objects.objects keys (more ++ framebuffer_keys l.modes.framebuffers) l.objects;
   limit : l.objects.limit ≡ l.fn.objects.limit;
 }
 

@@ -7,7 +7,8 @@ use Rattle.drm_client_calls.proofs.closings.close_tokens.Given as goal
 abbrev pub invariant-loop-taken : goal.invariant-loop-taken
 invariant-loop-taken l = record {
   others : without_tokens_of l.client l.tokens ≡ without_tokens_of l.client l.fn.tokens;
-  left : (keys more : List ℕ) → AreCounted keys (token_keys l.fn.tokens.tokens ++ more) l.fn.objects.objects → IsStep l.fn.objects.objects keys (token_keys l.tokens.tokens ++ more) l.objects;
+  left : (keys more : List ℕ) → AreCounted keys (token_keys l.fn.tokens.tokens ++ more) l.fn.objects.objects
+      → IsStep l.fn.objects.objects keys (token_keys l.tokens.tokens ++ more) l.objects;
   limit : l.objects.limit ≡ l.fn.objects.limit;
 }
 

@@ -18,7 +18,9 @@ use Rattle.drm_state.proofs.Refinements.{denied, carried_on, refused, opening_ve
 use Rattle.drm_client_calls.proofs.openings.open_render.Goals as goal
 
 abbrev row : Rows → ClientRow
-row w = record { client = step_number w; render = true; root = false; authenticated = false; once_master = false; is_master = false; master = None; capabilities = opening_capabilities true }
+row w =
+    record
+    { client = step_number w; render = true; root = false; authenticated = false; once_master = false; is_master = false; master = None; capabilities = opening_capabilities true }
 
 abbrev flags : FileFlags
 flags = new_flags true false true
@@ -42,11 +44,14 @@ returns-in_err-open_file-clause-refines c = λ w s.
     (subst (λ fs. Represents (record c.args.state.now { files = fs }) w) (sym c.in_err-open_file.ensures.err) s.rows))
 
 pub returns-clause-invariants : goal.returns-clause-invariants
-returns-clause-invariants c = rendered_invariants c.args.state.now c.open_file.new.files c.args.step_number flags refl c.requires.invariants c.in_ok-open_file.ensures.ok
+returns-clause-invariants c =
+    rendered_invariants c.args.state.now c.open_file.new.files c.args.step_number flags refl c.requires.invariants
+    c.in_ok-open_file.ensures.ok
 
 pub returns-clause-refines : goal.returns-clause-refines
 unfolding Refines changed opened answer_of
 returns-clause-refines c = λ w s.
     let room = client_room c.args.state.now w s.rows ∙ ap not (sym c.is_full.ensures.full ∙ c.if-is_full.false) in
-    carried_on (record c.args.state.now { files = c.open_file.new.files }) w (Open Render) (Opened c.args.step_number) (returns-clause-invariants c) (accepted w room) (ap Opened (sym s.step_number_is))
+    carried_on (record c.args.state.now { files = c.open_file.new.files }) w (Open Render) (Opened c.args.step_number)
+    (returns-clause-invariants c) (accepted w room) (ap Opened (sym s.step_number_is))
     (rendered_represents c.args.state.now w c.open_file.new.files c.args.step_number flags (row w) c.requires.invariants c.requires.later c.in_ok-open_file.ensures.ok (ap (λ b. record (row w) { client = b }) (sym s.step_number_is)) s.rows)

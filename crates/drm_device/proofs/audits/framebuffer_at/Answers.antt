@@ -1,6 +1,6 @@
 use Rattle.std.proofs.Common.{◌≡◌, true, ◌∙◌, sym}
 use Rattle.drm_lists.specs.Numbers.{is_among}
-use Rattle.drm_lists.proofs.Found.{all_at}
+use Rattle.drm_lists.proofs.FoundInLists.{all_at}
 use Rattle.drm_lists.proofs.Numbers.{among-right}
 use Rattle.drm_modes.specs.declared.rows.Framebuffer.{Framebuffer}
 use Rattle.drm_state.specs.Parts.{keys_of, token_keys, framebuffer_keys, referring_keys}
@@ -19,4 +19,6 @@ birth-requires c =
     (all_at (λ (x : Framebuffer). is_among (framebuffer_keys s.modes.framebuffers) x.object ≡ true) s.modes.framebuffers c.args.position c.in_ok-made.made (its_key (λ (x : Framebuffer). x.object) s.modes.framebuffers) (sym c.nth_framebuffer.ensures ∙ c.in_ok-made.was))))
 
 pub returns : goal.returns
-returns c = framebuffer_there c.args.state.now.objects.objects c.args.state.now.modes.framebuffers c.args.position c.in_ok-made.made c.birth.result (sym c.nth_framebuffer.ensures ∙ c.in_ok-made.was) c.birth.ensures
+returns c =
+    framebuffer_there c.args.state.now.objects.objects c.args.state.now.modes.framebuffers c.args.position
+    c.in_ok-made.made c.birth.result (sym c.nth_framebuffer.ensures ∙ c.in_ok-made.was) c.birth.ensures

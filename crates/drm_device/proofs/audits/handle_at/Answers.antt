@@ -11,4 +11,6 @@ birth-requires c =
     (among-left (keys_of c.args.state.now.files.holds) (referring_keys c.args.state.now) c.in_ok-hold.hold.object (among_at c.args.state.now.files.holds c.args.position c.in_ok-hold.hold (sym c.nth_handle.ensures ∙ c.in_ok-hold.was)))
 
 pub returns : goal.returns
-returns c = hold_there c.args.state.now.objects.objects c.args.state.now.files.holds c.args.position c.in_ok-hold.hold c.birth.result c.or_zero.result (sym c.nth_handle.ensures ∙ c.in_ok-hold.was) c.birth.ensures c.or_zero.ensures
+returns c =
+    hold_there c.args.state.now.objects.objects c.args.state.now.files.holds c.args.position c.in_ok-hold.hold
+    c.birth.result c.or_zero.result (sym c.nth_handle.ensures ∙ c.in_ok-hold.was) c.birth.ensures c.or_zero.ensures

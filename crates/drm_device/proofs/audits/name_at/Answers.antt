@@ -1,6 +1,6 @@
 use Rattle.std.proofs.Common.{◌≡◌, ◌++◌, true, ◌∙◌, sym}
 use Rattle.drm_lists.specs.Numbers.{is_among}
-use Rattle.drm_lists.proofs.Found.{all_at}
+use Rattle.drm_lists.proofs.FoundInLists.{all_at}
 use Rattle.drm_share.specs.declared.rows.SharedName.{SharedName}
 use Rattle.drm_state.specs.Parts.{keys_of, referring_keys}
 use Rattle.drm_state.proofs.Represented.{objects_counted}
@@ -15,4 +15,6 @@ birth-requires c =
     (all_at (λ (x : SharedName). is_among (keys_of s.files.holds ++ referring_keys s) x.object ≡ true) s.names.names c.args.position c.in_ok-shared.shared (names_known s c.requires) (sym c.nth_name.ensures.row ∙ c.in_ok-shared.was))
 
 pub returns-clause-row : goal.returns-clause-row
-returns-clause-row c = name_there c.args.state.now.objects.objects c.args.state.now.names.names c.args.position c.in_ok-shared.shared c.birth.result (sym c.nth_name.ensures.row ∙ c.in_ok-shared.was) c.birth.ensures
+returns-clause-row c =
+    name_there c.args.state.now.objects.objects c.args.state.now.names.names c.args.position c.in_ok-shared.shared
+    c.birth.result (sym c.nth_name.ensures.row ∙ c.in_ok-shared.was) c.birth.ensures

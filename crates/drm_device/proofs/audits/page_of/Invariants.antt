@@ -6,6 +6,7 @@ use Rattle.drm_device.proofs.audits.page_of.Given as goal
 
 abbrev pub invariant-loop-position : goal.invariant-loop-position
 invariant-loop-position l = record {
-  rows : (w : Rows) → RepresentsAfter l.fn.state l.fn.steps w → l.page ≡ take l.position (drop l.fn.from (rising_rows (audit_rows w l.fn.kind)));
+  rows : (w : Rows) → RepresentsAfter l.fn.state l.fn.steps w
+      → l.page ≡ take l.position (drop l.fn.from (rising_rows (audit_rows w l.fn.kind)));
   length : length l.page ≡ l.position;
 }

@@ -1,6 +1,6 @@
 use Rattle.std.proofs.Common.{◌≡◌, true, ◌∙◌, sym}
 use Rattle.drm_lists.specs.Numbers.{is_among}
-use Rattle.drm_lists.proofs.Found.{all_at}
+use Rattle.drm_lists.proofs.FoundInLists.{all_at}
 use Rattle.drm_lists.proofs.Numbers.{among-left, among-right}
 use Rattle.drm_share.specs.declared.rows.SharedToken.{SharedToken}
 use Rattle.drm_state.specs.Parts.{keys_of, token_keys, framebuffer_keys, referring_keys}
@@ -18,4 +18,6 @@ birth-requires c =
     (all_at (λ (x : SharedToken). is_among (token_keys s.tokens.tokens) x.object ≡ true) s.tokens.tokens c.args.position c.in_ok-shared.shared (its_key (λ (x : SharedToken). x.object) s.tokens.tokens) (sym c.nth_token.ensures.row ∙ c.in_ok-shared.was))))
 
 pub returns-clause-row : goal.returns-clause-row
-returns-clause-row c = token_there c.args.state.now.objects.objects c.args.state.now.tokens.tokens c.args.position c.in_ok-shared.shared c.birth.result (sym c.nth_token.ensures.row ∙ c.in_ok-shared.was) c.birth.ensures
+returns-clause-row c =
+    token_there c.args.state.now.objects.objects c.args.state.now.tokens.tokens c.args.position c.in_ok-shared.shared
+    c.birth.result (sym c.nth_token.ensures.row ∙ c.in_ok-shared.was) c.birth.ensures

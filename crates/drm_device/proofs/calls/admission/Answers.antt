@@ -35,12 +35,16 @@ returns-in_default-clause-err c = λ w h.
     rw (known, laid, is_open_is c.args.state.now w h c.args.client ∙ c.in_default.ensures.none) refl
 
 -- what the permits of a known call that is laid out are, for a caller
-permitted : (s : State) (k : Caller) (call : Call) (rule : Option Rule) → IsCaller s k → is_known call ≡ true → is_laid_out call ≡ true →
-    rule ≡ first_failing (permit_checks (flags_of call) (record { root = k.flags.root; render = k.flags.render; authenticated = k.flags.authenticated; current = k.current })) → IsAdmission s k.client call rule
+permitted : (s : State) (k : Caller) (call : Call) (rule : Option Rule) → IsCaller s k → is_known call ≡ true
+    → is_laid_out call ≡ true →
+    rule ≡ first_failing
+    (permit_checks (flags_of call) (record { root = k.flags.root; render = k.flags.render; authenticated = k.flags.authenticated; current = k.current }))
+    → IsAdmission s k.client call rule
 unfolding IsAdmission
 permitted s k call rule is known laid e = λ w h.
     e
-    ∙ ap (λ t. first_failing (permit_checks (flags_of call) t)) (ap (λ b. let r : Standing = record { root = k.flags.root; render = k.flags.render; authenticated = k.flags.authenticated; current = b } in r) is.current ∙ sym (credentials_is s w h k.client k.flags))
+    ∙ ap (λ t. first_failing (permit_checks (flags_of call) t))
+    (ap (λ b. let r : Standing = record { root = k.flags.root; render = k.flags.render; authenticated = k.flags.authenticated; current = b } in r) is.current ∙ sym (credentials_is s w h k.client k.flags))
     ∙ sym (admitted_by_permit w k.client call _ known laid (client_row_is s w h k.client k.flags is.flags))
 
 pub returns-in-Some-permit-clause-err : goal.returns-in-Some-permit-clause-err
@@ -63,5 +67,6 @@ returns-in-None-clause-ok c =
 
 pub returns-in-None-clause-render : goal.returns-in-None-clause-render
 returns-in-None-clause-render c =
-    permits_render (flags_of c.args.call.now) (record { root = c.in-Some.caller.flags.root; render = c.in-Some.caller.flags.render; authenticated = c.in-Some.caller.flags.authenticated; current = c.in-Some.caller.current })
+    permits_render (flags_of c.args.call.now)
+    (record { root = c.in-Some.caller.flags.root; render = c.in-Some.caller.flags.render; authenticated = c.in-Some.caller.flags.authenticated; current = c.in-Some.caller.current })
     (sym (sym c.in-None.is ∙ c.permit.ensures ∙ (λ i. first_failing (permit_checks (c.flags.ensures i) (c.credentials.ensures i)))))

@@ -17,5 +17,6 @@ pub returns-in-Ok-clause-refines : goal.returns-in-Ok-clause-refines
 unfolding Refines RefinesCall IsAdmission
 returns-in-Ok-clause-refines c = λ w s.
     let call = c.args.call.now in
-    subst (λ n. IsRefined w (Ask n call) (outcome c.carry_out.result c.carry_out.new.answer) c.carry_out.new.state) c.in-Ok.ensures.client
+    subst (λ n. IsRefined w (Ask n call) (outcome c.carry_out.result c.carry_out.new.answer) c.carry_out.new.state)
+    c.in-Ok.ensures.client
     (c.carry_out.ensures.refines w s (subst (λ n. first_failing (admission_checks w n call) ≡ None) (sym c.in-Ok.ensures.client) (sym (c.in-Ok.ensures.ok w s.rows))))

@@ -23,18 +23,24 @@ loop-step-preserved c =
       | in-Some+in_ok-push-in-Some w ↦
           let row : ClientRow = w.in-Some.row in
           let tells : Tells row = subst (λ o. IfSome o Tells) w.in-Some.is c.in_ok-row.ensures.tells in
-          let new : option_to_list (option_map client_of (Some row)) ≡ opens = subst (λ o. option_to_list (option_map client_of o) ≡ opens) w.in-Some.is c.in_ok-row.ensures.client in
+          let new : option_to_list (option_map client_of (Some row)) ≡ opens =
+          subst (λ o. option_to_list (option_map client_of o) ≡ opens) w.in-Some.is c.in_ok-row.ensures.client in
           record {
-            tells = subst (λ told. All Tells told.items) (sym w.rows-is) (subst (All Tells) (sym w.in_ok-push-in-Some.ensures.items) (All-push Tells c.loop-step.rows.items row c.loop-step.invariant.tells tells));
+            tells =
+                subst (λ told. All Tells told.items) (sym w.rows-is)
+                (subst (All Tells) (sym w.in_ok-push-in-Some.ensures.items) (All-push Tells c.loop-step.rows.items row c.loop-step.invariant.tells tells));
             openings = ap (λ told. map client_of told.items) w.rows-is
                 ∙ ap (λ (l : List ClientRow). map client_of l) w.in_ok-push-in-Some.ensures.items
-                ∙ with_one c.args.only c.steps-steps.result.now c.loop-step.step-index c.step-item.result c.loop-step.rows.items row c.loop-step-test.true c.step-item.is c.loop-step.invariant.openings new;
+                ∙ with_one c.args.only c.steps-steps.result.now c.loop-step.step-index c.step-item.result
+                c.loop-step.rows.items row c.loop-step-test.true c.step-item.is c.loop-step.invariant.openings new;
           }
       | in-None w ↦
-          let new : option_to_list (option_map client_of None) ≡ opens = subst (λ o. option_to_list (option_map client_of o) ≡ opens) w.in-None.is c.in_ok-row.ensures.client in
+          let new : option_to_list (option_map client_of None) ≡ opens =
+          subst (λ o. option_to_list (option_map client_of o) ≡ opens) w.in-None.is c.in_ok-row.ensures.client in
           record {
             tells = subst (λ told. All Tells told.items) (sym w.rows-is) c.loop-step.invariant.tells;
             openings = ap (λ told. map client_of told.items) w.rows-is
-                ∙ with_none c.args.only c.steps-steps.result.now c.loop-step.step-index c.step-item.result c.loop-step.rows.items c.loop-step-test.true c.step-item.is c.loop-step.invariant.openings new;
+                ∙ with_none c.args.only c.steps-steps.result.now c.loop-step.step-index c.step-item.result
+                c.loop-step.rows.items c.loop-step-test.true c.step-item.is c.loop-step.invariant.openings new;
           }
     ]

@@ -5,7 +5,8 @@ use Rattle.drm_explanations.proofs.leases.row_of.Goals as goal
 
 pub returns-in_default-clause-names : goal.returns-in_default-clause-names
 returns-in_default-clause-names c =
-    ap (λ b. cond b (Some (rows.names_of c.args.lease.now)) None) (sym (step_found c.steps.result.now c.args.ledger.now c.args.lease.now.master false c.steps.ensures c.in_default.ensures.numbers))
+    ap (λ b. cond b (Some (rows.names_of c.args.lease.now)) None)
+    (sym (step_found c.steps.result.now c.args.ledger.now c.args.lease.now.master false c.steps.ensures c.in_default.ensures.numbers))
 
 pub returns-clause-tells : goal.returns-clause-tells
 returns-clause-tells c = record {
@@ -20,4 +21,5 @@ returns-clause-tells c = record {
 
 pub returns-clause-names : goal.returns-clause-names
 returns-clause-names c =
-    ap (λ b. cond b (Some (rows.names_of c.args.lease.now)) None) (sym (step_found c.steps.result.now c.args.ledger.now c.args.lease.now.master true c.steps.ensures c.in-Some.ensures.numbers))
+    ap (λ b. cond b (Some (rows.names_of c.args.lease.now)) None)
+    (sym (step_found c.steps.result.now c.args.ledger.now c.args.lease.now.master true c.steps.ensures c.in-Some.ensures.numbers))

@@ -18,16 +18,19 @@ use Rattle.drm_explanations.proofs.reasons.holds_of.Goals.{in-Some+in_ok-hold_ro
 
 -- after all steps
 all_steps : (trail steps : List Step) → steps ≡ trail → history_of (take (length steps) trail) ≡ history_of trail
-all_steps trail steps same = ap history_of (take_all (length steps) trail (let sizes = ap length same in omega (arith, sizes)))
+all_steps trail steps same =
+    ap history_of (take_all (length steps) trail (let sizes = ap length same in omega (arith, sizes)))
 
 -- a handle that is read
 read_at : (held : List Held) (n : ℕ) (d : Held) → n < length held → get_or held n d ≡ get_or held n (get_or held n d)
-read_at held n d within = sym (get_or_from_slice_get held n (get_or held n d) (get_or held n d) (slice_get-get_or held n d within))
+read_at held n d within =
+    sym (get_or_from_slice_get held n (get_or held n d) (get_or held n d) (slice_get-get_or held n d within))
 
 pub loop-one-init : goal.loop-one-init
 loop-one-init c =
     let history = history_of c.args.trail.now in
-    subst (AreRows history c.args.client c.deref-one-items.result.now 0) (sym c.new-rows.ensures.items) (no_rows history c.args.client c.deref-one-items.result.now)
+    subst (AreRows history c.args.client c.deref-one-items.result.now 0) (sym c.new-rows.ensures.items)
+    (no_rows history c.args.client c.deref-one-items.result.now)
 
 pub loop-one-preserved : goal.loop-one-preserved
 loop-one-preserved c =
@@ -39,16 +42,22 @@ loop-one-preserved c =
     let none : Held = record { handle = 0; step = 0 } in
     let one : Held = get_or held n none in
     let within : n < length held = c.loop-one-test.true in
-    let rise = subst (AllPairs (λ (x y : Held). x.handle < y.handle)) (sym c.deref-one-items.ensures.value) c.in_ok-held.ensures.rising in
+    let rise =
+    subst (AllPairs (λ (x y : Held). x.handle < y.handle)) (sym c.deref-one-items.ensures.value)
+    c.in_ok-held.ensures.rising in
     let all = all_steps c.args.trail.now c.steps-steps.result.now c.steps-steps.ensures in
     elim c.match-object_of.branch [
       | in-Some+in_ok-hold_row+in_ok-push w ↦
-          let has = subst (λ (past : List AnsweredEvent). Has past client one.handle w.in-Some.object) all w.in-Some.ensures.object in
+          let has =
+          subst (λ (past : List AnsweredEvent). Has past client one.handle w.in-Some.object) all
+          w.in-Some.ensures.object in
           subst (λ (rows : List HandleRow). AreRows history client held (n + 1) rows)
           (sym (ap (λ told. told.items) w.rows-is ∙ w.in_ok-push.ensures.items))
           (with_row history client held rise n one within (read_at held n none within) c.loop-one.rows.items told w.in_ok-hold_row.field-0 w.in-Some.object w.in_ok-hold_row.ensures.handle w.in_ok-hold_row.ensures.object has)
       | in_default w ↦
-          let nothing = subst (λ (past : List AnsweredEvent). IsOfDevice past → HasNone past client one.handle) all w.in_default.ensures.none in
+          let nothing =
+          subst (λ (past : List AnsweredEvent). IsOfDevice past → HasNone past client one.handle) all
+          w.in_default.ensures.none in
           subst (λ (rows : List HandleRow). AreRows history client held (n + 1) rows)
           (sym (ap (λ told. told.items) w.rows-is))
           (without_row history client held rise n one within (read_at held n none within) c.loop-one.rows.items told nothing)
@@ -67,5 +76,7 @@ returns c =
     record {
       rising = told.rising;
       had = told.had;
-      each = all_rows history client held rows are (λ of_device. subst (AllByRecursion (IsShown history client rows)) all (told.each of_device));
+      each =
+          all_rows history client held rows are
+          (λ of_device. subst (AllByRecursion (IsShown history client rows)) all (told.each of_device));
     }

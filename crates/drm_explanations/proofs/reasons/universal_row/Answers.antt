@@ -7,5 +7,8 @@ use Rattle.drm_explanations.proofs.reasons.universal_row.Goals as goal
 pub returns-in_err-at-clause-noted : goal.returns-in_err-at-clause-noted
 returns-in_err-at-clause-noted c =
     let h = c.args.ledger.now in
-    let within : IsStep (length h) c.in_ok-capability.capability.step = subst (λ o. IfSome o (λ (k : Capability). IsStep (length h) k.step)) (sym c.in_ok-capability.ensures.note) (capability_within h c.args.client) in
-    absurd (not_missing c.steps.result.now h c.in_ok-capability.capability.step c.steps.ensures within c.in_err-at.ensures.numbers)
+    let within : IsStep (length h) c.in_ok-capability.capability.step =
+    subst (λ o. IfSome o (λ (k : Capability). IsStep (length h) k.step)) (sym c.in_ok-capability.ensures.note)
+    (capability_within h c.args.client) in
+    absurd
+    (not_missing c.steps.result.now h c.in_ok-capability.capability.step c.steps.ensures within c.in_err-at.ensures.numbers)

@@ -1,4 +1,4 @@
-use Rattle.drm_frames.proofs.Numbers.{u16_in-u16, u32_in-u32, u64_in-u64}
+use Rattle.drm_frames.proofs.NumberBytes.{u16_in-u16, u32_in-u32, u64_in-u64}
 use Rattle.drm_frames.proofs.laws.numbers_read_back.Goals as goal
 
 pub returns-clause-two_bytes : goal.returns-clause-two_bytes

@@ -1,4 +1,4 @@
-use Rattle.drm_frames.proofs.Numbers.{u16-again, u32-again, u64-again}
+use Rattle.drm_frames.proofs.NumberBytes.{u16-again, u32-again, u64-again}
 use Rattle.drm_frames.proofs.laws.numbers_written_back.Goals as goal
 
 pub returns-clause-two_bytes : goal.returns-clause-two_bytes

@@ -1,4 +1,4 @@
-use Rattle.drm_history.proofs.Runs.{holds_have_chains}
+use Rattle.drm_history.proofs.RunsAgree.{holds_have_chains}
 use Rattle.drm_history.proofs.laws.each_hold_has_a_chain.Goals as goal
 
 pub returns : goal.returns

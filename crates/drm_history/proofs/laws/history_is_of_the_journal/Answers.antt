@@ -1,4 +1,4 @@
-use Rattle.drm_history.proofs.Histories.{events_of_journal, history_grows, history_of_answers}
+use Rattle.drm_history.proofs.AnsweredJournals.{events_of_journal, history_grows, history_of_answers}
 use Rattle.drm_history.proofs.laws.history_is_of_the_journal.Goals as goal
 
 pub returns-clause-events : goal.returns-clause-events

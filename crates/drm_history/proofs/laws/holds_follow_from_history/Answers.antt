@@ -1,4 +1,4 @@
-use Rattle.drm_history.proofs.Runs.{holds_follow, holds_follow_answers}
+use Rattle.drm_history.proofs.RunsAgree.{holds_follow, holds_follow_answers}
 use Rattle.drm_history.proofs.laws.holds_follow_from_history.Goals as goal
 
 pub returns-clause-rows : goal.returns-clause-rows

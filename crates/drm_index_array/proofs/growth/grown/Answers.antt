@@ -7,28 +7,43 @@ use Rattle.std.proofs.lemmas.Option.{same_Some, none-some}
 
 pub overflow_sub-height : goal.overflow_sub-height
 overflow_sub-height g c =
-    let higher = higher c.args.root.value.height c.in-Ok.top.value.height c.args.index c.requires.beyond c.in-Ok.ensures.within in
+    let higher =
+    higher c.args.root.value.height c.in-Ok.top.value.height c.args.index c.requires.beyond c.in-Ok.ensures.within
+    in
     omega (arith, higher, c.height.ensures.height, ap (λ t. t.height) c.deref.ensures)
 
 pub raised-requires-clause-high : goal.raised-requires-clause-high
 raised-requires-clause-high g c =
-    let higher = higher c.args.root.value.height c.in-Ok.top.value.height c.args.index c.requires.beyond c.in-Ok.ensures.within in
+    let higher =
+    higher c.args.root.value.height c.in-Ok.top.value.height c.args.index c.requires.beyond c.in-Ok.ensures.within
+    in
     omega (arith, higher, c.height.ensures.height, ap (λ t. t.height) c.deref.ensures)
 
 pub hang-requires : goal.hang-requires
 hang-requires g c =
-    let higher = higher c.args.root.value.height c.in-Ok.top.value.height c.args.index c.requires.beyond c.in-Ok.ensures.within in
-    omega (arith, higher, c.height.ensures.height, ap (λ t. t.height) c.deref.ensures, ap (λ t. t.height) c.deref_mut.ensures.value, c.in-Ok-raised.ensures.height, c.requires.used, ap map.len c.in-Ok-raised.ensures.items)
+    let higher =
+    higher c.args.root.value.height c.in-Ok.top.value.height c.args.index c.requires.beyond c.in-Ok.ensures.within
+    in
+    omega
+    (arith, higher, c.height.ensures.height, ap (λ t. t.height) c.deref.ensures, ap (λ t. t.height) c.deref_mut.ensures.value, c.in-Ok-raised.ensures.height, c.requires.used, ap map.len c.in-Ok-raised.ensures.items)
 
 pub unreachable-requires : goal.unreachable-requires
-unreachable-requires g c = none-some c.args.value (lone_taken c.args.index c.args.value _ _ _ c.in-None.ensures.taken c.deref_mut-in-Err-raised.ensures.value c.in-Ok.ensures.items)
+unreachable-requires g c =
+    none-some c.args.value
+    (lone_taken c.args.index c.args.value _ _ _ c.in-None.ensures.taken c.deref_mut-in-Err-raised.ensures.value c.in-Ok.ensures.items)
 
 pub returns-in-Ok-raised-clause-items : goal.returns-in-Ok-raised-clause-items
 returns-in-Ok-raised-clause-items g c =
-    let higher = higher c.args.root.value.height c.in-Ok.top.value.height c.args.index c.requires.beyond c.in-Ok.ensures.within in
+    let higher =
+    higher c.args.root.value.height c.in-Ok.top.value.height c.args.index c.requires.beyond c.in-Ok.ensures.within
+    in
     let low = span_low _ _ higher in
     let gets = rw c.deref_mut.ensures.value at c.hang.ensures.items in
-    hung_beside (width c.in-Ok.top.value.height) c.in-Ok.top.value.items _ c.args.root.value.items _ c.in-Ok-raised.ensures.items (λ k le. c.requires.past k (omega (arith, low, le))) gets c.args.index _ (c.in-Ok.ensures.least (omega (arith, higher))) c.in-Ok.ensures.items
+    hung_beside (width c.in-Ok.top.value.height) c.in-Ok.top.value.items _ c.args.root.value.items _
+    c.in-Ok-raised.ensures.items (λ k le. c.requires.past k (omega (arith, low, le))) gets c.args.index _
+    (c.in-Ok.ensures.least (omega (arith, higher))) c.in-Ok.ensures.items
 
 pub returns-in-Some-clause-returned : goal.returns-in-Some-clause-returned
-returns-in-Some-clause-returned g c = same_Some _ _ (lone_taken c.args.index c.args.value _ _ _ c.in-Some.ensures.taken c.deref_mut-in-Err-raised.ensures.value c.in-Ok.ensures.items)
+returns-in-Some-clause-returned g c =
+    same_Some _ _
+    (lone_taken c.args.index c.args.value _ _ _ c.in-Some.ensures.taken c.deref_mut-in-Err-raised.ensures.value c.in-Ok.ensures.items)

@@ -13,15 +13,20 @@ pub returns-in-Ok-clause-few : goal.returns-in-Ok-clause-few
 returns-in-Ok-clause-few g c = rw c.in_default.is (omega (arith, map.len-empty nat_cmp (Marked g.row.T.Denot)))
 
 pub returns-in-Err-clause-taken : goal.returns-in-Err-clause-taken
-returns-in-Err-clause-taken g c = rw c.in_default.is (λ taken. absurd taken, λ there. false≢true (ap is_some (sym (map.get-empty nat_cmp c.args.index)) ∙ there))
+returns-in-Err-clause-taken g c =
+    rw c.in_default.is
+    (λ taken. absurd taken, λ there. false≢true (ap is_some (sym (map.get-empty nat_cmp c.args.index)) ∙ there))
 
 pub returns-in-Err-clause-few : goal.returns-in-Err-clause-few
 returns-in-Err-clause-few g c = rw c.in_default.is (omega (arith, map.len-empty nat_cmp (Marked g.row.T.Denot)))
 
 pub returns-in-Err-insert-clause-err : goal.returns-in-Err-insert-clause-err
-returns-in-Err-insert-clause-err g c = rw c.in-Some.is (ap (λ t. Some (with_value c.in-Some.root t)) (c.in-Err-insert.ensures.err ∙ c.deref_mut.ensures.value))
+returns-in-Err-insert-clause-err g c =
+    rw c.in-Some.is
+    (ap (λ t. Some (with_value c.in-Some.root t)) (c.in-Err-insert.ensures.err ∙ c.deref_mut.ensures.value))
 
 pub returns-in-Ok-sole-clause-ok : goal.returns-in-Ok-sole-clause-ok
 returns-in-Ok-sole-clause-ok g c =
     let empty = map.empty_of_len _ (rw c.deref-2.ensures at (c.is_empty.ensures.0 c.if-is_empty.true)) in
-    rw c.in-Some.is (c.in-Ok-sole.ensures.items ∙ ap (λ m. map.insert m c.args.index (unmarked c.args.value)) (sym empty))
+    rw c.in-Some.is
+    (c.in-Ok-sole.ensures.items ∙ ap (λ m. map.insert m c.args.index (unmarked c.args.value)) (sym empty))

@@ -5,22 +5,27 @@ use Rattle.drm_index_array.proofs.RootLemmas.{beyond, removed_by, remove_none, k
 use Rattle.drm_index_array.proofs.growth.removed.Goals as goal
 
 pub returns-in_default-clause-items : goal.returns-in_default-clause-items
-returns-in_default-clause-items g c = rw c.in_default.is (sym (remove_none map.empty c.args.index (map.get-empty nat_cmp c.args.index)))
+returns-in_default-clause-items g c =
+    rw c.in_default.is (sym (remove_none map.empty c.args.index (map.get-empty nat_cmp c.args.index)))
 
 pub returns-in_default-clause-value : goal.returns-in_default-clause-value
-returns-in_default-clause-value g c = rw c.in_default.is (sym (ap (λ o. option_map (λ s. s.value) o) (map.get-empty nat_cmp c.args.index)))
+returns-in_default-clause-value g c =
+    rw c.in_default.is (sym (ap (λ o. option_map (λ s. s.value) o) (map.get-empty nat_cmp c.args.index)))
 
 pub returns-in_default-clause-kept : goal.returns-in_default-clause-kept
-returns-in_default-clause-kept g c = rw c.in_default.is (remove_none map.empty c.args.index (map.get-empty nat_cmp c.args.index))
+returns-in_default-clause-kept g c =
+    rw c.in_default.is (remove_none map.empty c.args.index (map.get-empty nat_cmp c.args.index))
 
 pub returns-then-not-covers-clause-items : goal.returns-then-not-covers-clause-items
 returns-then-not-covers-clause-items g c =
-    let past = rw c.deref.ensures at (c.covers.ensures.past c.args.index (beyond _ _ c.if-not-covers.ensures.covers.1)) in
+    let past =
+    rw c.deref.ensures at (c.covers.ensures.past c.args.index (beyond _ _ c.if-not-covers.ensures.covers.1)) in
     rw c.in-Some.is (sym (remove_none _ _ past))
 
 pub returns-then-not-covers-clause-kept : goal.returns-then-not-covers-clause-kept
 returns-then-not-covers-clause-kept g c =
-    let past = rw c.deref.ensures at (c.covers.ensures.past c.args.index (beyond _ _ c.if-not-covers.ensures.covers.1)) in
+    let past =
+    rw c.deref.ensures at (c.covers.ensures.past c.args.index (beyond _ _ c.if-not-covers.ensures.covers.1)) in
     rw c.in-Some.is (remove_none _ _ past)
 
 pub returns-then-is_empty-clause-items : goal.returns-then-is_empty-clause-items

@@ -10,7 +10,8 @@ returns-in-Vacant-matches g c = rw (c.in-Vacant.is, c.in-Vacant-matches.is) (sym
 pub returns-in_default : goal.returns-in_default
 returns-in_default g c =
     let fails = not_free _ c.args.sought c.in_default.not-Vacant in
-    rw c.in-Vacant.is (sym (ap (λ b. is_some (least (λ _. b) 0 (width c.args.height - 1))) fails ∙ any_alike c.args.height false))
+    rw c.in-Vacant.is
+    (sym (ap (λ b. is_some (least (λ _. b) 0 (width c.args.height - 1))) fails ∙ any_alike c.args.height false))
 
 pub returns-in-Value : goal.returns-in-Value
 returns-in-Value g c = rw c.in-Value.is (c.is_sought.ensures ∙ sym (any_alike c.args.height _))

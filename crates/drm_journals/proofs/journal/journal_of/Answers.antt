@@ -18,8 +18,12 @@ returns-then-not-branch c =
     let stops =
     subst (λ (b : Bool). Advances c.event-item.result c.loop-event.text.items c.loop-event.device c.loop-event.namings c.write_event.new.text.items c.write_event.new.device c.write_event.new.namings b) c.if-not-branch.true c.in_ok-write_event.ensures in
     record {
-      script = cut c.args.limits c.args.device c.loop-event.device _ c.in_ok-text.ensures.0 c.args.events.now _ c.loop-event.event-index c.event-item.result c.loop-event.text.items _ _ c.loop-event.namings c.loop-event-test.true c.event-item.is c.loop-event.invariant.0 stops
-          (c.split_at.ensures.back ∙ ap (λ (n : ℕ). drop n c.args.events.now) c.loop-event.invariant.1) c.in_ok-text.ensures.1;
+      script =
+          cut c.args.limits c.args.device c.loop-event.device _ c.in_ok-text.ensures.0 c.args.events.now _
+          c.loop-event.event-index c.event-item.result c.loop-event.text.items _ _ c.loop-event.namings
+          c.loop-event-test.true c.event-item.is c.loop-event.invariant.0 stops
+          (c.split_at.ensures.back ∙ ap (λ (n : ℕ). drop n c.args.events.now) c.loop-event.invariant.1)
+          c.in_ok-text.ensures.1;
     }
 
 pub loop-event-preserved : goal.loop-event-preserved
@@ -27,11 +31,16 @@ loop-event-preserved c =
     let adds =
     subst (λ (b : Bool). Advances c.event-item.result c.loop-event.text.items c.loop-event.device c.loop-event.namings c.write_event.new.text.items c.write_event.new.device c.write_event.new.namings b) c.if-not-branch.false c.in_ok-write_event.ensures in
     let more = adds c.args.limits c.args.device (map written_event (take c.loop-event.event-index c.args.events.now)) c.loop-event.invariant.0 in (
-      subst (λ (es : List Event). Lines c.args.limits c.args.device es c.write_event.new.text.items c.write_event.new.device c.write_event.new.namings) (sym (written_more c.args.events.now c.loop-event.event-index c.event-item.result c.loop-event-test.true c.event-item.is)) more,
+      subst
+          (λ (es : List Event). Lines c.args.limits c.args.device es c.write_event.new.text.items c.write_event.new.device c.write_event.new.namings)
+          (sym (written_more c.args.events.now c.loop-event.event-index c.event-item.result c.loop-event-test.true c.event-item.is))
+          more,
       ap (λ (n : ℕ). n + 1) c.loop-event.invariant.1,
     )
 
 pub returns : goal.returns
 returns c = record {
-  script = whole c.args.limits c.args.device c.loop-event.device c.args.events.now c.loop-event.event-index c.loop-event.text.items c.loop-event.namings c.loop-event-test.false c.loop-event.invariant.0;
+  script =
+      whole c.args.limits c.args.device c.loop-event.device c.args.events.now c.loop-event.event-index
+      c.loop-event.text.items c.loop-event.namings c.loop-event-test.false c.loop-event.invariant.0;
 }

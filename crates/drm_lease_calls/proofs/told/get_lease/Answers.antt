@@ -18,12 +18,15 @@ use Rattle.drm_state.specs.Refinement.{RefinesReply}
 use Rattle.drm_state.proofs.Refinements.{carried_on, call_verdict}
 use Rattle.drm_state.proofs.Callers.{caller_file, lessee_is, own_master_is}
 use Rattle.drm_state.proofs.Seeing.{topology_is}
-use Rattle.drm_lease_calls.proofs.Lessees.{lease_listed, objects_by_key, none_there, caller_master_there}
+use Rattle.drm_lease_calls.proofs.LesseeRows.{lease_listed, objects_by_key, none_there, caller_master_there}
 use Rattle.drm_lease_calls.proofs.told.get_lease.Goals as goal
 use Rattle.drm_lease_calls.proofs.told.get_lease.Goals.{then-is_some, else-is_some}
 
 pub unreachable-requires : goal.unreachable-requires
-unreachable-requires c = none_there _ (caller_master_there c.args.state.now c.requires.invariants c.args.caller.client c.args.caller.member (sym c.requires.caller.member)) (sym c.master.ensures.master ∙ c.in_default.is)
+unreachable-requires c =
+    none_there _
+    (caller_master_there c.args.state.now c.requires.invariants c.args.caller.client c.args.caller.member (sym c.requires.caller.member))
+    (sym c.master.ensures.master ∙ c.in_default.is)
 
 pub returns : goal.returns
 unfolding RefinesReply meaning changed answer_of
@@ -34,11 +37,15 @@ returns c = λ w h admitted.
     let file = caller_file s (as_caller c.args.caller) c.requires.caller in
     let look = sym c.requires.caller.member in
     let own = own_master_is s w client c.args.caller.flags x h file look in
-    let row : master_at s.masters.masters x.master ≡ Some c.in-Some.master = sym c.master.ensures.master ∙ c.in-Some.is in
-    let is : is_lessee w client ≡ c.is_some.result = lessee_is s w client c.args.caller.flags x h file look ∙ ap (λ o. is_some (option_and_then (λ (y : Master). y.lessor) o)) row ∙ sym c.is_some.ensures in
+    let row : master_at s.masters.masters x.master ≡ Some c.in-Some.master =
+    sym c.master.ensures.master ∙ c.in-Some.is in
+    let is : is_lessee w client ≡ c.is_some.result =
+    lessee_is s w client c.args.caller.flags x h file look
+    ∙ ap (λ o. is_some (option_and_then (λ (y : Master). y.lessor) o)) row ∙ sym c.is_some.ensures in
     let told = λ (b : Bool). let l : List ℕ = if b then rising (granted_of w (caller_master w client)) else leasable_ids w.topology in l in
     let list : c.if-is_some.list ≡ told (is_lessee w client) = elim c.if-is_some.branch [
       | then-is_some b ↦ b.list-is ∙ b.objects_of-list.ensures ∙ objects_by_key s c.requires.invariants x.master c.in-Some.master.key c.in-Some.ensures.keyed ∙ sym (ap told (is ∙ b.if-is_some.true) ∙ ap (λ m. rising (granted_of w m)) own ∙ lease_listed s w h c.requires.invariants x.master)
       | else-is_some b ↦ b.list-is ∙ b.leasable-list.ensures ∙ sym (ap told (is ∙ b.if-is_some.false) ∙ ap leasable_ids (topology_is s w h))
     ] in
-    carried_on s w (Ask client GetLease) (ListIs c.if-is_some.list) c.requires.invariants (call_verdict w client GetLease admitted) (ap ListIs list) h
+    carried_on s w (Ask client GetLease) (ListIs c.if-is_some.list) c.requires.invariants
+    (call_verdict w client GetLease admitted) (ap ListIs list) h

@@ -23,5 +23,7 @@ add_all-requires-2 c =
     let crtcs = ap length c.ids-list.ensures ∙ counted 1 t.crtcs in
     let planes = ap length (c.ids.ensures.ids ∙ c.ids-planes.ensures) ∙ counted (first_plane t) (length t.planes) in
     let both = ap length c.add_all.ensures ∙ length-append c.ids-list.result c.ids.result.now in
-    let connectors = ap length (c.ids-2.ensures.ids ∙ c.ids-connectors.ensures) ∙ counted (first_connector t) (length t.connectors) in
+    let connectors =
+    ap length (c.ids-2.ensures.ids ∙ c.ids-connectors.ensures)
+    ∙ counted (first_connector t) (length t.connectors) in
     omega (arith, few, crtcs, planes, both, connectors)

@@ -6,9 +6,12 @@ use Rattle.drm_lease_tests.proofs.leases.revoke.Goals as goal
 pub returns-clause-before : goal.returns-clause-before
 returns-clause-before c =
     let ms = c.args.masters.now.masters in
-    ended_before c.args.masters.now c.revoke.new.masters (is_opened_under c.args.leases.now.tokens ms (step_number_at ms c.args.master)) c.args.step_number c.requires.before c.revoke.ensures.masters
+    ended_before c.args.masters.now c.revoke.new.masters
+    (is_opened_under c.args.leases.now.tokens ms (step_number_at ms c.args.master)) c.args.step_number c.requires.before
+    c.revoke.ensures.masters
 
 pub returns-clause-lessees : goal.returns-clause-lessees
 returns-clause-lessees c =
     let ms = c.args.masters.now.masters in
-    ended_lessees c.args.leases.now c.revoke.new.self ms (step_number_at ms c.args.master) c.args.step_number c.requires.lessees c.revoke.ensures.leases
+    ended_lessees c.args.leases.now c.revoke.new.self ms (step_number_at ms c.args.master) c.args.step_number
+    c.requires.lessees c.revoke.ensures.leases

@@ -7,4 +7,5 @@ pub on_redeem-requires-clause-unredeemed : goal.on_redeem-requires-clause-unrede
 on_redeem-requires-clause-unredeemed c =
     let lessee : is_some c.in-Some.row.lessor ≡ true = search rules in
     let kept : c.in-Some.row.kept ≡ true = search rules in
-    unredeemed c.args.masters.now c.laws.ensures c.args.lessee c.in-Some.row (sym c.master.ensures.master ∙ c.in-Some.is) c.in-Some.ensures.keyed kept lessee
+    unredeemed c.args.masters.now c.laws.ensures c.args.lessee c.in-Some.row
+    (sym c.master.ensures.master ∙ c.in-Some.is) c.in-Some.ensures.keyed kept lessee

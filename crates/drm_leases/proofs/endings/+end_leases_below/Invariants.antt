@@ -15,7 +15,9 @@ is_looked ms top position n = list_any (λ y. is_under (lessor_of ms) y n) (take
 
 -- their leases are removed
 abbrev pub invariant-loop-lessee : goal.invariant-loop-lessee
-invariant-loop-lessee l = l.granted.rows ≡ filter (λ (x : Lease). not (is_looked l.masters.masters l.top l.position x.lessee)) l.fn.granted.rows
+invariant-loop-lessee l =
+    l.granted.rows ≡ filter (λ (x : Lease). not (is_looked l.masters.masters l.top l.position x.lessee))
+    l.fn.granted.rows
 
 abbrev pub decreases-loop-lessee : goal.decreases-loop-lessee
 decreases-loop-lessee l = length (lessees_of l.masters.masters l.top) - l.position

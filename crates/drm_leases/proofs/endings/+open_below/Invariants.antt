@@ -10,7 +10,9 @@ decreases-open_below l = 4294967296 - l.top
 
 -- neither the lessees that were looked at nor those below them have a token
 abbrev pub invariant-loop-lessee : goal.invariant-loop-lessee
-invariant-loop-lessee l = (n : ℕ) → list_any (λ y. is_under (lessor_of l.masters.masters) y n) (take l.position (lessees_of l.masters.masters l.top)) ≡ true → has_token l.tokens.rows n ≡ false
+invariant-loop-lessee l =
+    (n : ℕ) → list_any (λ y. is_under (lessor_of l.masters.masters) y n)
+    (take l.position (lessees_of l.masters.masters l.top)) ≡ true → has_token l.tokens.rows n ≡ false
 
 abbrev pub decreases-loop-lessee : goal.decreases-loop-lessee
 decreases-loop-lessee l = length (lessees_of l.masters.masters l.top) - l.position

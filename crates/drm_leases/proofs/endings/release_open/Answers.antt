@@ -13,8 +13,11 @@ returns-then-is_open-clause-tokens c =
     let below = c.release_open_below.ensures in
     let rows = ap (λ (l : TokenRows). l.rows) below.tokens in
     let new = ap (λ (l : TokenRows). l.rows) c.release_one.ensures.tokens in
-    let left = (top_released c.args.masters.now c.laws.ensures c.args.tokens.now.rows c.requires.held c.args.top c.release_open_below.new.masters c.release_open_below.new.tokens.rows below.masters rows (sym c.is_open.ensures ∙ c.if-is_open.true) c.release_one.new.masters c.release_one.new.tokens.rows c.release_one.ensures.masters new).0 in
-    c.release_one.ensures.tokens ∙ (λ i. let now : TokenRows = record (below.tokens i) { rows = (sym new ∙ left) i } in now)
+    let left =
+    (top_released c.args.masters.now c.laws.ensures c.args.tokens.now.rows c.requires.held c.args.top c.release_open_below.new.masters c.release_open_below.new.tokens.rows below.masters rows (sym c.is_open.ensures ∙ c.if-is_open.true) c.release_one.new.masters c.release_one.new.tokens.rows c.release_one.ensures.masters new).0
+    in
+    c.release_one.ensures.tokens
+    ∙ (λ i. let now : TokenRows = record (below.tokens i) { rows = (sym new ∙ left) i } in now)
 
 pub returns-then-is_open-clause-masters : goal.returns-then-is_open-clause-masters
 returns-then-is_open-clause-masters c =

@@ -9,24 +9,39 @@ use Rattle.drm_leases.proofs.Granting.{any_of}
 use Rattle.drm_leases.proofs.searches.has_lease.Goals as goal
 
 pub unreachable-requires : goal.unreachable-requires
-unreachable-requires c = is_there c.args.granted.now.rows c.loop-position.position (omega (arith, c.loop-position-test.true, c.len-position-end.ensures)) (sym c.nth.ensures ∙ c.in_default.is)
+unreachable-requires c =
+    is_there c.args.granted.now.rows c.loop-position.position
+    (omega (arith, c.loop-position-test.true, c.len-position-end.ensures)) (sym c.nth.ensures ∙ c.in_default.is)
 
 pub returns-then-is_direct_lessee : goal.returns-then-is_direct_lessee
 returns-then-is_direct_lessee c =
     let rows = c.args.granted.now.rows in
-    let p : Lease → Bool = λ x. option_map_or (is_direct_lessee c.args.master c.args.id) (master_at c.args.masters.now.masters x.lessee) false in
+    let p : Lease → Bool =
+    λ x. option_map_or (is_direct_lessee c.args.master c.args.id) (master_at c.args.masters.now.masters x.lessee)
+    false in
     let at = sym c.nth.ensures ∙ c.in-Some.is in
-    any_here rows c.loop-position.position c.in-Some.lease at p c.loop-position.invariant (sym c.is_direct_lessee.ensures ∙ c.if-is_direct_lessee.true) ∙ sym (any_of (λ (g : Grant). option_map_or (is_direct_lessee c.args.master c.args.id) (master_at c.args.masters.now.masters g.master) false) (λ n. option_map_or (is_direct_lessee c.args.master c.args.id) (master_at c.args.masters.now.masters n) false) (λ g. refl) rows c.laws.ensures.full)
+    any_here rows c.loop-position.position c.in-Some.lease at p c.loop-position.invariant
+    (sym c.is_direct_lessee.ensures ∙ c.if-is_direct_lessee.true)
+    ∙ sym
+    (any_of (λ (g : Grant). option_map_or (is_direct_lessee c.args.master c.args.id) (master_at c.args.masters.now.masters g.master) false) (λ n. option_map_or (is_direct_lessee c.args.master c.args.id) (master_at c.args.masters.now.masters n) false) (λ g. refl) rows c.laws.ensures.full)
 
 pub loop-position-preserved : goal.loop-position-preserved
 loop-position-preserved c =
     let rows = c.args.granted.now.rows in
-    let p : Lease → Bool = λ x. option_map_or (is_direct_lessee c.args.master c.args.id) (master_at c.args.masters.now.masters x.lessee) false in
+    let p : Lease → Bool =
+    λ x. option_map_or (is_direct_lessee c.args.master c.args.id) (master_at c.args.masters.now.masters x.lessee)
+    false in
     let at = sym c.nth.ensures ∙ c.in-Some.is in
-    any_on rows c.loop-position.position c.in-Some.lease at p c.loop-position.invariant (sym c.is_direct_lessee.ensures ∙ c.if-is_direct_lessee.false)
+    any_on rows c.loop-position.position c.in-Some.lease at p c.loop-position.invariant
+    (sym c.is_direct_lessee.ensures ∙ c.if-is_direct_lessee.false)
 
 pub returns : goal.returns
 returns c =
     let rows = c.args.granted.now.rows in
-    let p : Lease → Bool = λ x. option_map_or (is_direct_lessee c.args.master c.args.id) (master_at c.args.masters.now.masters x.lessee) false in
-    any_end rows c.loop-position.position p c.loop-position.invariant (omega (arith, c.loop-position-test.false, c.len-position-end.ensures)) ∙ sym (any_of (λ (g : Grant). option_map_or (is_direct_lessee c.args.master c.args.id) (master_at c.args.masters.now.masters g.master) false) (λ n. option_map_or (is_direct_lessee c.args.master c.args.id) (master_at c.args.masters.now.masters n) false) (λ g. refl) rows c.laws.ensures.full)
+    let p : Lease → Bool =
+    λ x. option_map_or (is_direct_lessee c.args.master c.args.id) (master_at c.args.masters.now.masters x.lessee)
+    false in
+    any_end rows c.loop-position.position p c.loop-position.invariant
+    (omega (arith, c.loop-position-test.false, c.len-position-end.ensures))
+    ∙ sym
+    (any_of (λ (g : Grant). option_map_or (is_direct_lessee c.args.master c.args.id) (master_at c.args.masters.now.masters g.master) false) (λ n. option_map_or (is_direct_lessee c.args.master c.args.id) (master_at c.args.masters.now.masters n) false) (λ g. refl) rows c.laws.ensures.full)

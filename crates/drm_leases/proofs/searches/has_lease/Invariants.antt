@@ -8,5 +8,9 @@ use Rattle.drm_leases.proofs.searches.has_lease.Given as goal
 
 abbrev pub invariant-loop-position : goal.invariant-loop-position
 invariant-loop-position l =
-    list_any (λ (x : Lease). option_map_or (is_direct_lessee l.master l.id) (master_at l.masters.masters x.lessee) false) (l.granted.rows)
-    ≡ list_any (λ (x : Lease). option_map_or (is_direct_lessee l.master l.id) (master_at l.masters.masters x.lessee) false) (drop l.position (l.granted.rows))
+    list_any
+    (λ (x : Lease). option_map_or (is_direct_lessee l.master l.id) (master_at l.masters.masters x.lessee) false)
+    (l.granted.rows)
+    ≡ list_any
+    (λ (x : Lease). option_map_or (is_direct_lessee l.master l.id) (master_at l.masters.masters x.lessee) false)
+    (drop l.position (l.granted.rows))

@@ -16,7 +16,8 @@ use Rattle.drm_listeners.proofs.connections.start_visitor.Goals as goal
 pub spawn_with-requires-send-F : goal.spawn_with-requires-send-F
 spawn_with-requires-send-F g c κs within =
     let rt : RattleType = (shr_ref_field record { mir = named 6; lft = κs.1.1.1.1.1.1.0 } (param 1 g.row.R) tt).row in
-    let shared : RattleType = (shr_ref_field record { mir = named 7; lft = κs.1.1.1.1.1.1.1.0 } (param 2 g.row.D) tt).row in
+    let shared : RattleType =
+    (shr_ref_field record { mir = named 7; lft = κs.1.1.1.1.1.1.1.0 } (param 2 g.row.D) tt).row in
     param_send _ _ (arg_send _ no _ (closure_send (codes "drm_listeners::connections::fn::start_visitor::spawn_with+Self") (rt ∷ shared ∷ participant.the_row ∷ visitor_type.the_row ∷ [])
     (shr_send _ _ _ c.type_bounds.sync-R, (shr_send _ _ _ c.type_bounds.sync-D, (participant_send, (visitor.the_send, tt))))))
 

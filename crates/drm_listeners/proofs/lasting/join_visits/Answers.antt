@@ -1,7 +1,7 @@
 use Rattle.std.proofs.Common.{◌≡◌, ◌-◌, ◌++◌, ◌∷◌, [], length, sym, ap, ◌∙◌, subst, rules, arith, length-append}
 use Rattle.std.proofs.lemmas.List.Elements.{All-head, All-push, All-same, All-tail}
 use Rattle.std.specs.Prelude.{IsSomeAnd, Some}
-use Rattle.drm_turns.proofs.Taken.{given_back}
+use Rattle.drm_turns.proofs.ParticipantsIn.{given_back}
 use Rattle.drm_sessions.specs.declared.class.Class.{Class}
 use Rattle.drm_listeners.specs.Connections.{IsSessionBy}
 use Rattle.drm_listeners.specs.UntilEnded.{IsPromised}
@@ -22,7 +22,9 @@ loop-started-preserved-then-is_awaited g c =
     let other = c.join-participant.result.participant in
     let session = c.join-participant.result.session in
     let kept = c.join.ensures.extends in
-    let fewer = given_back c.loop-started.own.number c.loop-started.own.outstanding other.parent other.outstanding (by.3.0 ∙ promise.child.parent) (by.3.1 ∙ promise.child.outstanding) in
+    let fewer =
+    given_back c.loop-started.own.number c.loop-started.own.outstanding other.parent other.outstanding
+    (by.3.0 ∙ promise.child.parent) (by.3.1 ∙ promise.child.outstanding) in
     let now = c.join.ensures.outstanding ∙ fewer in
     let enough = c.requires.outstanding in
     record {
@@ -31,10 +33,14 @@ loop-started-preserved-then-is_awaited g c =
       same = (kept.0.0 ∙ before.same.0, kept.0.1 ∙ before.same.1, kept.0.2 ∙ before.same.2);
       parent = c.join.ensures.parent ∙ before.parent;
       served = served-more c.args.class c.loop-started.own c.join.new.participant other session before.served
-          (subst (λ (class : Class). IsSessionBy class other session) promise.of_class by.0) kept.1 c.join.ensures.seen c.join.ensures.theirs c.join.ensures.merged by.2 c.join.ensures.differ c.join.ensures.counts.1;
-      waiting = promised-still (λ visit. visit.handle.promise) c.args.class c.loop-started.own c.join.new.participant _ kept.0
+          (subst (λ (class : Class). IsSessionBy class other session) promise.of_class by.0) kept.1 c.join.ensures.seen
+          c.join.ensures.theirs c.join.ensures.merged by.2 c.join.ensures.differ c.join.ensures.counts.1;
+      waiting =
+          promised-still (λ visit. visit.handle.promise) c.args.class c.loop-started.own c.join.new.participant _ kept.0
           (All-tail (λ visit. IsSomeAnd visit (λ visit. IsPromised c.args.class c.loop-started.own visit.handle.promise)) _ _ (rw first at before.waiting));
-      promised = promised-still (λ visit. visit.handle.promise) c.args.class c.loop-started.own c.join.new.participant _ kept.0 before.promised;
+      promised =
+          promised-still (λ visit. visit.handle.promise) c.args.class c.loop-started.own c.join.new.participant _ kept.0
+          before.promised;
       outstanding = (let sum = before.outstanding in omega (arith, taken, all, now, enough, sum));
       room = (let room = before.room in omega (arith, taken, room));
       none = before.none;
@@ -56,8 +62,12 @@ loop-started-preserved g c =
       same = before.same;
       parent = before.parent;
       served = before.served;
-      waiting = All-tail (λ visit. IsSomeAnd visit (λ visit. IsPromised c.args.class c.loop-started.own visit.handle.promise)) _ _ (rw first at before.waiting);
-      promised = All-same (λ visit. IsSomeAnd visit (λ visit. IsPromised c.args.class c.loop-started.own visit.handle.promise)) _ _ c.push.ensures.items
+      waiting =
+          All-tail (λ visit. IsSomeAnd visit (λ visit. IsPromised c.args.class c.loop-started.own visit.handle.promise))
+          _ _ (rw first at before.waiting);
+      promised =
+          All-same (λ visit. IsSomeAnd visit (λ visit. IsPromised c.args.class c.loop-started.own visit.handle.promise))
+          _ _ c.push.ensures.items
           (All-push (λ visit. IsSomeAnd visit (λ visit. IsPromised c.args.class c.loop-started.own visit.handle.promise)) c.loop-started.left.items (Some c.in-Some-started.visit) before.promised promise);
       outstanding = (let sum = before.outstanding in omega (arith, taken, longer, sum));
       room = (let room = before.room in omega (arith, taken, longer, room));

@@ -11,5 +11,7 @@ returns c = λ participants h.
       card = card.0;
       render = render.0;
       root = root.0;
-      fault = c.first_fault-fault.ensures (is-outside Card _ card.1) (is-outside Render _ render.1) (is-outside Root _ root.1);
+      fault =
+          c.first_fault-fault.ensures (is-outside Card _ card.1) (is-outside Render _ render.1)
+          (is-outside Root _ root.1);
     }

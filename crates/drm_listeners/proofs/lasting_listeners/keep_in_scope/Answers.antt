@@ -9,7 +9,13 @@ returns g c =
     let root = c.start_keeper-root.ensures in
     c.all_kept.ensures c.args.participants
     record {
-      card = c.join_keeper.ensures Card c.args.participants.card (if_ok_both _ _ c.start_keeper-card.result card.class card.participant) card.failed;
-      render = c.join_keeper-2.ensures Render c.args.participants.render (if_ok_both _ _ c.start_keeper-render.result render.class render.participant) render.failed;
-      root = c.join_keeper-3.ensures Root c.args.participants.root (if_ok_both _ _ c.start_keeper-root.result root.class root.participant) root.failed;
+      card =
+          c.join_keeper.ensures Card c.args.participants.card
+          (if_ok_both _ _ c.start_keeper-card.result card.class card.participant) card.failed;
+      render =
+          c.join_keeper-2.ensures Render c.args.participants.render
+          (if_ok_both _ _ c.start_keeper-render.result render.class render.participant) render.failed;
+      root =
+          c.join_keeper-3.ensures Root c.args.participants.root
+          (if_ok_both _ _ c.start_keeper-root.result root.class root.participant) root.failed;
     }

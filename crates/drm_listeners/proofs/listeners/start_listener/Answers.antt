@@ -23,11 +23,13 @@ use Rattle.drm_listeners.proofs.listeners.start_listener.Goals as goal
 pub spawn_with-served-requires-send-F : goal.spawn_with-served-requires-send-F
 spawn_with-served-requires-send-F g c κs within =
     let rt : RattleType = (shr_ref_field record { mir = named 6; lft = κs.1.1.1.1.1.1.0 } (param 1 g.row.R) tt).row in
-    let shared : RattleType = (shr_ref_field record { mir = named 7; lft = κs.1.1.1.1.1.1.1.0 } (param 2 g.row.D) tt).row in
+    let shared : RattleType =
+    (shr_ref_field record { mir = named 7; lft = κs.1.1.1.1.1.1.1.0 } (param 2 g.row.D) tt).row in
     let sessions : RattleType = vec.the_row session_type.the_row global.the_row ghosts in
     param_send _ _ (arg_send _ no _ (closure_send (codes "drm_listeners::listeners::fn::start_listener::spawn_with+Self")
     (rt ∷ shared ∷ participant.the_row ∷ listener_type.the_row ∷ sessions ∷ [])
     (shr_send _ _ _ c.type_bounds.sync-R, (shr_send _ _ _ c.type_bounds.sync-D, (participant_send, (listener.the_send, (Vec-send _ session.the_send, tt)))))))
 
 pub spawn_with-served-requires-send-T : goal.spawn_with-served-requires-send-T
-spawn_with-served-requires-send-T g c κs within = param_send _ _ (arg_send _ no _ (result.the_send _ _ listener_send failed_send))
+spawn_with-served-requires-send-T g c κs within =
+    param_send _ _ (arg_send _ no _ (result.the_send _ _ listener_send failed_send))

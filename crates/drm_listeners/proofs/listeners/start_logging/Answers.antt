@@ -12,6 +12,7 @@ use Rattle.drm_listeners.proofs.listeners.start_logging.Goals as goal
 pub spawn-logging-requires-send-F : goal.spawn-logging-requires-send-F
 spawn-logging-requires-send-F g c κs within =
     let rt : RattleType = (shr_ref_field record { mir = named 5; lft = κs.1.1.1.1.1.0 } (param 1 g.row.R) tt).row in
-    let shared : RattleType = (shr_ref_field record { mir = named 6; lft = κs.1.1.1.1.1.1.0 } (param 2 g.row.D) tt).row in
+    let shared : RattleType =
+    (shr_ref_field record { mir = named 6; lft = κs.1.1.1.1.1.1.0 } (param 2 g.row.D) tt).row in
     param_send _ _ (arg_send _ no _ (closure_send (codes "drm_listeners::listeners::fn::start_logging::spawn+Self") (rt ∷ shared ∷ [])
     (shr_send _ _ _ c.type_bounds.sync-R, (shr_send _ _ _ c.type_bounds.sync-D, tt))))

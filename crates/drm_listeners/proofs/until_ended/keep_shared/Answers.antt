@@ -14,8 +14,11 @@ returns-clause-served g c =
     let third = c.split-3.ensures.same in
     let none : c.split-3.new.participant.merged ≡ [] =
     ap (λ (s : ParticipantView). s.merged) third ∙ (ap (λ (s : ParticipantView). s.merged) second ∙ (ap (λ (s : ParticipantView). s.merged) first ∙ c.requires.merged)) in
-    let journaled = ap (λ (s : ParticipantView). s.journaled) third ∙ (ap (λ (s : ParticipantView). s.journaled) second ∙ ap (λ (s : ParticipantView). s.journaled) first) in
-    all-sat _ c.keep_listeners-kept.result c.args.participant.now c.split-3.new.participant c.take_in.new.participant c.keep_listeners-kept.ensures
+    let journaled =
+    ap (λ (s : ParticipantView). s.journaled) third
+    ∙ (ap (λ (s : ParticipantView). s.journaled) second ∙ ap (λ (s : ParticipantView). s.journaled) first) in
+    all-sat _ c.keep_listeners-kept.result c.args.participant.now c.split-3.new.participant c.take_in.new.participant
+    c.keep_listeners-kept.ensures
     c.take_in.ensures.seen none journaled c.take_in.ensures.merged c.take_in.ensures.differ c.take_in.ensures.journaled
 
 pub take_in-requires-clause-children : goal.take_in-requires-clause-children
@@ -24,10 +27,17 @@ take_in-requires-clause-children g c =
     let second = ap (λ (s : ParticipantView). s.number) c.split-2.ensures.same in
     let third = ap (λ (s : ParticipantView). s.number) c.split-3.ensures.same in
     let first = ap (λ (s : ParticipantView). s.number) c.split.ensures.same in record {
-      card = record { parent = kept.card.unchanged.0 ∙ c.split.ensures.parent ∙ sym (third ∙ (second ∙ first)); outstanding = kept.card.unchanged.1 ∙ c.split.ensures.none_outstanding };
-      render = record { parent = kept.render.unchanged.0 ∙ c.split-2.ensures.parent ∙ sym (third ∙ second); outstanding = kept.render.unchanged.1 ∙ c.split-2.ensures.none_outstanding };
-      root = record { parent = kept.root.unchanged.0 ∙ c.split-3.ensures.parent ∙ sym third; outstanding = kept.root.unchanged.1 ∙ c.split-3.ensures.none_outstanding };
+      card =
+          record
+          { parent = kept.card.unchanged.0 ∙ c.split.ensures.parent ∙ sym (third ∙ (second ∙ first)); outstanding = kept.card.unchanged.1 ∙ c.split.ensures.none_outstanding };
+      render =
+          record
+          { parent = kept.render.unchanged.0 ∙ c.split-2.ensures.parent ∙ sym (third ∙ second); outstanding = kept.render.unchanged.1 ∙ c.split-2.ensures.none_outstanding };
+      root =
+          record
+          { parent = kept.root.unchanged.0 ∙ c.split-3.ensures.parent ∙ sym third; outstanding = kept.root.unchanged.1 ∙ c.split-3.ensures.none_outstanding };
     }
 
 pub keep_listeners-kept-requires-sync-D : goal.keep_listeners-kept-requires-sync-D
-keep_listeners-kept-requires-sync-D g c κs within = search (shared_sync, connections.the_sync, crosses, sendable) depth 60 fits 10000
+keep_listeners-kept-requires-sync-D g c κs within =
+    search (shared_sync, connections.the_sync, crosses, sendable) depth 60 fits 10000

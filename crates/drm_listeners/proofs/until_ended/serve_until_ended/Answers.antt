@@ -9,12 +9,16 @@ pub returns-in-None-clause-served : goal.returns-in-None-clause-served
 returns-in-None-clause-served g c =
     let number = c.keep_shared-fault.ensures.same.0.1 ∙ c.in-Ok.ensures.number in
     let outstanding = c.keep_shared-fault.ensures.outstanding ∙ c.in-Ok.ensures.none_outstanding in
-    all-served c.args.device c.in-Ok-close.device c.in-Ok.made.1 c.keep_shared-fault.new.participant c.in-Ok.ensures.seen c.in-Ok.ensures.counts.1
-    c.keep_shared-fault.ensures.same c.keep_shared-fault.ensures.served c.in-Ok-close.ensures.closes (c.in-Ok-close.ensures.counted number outstanding)
+    all-served c.args.device c.in-Ok-close.device c.in-Ok.made.1 c.keep_shared-fault.new.participant
+    c.in-Ok.ensures.seen c.in-Ok.ensures.counts.1
+    c.keep_shared-fault.ensures.same c.keep_shared-fault.ensures.served c.in-Ok-close.ensures.closes
+    (c.in-Ok-close.ensures.counted number outstanding)
 
 pub returns-in-Some-clause-kept : goal.returns-in-Some-clause-kept
 returns-in-Some-clause-kept g c = λ _.
     let number = c.keep_shared-fault.ensures.same.0.1 ∙ c.in-Ok.ensures.number in
     let outstanding = c.keep_shared-fault.ensures.outstanding ∙ c.in-Ok.ensures.none_outstanding in
-    all-served c.args.device c.in-Ok-close.device c.in-Ok.made.1 c.keep_shared-fault.new.participant c.in-Ok.ensures.seen c.in-Ok.ensures.counts.1
-    c.keep_shared-fault.ensures.same c.keep_shared-fault.ensures.served c.in-Ok-close.ensures.closes (c.in-Ok-close.ensures.counted number outstanding)
+    all-served c.args.device c.in-Ok-close.device c.in-Ok.made.1 c.keep_shared-fault.new.participant
+    c.in-Ok.ensures.seen c.in-Ok.ensures.counts.1
+    c.keep_shared-fault.ensures.same c.keep_shared-fault.ensures.served c.in-Ok-close.ensures.closes
+    (c.in-Ok-close.ensures.counted number outstanding)

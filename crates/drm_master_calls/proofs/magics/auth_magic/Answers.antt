@@ -39,7 +39,9 @@ set_authenticated-requires c =
     let s = c.args.state.now in
     let x = c.args.caller.member in
     let look = sym c.requires.caller.member in
-    let done = subst (λ o. IfSome o (λ y. AuthenticatedBy s.masters y.master c.args.number c.auth.result c.auth.new.self)) look c.auth.ensures.authenticated in
+    let done =
+    subst (λ o. IfSome o (λ y. AuthenticatedBy s.masters y.master c.args.number c.auth.result c.auth.new.self)) look
+    c.auth.ensures.authenticated in
     let by = subst (λ r. AuthenticatedBy s.masters x.master c.args.number r c.auth.new.self) c.in-Ok.is done in
     record { open_client = ap (is_open_client s.files) by.2 ∙ (found (has_open_magic x.master c.args.number) (λ (z : Member). is_open_client s.files z.client ≡ true) by.0 s.masters.members (members_open s c.requires.invariants) by.1).1 }
 
@@ -48,7 +50,9 @@ returns-in-Err-clause-invariants c =
     let s = c.args.state.now in
     let x = c.args.caller.member in
     let look = sym c.requires.caller.member in
-    let done = subst (λ o. IfSome o (λ y. AuthenticatedBy s.masters y.master c.args.number c.auth.result c.auth.new.self)) look c.auth.ensures.authenticated in
+    let done =
+    subst (λ o. IfSome o (λ y. AuthenticatedBy s.masters y.master c.args.number c.auth.result c.auth.new.self)) look
+    c.auth.ensures.authenticated in
     let by = subst (λ r. AuthenticatedBy s.masters x.master c.args.number r c.auth.new.self) c.in-Err.is done in
     subst (λ v. MeetsInvariants (record s { masters = v })) (sym by.2) c.requires.invariants
 
@@ -59,10 +63,15 @@ returns-in-Err-clause-refines c = rw c.set_denied.ensures.denied (λ w h admitte
     let x = c.args.caller.member in
     let look = sym c.requires.caller.member in
     let file = caller_file s (as_caller c.args.caller) c.requires.caller in
-    let own : model.caller_master w c.args.caller.client ≡ x.master = ap (λ o. unwrap_or o 0) (its_master s w c.args.caller.client c.args.caller.flags x h file look) in
-    let done = subst (λ o. IfSome o (λ y. AuthenticatedBy s.masters y.master c.args.number c.auth.result c.auth.new.self)) look c.auth.ensures.authenticated in
+    let own : model.caller_master w c.args.caller.client ≡ x.master =
+    ap (λ o. unwrap_or o 0) (its_master s w c.args.caller.client c.args.caller.flags x h file look) in
+    let done =
+    subst (λ o. IfSome o (λ y. AuthenticatedBy s.masters y.master c.args.number c.auth.result c.auth.new.self)) look
+    c.auth.ensures.authenticated in
     let by = subst (λ r. AuthenticatedBy s.masters x.master c.args.number r c.auth.new.self) c.in-Err.is done in
-    let none : is_some (model.magic_client w (model.caller_master w c.args.caller.client) c.args.number) ≡ false = ap (λ m. is_some (model.magic_client w m c.args.number)) own ∙ opens s w h x.master c.args.number ∙ ap is_some by.0 in
+    let none : is_some (model.magic_client w (model.caller_master w c.args.caller.client) c.args.number) ≡ false =
+    ap (λ m. is_some (model.magic_client w m c.args.number)) own ∙ opens s w h x.master c.args.number
+    ∙ ap is_some by.0 in
     denied (record s { masters = c.auth.new.self }) w (Ask c.args.caller.client (AuthMagic c.args.number)) c.in-Err.rule
     (call_verdict w c.args.caller.client (AuthMagic c.args.number) admitted ∙ ap (λ b. first_failing (check NoMagic b ∷ [])) none ∙ ap Some (sym by.1))
     (subst (λ v. Represents (record s { masters = v }) w) (sym by.2) h))
@@ -72,14 +81,19 @@ returns-in-Ok-clause-invariants c =
     let s = c.args.state.now in
     let x = c.args.caller.member in
     let look = sym c.requires.caller.member in
-    let done = subst (λ o. IfSome o (λ y. AuthenticatedBy s.masters y.master c.args.number c.auth.result c.auth.new.self)) look c.auth.ensures.authenticated in
+    let done =
+    subst (λ o. IfSome o (λ y. AuthenticatedBy s.masters y.master c.args.number c.auth.result c.auth.new.self)) look
+    c.auth.ensures.authenticated in
     let by = subst (λ r. AuthenticatedBy s.masters x.master c.args.number r c.auth.new.self) c.in-Ok.is done in
     let rise = (masters_so s c.requires.invariants).members_rise in
-    let here = (found (has_open_magic x.master c.args.number) (λ (z : Member). member_of s.masters.members z.client ≡ Some z) by.0 s.masters.members (all_found (λ (z : Member). z.client) s.masters.members rise) by.1).1 in
+    let here =
+    (found (has_open_magic x.master c.args.number) (λ (z : Member). member_of s.masters.members z.client ≡ Some z) by.0 s.masters.members (all_found (λ (z : Member). z.client) s.masters.members rise) by.1).1
+    in
     subst (λ fs. MeetsInvariants (record s { files = fs; masters = c.auth.new.self })) (sym c.set_authenticated.ensures)
     (authenticated_invariants (record s { masters = c.auth.new.self }) c.in-Ok.authenticated
     (changed_invariants s (with_magic c.args.number true by.0) c.auth.new.self c.requires.invariants (ap (λ (v : MasterSet). v.members) by.3) c.laws.ensures
-    (subst (λ (v : MasterSet). AreOfLessees s.leases.tokens v.masters) (sym by.3) (tokens_of_lessees s c.requires.invariants)) (subst (λ (v : MasterSet). AreKeptBy s.leases.tokens v.masters) (sym by.3) (kept_have_tokens s c.requires.invariants))
+    (subst (λ (v : MasterSet). AreOfLessees s.leases.tokens v.masters) (sym by.3) (tokens_of_lessees s c.requires.invariants))
+    (subst (λ (v : MasterSet). AreKeptBy s.leases.tokens v.masters) (sym by.3) (kept_have_tokens s c.requires.invariants))
     (subst (λ (v : MasterSet). AreAgreed s.leases v) (sym by.3) (agreed_changed s.masters.members by.0 (with_magic c.args.number true by.0) s.masters.masters s.leases.lendings rise here (λ n its. its) (leases_agree s c.requires.invariants)))
     (ap (λ (v : MasterSet). v.last_magic) by.3)))
 
@@ -91,13 +105,18 @@ returns-in-Ok-clause-refines c = rw c.set_done.ensures.done (λ w h admitted.
     let n = c.args.number in
     let look = sym c.requires.caller.member in
     let file = caller_file s (as_caller c.args.caller) c.requires.caller in
-    let own : model.caller_master w c.args.caller.client ≡ x.master = ap (λ o. unwrap_or o 0) (its_master s w c.args.caller.client c.args.caller.flags x h file look) in
-    let done = subst (λ o. IfSome o (λ y. AuthenticatedBy s.masters y.master n c.auth.result c.auth.new.self)) look c.auth.ensures.authenticated in
+    let own : model.caller_master w c.args.caller.client ≡ x.master =
+    ap (λ o. unwrap_or o 0) (its_master s w c.args.caller.client c.args.caller.flags x h file look) in
+    let done =
+    subst (λ o. IfSome o (λ y. AuthenticatedBy s.masters y.master n c.auth.result c.auth.new.self)) look
+    c.auth.ensures.authenticated in
     let by = subst (λ r. AuthenticatedBy s.masters x.master n r c.auth.new.self) c.in-Ok.is done in
-    let it : model.magic_client w x.master n ≡ Some by.0.client = client_is x.master n by.0 s.masters (masters_so s c.requires.invariants) by.1 w (magics_are s w h) in
+    let it : model.magic_client w x.master n ≡ Some by.0.client =
+    client_is x.master n by.0 s.masters (masters_so s c.requires.invariants) by.1 w (magics_are s w h) in
     let new = record s { files = c.set_authenticated.new.self; masters = c.auth.new.self } in
     carried_on new w (Ask c.args.caller.client (AuthMagic n)) Done (returns-in-Ok-clause-invariants c)
-    (call_verdict w c.args.caller.client (AuthMagic n) admitted ∙ ap (λ m. first_failing (check NoMagic (is_some (model.magic_client w m n)) ∷ [])) own ∙ ap (λ o. first_failing (check NoMagic (is_some o) ∷ [])) it) refl
+    (call_verdict w c.args.caller.client (AuthMagic n) admitted ∙ ap (λ m. first_failing (check NoMagic (is_some (model.magic_client w m n)) ∷ [])) own ∙ ap (λ o. first_failing (check NoMagic (is_some o) ∷ [])) it)
+    refl
     (subst (λ m. Represents new (record w { clients = model.with_authenticated (model.magic_client w m n) w.clients; magics = model.with_spent m n w.magics })) (sym own)
     (subst (λ o. Represents new (record w { clients = model.with_authenticated o w.clients; magics = model.with_spent x.master n w.magics })) (sym it)
     (subst (λ fs. Represents (record s { files = fs; masters = c.auth.new.self }) (record w { clients = model.with_authenticated (Some by.0.client) w.clients; magics = model.with_spent x.master n w.magics })) (sym (c.set_authenticated.ensures ∙ ap (with_authenticated s.files) by.2))

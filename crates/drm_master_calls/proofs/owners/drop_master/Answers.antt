@@ -20,9 +20,15 @@ use Rattle.drm_master_calls.proofs.owners.drop_master.Goals as goal
 pub returns-in-Ok-clause-invariants : goal.returns-in-Ok-clause-invariants
 returns-in-Ok-clause-invariants c =
     let s = c.args.state.now in
-    let done = subst (λ o. IfSome o (λ x. DroppedBy s.masters x c.args.caller.flags.root c.drop_master.result c.drop_master.new.self)) (sym c.requires.caller.member) c.drop_master.ensures.dropped in
-    let now = (subst (λ r. DroppedBy s.masters c.args.caller.member c.args.caller.flags.root r c.drop_master.new.self) c.in-Ok.is done).1 in
-    subst (λ v. MeetsInvariants (record s { masters = v })) (sym now) (device_invariants s None c.requires.invariants (subst AreMasters now c.laws.ensures))
+    let done =
+    subst
+    (λ o. IfSome o (λ x. DroppedBy s.masters x c.args.caller.flags.root c.drop_master.result c.drop_master.new.self))
+    (sym c.requires.caller.member) c.drop_master.ensures.dropped in
+    let now =
+    (subst (λ r. DroppedBy s.masters c.args.caller.member c.args.caller.flags.root r c.drop_master.new.self) c.in-Ok.is done).1
+    in
+    subst (λ v. MeetsInvariants (record s { masters = v })) (sym now)
+    (device_invariants s None c.requires.invariants (subst AreMasters now c.laws.ensures))
 
 pub returns-in-Ok-clause-refines : goal.returns-in-Ok-clause-refines
 unfolding RefinesReply meaning changed answer_of
@@ -30,10 +36,19 @@ returns-in-Ok-clause-refines c = rw c.set_done.ensures.done (λ w h admitted.
     let s = c.args.state.now in
     let file = caller_file s (as_caller c.args.caller) c.requires.caller in
     let look = sym c.requires.caller.member in
-    let done = subst (λ o. IfSome o (λ x. DroppedBy s.masters x c.args.caller.flags.root c.drop_master.result c.drop_master.new.self)) look c.drop_master.ensures.dropped in
-    let by = subst (λ r. DroppedBy s.masters c.args.caller.member c.args.caller.flags.root r c.drop_master.new.self) c.in-Ok.is done in
-    let none = drop_verdict s w c.args.caller.client c.args.caller.flags c.args.caller.member h file look c.args.caller.flags.root (caller_root s (as_caller c.args.caller) c.requires.caller) admitted ∙ by.0 in
-    carried_on (record s { masters = c.drop_master.new.self }) w (Ask c.args.caller.client DropMaster) Done (returns-in-Ok-clause-invariants c) none refl
+    let done =
+    subst
+    (λ o. IfSome o (λ x. DroppedBy s.masters x c.args.caller.flags.root c.drop_master.result c.drop_master.new.self))
+    look c.drop_master.ensures.dropped in
+    let by =
+    subst (λ r. DroppedBy s.masters c.args.caller.member c.args.caller.flags.root r c.drop_master.new.self)
+    c.in-Ok.is done in
+    let none =
+    drop_verdict s w c.args.caller.client c.args.caller.flags c.args.caller.member h file look
+    c.args.caller.flags.root (caller_root s (as_caller c.args.caller) c.requires.caller) admitted
+    ∙ by.0 in
+    carried_on (record s { masters = c.drop_master.new.self }) w (Ask c.args.caller.client DropMaster) Done
+    (returns-in-Ok-clause-invariants c) none refl
     (subst (λ v. Represents (record s { masters = v }) (record w { device_master = None })) (sym by.1) (device_represents s w None h)))
 
 pub returns-in-Err-clause-refines : goal.returns-in-Err-clause-refines
@@ -42,8 +57,13 @@ returns-in-Err-clause-refines c = rw c.set_denied.ensures.denied (λ w h admitte
     let s = c.args.state.now in
     let file = caller_file s (as_caller c.args.caller) c.requires.caller in
     let look = sym c.requires.caller.member in
-    let done = subst (λ o. IfSome o (λ x. DroppedBy s.masters x c.args.caller.flags.root c.drop_master.result c.drop_master.new.self)) look c.drop_master.ensures.dropped in
-    let by = subst (λ r. DroppedBy s.masters c.args.caller.member c.args.caller.flags.root r c.drop_master.new.self) c.in-Err.is done in
+    let done =
+    subst
+    (λ o. IfSome o (λ x. DroppedBy s.masters x c.args.caller.flags.root c.drop_master.result c.drop_master.new.self))
+    look c.drop_master.ensures.dropped in
+    let by =
+    subst (λ r. DroppedBy s.masters c.args.caller.member c.args.caller.flags.root r c.drop_master.new.self)
+    c.in-Err.is done in
     denied (record s { masters = c.drop_master.new.self }) w (Ask c.args.caller.client DropMaster) c.in-Err.rule
     (drop_verdict s w c.args.caller.client c.args.caller.flags c.args.caller.member h file look c.args.caller.flags.root (caller_root s (as_caller c.args.caller) c.requires.caller) admitted ∙ by.0)
     (subst (λ v. Represents (record s { masters = v }) w) (sym by.1) h))

@@ -9,7 +9,7 @@ use Rattle.drm_masters.specs.declared.faults.SetFault.{SetFault}
 use Rattle.drm_masters.specs.declared.rows.Member.{Member}
 use Rattle.drm_state.specs.declared.state.State.{State}
 use Rattle.drm_masters.specs.Calls.{SetOf}
-use Rattle.drm_masters.proofs.Newest.{newest_unused}
+use Rattle.drm_masters.proofs.NewestMember.{newest_unused}
 use Rattle.drm_model.specs.Rows.{step_number}
 use Rattle.drm_model.specs.Magics.{is_current, is_master, mastered}
 use Rattle.drm_model.specs.Masters.{new_master}
@@ -29,18 +29,25 @@ use Rattle.drm_files.specs.Files.{with_authenticated}
 use Rattle.drm_master_calls.proofs.owners.set_master.Goals as goal
 
 -- what the part came to, of the caller that was found
-came : {r result : Result SetDone SetFault} {o : Option Member} (s : State) (x : Member) (root : Bool) (step : ℕ) (new : MasterSet) → o ≡ Some x → r ≡ result → IfSome o (λ y. SetOf s.masters y root step r new) → SetOf s.masters x root step result new
-came {r = r} s x root step new look is h = subst (λ v. SetOf s.masters x root step v new) is (subst (λ o. IfSome o (λ y. SetOf s.masters y root step r new)) look h)
+came : {r result : Result SetDone SetFault} {o : Option Member} (s : State) (x : Member) (root : Bool) (step : ℕ) (new : MasterSet)
+    → o ≡ Some x → r ≡ result → IfSome o (λ y. SetOf s.masters y root step r new)
+    → SetOf s.masters x root step result new
+came {r = r} s x root step new look is h =
+    subst (λ v. SetOf s.masters x root step v new) is
+    (subst (λ o. IfSome o (λ y. SetOf s.masters y root step r new)) look h)
 
 pub set-requires-clause-new_step_number : goal.set-requires-clause-new_step_number
-set-requires-clause-new_step_number c = newest_unused c.args.state.now.masters.masters c.args.step_number c.requires.precondition.later.masters
+set-requires-clause-new_step_number c =
+    newest_unused c.args.state.now.masters.masters c.args.step_number c.requires.precondition.later.masters
 
 pub returns-in-Ok-Already-clause-invariants : goal.returns-in-Ok-Already-clause-invariants
 returns-in-Ok-Already-clause-invariants c =
     let s = c.args.state.now in
     let look = sym c.requires.caller.member in
     let x = c.args.caller.member in
-    let by = came s x c.args.caller.flags.root c.args.step_number c.set.new.self look (c.in-Ok-Already.is ∙ ap Ok c.in-Ok-Already.field-0-is) c.set.ensures.set in
+    let by =
+    came s x c.args.caller.flags.root c.args.step_number c.set.new.self look
+    (c.in-Ok-Already.is ∙ ap Ok c.in-Ok-Already.field-0-is) c.set.ensures.set in
     subst (λ v. MeetsInvariants (record s { masters = v })) (sym by.1.1) c.requires.precondition.invariants
 
 pub returns-in-Ok-Already-clause-refines : goal.returns-in-Ok-Already-clause-refines
@@ -49,11 +56,18 @@ returns-in-Ok-Already-clause-refines c = rw c.set_done-in-Ok-Already.ensures.don
     let s = c.args.state.now in
     let look = sym c.requires.caller.member in
     let x = c.args.caller.member in
-    let by = came s x c.args.caller.flags.root c.args.step_number c.set.new.self look (c.in-Ok-Already.is ∙ ap Ok c.in-Ok-Already.field-0-is) c.set.ensures.set in
+    let by =
+    came s x c.args.caller.flags.root c.args.step_number c.set.new.self look
+    (c.in-Ok-Already.is ∙ ap Ok c.in-Ok-Already.field-0-is) c.set.ensures.set in
     let file = caller_file s (as_caller c.args.caller) c.requires.caller in
-    let checks = set_verdict s w c.args.caller.client c.args.caller.flags x r.rows file look c.args.caller.flags.root (caller_root s (as_caller c.args.caller) c.requires.caller) admitted ∙ by.0 in
-    let current : is_current w c.args.caller.client ≡ true = current_is s w c.args.caller.client c.args.caller.flags x r.rows file look ∙ by.1.0 in
-    carried_on (record s { masters = c.set.new.self }) w (Ask c.args.caller.client SetMaster) Done (returns-in-Ok-Already-clause-invariants c) checks refl
+    let checks =
+    set_verdict s w c.args.caller.client c.args.caller.flags x r.rows file look c.args.caller.flags.root
+    (caller_root s (as_caller c.args.caller) c.requires.caller) admitted
+    ∙ by.0 in
+    let current : is_current w c.args.caller.client ≡ true =
+    current_is s w c.args.caller.client c.args.caller.flags x r.rows file look ∙ by.1.0 in
+    carried_on (record s { masters = c.set.new.self }) w (Ask c.args.caller.client SetMaster) Done
+    (returns-in-Ok-Already-clause-invariants c) checks refl
     (subst (λ b. Represents (record s { masters = c.set.new.self }) (mastered w c.args.caller.client b (is_master w c.args.caller.client))) (sym current) (subst (λ v. Represents (record s { masters = v }) w) (sym by.1.1) r.rows)))
 
 pub returns-in-Ok-Again-clause-invariants : goal.returns-in-Ok-Again-clause-invariants
@@ -61,8 +75,11 @@ returns-in-Ok-Again-clause-invariants c =
     let s = c.args.state.now in
     let look = sym c.requires.caller.member in
     let x = c.args.caller.member in
-    let by = came s x c.args.caller.flags.root c.args.step_number c.set.new.self look (c.in-Ok-Again.is ∙ ap Ok c.in-Ok-Again.field-0-is) c.set.ensures.set in
-    subst (λ v. MeetsInvariants (record s { masters = v })) (sym by.1.2) (device_invariants s (Some x.master) c.requires.precondition.invariants (subst AreMasters by.1.2 c.laws-in-Ok-Again.ensures))
+    let by =
+    came s x c.args.caller.flags.root c.args.step_number c.set.new.self look
+    (c.in-Ok-Again.is ∙ ap Ok c.in-Ok-Again.field-0-is) c.set.ensures.set in
+    subst (λ v. MeetsInvariants (record s { masters = v })) (sym by.1.2)
+    (device_invariants s (Some x.master) c.requires.precondition.invariants (subst AreMasters by.1.2 c.laws-in-Ok-Again.ensures))
 
 pub returns-in-Ok-Again-clause-refines : goal.returns-in-Ok-Again-clause-refines
 unfolding RefinesCall meaning changed answer_of
@@ -70,12 +87,20 @@ returns-in-Ok-Again-clause-refines c = rw c.set_done-in-Ok-Again.ensures.done (�
     let s = c.args.state.now in
     let look = sym c.requires.caller.member in
     let x = c.args.caller.member in
-    let by = came s x c.args.caller.flags.root c.args.step_number c.set.new.self look (c.in-Ok-Again.is ∙ ap Ok c.in-Ok-Again.field-0-is) c.set.ensures.set in
+    let by =
+    came s x c.args.caller.flags.root c.args.step_number c.set.new.self look
+    (c.in-Ok-Again.is ∙ ap Ok c.in-Ok-Again.field-0-is) c.set.ensures.set in
     let file = caller_file s (as_caller c.args.caller) c.requires.caller in
-    let checks = set_verdict s w c.args.caller.client c.args.caller.flags x r.rows file look c.args.caller.flags.root (caller_root s (as_caller c.args.caller) c.requires.caller) admitted ∙ by.0 in
-    let current : is_current w c.args.caller.client ≡ false = current_is s w c.args.caller.client c.args.caller.flags x r.rows file look ∙ by.1.0 in
-    let own : is_master w c.args.caller.client ≡ true = master_is s w c.args.caller.client c.args.caller.flags x r.rows file look ∙ by.1.1 in
-    carried_on (record s { masters = c.set.new.self }) w (Ask c.args.caller.client SetMaster) Done (returns-in-Ok-Again-clause-invariants c) checks refl
+    let checks =
+    set_verdict s w c.args.caller.client c.args.caller.flags x r.rows file look c.args.caller.flags.root
+    (caller_root s (as_caller c.args.caller) c.requires.caller) admitted
+    ∙ by.0 in
+    let current : is_current w c.args.caller.client ≡ false =
+    current_is s w c.args.caller.client c.args.caller.flags x r.rows file look ∙ by.1.0 in
+    let own : is_master w c.args.caller.client ≡ true =
+    master_is s w c.args.caller.client c.args.caller.flags x r.rows file look ∙ by.1.1 in
+    carried_on (record s { masters = c.set.new.self }) w (Ask c.args.caller.client SetMaster) Done
+    (returns-in-Ok-Again-clause-invariants c) checks refl
     (subst (λ b. Represents (record s { masters = c.set.new.self }) (mastered w c.args.caller.client b (is_master w c.args.caller.client))) (sym current)
     (subst (λ b. Represents (record s { masters = c.set.new.self }) (mastered w c.args.caller.client false b)) (sym own)
     (subst (λ d. Represents (record s { masters = c.set.new.self }) (record w { device_master = d })) (sym (its_master s w c.args.caller.client c.args.caller.flags x r.rows file look))
@@ -86,9 +111,12 @@ returns-in-Ok-Made-clause-invariants c =
     let s = c.args.state.now in
     let look = sym c.requires.caller.member in
     let x = c.args.caller.member in
-    let by = came s x c.args.caller.flags.root c.args.step_number c.set.new.self look (c.in-Ok-Made.is ∙ ap Ok c.in-Ok-Made.field-0-is) c.set.ensures.set in
+    let by =
+    came s x c.args.caller.flags.root c.args.step_number c.set.new.self look
+    (c.in-Ok-Made.is ∙ ap Ok c.in-Ok-Made.field-0-is) c.set.ensures.set in
     let same = same_client s.masters.members c.args.caller.client x look in
-    subst (λ fs. MeetsInvariants (record s { files = fs; masters = c.set.new.self })) (sym (c.set_authenticated.ensures ∙ ap (with_authenticated s.files) (sym same.0)))
+    subst (λ fs. MeetsInvariants (record s { files = fs; masters = c.set.new.self }))
+    (sym (c.set_authenticated.ensures ∙ ap (with_authenticated s.files) (sym same.0)))
     (subst (λ v. MeetsInvariants (record s { files = with_authenticated s.files x.client; masters = v })) (sym (by.1.2.2 ∙ last_remade x.client by.1.2.0 c.args.step_number s.masters c.requires.precondition.later.masters))
     (remade_invariants s x by.1.2.0 c.args.step_number c.requires.precondition.invariants c.requires.precondition.later.leases.tokens (subst AreMasters (by.1.2.2 ∙ last_remade x.client by.1.2.0 c.args.step_number s.masters c.requires.precondition.later.masters) c.laws.ensures) same.1 by.1.1))
 
@@ -98,11 +126,18 @@ returns-in-Ok-Made-clause-refines c = rw c.set_done.ensures.done (λ w r admitte
     let s = c.args.state.now in
     let look = sym c.requires.caller.member in
     let x = c.args.caller.member in
-    let by = came s x c.args.caller.flags.root c.args.step_number c.set.new.self look (c.in-Ok-Made.is ∙ ap Ok c.in-Ok-Made.field-0-is) c.set.ensures.set in
+    let by =
+    came s x c.args.caller.flags.root c.args.step_number c.set.new.self look
+    (c.in-Ok-Made.is ∙ ap Ok c.in-Ok-Made.field-0-is) c.set.ensures.set in
     let file = caller_file s (as_caller c.args.caller) c.requires.caller in
-    let checks = set_verdict s w c.args.caller.client c.args.caller.flags x r.rows file look c.args.caller.flags.root (caller_root s (as_caller c.args.caller) c.requires.caller) admitted ∙ by.0 in
-    let current : is_current w c.args.caller.client ≡ false = current_is s w c.args.caller.client c.args.caller.flags x r.rows file look ∙ by.1.0 in
-    let own : is_master w c.args.caller.client ≡ false = master_is s w c.args.caller.client c.args.caller.flags x r.rows file look ∙ by.1.1 in
+    let checks =
+    set_verdict s w c.args.caller.client c.args.caller.flags x r.rows file look c.args.caller.flags.root
+    (caller_root s (as_caller c.args.caller) c.requires.caller) admitted
+    ∙ by.0 in
+    let current : is_current w c.args.caller.client ≡ false =
+    current_is s w c.args.caller.client c.args.caller.flags x r.rows file look ∙ by.1.0 in
+    let own : is_master w c.args.caller.client ≡ false =
+    master_is s w c.args.caller.client c.args.caller.flags x r.rows file look ∙ by.1.1 in
     let same = same_client s.masters.members c.args.caller.client x look in
     let new = record s { files = c.set_authenticated.new.self; masters = c.set.new.self } in
     carried new w (Ask c.args.caller.client SetMaster) Done checks refl
@@ -119,7 +154,9 @@ returns-in-Err-Denied-clause-invariants c =
     let s = c.args.state.now in
     let look = sym c.requires.caller.member in
     let x = c.args.caller.member in
-    let by = came s x c.args.caller.flags.root c.args.step_number c.set.new.self look (c.in-Err-Denied.is ∙ ap Err c.in-Err-Denied.field-0-is) c.set.ensures.set in
+    let by =
+    came s x c.args.caller.flags.root c.args.step_number c.set.new.self look
+    (c.in-Err-Denied.is ∙ ap Err c.in-Err-Denied.field-0-is) c.set.ensures.set in
     subst (λ v. MeetsInvariants (record s { masters = v })) (sym by.1) c.requires.precondition.invariants
 
 pub returns-in-Err-Denied-clause-refines : goal.returns-in-Err-Denied-clause-refines
@@ -128,9 +165,14 @@ returns-in-Err-Denied-clause-refines c = rw (c.set_denied.ensures.denied, c.in-E
     let s = c.args.state.now in
     let look = sym c.requires.caller.member in
     let x = c.args.caller.member in
-    let by = came s x c.args.caller.flags.root c.args.step_number c.set.new.self look (c.in-Err-Denied.is ∙ ap Err c.in-Err-Denied.field-0-is) c.set.ensures.set in
+    let by =
+    came s x c.args.caller.flags.root c.args.step_number c.set.new.self look
+    (c.in-Err-Denied.is ∙ ap Err c.in-Err-Denied.field-0-is) c.set.ensures.set in
     let file = caller_file s (as_caller c.args.caller) c.requires.caller in
-    let checks = set_verdict s w c.args.caller.client c.args.caller.flags x r.rows file look c.args.caller.flags.root (caller_root s (as_caller c.args.caller) c.requires.caller) admitted ∙ by.0 in
+    let checks =
+    set_verdict s w c.args.caller.client c.args.caller.flags x r.rows file look c.args.caller.flags.root
+    (caller_root s (as_caller c.args.caller) c.requires.caller) admitted
+    ∙ by.0 in
     denied (record s { masters = c.set.new.self }) w (Ask c.args.caller.client SetMaster) c.in-Err-Denied.rule checks (subst (λ v. Represents (record s { masters = v }) w) (sym by.1) r.rows))
 
 pub returns-in-Err-NoMemory-clause-invariants : goal.returns-in-Err-NoMemory-clause-invariants
@@ -138,7 +180,9 @@ returns-in-Err-NoMemory-clause-invariants c =
     let s = c.args.state.now in
     let look = sym c.requires.caller.member in
     let x = c.args.caller.member in
-    let by = came s x c.args.caller.flags.root c.args.step_number c.set.new.self look (c.in-Err-NoMemory.is ∙ ap Err c.in-Err-NoMemory.field-0-is) c.set.ensures.set in
+    let by =
+    came s x c.args.caller.flags.root c.args.step_number c.set.new.self look
+    (c.in-Err-NoMemory.is ∙ ap Err c.in-Err-NoMemory.field-0-is) c.set.ensures.set in
     subst (λ v. MeetsInvariants (record s { masters = v })) (sym by.3) c.requires.precondition.invariants
 
 pub returns-in-Err-NoMemory-clause-refines : goal.returns-in-Err-NoMemory-clause-refines
@@ -147,11 +191,18 @@ returns-in-Err-NoMemory-clause-refines c = λ w r admitted.
     let s = c.args.state.now in
     let look = sym c.requires.caller.member in
     let x = c.args.caller.member in
-    let by = came s x c.args.caller.flags.root c.args.step_number c.set.new.self look (c.in-Err-NoMemory.is ∙ ap Err c.in-Err-NoMemory.field-0-is) c.set.ensures.set in
+    let by =
+    came s x c.args.caller.flags.root c.args.step_number c.set.new.self look
+    (c.in-Err-NoMemory.is ∙ ap Err c.in-Err-NoMemory.field-0-is) c.set.ensures.set in
     let file = caller_file s (as_caller c.args.caller) c.requires.caller in
-    let checks = set_verdict s w c.args.caller.client c.args.caller.flags x r.rows file look c.args.caller.flags.root (caller_root s (as_caller c.args.caller) c.requires.caller) admitted ∙ by.0 in
-    let current : is_current w c.args.caller.client ≡ false = current_is s w c.args.caller.client c.args.caller.flags x r.rows file look ∙ by.1 in
-    let own : is_master w c.args.caller.client ≡ false = master_is s w c.args.caller.client c.args.caller.flags x r.rows file look ∙ by.2 in
+    let checks =
+    set_verdict s w c.args.caller.client c.args.caller.flags x r.rows file look c.args.caller.flags.root
+    (caller_root s (as_caller c.args.caller) c.requires.caller) admitted
+    ∙ by.0 in
+    let current : is_current w c.args.caller.client ≡ false =
+    current_is s w c.args.caller.client c.args.caller.flags x r.rows file look ∙ by.1 in
+    let own : is_master w c.args.caller.client ≡ false =
+    master_is s w c.args.caller.client c.args.caller.flags x r.rows file look ∙ by.2 in
     refused (record s { masters = c.set.new.self }) w (Ask c.args.caller.client SetMaster) _ checks
     (subst (λ b. IsLonger w (mastered w c.args.caller.client b (is_master w c.args.caller.client))) (sym current) (subst (λ b. IsLonger w (mastered w c.args.caller.client false b)) (sym own) (inr (inl (omega (arith, length-append w.masters (new_master (step_number w) ∷ [])))))))
     (subst (λ v. Represents (record s { masters = v }) w) (sym by.3) r.rows)

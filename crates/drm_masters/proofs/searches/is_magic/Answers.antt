@@ -4,13 +4,21 @@ use Rattle.drm_masters.proofs.Looked.{is_there, any_here, any_on, any_end}
 use Rattle.drm_masters.proofs.searches.is_magic.Goals as goal
 
 pub unreachable-requires : goal.unreachable-requires
-unreachable-requires c = is_there c.args.members.now.items c.loop-position.position (omega (arith, c.loop-position-test.true, c.len-position-end.ensures)) (sym c.nth.ensures ∙ c.in_default.is)
+unreachable-requires c =
+    is_there c.args.members.now.items c.loop-position.position
+    (omega (arith, c.loop-position-test.true, c.len-position-end.ensures)) (sym c.nth.ensures ∙ c.in_default.is)
 
 pub returns-then-has_magic : goal.returns-then-has_magic
-returns-then-has_magic c = any_here c.args.members.now.items c.loop-position.position c.in-Some.member (sym c.nth.ensures ∙ c.in-Some.is) (has_magic c.args.master c.args.number) c.loop-position.invariant (sym c.has_magic.ensures ∙ c.if-has_magic.true)
+returns-then-has_magic c =
+    any_here c.args.members.now.items c.loop-position.position c.in-Some.member (sym c.nth.ensures ∙ c.in-Some.is)
+    (has_magic c.args.master c.args.number) c.loop-position.invariant (sym c.has_magic.ensures ∙ c.if-has_magic.true)
 
 pub loop-position-preserved : goal.loop-position-preserved
-loop-position-preserved c = any_on c.args.members.now.items c.loop-position.position c.in-Some.member (sym c.nth.ensures ∙ c.in-Some.is) (has_magic c.args.master c.args.number) c.loop-position.invariant (sym c.has_magic.ensures ∙ c.if-has_magic.false)
+loop-position-preserved c =
+    any_on c.args.members.now.items c.loop-position.position c.in-Some.member (sym c.nth.ensures ∙ c.in-Some.is)
+    (has_magic c.args.master c.args.number) c.loop-position.invariant (sym c.has_magic.ensures ∙ c.if-has_magic.false)
 
 pub returns : goal.returns
-returns c = any_end c.args.members.now.items c.loop-position.position (has_magic c.args.master c.args.number) c.loop-position.invariant (omega (arith, c.loop-position-test.false, c.len-position-end.ensures))
+returns c =
+    any_end c.args.members.now.items c.loop-position.position (has_magic c.args.master c.args.number)
+    c.loop-position.invariant (omega (arith, c.loop-position-test.false, c.len-position-end.ensures))

@@ -30,7 +30,7 @@ use Rattle.drm_state.specs.Invariants.{MeetsInvariants}
 use Rattle.drm_state.specs.Refinement.{RefinesCall, Represents}
 use Rattle.drm_state.proofs.Refinements.{denied, carried, refused, call_verdict}
 use Rattle.drm_state.proofs.Contents.{holds_it, key_there, size_found}
-use Rattle.drm_state.proofs.Held.{among, has_it, object_is, some_free}
+use Rattle.drm_state.proofs.FoundHandle.{among, has_it, object_is, some_free}
 use Rattle.drm_state.proofs.SharedChanges.{can_refer}
 use Rattle.drm_state.proofs.Framing.{free_framebuffer_is, framed, framed_invariants}
 use Rattle.drm_mode_calls.proofs.framebuffers.add_fb.Goals as goal
@@ -40,16 +40,21 @@ abbrev asks : Shape → ℕ → Call
 asks shape handle = AddFb shape.width shape.height shape.pitch shape.bpp handle
 
 abbrev fits : Shape → ℕ → Bool
-fits shape size = is_dumb_shape shape.width shape.height shape.bpp && fits_object shape.width shape.height shape.pitch shape.bpp size
+fits shape size =
+    is_dumb_shape shape.width shape.height shape.bpp && fits_object shape.width shape.height shape.pitch shape.bpp size
 
 pub returns-in_default-clause-refines : goal.returns-in_default-clause-refines
 unfolding RefinesCall meaning
 returns-in_default-clause-refines c = rw c.set_denied.ensures.denied (λ w r a.
-    let none = holds_it c.args.state.now w r.rows c.args.client c.args.handle _ None c.object_of.ensures.object c.in_default.is in
+    let none =
+    holds_it c.args.state.now w r.rows c.args.client c.args.handle _ None c.object_of.ensures.object c.in_default.is
+    in
     denied c.args.state.now w (Ask c.args.client (asks c.args.shape c.args.handle)) NoHandle (call_verdict w c.args.client (asks c.args.shape c.args.handle) a ∙ rw none refl) r.rows)
 
 pub size-requires : goal.size-requires
-size-requires c = key_there c.args.state.now c.args.client c.args.handle c.in-Some.object _ c.requires.precondition.invariants c.object_of.ensures.object c.in-Some.is
+size-requires c =
+    key_there c.args.state.now c.args.client c.args.handle c.in-Some.object _ c.requires.precondition.invariants
+    c.object_of.ensures.object c.in-Some.is
 
 -- the client has the handle, of the object of this number, over which the shape may lie or not
 record IsTested (w : Rows) (c n o : ℕ) (shape : Shape) (fit : Bool) : Type 0 where
@@ -64,7 +69,9 @@ module _ (s : State) (c n key : ℕ) (t : MeetsInvariants s) (found : Some key �
   known : is_among (keys_of s.files.holds ++ referring_keys s) key ≡ true
   known = among-left (keys_of s.files.holds) (referring_keys s) key named
 
-  tested : (shape : Shape) (size : ℕ) (fit : Bool) → option_map (λ (x : Object). x.size) (object_at s.objects key) ≡ Some size → fit ≡ fits shape size → (w : Rows) → Represents s w → IsTested w c n (step_number_at s.objects.objects key) shape fit
+  tested : (shape : Shape) (size : ℕ) (fit : Bool)
+      → option_map (λ (x : Object). x.size) (object_at s.objects key) ≡ Some size → fit ≡ fits shape size → (w : Rows)
+      → Represents s w → IsTested w c n (step_number_at s.objects.objects key) shape fit
   tested shape size fit is e w h = record {
     has = has_it s c n key t found w h;
     object = object_is s c n key t found w h;
@@ -74,7 +81,10 @@ module _ (s : State) (c n key : ℕ) (t : MeetsInvariants s) (found : Some key �
 pub returns-then-not-is_shape_over-clause-refines : goal.returns-then-not-is_shape_over-clause-refines
 unfolding RefinesCall meaning
 returns-then-not-is_shape_over-clause-refines c = rw c.set_denied-then-not-is_shape_over.ensures.denied (λ w r a.
-    let it = tested c.args.state.now c.args.client c.args.handle c.in-Some.object c.requires.precondition.invariants (sym c.in-Some.is ∙ c.object_of.ensures.object) c.args.shape c.size.result c.is_shape_over.result c.size.ensures c.is_shape_over.ensures w r.rows in
+    let it =
+    tested c.args.state.now c.args.client c.args.handle c.in-Some.object c.requires.precondition.invariants
+    (sym c.in-Some.is ∙ c.object_of.ensures.object) c.args.shape c.size.result c.is_shape_over.result c.size.ensures
+    c.is_shape_over.ensures w r.rows in
     let bad = it.lies ∙ c.if-not-is_shape_over.true in
     denied c.args.state.now w (Ask c.args.client (asks c.args.shape c.args.handle)) BadSize (call_verdict w c.args.client (asks c.args.shape c.args.handle) a ∙ rw (it.has, it.object, bad) refl) r.rows)
 
@@ -82,32 +92,53 @@ pub returns-in-Err-Full-clause-refines : goal.returns-in-Err-Full-clause-refines
 unfolding RefinesCall meaning
 returns-in-Err-Full-clause-refines c = rw c.set_denied-in-Err-Full.ensures.denied (λ w r a.
     let s = c.args.state.now in
-    let it = tested c.args.state.now c.args.client c.args.handle c.in-Some.object c.requires.precondition.invariants (sym c.in-Some.is ∙ c.object_of.ensures.object) c.args.shape c.size.result c.is_shape_over.result c.size.ensures c.is_shape_over.ensures w r.rows in
+    let it =
+    tested c.args.state.now c.args.client c.args.handle c.in-Some.object c.requires.precondition.invariants
+    (sym c.in-Some.is ∙ c.object_of.ensures.object) c.args.shape c.size.result c.is_shape_over.result c.size.ensures
+    c.is_shape_over.ensures w r.rows in
     let good = it.lies ∙ c.if-not-is_shape_over.false in
-    let none = free_framebuffer_is s w c.requires.precondition.invariants r.rows ∙ c.in-Err-Full.ensures.full.0 (subst IsFull (sym c.in-Err-Full.field-0-is) tt) in
-    denied (record s { modes = c.addfb.new.self }) w (Ask c.args.client (asks c.args.shape c.args.handle)) Full (call_verdict w c.args.client (asks c.args.shape c.args.handle) a ∙ rw (it.has, it.object, good, none) refl)
+    let none =
+    free_framebuffer_is s w c.requires.precondition.invariants r.rows
+    ∙ c.in-Err-Full.ensures.full.0 (subst IsFull (sym c.in-Err-Full.field-0-is) tt) in
+    denied (record s { modes = c.addfb.new.self }) w (Ask c.args.client (asks c.args.shape c.args.handle)) Full
+    (call_verdict w c.args.client (asks c.args.shape c.args.handle) a ∙ rw (it.has, it.object, good, none) refl)
     (subst (λ ms. Represents (record s { modes = ms }) w) (sym c.in-Err-Full.ensures.err) r.rows))
 
 -- the framebuffers with one more
 abbrev more : Rows → ℕ → ℕ → Shape → List FramebufferRow
-more w c o shape = w.framebuffers ++ record { framebuffer = new_framebuffer w; client = c; object = o; width = shape.width; height = shape.height; pitch = shape.pitch; bpp = shape.bpp } ∷ []
+more w c o shape =
+    w.framebuffers ++ record
+    { framebuffer = new_framebuffer w; client = c; object = o; width = shape.width; height = shape.height; pitch = shape.pitch; bpp = shape.bpp }
+    ∷ []
 
 longer : (w : Rows) (c o : ℕ) (shape : Shape) → IsLonger w (record w { framebuffers = more w c o shape })
-longer w c o shape = inr (inr (inr (inr (inr (inr (inr (inr (omega (arith, length-append w.framebuffers (record { framebuffer = new_framebuffer w; client = c; object = o; width = shape.width; height = shape.height; pitch = shape.pitch; bpp = shape.bpp } ∷ []))))))))))
+longer w c o shape =
+    inr
+    (inr (inr (inr (inr (inr (inr (inr (omega (arith, length-append w.framebuffers (record { framebuffer = new_framebuffer w; client = c; object = o; width = shape.width; height = shape.height; pitch = shape.pitch; bpp = shape.bpp } ∷ []))))))))))
 
 pub returns-in-Err-NoMemory-clause-refines : goal.returns-in-Err-NoMemory-clause-refines
 unfolding RefinesCall meaning changed
 returns-in-Err-NoMemory-clause-refines c = λ w r a.
     let s = c.args.state.now in
-    let it = tested c.args.state.now c.args.client c.args.handle c.in-Some.object c.requires.precondition.invariants (sym c.in-Some.is ∙ c.object_of.ensures.object) c.args.shape c.size.result c.is_shape_over.result c.size.ensures c.is_shape_over.ensures w r.rows in
+    let it =
+    tested c.args.state.now c.args.client c.args.handle c.in-Some.object c.requires.precondition.invariants
+    (sym c.in-Some.is ∙ c.object_of.ensures.object) c.args.shape c.size.result c.is_shape_over.result c.size.ensures
+    c.is_shape_over.ensures w r.rows in
     let good = it.lies ∙ c.if-not-is_shape_over.false in
-    let free = ap is_some (free_framebuffer_is s w c.requires.precondition.invariants r.rows) ∙ some_free (modes.free_framebuffer s.modes) (λ e. subst IsFull c.in-Err-NoMemory.field-0-is (c.in-Err-NoMemory.ensures.full.1 e)) in
-    refused (record s { modes = c.addfb.new.self }) w (Ask c.args.client (asks c.args.shape c.args.handle)) (record {}) (call_verdict w c.args.client (asks c.args.shape c.args.handle) a ∙ rw (it.has, it.object, good, free) refl)
+    let free =
+    ap is_some (free_framebuffer_is s w c.requires.precondition.invariants r.rows)
+    ∙ some_free (modes.free_framebuffer s.modes)
+    (λ e. subst IsFull c.in-Err-NoMemory.field-0-is (c.in-Err-NoMemory.ensures.full.1 e)) in
+    refused (record s { modes = c.addfb.new.self }) w (Ask c.args.client (asks c.args.shape c.args.handle)) (record {})
+    (call_verdict w c.args.client (asks c.args.shape c.args.handle) a ∙ rw (it.has, it.object, good, free) refl)
     (rw it.object (longer w c.args.client (step_number_at s.objects.objects c.in-Some.object) c.args.shape))
     (subst (λ ms. Represents (record s { modes = ms }) w) (sym c.in-Err-NoMemory.ensures.err) r.rows)
 
 pub refer-requires : goal.refer-requires
-refer-requires c = can_refer c.args.state.now c.in-Some.object c.args.step_number c.requires.precondition.invariants (known c.args.state.now c.args.client c.args.handle c.in-Some.object c.requires.precondition.invariants (sym c.in-Some.is ∙ c.object_of.ensures.object)) c.requires.precondition.later.tokens c.requires.precondition.later.framebuffers c.requires.precondition.fits
+refer-requires c =
+    can_refer c.args.state.now c.in-Some.object c.args.step_number c.requires.precondition.invariants
+    (known c.args.state.now c.args.client c.args.handle c.in-Some.object c.requires.precondition.invariants (sym c.in-Some.is ∙ c.object_of.ensures.object))
+    c.requires.precondition.later.tokens c.requires.precondition.later.framebuffers c.requires.precondition.fits
 
 pub returns-clause-invariants : goal.returns-clause-invariants
 returns-clause-invariants c =
@@ -123,13 +154,19 @@ returns-clause-refines c = rw c.set_number.ensures.number (λ w r a.
     let s = c.args.state.now in
     let t = c.requires.precondition.invariants in
     let id = c.in-Ok.framebuffer in
-    let it = tested c.args.state.now c.args.client c.args.handle c.in-Some.object c.requires.precondition.invariants (sym c.in-Some.is ∙ c.object_of.ensures.object) c.args.shape c.size.result c.is_shape_over.result c.size.ensures c.is_shape_over.ensures w r.rows in
+    let it =
+    tested c.args.state.now c.args.client c.args.handle c.in-Some.object c.requires.precondition.invariants
+    (sym c.in-Some.is ∙ c.object_of.ensures.object) c.args.shape c.size.result c.is_shape_over.result c.size.ensures
+    c.is_shape_over.ensures w r.rows in
     let good = it.lies ∙ c.if-not-is_shape_over.false in
     let free = free_framebuffer_is s w t r.rows ∙ c.in-Ok.ensures.given in
     let are = subst AreModes c.in-Ok.ensures.ok c.laws.ensures in
     let o = step_number_at s.objects.objects c.in-Some.object in
     let after = swept (record w { framebuffers = more w c.args.client o c.args.shape }) in
-    carried (record s { modes = c.addfb.new.self; objects = c.refer.new.self }) w (Ask c.args.client (asks c.args.shape c.args.handle)) (Number id) (call_verdict w c.args.client (asks c.args.shape c.args.handle) a ∙ rw (it.has, it.object, good, free) refl) (rw free refl)
+    carried (record s { modes = c.addfb.new.self; objects = c.refer.new.self }) w
+    (Ask c.args.client (asks c.args.shape c.args.handle)) (Number id)
+    (call_verdict w c.args.client (asks c.args.shape c.args.handle) a ∙ rw (it.has, it.object, good, free) refl)
+    (rw free refl)
     (rw it.object
     (subst (λ ms. Represents (record s { modes = ms; objects = c.refer.new.self }) after) (sym c.in-Ok.ensures.ok)
     (subst (λ x. Represents (record s { modes = with_framebuffer s.modes (framebuffer id c.args.client c.args.shape c.in-Some.object); objects = x }) after) (sym c.refer.ensures)

@@ -20,7 +20,9 @@ unfolding RefinesReply meaning
 returns-then-not-sees_object c = rw c.set_denied.ensures.denied (λ w h a.
     let s = c.args.state.now in
     let x = c.args.connector in
-    let unseen : model.sees_connector w c.args.caller.client x ≡ false = connector_seen s w c.args.caller c.requires.caller h x ∙ sym c.sees_object.ensures ∙ c.if-not-sees_object.true in
+    let unseen : model.sees_connector w c.args.caller.client x ≡ false =
+    connector_seen s w c.args.caller c.requires.caller h x ∙ sym c.sees_object.ensures
+    ∙ c.if-not-sees_object.true in
     denied s w (Ask c.args.caller.client (GetConnector x)) NoModeObject (call_verdict w c.args.caller.client (GetConnector x) a ∙ ap (λ b. first_failing (check NoModeObject b ∷ [])) unseen) h)
 
 pub returns : goal.returns
@@ -28,6 +30,9 @@ unfolding RefinesReply meaning changed answer_of
 returns c = rw c.set_number.ensures.number (λ w h a.
     let s = c.args.state.now in
     let x = c.args.connector in
-    let seen : model.sees_connector w c.args.caller.client x ≡ true = connector_seen s w c.args.caller c.requires.caller h x ∙ sym c.sees_object.ensures ∙ c.if-not-sees_object.false in
-    carried_on s w (Ask c.args.caller.client (GetConnector x)) (Number c.unwrap_or.result) c.requires.invariants (call_verdict w c.args.caller.client (GetConnector x) a ∙ ap (λ b. first_failing (check NoModeObject b ∷ [])) seen)
+    let seen : model.sees_connector w c.args.caller.client x ≡ true =
+    connector_seen s w c.args.caller c.requires.caller h x ∙ sym c.sees_object.ensures
+    ∙ c.if-not-sees_object.false in
+    carried_on s w (Ask c.args.caller.client (GetConnector x)) (Number c.unwrap_or.result) c.requires.invariants
+    (call_verdict w c.args.caller.client (GetConnector x) a ∙ ap (λ b. first_failing (check NoModeObject b ∷ [])) seen)
     (ap Number (c.unwrap_or.ensures ∙ ap (λ o. unwrap_or o 0) (c.encoder_of.ensures ∙ ap (λ t. encoder_of t x) (sym (topology_is s w h))))) h)

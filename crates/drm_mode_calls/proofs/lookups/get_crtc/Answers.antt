@@ -19,7 +19,8 @@ unfolding RefinesReply meaning
 returns-then-not-sees_object c = rw c.set_denied.ensures.denied (λ w h a.
     let s = c.args.state.now in
     let x = c.args.crtc in
-    let unseen : model.sees_crtc w c.args.caller.client x ≡ false = crtc_seen s w c.args.caller c.requires.caller h x ∙ sym c.sees_object.ensures ∙ c.if-not-sees_object.true in
+    let unseen : model.sees_crtc w c.args.caller.client x ≡ false =
+    crtc_seen s w c.args.caller c.requires.caller h x ∙ sym c.sees_object.ensures ∙ c.if-not-sees_object.true in
     denied s w (Ask c.args.caller.client (GetCrtc x)) NoModeObject (call_verdict w c.args.caller.client (GetCrtc x) a ∙ ap (λ b. first_failing (check NoModeObject b ∷ [])) unseen) h)
 
 pub returns : goal.returns
@@ -27,6 +28,8 @@ unfolding RefinesReply meaning changed answer_of
 returns c = rw c.set_number.ensures.number (λ w h a.
     let s = c.args.state.now in
     let x = c.args.crtc in
-    let seen : model.sees_crtc w c.args.caller.client x ≡ true = crtc_seen s w c.args.caller c.requires.caller h x ∙ sym c.sees_object.ensures ∙ c.if-not-sees_object.false in
-    carried_on s w (Ask c.args.caller.client (GetCrtc x)) (Number c.shown.result) c.requires.invariants (call_verdict w c.args.caller.client (GetCrtc x) a ∙ ap (λ b. first_failing (check NoModeObject b ∷ [])) seen)
+    let seen : model.sees_crtc w c.args.caller.client x ≡ true =
+    crtc_seen s w c.args.caller c.requires.caller h x ∙ sym c.sees_object.ensures ∙ c.if-not-sees_object.false in
+    carried_on s w (Ask c.args.caller.client (GetCrtc x)) (Number c.shown.result) c.requires.invariants
+    (call_verdict w c.args.caller.client (GetCrtc x) a ∙ ap (λ b. first_failing (check NoModeObject b ∷ [])) seen)
     (ap Number (c.shown.ensures ∙ sym (shown_is s w h x))) h)

@@ -18,7 +18,8 @@ unfolding RefinesReply meaning
 returns-then-not-sees_object c = rw c.set_denied.ensures.denied (λ w h a.
     let s = c.args.state.now in
     let x = c.args.encoder in
-    let unseen : is_encoder w.topology x ≡ false = encoder_seen s w c.args.caller h x ∙ sym c.sees_object.ensures ∙ c.if-not-sees_object.true in
+    let unseen : is_encoder w.topology x ≡ false =
+    encoder_seen s w c.args.caller h x ∙ sym c.sees_object.ensures ∙ c.if-not-sees_object.true in
     denied s w (Ask c.args.caller.client (GetEncoder x)) NoModeObject (call_verdict w c.args.caller.client (GetEncoder x) a ∙ ap (λ b. first_failing (check NoModeObject b ∷ [])) unseen) h)
 
 pub returns : goal.returns
@@ -26,6 +27,8 @@ unfolding RefinesReply meaning changed answer_of
 returns c = rw c.set_number.ensures.number (λ w h a.
     let s = c.args.state.now in
     let x = c.args.encoder in
-    let seen : is_encoder w.topology x ≡ true = encoder_seen s w c.args.caller h x ∙ sym c.sees_object.ensures ∙ c.if-not-sees_object.false in
-    carried_on s w (Ask c.args.caller.client (GetEncoder x)) (Number c.visible_mask.result) c.requires.invariants (call_verdict w c.args.caller.client (GetEncoder x) a ∙ ap (λ b. first_failing (check NoModeObject b ∷ [])) seen)
+    let seen : is_encoder w.topology x ≡ true =
+    encoder_seen s w c.args.caller h x ∙ sym c.sees_object.ensures ∙ c.if-not-sees_object.false in
+    carried_on s w (Ask c.args.caller.client (GetEncoder x)) (Number c.visible_mask.result) c.requires.invariants
+    (call_verdict w c.args.caller.client (GetEncoder x) a ∙ ap (λ b. first_failing (check NoModeObject b ∷ [])) seen)
     (ap Number (c.visible_mask.ensures ∙ sym (mask_visible s w c.args.caller c.requires.caller h x))) h)

@@ -19,7 +19,8 @@ unfolding RefinesReply meaning
 returns-then-not-sees_object c = rw c.set_denied.ensures.denied (λ w h a.
     let s = c.args.state.now in
     let x = c.args.plane in
-    let unseen : model.sees_plane w c.args.caller.client x ≡ false = plane_seen s w c.args.caller c.requires.caller h x ∙ sym c.sees_object.ensures ∙ c.if-not-sees_object.true in
+    let unseen : model.sees_plane w c.args.caller.client x ≡ false =
+    plane_seen s w c.args.caller c.requires.caller h x ∙ sym c.sees_object.ensures ∙ c.if-not-sees_object.true in
     denied s w (Ask c.args.caller.client (GetPlane x)) NoModeObject (call_verdict w c.args.caller.client (GetPlane x) a ∙ ap (λ b. first_failing (check NoModeObject b ∷ [])) unseen) h)
 
 pub returns : goal.returns
@@ -27,6 +28,10 @@ unfolding RefinesReply meaning changed answer_of
 returns c = λ w h a.
     let s = c.args.state.now in
     let x = c.args.plane in
-    let seen : model.sees_plane w c.args.caller.client x ≡ true = plane_seen s w c.args.caller c.requires.caller h x ∙ sym c.sees_object.ensures ∙ c.if-not-sees_object.false in
-    carried_on s w (Ask c.args.caller.client (GetPlane x)) (Plane c.shown.result c.visible_mask.result) c.requires.invariants (call_verdict w c.args.caller.client (GetPlane x) a ∙ ap (λ b. first_failing (check NoModeObject b ∷ [])) seen)
-    (λ i. Plane ((c.shown.ensures ∙ sym (shown_is s w h x)) i) ((c.visible_mask.ensures ∙ sym (mask_visible s w c.args.caller c.requires.caller h x)) i)) h
+    let seen : model.sees_plane w c.args.caller.client x ≡ true =
+    plane_seen s w c.args.caller c.requires.caller h x ∙ sym c.sees_object.ensures ∙ c.if-not-sees_object.false in
+    carried_on s w (Ask c.args.caller.client (GetPlane x)) (Plane c.shown.result c.visible_mask.result)
+    c.requires.invariants
+    (call_verdict w c.args.caller.client (GetPlane x) a ∙ ap (λ b. first_failing (check NoModeObject b ∷ [])) seen)
+    (λ i. Plane ((c.shown.ensures ∙ sym (shown_is s w h x)) i) ((c.visible_mask.ensures ∙ sym (mask_visible s w c.args.caller c.requires.caller h x)) i))
+    h

@@ -16,5 +16,6 @@ returns c = λ w h a.
     let s = c.args.state.now in
     let client = c.args.caller.client in
     let caller = c.args.caller in
-    carried_on s w (Ask client GetPlaneResources) (ListIs c.visible.result) c.requires.invariants (call_verdict w client GetPlaneResources a)
+    carried_on s w (Ask client GetPlaneResources) (ListIs c.visible.result) c.requires.invariants
+    (call_verdict w client GetPlaneResources a)
     (ap ListIs (c.visible.ensures ∙ sym (planes_visible s w caller c.requires.caller h))) h

@@ -20,5 +20,7 @@ returns c = λ w h a.
     let connectors = c.visible-2.ensures ∙ sym (connectors_visible s w caller c.requires.caller h) in
     let encoders = c.ids.ensures ∙ sym (encoders_listed s w h) in
     let framebuffers = c.framebuffers_of.ensures ∙ sym (framebuffers_listed s w c.requires.invariants h client) in
-    carried_on s w (Ask client GetResources) (Resources c.visible.result c.visible-2.result c.ids.result c.framebuffers_of.result) c.requires.invariants (call_verdict w client GetResources a)
+    carried_on s w (Ask client GetResources)
+    (Resources c.visible.result c.visible-2.result c.ids.result c.framebuffers_of.result) c.requires.invariants
+    (call_verdict w client GetResources a)
     (λ i. Resources (crtcs i) (connectors i) (encoders i) (framebuffers i)) h

@@ -25,7 +25,9 @@ returns-in-Some-clause-refines c = rw c.set_denied.ensures.denied (λ w h a.
     (crtc_verdict s w c.args.caller c.requires.caller h c.args.crtc c.args.framebuffer c.args.connector a ∙ sym c.crtc_refusal.ensures ∙ c.in-Some.is) h)
 
 pub returns-clause-invariants : goal.returns-clause-invariants
-returns-clause-invariants c = shown_invariants c.args.state.now c.setcrtc.new.self c.requires.invariants c.laws.ensures (ap (λ (set : ModeSet). set.framebuffers) c.setcrtc.ensures)
+returns-clause-invariants c =
+    shown_invariants c.args.state.now c.setcrtc.new.self c.requires.invariants c.laws.ensures
+    (ap (λ (set : ModeSet). set.framebuffers) c.setcrtc.ensures)
 
 pub returns-clause-refines : goal.returns-clause-refines
 unfolding RefinesReply meaning changed answer_of
@@ -35,8 +37,13 @@ returns-clause-refines c = rw c.set_done.ensures.done (λ w h a.
     let there = can_show s.modes c.args.framebuffer in
     let route = is_route s c.args.crtc c.args.framebuffer c.args.connector in
     let none : refusal seen there route ≡ None = sym c.crtc_refusal.ensures ∙ c.in_default.is in
-    let it = is_first (is_crtc s.modes.topology c.args.crtc) (sees s c.args.caller c.args.crtc) ((c.args.connector == 0) || sees_object s c.args.caller Connector c.args.connector) (seen_by seen there route none) in
+    let it =
+    is_first (is_crtc s.modes.topology c.args.crtc) (sees s c.args.caller c.args.crtc)
+    ((c.args.connector == 0) || sees_object s c.args.caller Connector c.args.connector)
+    (seen_by seen there route none) in
     let place = crtc_place s c.requires.invariants c.args.crtc it in
-    carried_on (record s { modes = c.setcrtc.new.self }) w (Ask c.args.caller.client (SetCrtc c.args.crtc c.args.framebuffer c.args.connector)) Done (returns-clause-invariants c)
+    carried_on (record s { modes = c.setcrtc.new.self }) w
+    (Ask c.args.caller.client (SetCrtc c.args.crtc c.args.framebuffer c.args.connector)) Done
+    (returns-clause-invariants c)
     (crtc_verdict s w c.args.caller c.requires.caller h c.args.crtc c.args.framebuffer c.args.connector a ∙ none) refl
     (subst (λ m. Represents (record s { modes = m }) (record w { shown = model.with_shown w c.args.crtc c.args.framebuffer })) (sym c.setcrtc.ensures) (scanout_represents s w c.args.crtc c.args.framebuffer h place.0 place.1)))

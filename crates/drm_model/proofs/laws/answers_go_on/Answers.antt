@@ -8,4 +8,5 @@ unfolding Answers
 returns-clause-none c = λ w. refl
 
 pub returns-clause-one_more : goal.returns-clause-one_more
-returns-clause-one_more c = λ w events results v event result u answers step. answers_push w events results v event result u answers step
+returns-clause-one_more c =
+    λ w events results v event result u answers step. answers_push w events results v event result u answers step

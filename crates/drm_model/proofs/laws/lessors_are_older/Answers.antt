@@ -1,4 +1,4 @@
-use Rattle.drm_model.proofs.Lessors.{were_made, lessors_are_older}
+use Rattle.drm_model.proofs.OlderLessors.{were_made, lessors_are_older}
 use Rattle.drm_model.proofs.laws.lessors_are_older.Goals as goal
 
 pub returns-clause-made : goal.returns-clause-made

@@ -7,4 +7,5 @@ pub loop-scanout-preserved : goal.loop-scanout-preserved
 loop-scanout-preserved c =
     let l = c.loop-scanout in
     ap (set l.scanouts l.scanout-index) c.without.ensures
-    ∙ mapped_more (dark_of c.args.framebuffer) c.args.scanouts.now l.scanouts l.scanout-index c.loop-scanout-test.true l.invariant
+    ∙ mapped_more (dark_of c.args.framebuffer) c.args.scanouts.now l.scanouts l.scanout-index c.loop-scanout-test.true
+    l.invariant

@@ -1,17 +1,20 @@
 use Rattle.std.proofs.Common.{◌+◌, [], ◌∷◌, length-append, arith}
 use Rattle.drm_modes.specs.Numbers.{numbers_from}
-use Rattle.drm_modes.proofs.Listed.{number_told, numbers_told}
+use Rattle.drm_modes.proofs.ListsSoFar.{number_told, numbers_told}
 use Rattle.drm_modes.proofs.topologies.ids_from.Goals as goal
 
 pub loop-id-preserved : goal.loop-id-preserved
 loop-id-preserved c =
     let l = c.loop-id in
     record {
-      told = rw c.push.ensures (number_told l.ids (numbers_from c.args.first c.args.count) l.id (c.args.first + c.args.count) c.loop-id-test.true l.invariant.told);
+      told =
+          rw c.push.ensures
+          (number_told l.ids (numbers_from c.args.first c.args.count) l.id (c.args.first + c.args.count) c.loop-id-test.true l.invariant.told);
       short = rw c.push.ensures (omega (arith, length-append l.ids (l.id ∷ []), l.invariant.short));
     }
 
 pub returns : goal.returns
 returns c =
     let l = c.loop-id in
-    numbers_told l.ids (numbers_from c.args.first c.args.count) l.id (c.args.first + c.args.count) (omega (arith, c.loop-id-test.false)) l.invariant.told
+    numbers_told l.ids (numbers_from c.args.first c.args.count) l.id (c.args.first + c.args.count)
+    (omega (arith, c.loop-id-test.false)) l.invariant.told

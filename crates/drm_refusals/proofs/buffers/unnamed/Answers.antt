@@ -13,7 +13,9 @@ returns c =
     let steps = c.steps-steps.result.now in
     let key = key_of (Name c.from.result) in
     let is = ap history_of c.steps-steps.ensures ∙ c.trail-trail.ensures in
-    let has = subst (λ all. Has (history_of (take named.past all)) named.client named.handle buffer) (sym c.steps-steps.ensures) c.in-Some-object_of.ensures.object in
+    let has =
+    subst (λ all. Has (history_of (take named.past all)) named.client named.handle buffer)
+    (sym c.steps-steps.ensures) c.in-Some-object_of.ensures.object in
     let its : IsNamed c.args.ledger.now c.from.result buffer named.client (named.past + 1) = record {
       by = published_by steps c.args.ledger.now key named is c.in-Some.ensures.within c.in-Some.ensures.last;
       of = named_of steps c.args.ledger.now key named buffer is c.in-Some.ensures.last has;

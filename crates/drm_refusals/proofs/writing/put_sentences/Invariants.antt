@@ -4,4 +4,5 @@ use Rattle.drm_refusals.specs.Texts.{lines}
 use Rattle.drm_refusals.proofs.writing.put_sentences.Given as goal
 
 abbrev pub invariant-loop-sentence : goal.invariant-loop-sentence
-invariant-loop-sentence l = string_bytes l.text ≡ string_bytes l.initial.text ++ lines (take l.sentence-index l.sentences)
+invariant-loop-sentence l =
+    string_bytes l.text ≡ string_bytes l.initial.text ++ lines (take l.sentence-index l.sentences)

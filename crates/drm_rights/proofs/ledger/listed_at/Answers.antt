@@ -16,4 +16,5 @@ returns-then-number-eq0 c =
 pub returns : goal.returns
 returns c =
     c.listed.ensures
-    ∙ sym (listed_at c.args.steps.now c.args.number c.index-steps-place.result (let some = c.if-number-eq0.false in omega (arith, some)) c.if-number-steps.false c.index-steps-place.is)
+    ∙ sym
+    (listed_at c.args.steps.now c.args.number c.index-steps-place.result (let some = c.if-number-eq0.false in omega (arith, some)) c.if-number-steps.false c.index-steps-place.is)

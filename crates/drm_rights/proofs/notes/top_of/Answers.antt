@@ -6,7 +6,11 @@ use Rattle.drm_rights.proofs.notes.top_of.Goals as goal
 
 pub lessors-preserved : goal.lessors-preserved
 lessors-preserved c =
-    top_some (lessor_noted c.args.leases.now) (noted_falls c.args.leases.now) c.lessors.top c.in-Some.lessor (sym c.in-Some.ensures.lessor) ∙ c.lessors.invariant
+    top_some (lessor_noted c.args.leases.now) (noted_falls c.args.leases.now) c.lessors.top c.in-Some.lessor
+    (sym c.in-Some.ensures.lessor)
+    ∙ c.lessors.invariant
 
 pub returns : goal.returns
-returns c = top_none (lessor_noted c.args.leases.now) c.lessors.top (sym c.lessor_of.ensures.lessor ∙ c.in_default.is) ∙ c.lessors.invariant
+returns c =
+    top_none (lessor_noted c.args.leases.now) c.lessors.top (sym c.lessor_of.ensures.lessor ∙ c.in_default.is)
+    ∙ c.lessors.invariant

@@ -7,7 +7,9 @@ pub returns-in-Unanswered : goal.returns-in-Unanswered
 returns-in-Unanswered g c = unanswered_uses _ _ c.args.lines.now _ c.line.ensures _ _ c.in-Unanswered.ensures
 
 pub returns-in-Answered : goal.returns-in-Answered
-returns-in-Answered g c = answered_uses _ _ c.args.lines.now _ c.line.ensures c.interpret.new.outcome _ _ _ _ c.write_line.result _ c.of_writing.ensures c.in-Answered.ensures c.write_line.ensures
+returns-in-Answered g c =
+    answered_uses _ _ c.args.lines.now _ c.line.ensures c.interpret.new.outcome _ _ _ _ c.write_line.result _
+    c.of_writing.ensures c.in-Answered.ensures c.write_line.ensures
 
 pub returns-in-Malformed : goal.returns-in-Malformed
 returns-in-Malformed g c = let e = c.in-Malformed.ensures in malformed_uses _ _ c.args.lines.now _ c.line.ensures _ _ _ (c.malformed.ensures ∙ ap (λ n. ends.Malformed n) c.number.ensures) e.0 e.1

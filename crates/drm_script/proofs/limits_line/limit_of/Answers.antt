@@ -5,10 +5,14 @@ use Rattle.drm_script.proofs.limits_line.limit_of.Goals as goal
 
 pub returns-then-not-are_in_range-clause-fault : goal.returns-then-not-are_in_range-clause-fault
 returns-then-not-are_in_range-clause-fault c =
-    let is = number_was 32 (words_of c.args.text.now) (c.in_ok-number.number, words_of c.in_ok-number.rest.now) c.in_ok-number.ensures.reading in
+    let is =
+    number_was 32 (words_of c.args.text.now) (c.in_ok-number.number, words_of c.in_ok-number.rest.now)
+    c.in_ok-number.ensures.reading in
     rw is.words (rw is.number (search rules), refl)
 
 pub returns-clause-passed : goal.returns-clause-passed
 returns-clause-passed c =
-    let is = number_was 32 (words_of c.args.text.now) (c.in_ok-number.number, words_of c.in_ok-number.rest.now) c.in_ok-number.ensures.reading in
+    let is =
+    number_was 32 (words_of c.args.text.now) (c.in_ok-number.number, words_of c.in_ok-number.rest.now)
+    c.in_ok-number.ensures.reading in
     rw is.words (rw is.number (search rules), refl)

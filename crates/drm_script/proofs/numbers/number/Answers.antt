@@ -18,5 +18,6 @@ returns-in_default c = number_no_text c.args.word.now c.in_default.ensures.cases
 pub returns : goal.returns
 returns c =
     let same : c.in-Ok.text.now ≡ c.args.word.now = c.in-Ok.ensures.cases.0 in
-    let plain : get_or c.in-Ok.text.now 0 0 ≢ 43 = λ e. c.if-word-eq-PLUS.false (ap (λ w. get_or w 0 0) (sym same) ∙ e) in
+    let plain : get_or c.in-Ok.text.now 0 0 ≢ 43 =
+    λ e. c.if-word-eq-PLUS.false (ap (λ w. get_or w 0 0) (sym same) ∙ e) in
     c.ok.ensures.value ∙ number_parsed c.in-Ok.text.now c.parse.result plain c.parse.ensures.value.0 ∙ ap number_of same

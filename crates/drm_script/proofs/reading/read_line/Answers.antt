@@ -11,5 +11,6 @@ pub returns-in-Ok-clause-reading : goal.returns-in-Ok-clause-reading
 unfolding reading_of
 returns-in-Ok-clause-reading c =
     let short : nat_lt 255 (length c.args.line.now) ≡ false = grind (arith, nat_tests, c.if-line-gt-LONGEST.false) in
-    let ascii : list_all is_ascii c.args.line.now ≡ true = all_ascii c.args.line.now ∙ ap is_none (sym c.first_foreign.ensures.place ∙ c.in_default.is) in
+    let ascii : list_all is_ascii c.args.line.now ≡ true =
+    all_ascii c.args.line.now ∙ ap is_none (sym c.first_foreign.ensures.place ∙ c.in_default.is) in
     rw (short, ascii, ← c.is_comment.ensures, c.if-is_comment.false) c.in-Ok.ensures.reading

@@ -37,8 +37,11 @@ loop-kind-preserved g c =
     let text = kind_text (rows_of c.args.device.now) in
     record {
       all = refl;
-      pays = subst (λ all. WriteCost (g.K.Sink.trace c.args.sink.now) (g.K.Sink.trace c.list_kind.new.sink) all c.args.turns c.list_kind.new.turns)
-          (next-text text kinds c.loop-kind.kind-index _ c.loop-kind-test.true) (WriteCost-then c.loop-kind.invariant.pays c.in-Whole.ensures);
+      pays =
+          subst
+          (λ all. WriteCost (g.K.Sink.trace c.args.sink.now) (g.K.Sink.trace c.list_kind.new.sink) all c.args.turns c.list_kind.new.turns)
+          (next-text text kinds c.loop-kind.kind-index _ c.loop-kind-test.true)
+          (WriteCost-then c.loop-kind.invariant.pays c.in-Whole.ensures);
     }
 
 pub returns : goal.returns

@@ -21,10 +21,14 @@ use Rattle.drm_server.specs.contracts.serving.Task as task
 use Rattle.drm_server.proofs.serving.start_serving.Goals as goal
 
 task_send : IsSend task.the_row
-task_send = recorded_send _ _ _ task.the_type.to_one (struct_send (shape task.the_type) (device_send, (search (crosses, sendable) depth 20, (accepts.the_field_send, tt))))
+task_send =
+    recorded_send _ _ _ task.the_type.to_one
+    (struct_send (shape task.the_type) (device_send, (search (crosses, sendable) depth 20, (accepts.the_field_send, tt))))
 
 unserved_send : IsSend unserved.the_row
-unserved_send = recorded_send _ _ _ unserved.the_type.to_one (struct_send (shape unserved.the_type) (fault.the_field_send, (device_send, tt)))
+unserved_send =
+    recorded_send _ _ _ unserved.the_type.to_one
+    (struct_send (shape unserved.the_type) (fault.the_field_send, (device_send, tt)))
 
 open_sync : IsSync open_connections.the_row
 open_sync = crossing.the_sync
@@ -34,10 +38,12 @@ open_sync = crossing.the_sync
 pub spawn-server-requires-send-F : goal.spawn-server-requires-send-F
 spawn-server-requires-send-F g c κs within =
     let rt : RattleType = (shr_ref_field record { mir = named 5; lft = κs.1.1.1.1.1.0 } (param 1 g.row.R) tt).row in
-    let connections : RattleType = (shr_ref_field record { mir = named 6; lft = κs.1.1.1.1.1.1.0 } open_connections.the_row tt).row in
+    let connections : RattleType =
+    (shr_ref_field record { mir = named 6; lft = κs.1.1.1.1.1.1.0 } open_connections.the_row tt).row in
     param_send _ _ (arg_send _ no _ (closure_send (codes "drm_server::serving::fn::start_serving::spawn+Self")
     (rt ∷ global.the_row ∷ task.the_row ∷ connections ∷ stream.the_row ∷ [])
     (shr_send _ _ _ c.type_bounds.sync-R, (send, (task_send, (shr_send _ _ _ open_sync, (search (crosses, sendable) depth 20, tt)))))))
 
 pub spawn-server-requires-send-T : goal.spawn-server-requires-send-T
-spawn-server-requires-send-T g c κs within = param_send _ _ (arg_send _ no _ (result.the_send _ _ device_send unserved_send))
+spawn-server-requires-send-T g c κs within =
+    param_send _ _ (arg_send _ no _ (result.the_send _ _ device_send unserved_send))

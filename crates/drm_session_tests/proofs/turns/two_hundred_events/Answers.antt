@@ -13,7 +13,8 @@ use Rattle.drm_session_tests.proofs.turns.two_hundred_events.Goals as goal
 pub join-requires-send-F : goal.join-requires-send-F
 join-requires-send-F g c κs within =
     let rt : RattleType = (shr_ref_field record { mir = named 6; lft = κs.1.1.1.1.1.1.0 } (param 0 g.row.R) tt).row in
-    let shared : RattleType = (shr_ref_field record { mir = named 7; lft = κs.1.1.1.1.1.1.1.0 } (param 1 g.row.D) tt).row in
+    let shared : RattleType =
+    (shr_ref_field record { mir = named 7; lft = κs.1.1.1.1.1.1.1.0 } (param 1 g.row.D) tt).row in
     param_send _ _ (arg_send _ no _ (closure_send (codes "drm_session_tests::turns::fn::two_hundred_events::join+arg2+Self") (rt ∷ shared ∷ participant.the_row ∷ [])
     (shr_send _ _ _ c.type_bounds.sync-R, (shr_send _ _ _ c.type_bounds.sync-D, (participant_send, tt)))))
 

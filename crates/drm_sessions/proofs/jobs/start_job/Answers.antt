@@ -16,7 +16,8 @@ use Rattle.drm_sessions.proofs.jobs.start_job.Goals as goal
 pub spawn_with-requires-send-F : goal.spawn_with-requires-send-F
 spawn_with-requires-send-F g c κs within =
     let rt : RattleType = (shr_ref_field record { mir = named 6; lft = κs.1.1.1.1.1.1.0 } (param 1 g.row.R) tt).row in
-    let shared : RattleType = (shr_ref_field record { mir = named 7; lft = κs.1.1.1.1.1.1.1.0 } (param 2 g.row.D) tt).row in
+    let shared : RattleType =
+    (shr_ref_field record { mir = named 7; lft = κs.1.1.1.1.1.1.1.0 } (param 2 g.row.D) tt).row in
     let work : RattleType = job_type.the_row (param 3 g.row.G) (param 4 g.row.S) (param 5 g.row.K) in
     param_send _ _ (arg_send _ no _ (closure_send (codes "drm_sessions::jobs::fn::start_job::spawn_with+Self") (rt ∷ shared ∷ participant.the_row ∷ work ∷ []) (
       shr_send _ _ _ c.type_bounds.sync-R,
@@ -30,4 +31,5 @@ spawn_with-requires-send-F g c κs within =
     )))
 
 pub spawn_with-requires-send-T : goal.spawn_with-requires-send-T
-spawn_with-requires-send-T g c κs within = param_send _ _ (arg_send _ no _ (returned_send _ _ c.type_bounds.send-S c.type_bounds.send-K))
+spawn_with-requires-send-T g c κs within =
+    param_send _ _ (arg_send _ no _ (returned_send _ _ c.type_bounds.send-S c.type_bounds.send-K))

@@ -4,7 +4,7 @@ use denote.Exit.{no}
 use denote.Param.Send.{arg_sync, param_sync}
 use Rattle.drm_turns.specs.Participants.{IsChild, IsSplitOff, ParticipantView}
 use Rattle.drm_turns.proofs.Crossing.{shared_sync}
-use Rattle.drm_turns.proofs.Taken.{still_but_out}
+use Rattle.drm_turns.proofs.ParticipantsIn.{still_but_out}
 use Rattle.drm_sessions.specs.Jobs.{HasTurns}
 use Rattle.drm_sessions.proofs.Matching.{Matched-push}
 use Rattle.drm_sessions.proofs.many.start_all.Goals as goal
@@ -30,9 +30,14 @@ loop-job-preserved g c =
       can = tt;
       ends = tt;
       own = still_but_out c.args.own.now _ _ _ before.own c.split-participant.ensures.same;
-      outstanding = (let more = ap (λ (s : ParticipantView). s.outstanding) c.split-participant.ensures.same in let outstanding = before.outstanding in omega arith);
-      turns = All-tail (λ job. HasTurns g.S.Source.trace g.K.Sink.trace job) _ _ (rw c.in-Some.ensures.steps.0 at before.turns);
-      started = rw c.push_reserved.ensures.items (Matched-push (λ job handle. handle.promise.job.value ≡ job) _ _ _ _ before.started c.in-Some-start_job.ensures.job);
+      outstanding =
+          (let more = ap (λ (s : ParticipantView). s.outstanding) c.split-participant.ensures.same in let outstanding = before.outstanding in omega arith);
+      turns =
+          All-tail (λ job. HasTurns g.S.Source.trace g.K.Sink.trace job) _ _
+          (rw c.in-Some.ensures.steps.0 at before.turns);
+      started =
+          rw c.push_reserved.ensures.items
+          (Matched-push (λ job handle. handle.promise.job.value ≡ job) _ _ _ _ before.started c.in-Some-start_job.ensures.job);
       split = rw c.push_reserved.ensures.items (All-push (λ handle. IsSplitOff c.args.own.now handle.promise.participant.value) _ _ before.split
           (subst (λ (s : ParticipantView). IsSplitOff c.args.own.now s) (sym c.in-Some-start_job.ensures.participant) split));
       children = rw c.push_reserved.ensures.items (All-push (λ handle. IsChild c.args.own.now handle.promise.participant.value) _ _ before.children
@@ -44,4 +49,6 @@ pub start_job-requires-sync-D : goal.start_job-requires-sync-D
 start_job-requires-sync-D g c κs within = param_sync _ _ (arg_sync _ no _ shared_sync)
 
 pub start_job-requires-clause-turns : goal.start_job-requires-clause-turns
-start_job-requires-clause-turns g c κs within = All-head (λ job. HasTurns g.S.Source.trace g.K.Sink.trace job) _ _ (rw c.in-Some.ensures.steps.0 at c.loop-job.invariant.turns)
+start_job-requires-clause-turns g c κs within =
+    All-head (λ job. HasTurns g.S.Source.trace g.K.Sink.trace job) _ _
+    (rw c.in-Some.ensures.steps.0 at c.loop-job.invariant.turns)

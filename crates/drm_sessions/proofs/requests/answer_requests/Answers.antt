@@ -1,24 +1,29 @@
 use Rattle.std.proofs.Common.{arith}
 use Rattle.drm_sessions.specs.Gates.{Gated}
-use Rattle.drm_sessions.proofs.Ending.{one_if_journaled-at-most, SoFar-none, SoFar-more, IoCost-none, IoCost-then, IoCost-read, IoCost-write, stopped-reading, stopped-writing}
+use Rattle.drm_sessions.proofs.SessionEnds.{one_if_journaled-at-most, SoFar-none, SoFar-more, IoCost-none, IoCost-then, IoCost-read, IoCost-write, stopped-reading, stopped-writing}
 use Rattle.drm_sessions.proofs.Telling.{Untold-none, Untold-then, tells-read, tells-write}
 use Rattle.drm_sessions.proofs.requests.answer_requests.Goals as goal
 
 pub asking-init : goal.asking-init
-asking-init g c = (SoFar-none (Gated g.A.Access.answers g.G.Gate.passes) c.args.client _ _ _ _, IoCost-none _ _ _, omega arith, Untold-none _, Untold-none _)
+asking-init g c =
+    (SoFar-none (Gated g.A.Access.answers g.G.Gate.passes) c.args.client _ _ _ _, IoCost-none _ _ _, omega arith, Untold-none _, Untold-none _)
 
 pub returns-in-Err-clause-ends : goal.returns-in-Err-clause-ends
-returns-in-Err-clause-ends g c = stopped-reading (Gated g.A.Access.answers g.G.Gate.passes) _ _ c.asking.invariant.0 c.in-Err.ensures.0 c.in-Err.ensures.1
+returns-in-Err-clause-ends g c =
+    stopped-reading (Gated g.A.Access.answers g.G.Gate.passes) _ _ c.asking.invariant.0 c.in-Err.ensures.0
+    c.in-Err.ensures.1
 
 pub returns-in-Err-clause-tells : goal.returns-in-Err-clause-tells
-returns-in-Err-clause-tells g c = tells-read _ _ c.in-Err.ensures.1 c.asking.invariant.3 c.asking.invariant.4 c.in-Err.ensures.3
+returns-in-Err-clause-tells g c =
+    tells-read _ _ c.in-Err.ensures.1 c.asking.invariant.3 c.asking.invariant.4 c.in-Err.ensures.3
 
 pub returns-in-Err-wrote-clause-ends : goal.returns-in-Err-wrote-clause-ends
 returns-in-Err-wrote-clause-ends g c =
     let answered = c.answer_call-answered.ensures in
     let wrote = rw c.in-Err-wrote.is at answered.3 in
     let made = rw c.in-Ok.ensures.2 at answered.1 in
-    stopped-writing (Gated g.A.Access.answers g.G.Gate.passes) _ _ c.asking.invariant.0 c.in-Ok.ensures.1 (made, c.before-in-asking.ensures.passes) answered.2 wrote.0 wrote.1 wrote.2
+    stopped-writing (Gated g.A.Access.answers g.G.Gate.passes) _ _ c.asking.invariant.0 c.in-Ok.ensures.1
+    (made, c.before-in-asking.ensures.passes) answered.2 wrote.0 wrote.1 wrote.2
 
 pub returns-in-Err-wrote-clause-tells : goal.returns-in-Err-wrote-clause-tells
 returns-in-Err-wrote-clause-tells g c =
@@ -36,7 +41,8 @@ asking-preserved g c =
     let spent = c.in-Ok.ensures.1.spends in
     let made = rw c.in-Ok.ensures.2 at answered.1 in
     let so_far = c.asking.invariant.2 in (
-      SoFar-more (Gated g.A.Access.answers g.G.Gate.passes) _ c.asking.invariant.0 c.in-Ok.ensures.1 (made, c.before-in-asking.ensures.passes) answered.2 wrote.0,
+      SoFar-more (Gated g.A.Access.answers g.G.Gate.passes) _ c.asking.invariant.0 c.in-Ok.ensures.1
+          (made, c.before-in-asking.ensures.passes) answered.2 wrote.0,
       IoCost-then c.asking.invariant.1 (IoCost-then (IoCost-read _ c.in-Ok.ensures.1.spends) (IoCost-write _ wrote.0)),
       omega arith,
       Untold-then c.asking.invariant.3 c.in-Ok.ensures.1.untold,

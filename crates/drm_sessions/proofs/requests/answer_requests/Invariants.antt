@@ -1,5 +1,5 @@
 use Rattle.std.proofs.Common.{◌+◌, ◌≤◌}
-use Rattle.drm_sessions.proofs.Ending.{SoFar}
+use Rattle.drm_sessions.proofs.SessionEnds.{SoFar}
 use Rattle.drm_sessions.specs.Gates.{Gated}
 use Rattle.drm_sessions.specs.Reading.{Untold}
 use Rattle.drm_sessions.specs.Ends.{IoCost}
@@ -7,9 +7,11 @@ use Rattle.drm_sessions.proofs.requests.answer_requests.Given as goal
 
 abbrev pub invariant-asking : goal.invariant-asking
 invariant-asking g l =
-    SoFar (Gated g.A.Access.answers g.G.Gate.passes) l.client (l.fn.access, l.fn.gate) (l.access, l.gate) (g.S.Source.trace l.fn.source) (g.S.Source.trace l.source)
+    SoFar (Gated g.A.Access.answers g.G.Gate.passes) l.client (l.fn.access, l.fn.gate) (l.access, l.gate)
+    (g.S.Source.trace l.fn.source) (g.S.Source.trace l.source)
     (g.K.Sink.trace l.fn.sink) (g.K.Sink.trace l.sink) l.fn.inbox l.inbox l.steps
-    × IoCost (g.S.Source.trace l.fn.source) (g.S.Source.trace l.source) (g.K.Sink.trace l.fn.sink) (g.K.Sink.trace l.sink) l.fn.turns l.turns
+    × IoCost (g.S.Source.trace l.fn.source) (g.S.Source.trace l.source) (g.K.Sink.trace l.fn.sink)
+    (g.K.Sink.trace l.sink) l.fn.turns l.turns
     × (l.steps + l.turns ≤ l.fn.turns)
     × Untold (g.S.Source.trace l.fn.source).counts (g.S.Source.trace l.source).counts
     × Untold (g.K.Sink.trace l.fn.sink).counts (g.K.Sink.trace l.sink).counts

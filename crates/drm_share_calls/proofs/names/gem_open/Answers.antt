@@ -18,20 +18,28 @@ use Rattle.drm_share_calls.proofs.names.gem_open.Goals as goal
 pub returns-in_default-clause-refines : goal.returns-in_default-clause-refines
 unfolding RefinesCall meaning
 returns-in_default-clause-refines c = rw c.set_denied.ensures.denied (λ w r a.
-    let none = no_name c.args.state.now w r.rows c.args.name c.lookup.ensures.names (sym c.in_default.is ∙ c.lookup.ensures.object) in
+    let none =
+    no_name c.args.state.now w r.rows c.args.name c.lookup.ensures.names
+    (sym c.in_default.is ∙ c.lookup.ensures.object) in
     denied c.args.state.now w (Ask c.args.client (GemOpen c.args.name)) NoName (call_verdict w c.args.client (GemOpen c.args.name) a ∙ rw none refl) r.rows)
 
 pub new_handle-requires-clause-known : goal.new_handle-requires-clause-known
-new_handle-requires-clause-known c = name_known c.args.state.now c.requires.precondition.invariants c.args.name c.in-Some.object (sym c.in-Some.is ∙ c.lookup.ensures.object)
+new_handle-requires-clause-known c =
+    name_known c.args.state.now c.requires.precondition.invariants c.args.name c.in-Some.object
+    (sym c.in-Some.is ∙ c.lookup.ensures.object)
 
 pub size-size-requires : goal.size-size-requires
-size-size-requires c = (objects_counted c.args.state.now c.requires.precondition.invariants).there c.in-Some.object (name_known c.args.state.now c.requires.precondition.invariants c.args.name c.in-Some.object (sym c.in-Some.is ∙ c.lookup.ensures.object))
+size-size-requires c =
+    (objects_counted c.args.state.now c.requires.precondition.invariants).there c.in-Some.object
+    (name_known c.args.state.now c.requires.precondition.invariants c.args.name c.in-Some.object (sym c.in-Some.is ∙ c.lookup.ensures.object))
 
 pub returns-in_err-handle-clause-refines : goal.returns-in_err-handle-clause-refines
 unfolding RefinesCall AddsHandle changed meaning
 returns-in_err-handle-clause-refines c = λ w r a.
     let p = err_from_is_err_and c.from_residual.result c.from_residual.ensures.1 in
-    let there = name_there c.args.state.now w r.rows c.args.name c.in-Some.object c.lookup.ensures.names (sym c.in-Some.is ∙ c.lookup.ensures.object) in
+    let there =
+    name_there c.args.state.now w r.rows c.args.name c.in-Some.object c.lookup.ensures.names
+    (sym c.in-Some.is ∙ c.lookup.ensures.object) in
     let came = c.in_err-handle.ensures.adds w r.rows in
     rw p.1 (refused c.new_handle.new.state w (Ask c.args.client (GemOpen c.args.name)) p.0 (call_verdict w c.args.client (GemOpen c.args.name) a ∙ rw (there, came.0) refl)
     (rw there (longer w c.args.client (step_number_at c.args.state.now.objects.objects c.in-Some.object) None)) came.1)
@@ -39,8 +47,12 @@ returns-in_err-handle-clause-refines c = λ w r a.
 pub returns-in_default-2-clause-refines : goal.returns-in_default-2-clause-refines
 unfolding RefinesCall AddsHandle meaning
 returns-in_default-2-clause-refines c = rw c.set_denied-in_default-2.ensures.denied (λ w r a.
-    let there = name_there c.args.state.now w r.rows c.args.name c.in-Some.object c.lookup.ensures.names (sym c.in-Some.is ∙ c.lookup.ensures.object) in
-    let came = added_none w c.args.client (step_number_at c.args.state.now.objects.objects c.in-Some.object) None c.new_handle.new.state c.in_ok-handle.field-0 c.in_default-2.is (c.in_ok-handle.ensures.adds w r.rows) in
+    let there =
+    name_there c.args.state.now w r.rows c.args.name c.in-Some.object c.lookup.ensures.names
+    (sym c.in-Some.is ∙ c.lookup.ensures.object) in
+    let came =
+    added_none w c.args.client (step_number_at c.args.state.now.objects.objects c.in-Some.object) None
+    c.new_handle.new.state c.in_ok-handle.field-0 c.in_default-2.is (c.in_ok-handle.ensures.adds w r.rows) in
     denied c.new_handle.new.state w (Ask c.args.client (GemOpen c.args.name)) Full (call_verdict w c.args.client (GemOpen c.args.name) a ∙ rw (there, came.0) refl) came.1)
 
 pub returns-clause-refines : goal.returns-clause-refines
@@ -49,6 +61,13 @@ returns-clause-refines c = λ w r a.
     let s = c.args.state.now in
     let found = sym c.in-Some.is ∙ c.lookup.ensures.object in
     let there = name_there s w r.rows c.args.name c.in-Some.object c.lookup.ensures.names found in
-    let came = added_some w c.args.client (step_number_at s.objects.objects c.in-Some.object) None c.new_handle.new.state c.in_ok-handle.field-0 c.in-Some-2.handle c.in-Some-2.is (c.in_ok-handle.ensures.adds w r.rows) in
-    let size = size_found s w c.in-Some.object c.size-size.result c.requires.precondition.invariants (name_known s c.requires.precondition.invariants c.args.name c.in-Some.object found) r.rows c.size-size.ensures in
-    carried c.new_handle.new.state w (Ask c.args.client (GemOpen c.args.name)) _ (call_verdict w c.args.client (GemOpen c.args.name) a ∙ rw (there, came.0) refl) (rw (there, came.0, size) refl) (rw there came.1)
+    let came =
+    added_some w c.args.client (step_number_at s.objects.objects c.in-Some.object) None c.new_handle.new.state
+    c.in_ok-handle.field-0 c.in-Some-2.handle c.in-Some-2.is (c.in_ok-handle.ensures.adds w r.rows) in
+    let size =
+    size_found s w c.in-Some.object c.size-size.result c.requires.precondition.invariants
+    (name_known s c.requires.precondition.invariants c.args.name c.in-Some.object found) r.rows c.size-size.ensures
+    in
+    carried c.new_handle.new.state w (Ask c.args.client (GemOpen c.args.name)) _
+    (call_verdict w c.args.client (GemOpen c.args.name) a ∙ rw (there, came.0) refl) (rw (there, came.0, size) refl)
+    (rw there came.1)

@@ -22,17 +22,22 @@ use Rattle.drm_state.proofs.Refinements.{denied, carried, refused, call_verdict}
 use Rattle.drm_state.proofs.Contents.{holds_it}
 use Rattle.drm_state.proofs.SharedLookups.{next_token_found}
 use Rattle.drm_state.proofs.SharedChanges.{exported, exported_invariants, can_refer}
-use Rattle.drm_state.proofs.Held.{among, has_it, object_is, some_free}
+use Rattle.drm_state.proofs.FoundHandle.{among, has_it, object_is, some_free}
 use Rattle.drm_share_calls.proofs.tokens.prime_export.Goals as goal
 
 -- a new token makes the list of tokens longer
-longer : (w : Rows) (c h o : ℕ) → IsLonger w (record w { tokens = w.tokens ++ record { token = new_token w; client = c; object = o } ∷ []; last_token = new_token w; holds = with_export_order c h (step_number w) w.holds })
-longer w c h o = inr (inr (inr (inr (inr (inr (inl (omega (arith, length-append w.tokens (record { token = new_token w; client = c; object = o } ∷ [])))))))))
+longer : (w : Rows) (c h o : ℕ)
+    → IsLonger w (record w { tokens = w.tokens ++ record { token = new_token w; client = c; object = o } ∷ []; last_token = new_token w; holds = with_export_order c h (step_number w) w.holds })
+longer w c h o =
+    inr
+    (inr (inr (inr (inr (inr (inl (omega (arith, length-append w.tokens (record { token = new_token w; client = c; object = o } ∷ [])))))))))
 
 pub returns-in_default-clause-refines : goal.returns-in_default-clause-refines
 unfolding RefinesCall meaning
 returns-in_default-clause-refines c = rw c.set_denied.ensures.denied (λ w r a.
-    let none = holds_it c.args.state.now w r.rows c.args.client c.args.handle _ None c.object_of.ensures.object c.in_default.is in
+    let none =
+    holds_it c.args.state.now w r.rows c.args.client c.args.handle _ None c.object_of.ensures.object c.in_default.is
+    in
     denied c.args.state.now w (Ask c.args.client (PrimeHandleToFd c.args.handle)) NoHandle (call_verdict w c.args.client (PrimeHandleToFd c.args.handle) a ∙ rw none refl) r.rows)
 
 pub returns-in-Err-Full-clause-refines : goal.returns-in-Err-Full-clause-refines
@@ -41,8 +46,10 @@ returns-in-Err-Full-clause-refines c = rw c.set_denied-in-Err-Full.ensures.denie
     let s = c.args.state.now in
     let found = sym c.in-Some.is ∙ c.object_of.ensures.object in
     let one = has_it s c.args.client c.args.handle c.in-Some.object c.requires.precondition.invariants found w r.rows in
-    let none = next_token_found s w r.rows ∙ c.in-Err-Full.ensures.full.0 (subst IsFull (sym c.in-Err-Full.field-0-is) tt) in
-    denied (record s { tokens = c.export.new.self }) w (Ask c.args.client (PrimeHandleToFd c.args.handle)) Full (call_verdict w c.args.client (PrimeHandleToFd c.args.handle) a ∙ rw (one, none) refl)
+    let none =
+    next_token_found s w r.rows ∙ c.in-Err-Full.ensures.full.0 (subst IsFull (sym c.in-Err-Full.field-0-is) tt) in
+    denied (record s { tokens = c.export.new.self }) w (Ask c.args.client (PrimeHandleToFd c.args.handle)) Full
+    (call_verdict w c.args.client (PrimeHandleToFd c.args.handle) a ∙ rw (one, none) refl)
     (subst (λ ts. Represents (record s { tokens = ts }) w) (sym c.in-Err-Full.ensures.err) r.rows))
 
 pub returns-in-Err-NoMemory-clause-refines : goal.returns-in-Err-NoMemory-clause-refines
@@ -51,9 +58,14 @@ returns-in-Err-NoMemory-clause-refines c = λ w r a.
     let s = c.args.state.now in
     let found = sym c.in-Some.is ∙ c.object_of.ensures.object in
     let one = has_it s c.args.client c.args.handle c.in-Some.object c.requires.precondition.invariants found w r.rows in
-    let number = object_is s c.args.client c.args.handle c.in-Some.object c.requires.precondition.invariants found w r.rows in
-    let free = ap is_some (next_token_found s w r.rows) ∙ some_free (tokens.next_token s.tokens) (λ e. subst IsFull c.in-Err-NoMemory.field-0-is (c.in-Err-NoMemory.ensures.full.1 e)) in
-    refused (record s { tokens = c.export.new.self }) w (Ask c.args.client (PrimeHandleToFd c.args.handle)) (record {}) (call_verdict w c.args.client (PrimeHandleToFd c.args.handle) a ∙ rw (one, free) refl)
+    let number =
+    object_is s c.args.client c.args.handle c.in-Some.object c.requires.precondition.invariants found w r.rows in
+    let free =
+    ap is_some (next_token_found s w r.rows)
+    ∙ some_free (tokens.next_token s.tokens)
+    (λ e. subst IsFull c.in-Err-NoMemory.field-0-is (c.in-Err-NoMemory.ensures.full.1 e)) in
+    refused (record s { tokens = c.export.new.self }) w (Ask c.args.client (PrimeHandleToFd c.args.handle)) (record {})
+    (call_verdict w c.args.client (PrimeHandleToFd c.args.handle) a ∙ rw (one, free) refl)
     (rw number (longer w c.args.client c.args.handle (step_number_at s.objects.objects c.in-Some.object)))
     (subst (λ ts. Represents (record s { tokens = ts }) w) (sym c.in-Err-NoMemory.ensures.err) r.rows)
 
@@ -61,13 +73,16 @@ pub refer-requires : goal.refer-requires
 refer-requires c =
     let s = c.args.state.now in
     let found = sym c.in-Some.is ∙ c.object_of.ensures.object in
-    can_refer s c.in-Some.object c.args.step_number c.requires.precondition.invariants (among-left (keys_of s.files.holds) (referring_keys s) c.in-Some.object (among s c.args.client c.args.handle c.in-Some.object c.requires.precondition.invariants found)) c.requires.precondition.later.tokens c.requires.precondition.later.framebuffers c.requires.precondition.fits
+    can_refer s c.in-Some.object c.args.step_number c.requires.precondition.invariants
+    (among-left (keys_of s.files.holds) (referring_keys s) c.in-Some.object (among s c.args.client c.args.handle c.in-Some.object c.requires.precondition.invariants found))
+    c.requires.precondition.later.tokens c.requires.precondition.later.framebuffers c.requires.precondition.fits
 
 pub returns-clause-invariants : goal.returns-clause-invariants
 returns-clause-invariants c =
     let s = c.args.state.now in
     let found = sym c.in-Some.is ∙ c.object_of.ensures.object in
-    subst (λ fs. MeetsInvariants (record s { files = fs; tokens = c.export.new.self; objects = c.refer.new.self })) (sym c.set_prime.ensures)
+    subst (λ fs. MeetsInvariants (record s { files = fs; tokens = c.export.new.self; objects = c.refer.new.self }))
+    (sym c.set_prime.ensures)
     (subst (λ ts. MeetsInvariants (record s { files = files.with_export_order s.files c.args.client c.args.handle c.args.step_number; tokens = ts; objects = c.refer.new.self })) (sym c.in-Ok.ensures.ok)
     (subst (λ o. MeetsInvariants (record s { files = files.with_export_order s.files c.args.client c.args.handle c.args.step_number; tokens = tokens.with_token s.tokens (tokens.token c.in-Ok.token c.args.client c.in-Some.object); objects = o })) (sym c.refer.ensures)
     (exported_invariants s c.args.client c.args.handle c.in-Some.object c.args.step_number c.in-Ok.token c.requires.precondition.invariants (among s c.args.client c.args.handle c.in-Some.object c.requires.precondition.invariants found))))
@@ -78,11 +93,17 @@ returns-clause-refines c = rw c.set_number.ensures.number (λ w r a.
     let s = c.args.state.now in
     let found = sym c.in-Some.is ∙ c.object_of.ensures.object in
     let one = has_it s c.args.client c.args.handle c.in-Some.object c.requires.precondition.invariants found w r.rows in
-    let number = object_is s c.args.client c.args.handle c.in-Some.object c.requires.precondition.invariants found w r.rows in
+    let number =
+    object_is s c.args.client c.args.handle c.in-Some.object c.requires.precondition.invariants found w r.rows in
     let free = next_token_found s w r.rows ∙ c.in-Ok.ensures.given in
     let o = step_number_at s.objects.objects c.in-Some.object in
-    let after = swept (record w { tokens = w.tokens ++ record { token = new_token w; client = c.args.client; object = o } ∷ []; last_token = new_token w; holds = with_export_order c.args.client c.args.handle (step_number w) w.holds }) in
-    carried (record s { files = c.set_prime.new.self; tokens = c.export.new.self; objects = c.refer.new.self }) w (Ask c.args.client (PrimeHandleToFd c.args.handle)) (Number c.in-Ok.token) (call_verdict w c.args.client (PrimeHandleToFd c.args.handle) a ∙ rw (one, free) refl)
+    let after =
+    swept
+    (record w { tokens = w.tokens ++ record { token = new_token w; client = c.args.client; object = o } ∷ []; last_token = new_token w; holds = with_export_order c.args.client c.args.handle (step_number w) w.holds })
+    in
+    carried (record s { files = c.set_prime.new.self; tokens = c.export.new.self; objects = c.refer.new.self }) w
+    (Ask c.args.client (PrimeHandleToFd c.args.handle)) (Number c.in-Ok.token)
+    (call_verdict w c.args.client (PrimeHandleToFd c.args.handle) a ∙ rw (one, free) refl)
     (rw free refl)
     (rw number
     (subst (λ fs. Represents (record s { files = fs; tokens = c.export.new.self; objects = c.refer.new.self }) after) (sym c.set_prime.ensures)

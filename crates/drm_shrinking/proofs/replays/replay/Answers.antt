@@ -11,19 +11,26 @@ use Rattle.drm_shrinking.proofs.replays.replay.Goals.{then-is_last+in_ok-came+in
 
 pub lines-init : goal.lines-init
 lines-init c =
-    none_so_far c.args.setup.now c.args.text.now c.new-written.result.items c.args.number (length c.args.kept.now) c.new-interpreter.result (c.new-interpreter.ensures ∙ ap at_start c.in_ok-clone.ensures.cases) c.new-written.ensures.items
+    none_so_far c.args.setup.now c.args.text.now c.new-written.result.items c.args.number (length c.args.kept.now)
+    c.new-interpreter.result (c.new-interpreter.ensures ∙ ap at_start c.in_ok-clone.ensures.cases)
+    c.new-written.ensures.items
 
 pub returns-in_err-came-clause-fault : goal.returns-in_err-came-clause-fault
 returns-in_err-came-clause-fault c =
     let l = c.first_line in
-    let first = first_of c.lines.rest.now l.result.0.now l.result.1.now c.is_empty.result c.is_empty.ensures c.lines-test.true l.ensures.line l.ensures.behind l.ensures.lines in
+    let first =
+    first_of c.lines.rest.now l.result.0.now l.result.1.now c.is_empty.result c.is_empty.ensures c.lines-test.true
+    l.ensures.line l.ensures.behind l.ensures.lines in
     let p = err_from_is_err_and c.from_residual-in_err-came.result c.from_residual-in_err-came.ensures.1 in
-    rw (p.1, p.2) (fault_of_use c.lines.invariant l.result.0.now l.result.1.now first c.use_line.new.interpreter c.in_err-came.field-0.0 c.in_err-came.ensures)
+    rw (p.1, p.2)
+    (fault_of_use c.lines.invariant l.result.0.now l.result.1.now first c.use_line.new.interpreter c.in_err-came.field-0.0 c.in_err-came.ensures)
 
 pub lines-preserved : goal.lines-preserved
 lines-preserved c =
     let l = c.first_line in
-    let first = first_of c.lines.rest.now l.result.0.now l.result.1.now c.is_empty.result c.is_empty.ensures c.lines-test.true l.ensures.line l.ensures.behind l.ensures.lines in
+    let first =
+    first_of c.lines.rest.now l.result.0.now l.result.1.now c.is_empty.result c.is_empty.ensures c.lines-test.true
+    l.ensures.line l.ensures.behind l.ensures.lines in
     elim c.if-is_last.branch [
       | then-is_last+in_ok-came+in_ok-put+else-is_last-2 w ↦
           joined_so_far w.interpreter-is (ap (λ t. t.items) w.written-is) w.count-is

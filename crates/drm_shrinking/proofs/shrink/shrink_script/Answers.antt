@@ -14,10 +14,14 @@ returns-clause-shrunk c =
       count = whole.count;
       answer = whole.answer;
       same = kept.answer;
-      is_whole = subst (λ (n : ℕ). IsReplay c.args.setup.now c.args.text.now n whole.text.items whole.count whole.answer) number_is c.in_ok-whole.ensures.replay;
+      is_whole =
+          subst (λ (n : ℕ). IsReplay c.args.setup.now c.args.text.now n whole.text.items whole.count whole.answer)
+          number_is c.in_ok-whole.ensures.replay;
       number_is = number_is;
       kept = kept.count;
       is_kept = c.in_ok-kept.ensures.replay;
       lines_are = refl;
-      same_answer = (bytes_eq-Decides (answer_line kept.answer) (answer_line whole.answer)).0 (sym c.is_same.ensures ∙ c.if-not-is_same.false);
+      same_answer =
+          (bytes_eq-Decides (answer_line kept.answer) (answer_line whole.answer)).0
+          (sym c.is_same.ensures ∙ c.if-not-is_same.false);
     }

@@ -4,4 +4,6 @@ use Rattle.drm_streams.specs.Texts.{joined_texts}
 use Rattle.drm_streams.proofs.texts.put_each.Given as goal
 
 abbrev pub invariant-loop-text : goal.invariant-loop-text
-invariant-loop-text g l = WriteCost (g.K.Sink.trace l.fn.sink) (g.K.Sink.trace l.sink) (joined_texts (take l.text-index l.texts)) l.fn.turns l.turns
+invariant-loop-text g l =
+    WriteCost (g.K.Sink.trace l.fn.sink) (g.K.Sink.trace l.sink) (joined_texts (take l.text-index l.texts)) l.fn.turns
+    l.turns

@@ -13,4 +13,5 @@ pub returns-clause-widths : goal.returns-clause-widths
 returns-clause-widths c = has-widths
 
 pub returns-clause-numbers : goal.returns-clause-numbers
-returns-clause-numbers c = λ kind number. (kind-of-its-own number kind, λ e. ap answer_kind_of (sym e) ∙ kind-found kind)
+returns-clause-numbers c =
+    λ kind number. (kind-of-its-own number kind, λ e. ap answer_kind_of (sym e) ∙ kind-found kind)

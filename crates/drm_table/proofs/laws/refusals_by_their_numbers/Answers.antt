@@ -7,4 +7,5 @@ pub returns-clause-rules : goal.returns-clause-rules
 returns-clause-rules c = λ rule number. (rule-of-its-own number rule, λ e. ap rule_of_number (sym e) ∙ rule-found rule)
 
 pub returns-clause-aparts : goal.returns-clause-aparts
-returns-clause-aparts c = λ apart number. (apart-of-its-own number apart, λ e. ap apart_of_number (sym e) ∙ apart-found apart)
+returns-clause-aparts c =
+    λ apart number. (apart-of-its-own number apart, λ e. ap apart_of_number (sym e) ∙ apart-found apart)

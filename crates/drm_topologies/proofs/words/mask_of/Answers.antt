@@ -13,11 +13,16 @@ names-preserved c =
     let crtc = c.in-Some-crtc_of.crtc in
     let named = sym c.in-Some-crtc_of.ensures.crtc in
     record {
-      named = named_more_words word words rest c.args.count crtc (name_crtcs c.args.count whole) c.in-Some.ensures.words named c.names.invariant.named;
+      named =
+          named_more_words word words rest c.args.count crtc (name_crtcs c.args.count whole) c.in-Some.ensures.words
+          named c.names.invariant.named;
       mask =
           ap (λ m. bit_or (bit_or c.names.mask m) (mask_of words)) c.bit_of-mask.ensures
-          ∙ mask_more c.names.mask crtc (mask_of whole) word words rest c.args.count c.requires c.in-Some.ensures.words named c.names.invariant.mask;
+          ∙ mask_more c.names.mask crtc (mask_of whole) word words rest c.args.count c.requires c.in-Some.ensures.words
+          named c.names.invariant.mask;
     }
 
 pub returns-clause-mask : goal.returns-clause-mask
-returns-clause-mask c = whole_mask c.names.mask (mask_of (words_of c.args.text.now)) (words_of c.names.rest.now) c.in_default.ensures.words c.names.invariant.mask
+returns-clause-mask c =
+    whole_mask c.names.mask (mask_of (words_of c.args.text.now)) (words_of c.names.rest.now) c.in_default.ensures.words
+    c.names.invariant.mask

@@ -1,5 +1,5 @@
 use Rattle.std.proofs.Common.{◌≡◌, take}
-use Rattle.drm_history.proofs.Told.{told, Held}
+use Rattle.drm_history.proofs.HistoryFunctions.{told, Held}
 use Rattle.drm_trails.specs.Steps.{history_of}
 use Rattle.drm_trails.specs.Chains.{EndsChain}
 use Rattle.drm_trails.proofs.chains.chain_end_in.Given as goal

@@ -3,7 +3,7 @@ use Rattle.drm_lists.proofs.Orders.{length-sorted}
 use Rattle.drm_model.specs.Audit.{audit_rows, is_before, rising_rows}
 use Rattle.drm_model.specs.Run.{rows_of}
 use Rattle.drm_model.proofs.StepNumbers.{step_numbers_rise}
-use Rattle.drm_model.proofs.Counts.{few_rows, few_audit_rows}
+use Rattle.drm_model.proofs.FewAdded.{few_rows, few_audit_rows}
 use Rattle.drm_model.proofs.Journals.{rows_of-steps}
 use Rattle.drm_device.specs.Device.{value_of}
 use Rattle.drm_device.specs.Audits.{IsPage}
@@ -23,8 +23,11 @@ returns-clause-page c =
 pub returns-clause-few : goal.returns-clause-few
 returns-clause-few c =
     let d = c.self.inside in
-    let few = few_audit_rows (rows_of (value_of d)) _ (few_rows (value_of d) (fixed_topology d c.self.invariant)) c.args.kind in
+    let few =
+    few_audit_rows (rows_of (value_of d)) _ (few_rows (value_of d) (fixed_topology d c.self.invariant)) c.args.kind
+    in
     let steps = rows_of-steps (value_of d) in
     let same = length-sorted is_before (audit_rows (rows_of (value_of d)) c.args.kind) in
-    let small : length (rising_rows (audit_rows (rows_of (value_of d)) c.args.kind)) < 2 ^ 31 = omega (arith, few, same, steps, d.journal.ok.0, c.self.invariant.places, c.self.invariant.journal_fits) in
+    let small : length (rising_rows (audit_rows (rows_of (value_of d)) c.args.kind)) < 2 ^ 31 =
+    omega (arith, few, same, steps, d.journal.ok.0, c.self.invariant.places, c.self.invariant.journal_fits) in
     rw (← c.self.view_is) small

@@ -1,6 +1,6 @@
 use Rattle.std.proofs.Common.{sym, ◌∙◌, ap, find}
 use Rattle.std.specs.Option.{is_some}
-use Rattle.drm_lists.proofs.Found.{is_some-map}
+use Rattle.drm_lists.proofs.FoundInLists.{is_some-map}
 use Rattle.drm_files.specs.Files.{is_client}
 use Rattle.drm_model.specs.Run.{rows_of}
 use Rattle.drm_device.proofs.Devices.{room_to_open, room_to_ask, room_to_close_open, room_to_close}
@@ -8,11 +8,13 @@ use Rattle.drm_device.proofs.device.Device.has_room.Goals as goal
 
 pub returns-in-Open : goal.returns-in-Open
 returns-in-Open c =
-    rw (c.in-Open.is, ← ap rows_of c.self.view_is, c.len.ensures, c.len-clients.ensures) (room_to_open c.self.inside c.self.invariant c.in-Open.field-0)
+    rw (c.in-Open.is, ← ap rows_of c.self.view_is, c.len.ensures, c.len-clients.ensures)
+    (room_to_open c.self.inside c.self.invariant c.in-Open.field-0)
 
 pub returns-in-Ask : goal.returns-in-Ask
 returns-in-Ask c =
-    rw (c.in-Ask.is, ← ap rows_of c.self.view_is, c.len.ensures, c.len-clients.ensures) (room_to_ask c.self.inside c.self.invariant c.in-Ask.field-0 c.in-Ask.field-1)
+    rw (c.in-Ask.is, ← ap rows_of c.self.view_is, c.len.ensures, c.len-clients.ensures)
+    (room_to_ask c.self.inside c.self.invariant c.in-Ask.field-0 c.in-Ask.field-1)
 
 pub returns-then-is_some : goal.returns-then-is_some
 returns-then-is_some c =

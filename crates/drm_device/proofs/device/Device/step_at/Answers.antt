@@ -11,7 +11,8 @@ use Rattle.drm_device.proofs.device.Device.step_at.Goals as goal
 
 pub returns-then-not-has_room-clause-step : goal.returns-then-not-has_room-clause-step
 unfolding Step
-returns-then-not-has_room-clause-step c = rw c.replace.ensures.replaced ((not-false _ (sym c.has_room.ensures ∙ c.if-not-has_room.true), refl))
+returns-then-not-has_room-clause-step c =
+    rw c.replace.ensures.replaced ((not-false _ (sym c.has_room.ensures ∙ c.if-not-has_room.true), refl))
 
 pub advance_at-requires : goal.advance_at-requires
 advance_at-requires c = precondition c.self.inside c.len.result c.self.invariant c.len.ensures
@@ -26,14 +27,19 @@ unfolding Refines
 invariant_of-self-2 c =
     let room = not-true _ (sym c.has_room.ensures ∙ c.if-not-has_room.false) in
     let made = opened c.advance_at.new.outcome c.in-Ok.ensures.answered c.in-Ok.ensures.ok in
-    let out = made.2 (rows_of (value_of c.self.inside)) (stands c.self.inside c.len.result c.self.invariant c.len.ensures) in
-    next_device c.self.inside c.args.event c.push_reserved.new.self c.advance_at.new.state c.self.invariant (rw (ap rows_of c.self.view_is) room)
-    c.push_reserved.ensures.items c.push_reserved.ensures.len c.push_reserved.ensures.capacity c.in-Ok.ensures.invariants out.1
+    let out =
+    made.2 (rows_of (value_of c.self.inside)) (stands c.self.inside c.len.result c.self.invariant c.len.ensures) in
+    next_device c.self.inside c.args.event c.push_reserved.new.self c.advance_at.new.state c.self.invariant
+    (rw (ap rows_of c.self.view_is) room)
+    c.push_reserved.ensures.items c.push_reserved.ensures.len c.push_reserved.ensures.capacity
+    c.in-Ok.ensures.invariants out.1
 
 pub invariant_of-self : goal.invariant_of-self
 unfolding Refines
 invariant_of-self c =
-    let out = c.in_default.ensures.err (rows_of (value_of c.self.inside)) (stands c.self.inside c.len.result c.self.invariant c.len.ensures) in
+    let out =
+    c.in_default.ensures.err (rows_of (value_of c.self.inside))
+    (stands c.self.inside c.len.result c.self.invariant c.len.ensures) in
     same_device c.self.inside c.advance_at.new.state c.self.invariant c.in_default.ensures.invariants out.1
 
 pub returns-clause-step : goal.returns-clause-step
@@ -41,14 +47,18 @@ unfolding Step Refines
 returns-clause-step c =
     let room = not-true _ (sym c.has_room.ensures ∙ c.if-not-has_room.false) in
     let made = opened c.advance_at.new.outcome c.in-Ok.ensures.answered c.in-Ok.ensures.ok in
-    let out = made.2 (rows_of (value_of c.self.inside)) (stands c.self.inside c.len.result c.self.invariant c.len.ensures) in
-    rw made.1 (room, rw (← ap rows_of c.self.view_is) out.0, rw (← ap rows_of c.self.view_is) (next_rows c.self.inside c.args.event c.push_reserved.new.self c.advance_at.new.state c.push_reserved.ensures.items (topology_after c.self.inside c.args.event c.advance_at.new.state out.1)))
+    let out =
+    made.2 (rows_of (value_of c.self.inside)) (stands c.self.inside c.len.result c.self.invariant c.len.ensures) in
+    rw made.1
+    (room, rw (← ap rows_of c.self.view_is) out.0, rw (← ap rows_of c.self.view_is) (next_rows c.self.inside c.args.event c.push_reserved.new.self c.advance_at.new.state c.push_reserved.ensures.items (topology_after c.self.inside c.args.event c.advance_at.new.state out.1)))
 
 pub returns-in_default-clause-step : goal.returns-in_default-clause-step
 unfolding Step Refines
 returns-in_default-clause-step c = rw c.replace-in_default.ensures.replaced (
     let room = not-true _ (sym c.has_room.ensures ∙ c.if-not-has_room.false) in
-    let out = c.in_default.ensures.err (rows_of (value_of c.self.inside)) (stands c.self.inside c.len.result c.self.invariant c.len.ensures) in
+    let out =
+    c.in_default.ensures.err (rows_of (value_of c.self.inside))
+    (stands c.self.inside c.len.result c.self.invariant c.len.ensures) in
     let fixed = topology_same c.self.inside c.advance_at.new.state (rows_of (value_of c.self.inside)) out.1 refl in
     (room, rw (← ap rows_of c.self.view_is) out.0, ap rows_of (same_history c.self.inside c.advance_at.new.state fixed ∙ c.self.view_is)))
 
@@ -56,15 +66,19 @@ pub returns-clause-few : goal.returns-clause-few
 unfolding Refines
 returns-clause-few c =
     let made = opened c.advance_at.new.outcome c.in-Ok.ensures.answered c.in-Ok.ensures.ok in
-    let out = made.2 (rows_of (value_of c.self.inside)) (stands c.self.inside c.len.result c.self.invariant c.len.ensures) in
-    rw made.1 (subst (λ (a : Answer). FitsOneFrame (Ok a)) (sym out.0) (few_answer c.self.inside c.args.event c.self.invariant))
+    let out =
+    made.2 (rows_of (value_of c.self.inside)) (stands c.self.inside c.len.result c.self.invariant c.len.ensures) in
+    rw made.1
+    (subst (λ (a : Answer). FitsOneFrame (Ok a)) (sym out.0) (few_answer c.self.inside c.args.event c.self.invariant))
 
 pub returns-clause-ok : goal.returns-clause-ok
 unfolding Refines
 returns-clause-ok c =
     let made = opened c.advance_at.new.outcome c.in-Ok.ensures.answered c.in-Ok.ensures.ok in
-    let out = made.2 (rows_of (value_of c.self.inside)) (stands c.self.inside c.len.result c.self.invariant c.len.ensures) in
-    rw made.1 (next_history c.self.inside c.args.event c.push_reserved.new.self c.advance_at.new.state c.push_reserved.ensures.items (topology_after c.self.inside c.args.event c.advance_at.new.state out.1) ∙ ap (λ h. journaled_in h c.args.event) c.self.view_is)
+    let out =
+    made.2 (rows_of (value_of c.self.inside)) (stands c.self.inside c.len.result c.self.invariant c.len.ensures) in
+    rw made.1
+    (next_history c.self.inside c.args.event c.push_reserved.new.self c.advance_at.new.state c.push_reserved.ensures.items (topology_after c.self.inside c.args.event c.advance_at.new.state out.1) ∙ ap (λ h. journaled_in h c.args.event) c.self.view_is)
 
 pub returns-clause-err : goal.returns-clause-err
 returns-clause-err c = rw (opened c.advance_at.new.outcome c.in-Ok.ensures.answered c.in-Ok.ensures.ok).1 tt
@@ -72,7 +86,9 @@ returns-clause-err c = rw (opened c.advance_at.new.outcome c.in-Ok.ensures.answe
 pub returns-in_default-clause-err : goal.returns-in_default-clause-err
 unfolding Refines
 returns-in_default-clause-err c = rw c.replace-in_default.ensures.replaced (
-    let out = c.in_default.ensures.err (rows_of (value_of c.self.inside)) (stands c.self.inside c.len.result c.self.invariant c.len.ensures) in
+    let out =
+    c.in_default.ensures.err (rows_of (value_of c.self.inside))
+    (stands c.self.inside c.len.result c.self.invariant c.len.ensures) in
     same_history c.self.inside c.advance_at.new.state (topology_same c.self.inside c.advance_at.new.state (rows_of (value_of c.self.inside)) out.1 refl) ∙ c.self.view_is)
 
 pub returns-in_default-clause-found_room : goal.returns-in_default-clause-found_room
@@ -81,7 +97,8 @@ returns-in_default-clause-found_room c = (invariant_of-self c).found_room
 pub returns-clause-within : goal.returns-clause-within
 returns-clause-within c =
     let room = not-true _ (sym c.has_room.ensures ∙ c.if-not-has_room.false) in
-    within_after c.self.inside c.args.event c.push_reserved.new.self c.self.invariant (rw (ap rows_of c.self.view_is) room) c.push_reserved.ensures.len
+    within_after c.self.inside c.args.event c.push_reserved.new.self c.self.invariant
+    (rw (ap rows_of c.self.view_is) room) c.push_reserved.ensures.len
 
 pub returns-clause-found_room : goal.returns-clause-found_room
 returns-clause-found_room c = (invariant_of-self-2 c).found_room

@@ -1,7 +1,7 @@
 use Rattle.std.proofs.Common.{ap, sym, ◌∙◌}
 use Rattle.drm_files.specs.Files.{FileLists, left_by, without_client}
 use Rattle.drm_files.specs.Records.{lists_of}
-use Rattle.drm_files.proofs.Calls.{closed}
+use Rattle.drm_files.proofs.ListsAfterCalls.{closed}
 use Rattle.drm_files.proofs.RecordFacts.{nobody, left_is, AreRecords-remove}
 use Rattle.drm_files.proofs.files.Files.close.Goals as goal
 
@@ -9,17 +9,21 @@ pub unreachable-requires : goal.unreachable-requires
 unreachable-requires c =
     let inside = c.self.inside in
     let open_client = rw (← c.self.view_is) at c.requires.open_client in
-    nobody inside.open_limit inside.last_handle inside.clients.items c.args.client open_client c.in_default.ensures.value
+    nobody inside.open_limit inside.last_handle inside.clients.items c.args.client open_client
+    c.in_default.ensures.value
 
 pub invariant_of-self : goal.invariant_of-self
 invariant_of-self c =
     let inside = c.self.inside in
-    rw c.in-Some.ensures.after (AreRecords-remove inside.open_limit inside.last_handle inside.clients.items c.self.invariant c.args.client)
+    rw c.in-Some.ensures.after
+    (AreRecords-remove inside.open_limit inside.last_handle inside.clients.items c.self.invariant c.args.client)
 
 pub returns-clause-rest : goal.returns-clause-rest
 returns-clause-rest c =
     let inside = c.self.inside in
-    c.new.ensures ∙ sym (left_is inside.open_limit inside.last_handle inside.clients.items c.args.client c.in-Some.record (sym c.in-Some.ensures.value))
+    c.new.ensures
+    ∙ sym
+    (left_is inside.open_limit inside.last_handle inside.clients.items c.args.client c.in-Some.record (sym c.in-Some.ensures.value))
     ∙ ap (λ (l : FileLists). left_by l c.args.client) c.self.view_is
 
 pub returns-clause-closed : goal.returns-clause-closed

@@ -1,6 +1,6 @@
 use Rattle.std.proofs.Common.{ap, ◌∙◌, slice_get, option_map}
 use Rattle.drm_files.specs.Files.{FileLists, client}
-use Rattle.drm_files.proofs.Calls.{client_at, client_named}
+use Rattle.drm_files.proofs.ListsAfterCalls.{client_at, client_named}
 use Rattle.drm_files.proofs.files.Files.nth_client.Goals as goal
 
 pub returns-in_err-client : goal.returns-in_err-client

@@ -8,7 +8,8 @@ pub unreachable-requires : goal.unreachable-requires
 unreachable-requires c =
     let inside = c.self.inside in
     let open_client = rw (← c.self.view_is) at c.requires.open_client in
-    nobody inside.open_limit inside.last_handle inside.clients.items c.args.client open_client c.in_default.ensures.value
+    nobody inside.open_limit inside.last_handle inside.clients.items c.args.client open_client
+    c.in_default.ensures.value
 
 pub returns-clause-handle : goal.returns-clause-handle
 returns-clause-handle c =
@@ -23,4 +24,5 @@ returns-clause-handle c =
 pub returns-clause-lists : goal.returns-clause-lists
 returns-clause-lists c =
     let inside = c.self.inside in
-    rw (← c.self.view_is) (files_are inside.open_limit inside.last_handle inside.clients.items c.self.invariant c.get.ensures.bound)
+    rw (← c.self.view_is)
+    (files_are inside.open_limit inside.last_handle inside.clients.items c.self.invariant c.get.ensures.bound)

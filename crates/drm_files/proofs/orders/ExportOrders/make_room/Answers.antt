@@ -26,4 +26,5 @@ returns-clause-ok c = λ slots order absent.
     ap (λ l. fin.get l.items k) c.in_default-insert.ensures.ok
     ∙ get-insert now.links.items c.args.handle alone k
     ∙ ap (λ l. cond (eqb k c.args.handle) (Some alone) (fin.get l.items k)) room.links in
-    room_made slots old _ order room.ends c.args.object c.args.handle absent (omega (arith, c.ranges.handle.fits)) links (ap (λ o. fin.contains_key now.ends.items o) (sym c.number-number.ensures) ∙ room.mine)
+    room_made slots old _ order room.ends c.args.object c.args.handle absent (omega (arith, c.ranges.handle.fits)) links
+    (ap (λ o. fin.contains_key now.ends.items o) (sym c.number-number.ensures) ∙ room.mine)

@@ -6,7 +6,9 @@ use Rattle.drm_files.proofs.rest.FileRest.take_next.Goals as goal
 
 pub returns-in_err-handle-clause-first : goal.returns-in_err-handle-clause-first
 returns-in_err-handle-clause-first c =
-    c.from_residual.ensures ∙ ap (λ l. slice_get l 0) (sym (nothing_left c.self.inside.handles c.in_err-handle.ensures.none_above) ∙ c.self.view_is)
+    c.from_residual.ensures
+    ∙ ap (λ l. slice_get l 0)
+    (sym (nothing_left c.self.inside.handles c.in_err-handle.ensures.none_above) ∙ c.self.view_is)
 
 pub returns-in_err-handle-clause-rest : goal.returns-in_err-handle-clause-rest
 returns-in_err-handle-clause-rest c =
@@ -16,13 +18,15 @@ returns-in_err-handle-clause-rest c =
 pub unreachable-requires : goal.unreachable-requires
 unreachable-requires c =
     let h = c.in_ok-handle.handle in
-    least_there c.self.inside.handles.slots 0 4294967295 h (least_some _ 0 4294967295 h (sym c.in_ok-handle.ensures.least)) c.in_default.ensures.value
+    least_there c.self.inside.handles.slots 0 4294967295 h
+    (least_some _ 0 4294967295 h (sym c.in_ok-handle.ensures.least)) c.in_default.ensures.value
 
 pub returns-clause-first : goal.returns-clause-first
 returns-clause-first c =
     let h = c.in_ok-handle.handle in
     let is = least_some _ 0 4294967295 h (sym c.in_ok-handle.ensures.least) in
-    ap (λ l. slice_get l 0) (sym (taken c.self.inside.handles h c.in-Some.held is (sym c.in-Some.ensures.value)) ∙ c.self.view_is)
+    ap (λ l. slice_get l 0)
+    (sym (taken c.self.inside.handles h c.in-Some.held is (sym c.in-Some.ensures.value)) ∙ c.self.view_is)
 
 pub returns-clause-rest : goal.returns-clause-rest
 returns-clause-rest c =

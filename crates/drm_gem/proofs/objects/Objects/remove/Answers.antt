@@ -11,13 +11,23 @@ use Rattle.drm_gem.proofs.objects.Objects.remove.Goals as goal
 
 pub invariant_of-self : goal.invariant_of-self
 invariant_of-self c =
-    let there = rw (← c.self.view_is, sym c.number.ensures, by_key key_of step_number_of nothing c.self.inside.keys.items c.self.inside.kept c.self.invariant c.number.result) at c.requires in
-    rw c.remove-number.ensures.after (removed_keyed key_of step_number_of nothing c.self.inside.keys.items c.self.inside.kept c.self.invariant c.number.result c.args.old c.try_remove-object.new.self there c.try_remove-object.ensures.updates)
+    let there =
+    rw
+    (← c.self.view_is, sym c.number.ensures, by_key key_of step_number_of nothing c.self.inside.keys.items c.self.inside.kept c.self.invariant c.number.result)
+    at c.requires in
+    rw c.remove-number.ensures.after
+    (removed_keyed key_of step_number_of nothing c.self.inside.keys.items c.self.inside.kept c.self.invariant c.number.result c.args.old c.try_remove-object.new.self there c.try_remove-object.ensures.updates)
 
 pub returns : goal.returns
 returns c =
-    let there = rw (← c.self.view_is, sym c.number.ensures, by_key key_of step_number_of nothing c.self.inside.keys.items c.self.inside.kept c.self.invariant c.number.result) at c.requires in
-    ap (λ (a : Indexed ℕ). record { limit = c.self.inside.limit; objects = rows_in nothing c.try_remove-object.new.self (fin.entries a.items) }) c.remove-number.ensures.after
-    ∙ ap (λ (os : List Object). record { limit = c.self.inside.limit; objects = os }) (gone c.self.inside.keys.items c.self.inside.kept c.self.invariant c.number.result c.args.old c.try_remove-object.new.self there c.try_remove-object.ensures.updates)
+    let there =
+    rw
+    (← c.self.view_is, sym c.number.ensures, by_key key_of step_number_of nothing c.self.inside.keys.items c.self.inside.kept c.self.invariant c.number.result)
+    at c.requires in
+    ap
+    (λ (a : Indexed ℕ). record { limit = c.self.inside.limit; objects = rows_in nothing c.try_remove-object.new.self (fin.entries a.items) })
+    c.remove-number.ensures.after
+    ∙ ap (λ (os : List Object). record { limit = c.self.inside.limit; objects = os })
+    (gone c.self.inside.keys.items c.self.inside.kept c.self.invariant c.number.result c.args.old c.try_remove-object.new.self there c.try_remove-object.ensures.updates)
     ∙ ap (without_key c.number.result) c.self.view_is
     ∙ ap (λ k. without_key k c.args.self.now) c.number.ensures

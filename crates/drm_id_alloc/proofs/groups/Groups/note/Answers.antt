@@ -17,12 +17,17 @@ on_err (Err e) f h = f h
 
 pub returns-in-Some-clause-ok : goal.returns-in-Some-clause-ok
 returns-in-Some-clause-ok c =
-    on_ok c.note.result (λ own. rw (← c.self.view_is) (group_more has_number c.self.inside.groups.items c.args.group (Some c.in-Some.numbers.now) c.note.new.self c.args.number (sym c.in-Some.ensures.value) own)) c.note.ensures.ok
+    on_ok c.note.result
+    (λ own. rw (← c.self.view_is) (group_more has_number c.self.inside.groups.items c.args.group (Some c.in-Some.numbers.now) c.note.new.self c.args.number (sym c.in-Some.ensures.value) own))
+    c.note.ensures.ok
 
 pub returns-in-Some-clause-err : goal.returns-in-Some-clause-err
 returns-in-Some-clause-err c =
-    on_err c.note.result (λ same. ap (map.insert c.self.inside.groups.items c.args.group) same ∙ insert_same c.self.inside.groups.items c.args.group c.in-Some.numbers.now (sym c.in-Some.ensures.value) ∙ c.self.view_is) c.note.ensures.err
+    on_err c.note.result
+    (λ same. ap (map.insert c.self.inside.groups.items c.args.group) same ∙ insert_same c.self.inside.groups.items c.args.group c.in-Some.numbers.now (sym c.in-Some.ensures.value) ∙ c.self.view_is)
+    c.note.ensures.err
 
 pub returns-clause-ok : goal.returns-clause-ok
 returns-clause-ok c =
-    rw (c.in_default-insert.ensures.ok, c.one.ensures, ← c.self.view_is) (group_more has_number c.self.inside.groups.items c.args.group None (single c.args.number) c.args.number (sym c.in_default.ensures.value) (single_has c.args.number))
+    rw (c.in_default-insert.ensures.ok, c.one.ensures, ← c.self.view_is)
+    (group_more has_number c.self.inside.groups.items c.args.group None (single c.args.number) c.args.number (sym c.in_default.ensures.value) (single_has c.args.number))

@@ -8,7 +8,9 @@ use Rattle.drm_id_alloc.proofs.numbers.Numbers.forget.Goals.{in-Many+in-Some-1, 
 pub returns-then-number-only : goal.returns-then-number-only
 returns-then-number-only c =
     let is : single c.in-One.only ≡ c.args.self.now = ap array_of (sym c.in-One.is) ∙ c.self.view_is in
-    let as_new = λ (e : c.match-self-2.self ≡ empty_array). forgotten_as (single c.in-One.only) c.args.self.now empty_array c.match-self-2.self c.args.number is e (single_gone c.in-One.only c.args.number (sym c.if-number-only.true)) in
+    let as_new =
+    λ (e : c.match-self-2.self ≡ empty_array). forgotten_as (single c.in-One.only) c.args.self.now empty_array
+    c.match-self-2.self c.args.number is e (single_gone c.in-One.only c.args.number (sym c.if-number-only.true)) in
     elim c.match-self-2.branch [
       | in-Many+in-Some-1 w ↦ as_new (w.self-is ∙ c.new.ensures)
       | in-Many+in-None-1 w ↦ as_new (w.self-is ∙ c.new.ensures)
@@ -23,8 +25,12 @@ returns-else-number-only c =
 pub returns-in-Some : goal.returns-in-Some
 returns-in-Some c =
     let is : c.in-Many.numbers ≡ c.args.self.now = ap array_of (sym c.in-Many.is) ∙ c.self.view_is in
-    let left = one_left c.in-Many.numbers c.remove-number.new.self c.in-Some.only c.args.number c.remove-number.ensures.after c.in-Some.ensures in
-    let as_new = λ (e : c.match-self-4.self ≡ single c.in-Some.only). forgotten_as c.in-Many.numbers c.args.self.now (single c.in-Some.only) c.match-self-4.self c.args.number is e left in
+    let left =
+    one_left c.in-Many.numbers c.remove-number.new.self c.in-Some.only c.args.number c.remove-number.ensures.after
+    c.in-Some.ensures in
+    let as_new =
+    λ (e : c.match-self-4.self ≡ single c.in-Some.only). forgotten_as c.in-Many.numbers c.args.self.now
+    (single c.in-Some.only) c.match-self-4.self c.args.number is e left in
     elim c.match-self-4.branch [
       | in-Many+in-Some-2 w ↦ as_new w.self-is
       | in-Many+in-None-2 w ↦ as_new w.self-is

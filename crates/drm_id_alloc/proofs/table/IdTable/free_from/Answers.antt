@@ -3,16 +3,23 @@ use Rattle.drm_id_alloc.proofs.TableLemmas.{none_within, past_within, some_withi
 use Rattle.drm_id_alloc.proofs.table.IdTable.free_from.Goals as goal
 
 pub returns-in_default-clause-least : goal.returns-in_default-clause-least
-returns-in_default-clause-least g c = rw (← c.self.view_is) (none_within _ c.args.from c.self.inside.last 4294967295 c.self.invariant.fits c.in_default.ensures)
+returns-in_default-clause-least g c =
+    rw (← c.self.view_is)
+    (none_within _ c.args.from c.self.inside.last 4294967295 c.self.invariant.fits c.in_default.ensures)
 
 pub returns-then-id-self-clause-least : goal.returns-then-id-self-clause-least
-returns-then-id-self-clause-least g c = rw (← c.self.view_is) (past_within _ c.args.from c.self.inside.last 4294967295 c.self.invariant.fits c.in-Some.id c.in-Some.ensures (omega (arith, c.if-id-self.true)))
+returns-then-id-self-clause-least g c =
+    rw (← c.self.view_is)
+    (past_within _ c.args.from c.self.inside.last 4294967295 c.self.invariant.fits c.in-Some.id c.in-Some.ensures (omega (arith, c.if-id-self.true)))
 
 pub returns-clause-least : goal.returns-clause-least
-returns-clause-least g c = rw (← c.self.view_is) (some_within _ c.args.from c.self.inside.last 4294967295 c.self.invariant.fits c.in-Some.id c.in-Some.ensures (omega (arith, c.if-id-self.false)))
+returns-clause-least g c =
+    rw (← c.self.view_is)
+    (some_within _ c.args.from c.self.inside.last 4294967295 c.self.invariant.fits c.in-Some.id c.in-Some.ensures (omega (arith, c.if-id-self.false)))
 
 pub returns-clause-fresh : goal.returns-clause-fresh
 returns-clause-fresh g c = rw (← c.self.view_is) (fresh_of _ c.args.from 4294967295 c.in-Some.id c.in-Some.ensures)
 
 pub returns-clause-low : goal.returns-clause-low
-returns-clause-low g c = found_low _ c.args.from c.self.inside.last 4294967295 c.self.invariant.fits c.in-Some.id c.in-Some.ensures
+returns-clause-low g c =
+    found_low _ c.args.from c.self.inside.last 4294967295 c.self.invariant.fits c.in-Some.id c.in-Some.ensures

@@ -10,7 +10,8 @@ invariant_of-self-lent g c =
     let at = ap items_of c.in-Some.is in
     let view = ap array_of (sym at) ∙ c.self.view_is in
     let rooted = subst (λ m. IsRooted m c.self.inside.count) at c.self.invariant.rooted in
-    rw (c.in-Some.is, old) (λ _. (λ w. record { rooted = rooted_lent _ _ view c.args.index _ rooted w }, record { rooted = rooted }))
+    rw (c.in-Some.is, old)
+    (λ _. (λ w. record { rooted = rooted_lent _ _ view c.args.index _ rooted w }, record { rooted = rooted }))
 
 pub returns-in-Some : goal.returns-in-Some
 returns-in-Some g c =
@@ -21,4 +22,5 @@ returns-in-Some g c =
     (rw (c.in-Some.is, old) (lent_there _ _ view c.args.index c.get_mut.result value _ _ _ _ (array_lent _ _ view c.args.index) view), record { writes_back = tt; value = value ∙ item_at _ _ view c.args.index })
 
 pub returns-in-None : goal.returns-in-None
-returns-in-None g c = (ap inr c.self.view_is, record { writes_back = tt; value = sym (no_item _ _ c.self.view_is (ap items_of c.in-None.is) c.args.index) })
+returns-in-None g c =
+    (ap inr c.self.view_is, record { writes_back = tt; value = sym (no_item _ _ c.self.view_is (ap items_of c.in-None.is) c.args.index) })

@@ -4,7 +4,8 @@ use Rattle.drm_index_array.proofs.ArrayLemmas.{mark_is_key, mark_found, no_mark}
 use Rattle.drm_index_array.proofs.array.IndexArray.marked.Goals as goal
 
 pub returns-in_default-clause-marked : goal.returns-in_default-clause-marked
-returns-in_default-clause-marked g c = sym (no_mark _ _ c.self.view_is (ap items_of c.in_default.is) c.args.mark c.args.index)
+returns-in_default-clause-marked g c =
+    sym (no_mark _ _ c.self.view_is (ap items_of c.in_default.is) c.args.mark c.args.index)
 
 pub returns-in_default-clause-present : goal.returns-in_default-clause-present
 returns-in_default-clause-present g c = mark_is_key _ _ c.self.view_is c.args.mark

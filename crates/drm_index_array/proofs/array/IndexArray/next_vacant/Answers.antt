@@ -11,10 +11,12 @@ pub returns-then-vacant : goal.returns-then-vacant
 returns-then-vacant g c =
     let tree = ap (λ t. t.items) c.deref.ensures ∙ sym (ap items_of c.in-Some.is) in
     let same = λ (k : ℕ). ap not (ap (λ m. map.contains_key m k) tree ∙ key_at _ _ c.self.view_is k) in
-    vacant_nowhere _ (λ k. not (map.contains_key c.args.self.now.items k)) same c.args.from _ c.next_vacant-vacant.ensures (omega (arith, c.if-vacant.true))
+    vacant_nowhere _ (λ k. not (map.contains_key c.args.self.now.items k)) same c.args.from _
+    c.next_vacant-vacant.ensures (omega (arith, c.if-vacant.true))
 
 pub returns : goal.returns
 returns g c =
     let tree = ap (λ t. t.items) c.deref.ensures ∙ sym (ap items_of c.in-Some.is) in
     let same = λ (k : ℕ). ap not (ap (λ m. map.contains_key m k) tree ∙ key_at _ _ c.self.view_is k) in
-    vacant_here _ (λ k. not (map.contains_key c.args.self.now.items k)) same c.args.from _ c.next_vacant-vacant.ensures (omega (arith, c.if-vacant.false))
+    vacant_here _ (λ k. not (map.contains_key c.args.self.now.items k)) same c.args.from _ c.next_vacant-vacant.ensures
+    (omega (arith, c.if-vacant.false))

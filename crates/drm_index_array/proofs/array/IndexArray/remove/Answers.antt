@@ -3,7 +3,9 @@ use Rattle.drm_index_array.proofs.ArrayLemmas.{item_at, array_less, array_same, 
 use Rattle.drm_index_array.proofs.array.IndexArray.remove.Goals as goal
 
 pub returns-in_default-clause-value : goal.returns-in_default-clause-value
-returns-in_default-clause-value g c = (rw (c.in_default.is, c.take.ensures.value) at c.removed-root.ensures.value) ∙ item_at _ _ c.self.view_is c.args.index
+returns-in_default-clause-value g c =
+    (rw (c.in_default.is, c.take.ensures.value) at c.removed-root.ensures.value)
+    ∙ item_at _ _ c.self.view_is c.args.index
 
 pub returns-in_default-clause-after : goal.returns-in_default-clause-after
 returns-in_default-clause-after g c =
@@ -35,7 +37,8 @@ invariant_of-self-2 g c =
     record { rooted = rooted_less _ _ c.self.view_is c.args.index _ items c.in-Some.value found _ c.self.invariant.rooted }
 
 pub returns-clause-value : goal.returns-clause-value
-returns-clause-value g c = (rw (c.in-Some.is, c.take.ensures.value) at c.removed-root.ensures.value) ∙ item_at _ _ c.self.view_is c.args.index
+returns-clause-value g c =
+    (rw (c.in-Some.is, c.take.ensures.value) at c.removed-root.ensures.value) ∙ item_at _ _ c.self.view_is c.args.index
 
 pub returns-clause-after : goal.returns-clause-after
 returns-clause-after g c =

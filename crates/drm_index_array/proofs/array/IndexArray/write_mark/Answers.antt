@@ -6,7 +6,8 @@ use Rattle.drm_index_array.proofs.ArrayLemmas.{item_at, no_key, key_found, array
 use Rattle.drm_index_array.proofs.array.IndexArray.write_mark.Goals as goal
 
 pub returns-in_default-clause-result : goal.returns-in_default-clause-result
-returns-in_default-clause-result g c = (λ no_one. absurd (false≢true no_one), λ there. sym (no_key _ _ c.self.view_is (ap items_of c.in_default.is) c.args.index) ∙ there)
+returns-in_default-clause-result g c =
+    (λ no_one. absurd (false≢true no_one), λ there. sym (no_key _ _ c.self.view_is (ap items_of c.in_default.is) c.args.index) ∙ there)
 
 pub returns-then-is_none-clause-result : goal.returns-then-is_none-clause-result
 returns-then-is_none-clause-result g c =

@@ -8,4 +8,5 @@ returns-in-Some g c = vacant_found c.args.self.now c.covers.ensures.past c.args.
 pub returns-in-None : goal.returns-in-None
 returns-in-None g c =
     let height = ap (λ t. t.height) c.self.view_is in
-    rw (c.first_past.ensures, height) (vacant_none c.args.self.now c.covers.ensures.past c.args.from (c.if-not-covers.ensures.covers.0 refl) c.in-None.ensures)
+    rw (c.first_past.ensures, height)
+    (vacant_none c.args.self.now c.covers.ensures.past c.args.from (c.if-not-covers.ensures.covers.0 refl) c.in-None.ensures)

@@ -10,14 +10,19 @@ loop-at-init g c = omega (arith, none_passed (map.contains_key c.args.self.now.i
 pub returns-then-left-here-clause-within : goal.returns-then-left-here-clause-within
 returns-then-left-here-clause-within g c =
     let lt : c.loop-at.at < 64 = omega (arith, c.loop-at-test.true) in
-    let here = count_at _ c.self.invariant.sound c.self.view_is c.loop-at.at lt c.index.result.now c.count_below-here.result c.index.ensures c.count_below-here.ensures in
+    let here =
+    count_at _ c.self.invariant.sound c.self.view_is c.loop-at.at lt c.index.result.now c.count_below-here.result
+    c.index.ensures c.count_below-here.ensures in
     omega (arith, here, c.if-left-here.true)
 
 pub loop-at-preserved : goal.loop-at-preserved
 loop-at-preserved g c =
     let lt : c.loop-at.at < 64 = omega (arith, c.loop-at-test.true) in
-    let here = count_at _ c.self.invariant.sound c.self.view_is c.loop-at.at lt c.index.result.now c.count_below-here.result c.index.ensures c.count_below-here.ensures in
-    omega (arith, here, c.if-left-here.false, c.loop-at.invariant, slots_passed (map.contains_key c.args.self.now.items) (width c.args.self.now.height) c.loop-at.at)
+    let here =
+    count_at _ c.self.invariant.sound c.self.view_is c.loop-at.at lt c.index.result.now c.count_below-here.result
+    c.index.ensures c.count_below-here.ensures in
+    omega
+    (arith, here, c.if-left-here.false, c.loop-at.invariant, slots_passed (map.contains_key c.args.self.now.items) (width c.args.self.now.height) c.loop-at.at)
 
 pub returns-clause-past : goal.returns-clause-past
 returns-clause-past g c =

@@ -5,4 +5,5 @@ use Rattle.drm_index_array.specs.Tree.{width}
 use Rattle.drm_index_array.proofs.tree.Node.slot_of.Given as goal
 
 abbrev pub invariant-loop-at : goal.invariant-loop-at
-invariant-loop-at g l = passing (map.contains_key l.fn.self.items) 0 (l.at * width l.fn.self.height) + l.left ≡ l.fn.position
+invariant-loop-at g l =
+    passing (map.contains_key l.fn.self.items) 0 (l.at * width l.fn.self.height) + l.left ≡ l.fn.position

@@ -11,4 +11,5 @@ returns-in-Some-clause-full c i lt =
     sym (c.word.ensures i (omega (arith, lt, is.at_most))) ∙ is.none_below i (omega arith) lt
 
 pub returns-in-None-clause-full : goal.returns-in-None-clause-full
-returns-in-None-clause-full c i lt = sym (c.word.ensures i lt) ∙ least_none _ _ _ (sym c.in-None.ensures) i (omega arith) (omega (arith, lt))
+returns-in-None-clause-full c i lt =
+    sym (c.word.ensures i lt) ∙ least_none _ _ _ (sym c.in-None.ensures) i (omega arith) (omega (arith, lt))

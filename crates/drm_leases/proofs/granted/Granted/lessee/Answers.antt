@@ -9,5 +9,6 @@ pub returns : goal.returns
 returns c =
     c.copied.ensures ∙ c.get.ensures.value
     ∙ ap (fin.get c.self.inside.lessees.items) c.number.ensures
-    ∙ lessee_is c.self.inside.leases.items c.self.inside.lessees.items c.self.invariant.keyed c.self.invariant.named c.args.key
+    ∙ lessee_is c.self.inside.leases.items c.self.inside.lessees.items c.self.invariant.keyed c.self.invariant.named
+    c.args.key
     ∙ ap (λ (a : LeaseRows). lessee_at (lendings_in a.rows) c.args.key) c.self.view_is

@@ -8,7 +8,9 @@ use Rattle.drm_leases.proofs.granted.Granted.nth.Goals as goal
 pub returns-in_err-lessee : goal.returns-in_err-lessee
 returns-in_err-lessee c =
     let kept = c.self.inside.leases.items in
-    c.from_residual.ensures ∙ ap (option_and_then (λ m. option_map (λ v. lease_row (m, v)) (fin.get kept m))) c.in_err-lessee.ensures.nth ∙ lease_at kept c.args.position ∙ ap (λ (a : LeaseRows). slice_get a.rows c.args.position) c.self.view_is
+    c.from_residual.ensures
+    ∙ ap (option_and_then (λ m. option_map (λ v. lease_row (m, v)) (fin.get kept m))) c.in_err-lessee.ensures.nth
+    ∙ lease_at kept c.args.position ∙ ap (λ (a : LeaseRows). slice_get a.rows c.args.position) c.self.view_is
 
 pub returns-in_err-kept : goal.returns-in_err-kept
 returns-in_err-kept c =

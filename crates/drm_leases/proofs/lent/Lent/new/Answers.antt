@@ -7,4 +7,6 @@ use Rattle.drm_leases.proofs.Bits.{empty_mask}
 use Rattle.drm_leases.proofs.lent.Lent.new.Goals as goal
 
 pub returns : goal.returns
-returns c = λ m x. ap (λ (a : Indexed ℕ). has_object (mask_at a.items m) x) c.new.ensures ∙ ap (λ o. has_object (unwrap_or o 0) x) (fin.get-empty nat_cmp m) ∙ empty_mask x
+returns c =
+    λ m x. ap (λ (a : Indexed ℕ). has_object (mask_at a.items m) x) c.new.ensures
+    ∙ ap (λ o. has_object (unwrap_or o 0) x) (fin.get-empty nat_cmp m) ∙ empty_mask x

@@ -8,5 +8,6 @@ use Rattle.drm_leases.proofs.tokens.LeaseTokens.of.Goals as goal
 pub returns : goal.returns
 returns c =
     c.copied.ensures ∙ c.get.ensures.value
-    ∙ number_is c.self.inside.lessees.slots c.self.inside.tokens.items c.self.invariant.ways token_row number_of (λ e. refl) is_token_of (λ k e. refl) c.args.lessee
+    ∙ number_is c.self.inside.lessees.slots c.self.inside.tokens.items c.self.invariant.ways token_row number_of
+    (λ e. refl) is_token_of (λ k e. refl) c.args.lessee
     ∙ ap (λ (l : TokenRows). token_of l.rows c.args.lessee) c.self.view_is

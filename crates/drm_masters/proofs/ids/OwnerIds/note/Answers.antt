@@ -15,17 +15,26 @@ on_err (Ok x) f h = h
 on_err (Err e) f h = f h
 
 pub put_new-requires : goal.put_new-requires
-put_new-requires c = record { vacant = ap (λ o. id_in o c.args.id) c.in-Some.ensures.value ∙ ap (λ (m : IdMap). id_at m c.args.owner c.args.id) c.self.view_is ∙ c.requires }
+put_new-requires c =
+    record
+    { vacant = ap (λ o. id_in o c.args.id) c.in-Some.ensures.value ∙ ap (λ (m : IdMap). id_at m c.args.owner c.args.id) c.self.view_is ∙ c.requires }
 
 pub returns-in-Some-clause-ok : goal.returns-in-Some-clause-ok
 returns-in-Some-clause-ok c =
-    on_ok c.put_new.result (λ own. rw (← c.self.view_is) (set_one c.self.inside.owners.items c.args.owner (Some c.in-Some.ids.now) c.put_new.new.numbers c.args.id (Some c.args.step_number) (sym c.in-Some.ensures.value) (item_more c.in-Some.ids.now c.put_new.new.numbers c.args.id c.args.step_number own))) c.put_new.ensures.ok
+    on_ok c.put_new.result
+    (λ own. rw (← c.self.view_is) (set_one c.self.inside.owners.items c.args.owner (Some c.in-Some.ids.now) c.put_new.new.numbers c.args.id (Some c.args.step_number) (sym c.in-Some.ensures.value) (item_more c.in-Some.ids.now c.put_new.new.numbers c.args.id c.args.step_number own)))
+    c.put_new.ensures.ok
 
 pub returns-in-Some-clause-err : goal.returns-in-Some-clause-err
 returns-in-Some-clause-err c =
-    on_err c.put_new.result (λ same. ap (map.insert c.self.inside.owners.items c.args.owner) same ∙ insert_same c.self.inside.owners.items c.args.owner c.in-Some.ids.now (sym c.in-Some.ensures.value) ∙ c.self.view_is) c.put_new.ensures.err
+    on_err c.put_new.result
+    (λ same. ap (map.insert c.self.inside.owners.items c.args.owner) same ∙ insert_same c.self.inside.owners.items c.args.owner c.in-Some.ids.now (sym c.in-Some.ensures.value) ∙ c.self.view_is)
+    c.put_new.ensures.err
 
 pub returns-clause-ok : goal.returns-clause-ok
 returns-clause-ok c =
-    let own = item_first c.new-ids.result c.insert.new.self c.args.id c.args.step_number c.new-ids.ensures c.in_default-insert.ensures.ok in
-    rw (c.in_default-insert-2.ensures.ok, ← c.self.view_is) (set_one c.self.inside.owners.items c.args.owner None c.insert.new.self c.args.id (Some c.args.step_number) (sym c.in_default.ensures.value) own)
+    let own =
+    item_first c.new-ids.result c.insert.new.self c.args.id c.args.step_number c.new-ids.ensures
+    c.in_default-insert.ensures.ok in
+    rw (c.in_default-insert-2.ensures.ok, ← c.self.view_is)
+    (set_one c.self.inside.owners.items c.args.owner None c.insert.new.self c.args.id (Some c.args.step_number) (sym c.in_default.ensures.value) own)

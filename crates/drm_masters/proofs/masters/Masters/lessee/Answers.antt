@@ -1,6 +1,6 @@
 use Rattle.std.proofs.Common.{find, refl, subst}
 use Rattle.drm_masters.specs.Masters.{MasterSet, is_lessee_of, owner_of, step_number_at}
-use Rattle.drm_masters.proofs.Sound.{Keyed, keyed_each}
+use Rattle.drm_masters.proofs.MastersStaySound.{Keyed, keyed_each}
 use Rattle.drm_masters.proofs.masters.Masters.lessee.Goals as goal
 
 pub returns-clause-keyed : goal.returns-clause-keyed

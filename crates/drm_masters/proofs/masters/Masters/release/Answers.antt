@@ -7,7 +7,7 @@ use Rattle.drm_masters.specs.Masters.{MasterSet, HasOlderLessor, is_living, swep
 use Rattle.drm_masters.specs.Calls as calls
 use Rattle.drm_masters.proofs.Pushed.{kept_keyed}
 use Rattle.drm_masters.proofs.Upward.{OthersUsed}
-use Rattle.drm_masters.proofs.Sound.{sound, swept_are, kept_ties, released_used, keyed_fewer, known}
+use Rattle.drm_masters.proofs.MastersStaySound.{sound, swept_are, kept_ties, released_used, keyed_fewer, known}
 use Rattle.drm_masters.proofs.masters.Masters.release.Goals as goal
 
 pub sweep_up-requires : goal.sweep_up-requires
@@ -20,7 +20,9 @@ sweep_up-requires c =
     record {
       rise = subst (λ l. InOrder (λ (x y : Master). x.step_number < y.step_number) l) (sym masters) t.masters_rise;
       older = subst (λ l. AllByRecursion (HasOlderLessor l) l) (sym masters) t.lessors_older;
-      others = subst (λ l. OthersUsed c.self.inside.members.items l m) (sym c.set_kept.ensures) (subst (λ (w : MasterSet). OthersUsed w.members (calls.with_kept m false w).masters m) (sym c.self.view_is) (released_used v so.are m));
+      others =
+          subst (λ l. OthersUsed c.self.inside.members.items l m) (sym c.set_kept.ensures)
+          (subst (λ (w : MasterSet). OthersUsed w.members (calls.with_kept m false w).masters m) (sym c.self.view_is) (released_used v so.are m));
     }
 
 pub invariant_of-self : goal.invariant_of-self

@@ -7,8 +7,8 @@ use Rattle.drm_masters.specs.declared.members.Membership.{Membership}
 use Rattle.drm_masters.specs.declared.rows.Member.{Member}
 use Rattle.drm_masters.specs.Masters.{member_before}
 use Rattle.drm_masters.specs.Tables.{MemberRows, members_in}
-use Rattle.drm_masters.proofs.Listed.{client_added}
-use Rattle.drm_masters.proofs.Named.{master_of, new_absent}
+use Rattle.drm_masters.proofs.ClientList.{client_added}
+use Rattle.drm_masters.proofs.ClientsOfMasters.{master_of, new_absent}
 use Rattle.drm_masters.proofs.members.Members.add.Goals as goal
 
 pub insert-requires : goal.insert-requires
@@ -21,8 +21,12 @@ invariant_of-self-in-Err-insert c =
     let absent = rw (← c.self.view_is) at c.requires.new_client in
     let m = c.self.inside.clients.items in
     let n = c.args.member.client in
-    let same = grouped_back master_of m (has c.self.inside.named) (has c.note.new.named) c.self.invariant (has c.forget.new.self) c.args.member.master n (new_absent m n absent) c.in_default.ensures.ok c.forget.ensures in
-    rw c.in-Err-insert.ensures.err (grouped_same master_of m (has c.self.inside.named) (has c.forget.new.self) c.self.invariant same)
+    let same =
+    grouped_back master_of m (has c.self.inside.named) (has c.note.new.named) c.self.invariant
+    (has c.forget.new.self) c.args.member.master n (new_absent m n absent) c.in_default.ensures.ok c.forget.ensures
+    in
+    rw c.in-Err-insert.ensures.err
+    (grouped_same master_of m (has c.self.inside.named) (has c.forget.new.self) c.self.invariant same)
 
 pub invariant_of-self-in_default-insert : goal.invariant_of-self-in_default-insert
 invariant_of-self-in_default-insert c =

@@ -9,18 +9,24 @@ use Rattle.drm_masters.specs.declared.rows.Master.{Master}
 use Rattle.drm_masters.specs.Masters.{is_option}
 use Rattle.drm_masters.specs.Ids.{id_at, AreIdsOf}
 use Rattle.drm_masters.specs.Tables.{nothing, AreLesseesOf}
-use Rattle.drm_masters.proofs.Kept.{key_of, step_number_of, rows}
+use Rattle.drm_masters.proofs.MasterSlab.{key_of, step_number_of, rows}
 use Rattle.drm_masters.proofs.table.MasterTable.new.Goals as goal
 
 pub invariant_of-result : goal.invariant_of-result
 invariant_of-result c =
     let none = none_in_empty key_of step_number_of nothing c.new-2.result in
     rw c.new.ensures (record {
-      keyed = keyed_empty key_of step_number_of nothing c.new-2.result (λ k. ap (λ slots. get_or slots k None) c.new-2.ensures.empty);
+      keyed =
+          keyed_empty key_of step_number_of nothing c.new-2.result
+          (λ k. ap (λ slots. get_or slots k None) c.new-2.ensures.empty);
       fits = subst (λ (l : List Master). AllByRecursion (λ (y : Master). y.step_number ≤ 4294967295) l) (sym none) tt;
       lessees = subst (λ (l : List Master). AreLesseesOf l (has c.new-3.result)) (sym none) c.new-3.ensures;
-      ids = subst (λ (l : List Master). AreIdsOf l (id_at c.new-4.result)) (sym none) (λ p q b. ap (is_option b) (c.new-4.ensures p q));
+      ids =
+          subst (λ (l : List Master). AreIdsOf l (id_at c.new-4.result)) (sym none)
+          (λ p q b. ap (is_option b) (c.new-4.ensures p q));
     })
 
 pub returns : goal.returns
-returns c = ap (λ (a : Indexed ℕ). rows (rows_in nothing c.new-2.result (fin.entries a.items))) c.new.ensures ∙ ap rows (none_in_empty key_of step_number_of nothing c.new-2.result)
+returns c =
+    ap (λ (a : Indexed ℕ). rows (rows_in nothing c.new-2.result (fin.entries a.items))) c.new.ensures
+    ∙ ap rows (none_in_empty key_of step_number_of nothing c.new-2.result)

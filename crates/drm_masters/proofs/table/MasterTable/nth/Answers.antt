@@ -4,7 +4,7 @@ use Rattle.slab.specs.Slab.{get}
 use Rattle.drm_keys.proofs.KeyLemmas.{by_step_number, at_position}
 use Rattle.drm_masters.specs.Masters.{master_at}
 use Rattle.drm_masters.specs.Tables.{MasterRows, nothing}
-use Rattle.drm_masters.proofs.Kept.{key_of, step_number_of}
+use Rattle.drm_masters.proofs.MasterSlab.{key_of, step_number_of}
 use Rattle.drm_masters.proofs.table.MasterTable.nth.Goals as goal
 
 pub returns-in_err-step_number : goal.returns-in_err-step_number

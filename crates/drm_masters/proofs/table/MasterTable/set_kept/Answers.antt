@@ -13,17 +13,21 @@ use Rattle.std.specs.List.{AllByRecursion}
 use Rattle.drm_masters.specs.Records.{items_of}
 use Rattle.drm_masters.specs.Tables.{nothing, AreLesseesOf}
 use Rattle.drm_masters.proofs.Pushed.{kept_at, step_number_stays, lessor_stays, lessee_id_stays, kept_lessors}
-use Rattle.drm_masters.proofs.Lessees.{same_lessees}
+use Rattle.drm_masters.proofs.LesseesOfMasters.{same_lessees}
 use Rattle.drm_masters.proofs.Owned.{same_ids}
 use Rattle.drm_masters.specs.Ids.{id_at, AreIdsOf}
-use Rattle.drm_masters.proofs.Kept.{key_of, step_number_of, key_there, none_changed, at_key}
+use Rattle.drm_masters.proofs.MasterSlab.{key_of, step_number_of, key_there, none_changed, at_key}
 use Rattle.drm_masters.proofs.table.MasterTable.set_kept.Goals as goal
 
 pub unreachable-requires : goal.unreachable-requires
-unreachable-requires c = key_there c.self.inside.keys.items c.self.inside.kept c.self.invariant.keyed c.args.step_number c.in-Some.key.now (sym c.in-Some.ensures.value) (sym c.in_default-get_mut.ensures.value)
+unreachable-requires c =
+    key_there c.self.inside.keys.items c.self.inside.kept c.self.invariant.keyed c.args.step_number c.in-Some.key.now
+    (sym c.in-Some.ensures.value) (sym c.in_default-get_mut.ensures.value)
 
 pub returns-in_default : goal.returns-in_default
-returns-in_default c = rw (← c.self.view_is) (none_changed c.self.inside.keys.items c.self.inside.kept c.self.invariant.keyed c.args.step_number (sym c.in_default.ensures.value) (kept_as c.args.kept))
+returns-in_default c =
+    rw (← c.self.view_is)
+    (none_changed c.self.inside.keys.items c.self.inside.kept c.self.invariant.keyed c.args.step_number (sym c.in_default.ensures.value) (kept_as c.args.kept))
 
 pub invariant_of-self : goal.invariant_of-self
 invariant_of-self c =
@@ -33,9 +37,13 @@ invariant_of-self c =
     let open_client : IsSome (get c.self.inside.kept k) = subst IsSome c.in-Some-get_mut.ensures.value refl in
     let slab = with_value c.self.inside.kept k (kept_as c.args.kept x) in
     let updates = Updates-with_value c.self.inside.kept k (kept_as c.args.kept x) open_client in
-    let all : rows_in nothing slab (fin.entries c.self.inside.keys.items) ≡ map (kept_at x.step_number c.args.kept) (items_of c.self.inside) = replaced key_of step_number_of nothing c.self.inside.keys.items c.self.inside.kept c.self.invariant.keyed k x (kept_as c.args.kept) slab there refl refl updates in
+    let all : rows_in nothing slab (fin.entries c.self.inside.keys.items) ≡ map (kept_at x.step_number c.args.kept) (items_of c.self.inside) =
+    replaced key_of step_number_of nothing c.self.inside.keys.items c.self.inside.kept c.self.invariant.keyed k x
+    (kept_as c.args.kept) slab there refl refl updates in
     record {
-      keyed = replaced_keyed key_of step_number_of nothing c.self.inside.keys.items c.self.inside.kept c.self.invariant.keyed k x (kept_as c.args.kept) slab there refl refl updates;
+      keyed =
+          replaced_keyed key_of step_number_of nothing c.self.inside.keys.items c.self.inside.kept
+          c.self.invariant.keyed k x (kept_as c.args.kept) slab there refl refl updates;
       fits =
           subst (λ (l : List Master). AllByRecursion (λ (y : Master). y.step_number ≤ 4294967295) l) (sym all)
           (all_mapped (λ (y : Master). y.step_number ≤ 4294967295) (kept_at x.step_number c.args.kept) (items_of c.self.inside)
@@ -54,7 +62,9 @@ returns c =
     let k = c.in-Some.key.now in
     let there : get c.self.inside.kept k ≡ Some x = sym c.in-Some-get_mut.ensures.value in
     let open_client : IsSome (get c.self.inside.kept k) = subst IsSome c.in-Some-get_mut.ensures.value refl in
-    let is : x.step_number ≡ c.args.step_number = at_key c.self.inside.keys.items c.self.inside.kept c.self.invariant.keyed c.args.step_number k x (sym c.in-Some.ensures.value) there in
+    let is : x.step_number ≡ c.args.step_number =
+    at_key c.self.inside.keys.items c.self.inside.kept c.self.invariant.keyed c.args.step_number k x
+    (sym c.in-Some.ensures.value) there in
     rw (← c.self.view_is)
     (replaced key_of step_number_of nothing c.self.inside.keys.items c.self.inside.kept c.self.invariant.keyed k x (kept_as c.args.kept) (with_value c.self.inside.kept k (kept_as c.args.kept x)) there refl refl
     (Updates-with_value c.self.inside.kept k (kept_as c.args.kept x) open_client)

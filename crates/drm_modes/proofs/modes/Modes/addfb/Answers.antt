@@ -43,7 +43,8 @@ pub returns-in-Err-clause-full : goal.returns-in-Err-clause-full
 returns-in-Err-clause-full c =
     let inside = c.self.inside in
     let free = free_is inside.topology inside.framebuffers inside.scanouts.items c.self.invariant.first_is in
-    rw (← c.self.view_is) ((λ none. absurd none), λ none. none-some c.in-Ok.framebuffer (sym none ∙ free ∙ c.in-Ok.ensures.given))
+    rw (← c.self.view_is)
+    ((λ none. absurd none), λ none. none-some c.in-Ok.framebuffer (sym none ∙ free ∙ c.in-Ok.ensures.given))
 
 pub invariant_of-self-in_default : goal.invariant_of-self-in_default
 invariant_of-self-in_default c =
@@ -55,7 +56,8 @@ invariant_of-self-in_default c =
 pub returns-clause-given : goal.returns-clause-given
 returns-clause-given c =
     let inside = c.self.inside in
-    rw (← c.self.view_is) (free_is inside.topology inside.framebuffers inside.scanouts.items c.self.invariant.first_is ∙ c.in-Ok.ensures.given)
+    rw (← c.self.view_is)
+    (free_is inside.topology inside.framebuffers inside.scanouts.items c.self.invariant.first_is ∙ c.in-Ok.ensures.given)
 
 pub returns-clause-ok : goal.returns-clause-ok
 returns-clause-ok c =
@@ -63,4 +65,6 @@ returns-clause-ok c =
     let made : Fb = record { client = c.args.client; shape = c.args.shape; object = c.args.object } in
     ap (λ table. mode_set inside.topology table inside.scanouts.items) c.in-Ok.ensures.ok
     ∙ added inside.topology inside.framebuffers inside.scanouts.items c.in-Ok.framebuffer made c.in-Ok.ensures.fresh
-    ∙ ap (λ (set : ModeSet). with_framebuffer set (framebuffer c.in-Ok.framebuffer c.args.client c.args.shape c.args.object)) c.self.view_is
+    ∙ ap
+    (λ (set : ModeSet). with_framebuffer set (framebuffer c.in-Ok.framebuffer c.args.client c.args.shape c.args.object))
+    c.self.view_is

@@ -28,12 +28,14 @@ loop-crtc-preserved c =
         bit = bit;
         below = omega (arith, w.mask-is, l.invariant.below);
         told = ap (λ n. n + l.bit * 2 * bits_of test (drop (l.crtc-index + 1) items)) w.mask-is
-            ∙ bit_set test items l.crtc-index l.bit l.mask (bits_of test items) c.loop-crtc-test.true l.invariant.told (sym c.drives.ensures ∙ w.if-drives.true);
+            ∙ bit_set test items l.crtc-index l.bit l.mask (bits_of test items) c.loop-crtc-test.true l.invariant.told
+            (sym c.drives.ensures ∙ w.if-drives.true);
       }
       | else-drives w ↦ record {
         bit = bit;
         below = omega (arith, w.mask-is, l.invariant.below);
         told = ap (λ n. n + l.bit * 2 * bits_of test (drop (l.crtc-index + 1) items)) w.mask-is
-            ∙ bit_clear test items l.crtc-index l.bit l.mask (bits_of test items) c.loop-crtc-test.true l.invariant.told (sym c.drives.ensures ∙ w.if-drives.false);
+            ∙ bit_clear test items l.crtc-index l.bit l.mask (bits_of test items) c.loop-crtc-test.true l.invariant.told
+            (sym c.drives.ensures ∙ w.if-drives.false);
       }
     ]

@@ -9,9 +9,13 @@ returns-then-not-are_objects-clause-made c =
 
 pub invariant_of-result : goal.invariant_of-result
 invariant_of-result c =
-    rw (c.list_of.ensures, c.list_of-2.ensures, c.list_of-3.ensures, c.list_of-4.ensures) (topology_made c.args.crtcs c.args.planes.now c.args.kinds.now c.args.encoders.now c.args.connectors.now (sym c.are_objects.ensures.value ∙ c.if-not-are_objects.false) (sym c.are_kinds.ensures.test ∙ c.if-not-are_kinds.false))
+    rw (c.list_of.ensures, c.list_of-2.ensures, c.list_of-3.ensures, c.list_of-4.ensures)
+    (topology_made c.args.crtcs c.args.planes.now c.args.kinds.now c.args.encoders.now c.args.connectors.now (sym c.are_objects.ensures.value ∙ c.if-not-are_objects.false) (sym c.are_kinds.ensures.test ∙ c.if-not-are_kinds.false))
 
 pub returns-clause-made : goal.returns-clause-made
 returns-clause-made c =
-    let is = topology_made c.args.crtcs c.args.planes.now c.args.kinds.now c.args.encoders.now c.args.connectors.now (sym c.are_objects.ensures.value ∙ c.if-not-are_objects.false) (sym c.are_kinds.ensures.test ∙ c.if-not-are_kinds.false) in
+    let is =
+    topology_made c.args.crtcs c.args.planes.now c.args.kinds.now c.args.encoders.now c.args.connectors.now
+    (sym c.are_objects.ensures.value ∙ c.if-not-are_objects.false)
+    (sym c.are_kinds.ensures.test ∙ c.if-not-are_kinds.false) in
     (λ made. is, λ is. refl)

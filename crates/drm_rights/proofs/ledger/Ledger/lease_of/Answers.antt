@@ -7,7 +7,12 @@ use Rattle.drm_rights.proofs.LeaseLemmas.{leases_rise}
 use Rattle.drm_rights.proofs.ledger.Ledger.lease_of.Goals as goal
 
 pub returns : goal.returns
-returns c = c.lease_at.ensures ∙ ap (λ notes. lease_at notes c.args.master) (c.deref.ensures.value ∙ c.self.invariant.lent ∙ ap leases_in c.self.view_is)
+returns c =
+    c.lease_at.ensures
+    ∙ ap (λ notes. lease_at notes c.args.master)
+    (c.deref.ensures.value ∙ c.self.invariant.lent ∙ ap leases_in c.self.view_is)
 
 pub lease_at-requires : goal.lease_at-requires
-lease_at-requires c = subst LeasesRise (sym (c.deref.ensures.value ∙ c.self.invariant.lent)) (leases_rise (history_of c.self.inside.trail))
+lease_at-requires c =
+    subst LeasesRise (sym (c.deref.ensures.value ∙ c.self.invariant.lent))
+    (leases_rise (history_of c.self.inside.trail))

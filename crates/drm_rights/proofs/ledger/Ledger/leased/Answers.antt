@@ -12,11 +12,16 @@ returns-clause-lent c = λ x.
     let past = c.args.self.now in
     let listed = listed_in past c.args.master in
     let lent = lent_in c.args.topology.now past c.args.master x in
-    let planes = c.ids-plane-items.ensures.ids ∙ c.planes_of-planes.ensures ∙ ap (planes_of c.args.topology.now) c.listed-listed.ensures in
-    sym (list_any-IsPermutation (λ y. y == x) c.loop-plane.ids.items c.sort_unstable.new.self.items c.sort_unstable.ensures.permutation)
+    let planes =
+    c.ids-plane-items.ensures.ids ∙ c.planes_of-planes.ensures
+    ∙ ap (planes_of c.args.topology.now) c.listed-listed.ensures in
+    sym
+    (list_any-IsPermutation (λ y. y == x) c.loop-plane.ids.items c.sort_unstable.new.self.items c.sort_unstable.ensures.permutation)
     ∙ c.loop-plane.invariant x
-    ∙ ap (λ ps. is_among listed x || (is_among ps x && lent)) (take_all c.loop-plane.plane-index (planes_of c.args.topology.now listed) (subst (λ ps. length ps ≤ c.loop-plane.plane-index) planes c.loop-plane-test.false))
+    ∙ ap (λ ps. is_among listed x || (is_among ps x && lent))
+    (take_all c.loop-plane.plane-index (planes_of c.args.topology.now listed) (subst (λ ps. length ps ≤ c.loop-plane.plane-index) planes c.loop-plane-test.false))
     ∙ all_lent c.args.topology.now past c.args.master x
 
 pub returns-clause-rising : goal.returns-clause-rising
-returns-clause-rising c = IsNonDecreasingBy-from_sort (λ x. x) c.sort_unstable.new.self.items c.sort_unstable.ensures.sorted
+returns-clause-rising c =
+    IsNonDecreasingBy-from_sort (λ x. x) c.sort_unstable.new.self.items c.sort_unstable.ensures.sorted

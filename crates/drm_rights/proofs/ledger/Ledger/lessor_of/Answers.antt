@@ -9,8 +9,12 @@ use Rattle.drm_rights.proofs.ledger.Ledger.lessor_of.Goals as goal
 
 pub returns : goal.returns
 returns c =
-    c.lessor_of.ensures.lessor ∙ ap (λ notes. lessor_noted notes c.args.master) (c.deref.ensures.value ∙ c.self.invariant.lent ∙ ap leases_in c.self.view_is)
+    c.lessor_of.ensures.lessor
+    ∙ ap (λ notes. lessor_noted notes c.args.master)
+    (c.deref.ensures.value ∙ c.self.invariant.lent ∙ ap leases_in c.self.view_is)
     ∙ lessor_told c.args.self.now c.args.master
 
 pub lessor_of-requires : goal.lessor_of-requires
-lessor_of-requires c = subst LeasesRise (sym (c.deref.ensures.value ∙ c.self.invariant.lent)) (leases_rise (history_of c.self.inside.trail))
+lessor_of-requires c =
+    subst LeasesRise (sym (c.deref.ensures.value ∙ c.self.invariant.lent))
+    (leases_rise (history_of c.self.inside.trail))

@@ -22,9 +22,15 @@ invariant_of-result c =
     let d : effect_of ids c.effect-effect.result ≡ effect step = c.effect-effect.ensures in
     let v : c.args.self ≡ past = sym c.self.view_is in
     let n : c.next_number-number.result ≡ next_number past = c.next_number-number.ensures ∙ ap next_number v in
-    let owner = c.owner_after-owner.ensures ids ∙ (λ i. (transition (d i) (n i) (lease_in (v i)) (master_state (v i))).owner) in
-    let since = c.owner_since_after-owner_since.ensures ∙ (λ i. if is_same_master (owner_in (v i)) c.owner_after-owner.result then owner_since_in (v i) else next_number (v i)) in
-    ledger_along (step ∷ past) _ c.owner_after-owner.result c.owner_since_after-owner_since.result _ _ _ _ _ _ _ _ _ _ _ _ _ _
+    let owner =
+    c.owner_after-owner.ensures ids ∙ (λ i. (transition (d i) (n i) (lease_in (v i)) (master_state (v i))).owner) in
+    let since =
+    c.owner_since_after-owner_since.ensures
+    ∙
+    (λ i. if is_same_master (owner_in (v i)) c.owner_after-owner.result then owner_since_in (v i) else next_number (v i))
+    in
+    ledger_along (step ∷ past) _ c.owner_after-owner.result c.owner_since_after-owner_since.result _ _ _ _ _ _ _ _ _ _ _
+    _ _ _
     (ap history_of c.in_ok-push.ensures ∙ followed_by-append [] old.trail c.args.step)
     (c.in_ok-with_item.ensures ∙ ap (λ o. old.standings.items ++ option_to_list o) (c.master_state_by-master_state.ensures ids ∙ (λ i. new_master_state (d i) (n i) (lease_in (v i)) (master_state (v i)))))
     (c.in_ok-with_item-2.ensures ∙ ap (λ o. old.leases.items ++ option_to_list o) (c.lease_by-lease.ensures ids ∙ (λ i. new_lease (d i) (v i))))
@@ -36,4 +42,6 @@ invariant_of-result c =
     (ledger_after past step old.owner c.owner_after-owner.result old.owner_since c.owner_since_after-owner_since.result old.standings.items old.leases.items old.ends.items old.magics.items old.authentications.items old.roots.items old.capabilities.items c.self.invariant owner since)
 
 pub returns : goal.returns
-returns c = ap history_of c.in_ok-push.ensures ∙ followed_by-append [] c.self.inside.trail c.args.step ∙ ap (λ l. entry_of c.args.step ∷ l) c.self.view_is
+returns c =
+    ap history_of c.in_ok-push.ensures ∙ followed_by-append [] c.self.inside.trail c.args.step
+    ∙ ap (λ l. entry_of c.args.step ∷ l) c.self.view_is

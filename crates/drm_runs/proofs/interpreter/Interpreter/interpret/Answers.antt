@@ -13,10 +13,14 @@ pub returns-in-Skipped : goal.returns-in-Skipped
 returns-in-Skipped c = skipped (sym c.read_line.ensures.reading ∙ ap result_ok c.in-Ok.is ∙ ap Some c.in-Skipped.is)
 
 pub returns-in-Limits : goal.returns-in-Limits
-returns-in-Limits c = sets_interprets _ _ _ c.in-Limits.limits _ _ (sym c.read_line.ensures.reading ∙ ap result_ok c.in-Ok.is ∙ ap Some c.in-Limits.is) c.limit.ensures
+returns-in-Limits c =
+    sets_interprets _ _ _ c.in-Limits.limits _ _
+    (sym c.read_line.ensures.reading ∙ ap result_ok c.in-Ok.is ∙ ap Some c.in-Limits.is) c.limit.ensures
 
 pub returns-in-Some : goal.returns-in-Some
-returns-in-Some c = uses_asked _ _ _ c.in-Says.command _ (sym c.read_line.ensures.reading ∙ ap result_ok c.in-Ok.is ∙ ap Some c.in-Says.is) c.in-Some.ensures
+returns-in-Some c =
+    uses_asked _ _ _ c.in-Says.command _
+    (sym c.read_line.ensures.reading ∙ ap result_ok c.in-Ok.is ∙ ap Some c.in-Says.is) c.in-Some.ensures
 
 pub returns-in-None : goal.returns-in-None
 returns-in-None c =

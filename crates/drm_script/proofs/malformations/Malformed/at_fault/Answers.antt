@@ -19,13 +19,21 @@ pub overflow_sub-place : goal.overflow_sub-place
 overflow_sub-place c = end_short (trimmed_at c.skip_words.ensures.behind c.trim_spaces-at.ensures)
 
 pub returns-clause-word : goal.returns-clause-word
-returns-clause-word c = inr (c.first_told.ensures ∙ ap (λ x. first_told (words_of x)) (sym (at_column (trimmed_at c.skip_words.ensures.behind c.trim_spaces-at.ensures))))
+returns-clause-word c =
+    inr
+    (c.first_told.ensures ∙ ap (λ x. first_told (words_of x)) (sym (at_column (trimmed_at c.skip_words.ensures.behind c.trim_spaces-at.ensures))))
 
 pub returns-clause-told : goal.returns-clause-told
-returns-clause-told c = c.first_told.ensures ∙ ap (λ x. first_told (words_of x)) (sym (at_column (trimmed_at c.skip_words.ensures.behind c.trim_spaces-at.ensures)))
+returns-clause-told c =
+    c.first_told.ensures
+    ∙ ap (λ x. first_told (words_of x))
+    (sym (at_column (trimmed_at c.skip_words.ensures.behind c.trim_spaces-at.ensures)))
 
 pub returns-clause-place : goal.returns-clause-place
 returns-clause-place c =
-    let end : IsEndOf c.args.line.now c.trim_spaces-at.result.now = trimmed_at c.skip_words.ensures.behind c.trim_spaces-at.ensures in
-    ap words_of (at_column end) ∙ ap words_of c.trim_spaces-at.ensures ∙ words-trimmed c.skip_words.result.now ∙ c.skip_words.ensures.words
-    ∙ ap (λ n. drop n (words_of c.args.line.now)) (c.saturating_sub-fitting.ensures ∙ rw c.word_count.ensures.count (rw c.word_count-2.ensures.count refl))
+    let end : IsEndOf c.args.line.now c.trim_spaces-at.result.now =
+    trimmed_at c.skip_words.ensures.behind c.trim_spaces-at.ensures in
+    ap words_of (at_column end) ∙ ap words_of c.trim_spaces-at.ensures ∙ words-trimmed c.skip_words.result.now
+    ∙ c.skip_words.ensures.words
+    ∙ ap (λ n. drop n (words_of c.args.line.now))
+    (c.saturating_sub-fitting.ensures ∙ rw c.word_count.ensures.count (rw c.word_count-2.ensures.count refl))

@@ -17,7 +17,9 @@ returns-in-Got g c =
         record {
           more = more;
           spends = came.0;
-          parts = take-written c.self.inside.len (1028 - c.self.inside.len) c.in-Got.count c.self.inside.bytes c.take_some-refill.new.buffer (omega (arith, within, told)) came.2
+          parts =
+              take-written c.self.inside.len (1028 - c.self.inside.len) c.in-Got.count c.self.inside.bytes
+              c.take_some-refill.new.buffer (omega (arith, within, told)) came.2
               ∙ ap (λ (t : List ℕ). t ++ more) c.self.view_is;
           some = omega (arith, len, some);
           gave = c.in-Got.ensures.gave ∙ sym len;

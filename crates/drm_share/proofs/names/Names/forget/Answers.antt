@@ -9,7 +9,8 @@ pub invariant_of-self : goal.invariant_of-self
 invariant_of-self c =
     let inside = c.self.inside in
     let is = ap (fin.get inside.names.items) (sym c.number.ensures) ∙ sym c.in-Some.ensures.value in
-    rw (c.remove-object.ensures.after, c.in-Some.ensures.after, c.number.ensures) (has-removed inside.objects inside.names.items c.self.invariant c.in-Some.name c.args.object is)
+    rw (c.remove-object.ensures.after, c.in-Some.ensures.after, c.number.ensures)
+    (has-removed inside.objects inside.names.items c.self.invariant c.in-Some.name c.args.object is)
 
 pub returns-in-Some : goal.returns-in-Some
 returns-in-Some c =
@@ -23,4 +24,5 @@ pub returns-in_default : goal.returns-in_default
 returns-in_default c =
     let inside = c.self.inside in
     let none = ap (fin.get inside.names.items) (sym c.number.ensures) ∙ sym c.in_default.ensures.value in
-    sym (none_forgotten inside.objects inside.names.items c.self.invariant c.args.object none) ∙ ap (λ (l : NameList). without_name_of l c.args.object) c.self.view_is
+    sym (none_forgotten inside.objects inside.names.items c.self.invariant c.args.object none)
+    ∙ ap (λ (l : NameList). without_name_of l c.args.object) c.self.view_is

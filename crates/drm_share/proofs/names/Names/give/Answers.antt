@@ -38,16 +38,20 @@ returns-in-Err-clause-err c =
 pub returns-in-Err-clause-full : goal.returns-in-Err-clause-full
 returns-in-Err-clause-full c =
     let free = free_name_is c.self.inside.objects c.self.invariant.numbered.first_is in
-    rw (← c.self.view_is) ((λ none. absurd none), λ none. none-some c.in-Ok.name (sym none ∙ free ∙ c.in-Ok.ensures.given))
+    rw (← c.self.view_is)
+    ((λ none. absurd none), λ none. none-some c.in-Ok.name (sym none ∙ free ∙ c.in-Ok.ensures.given))
 
 pub invariant_of-self-in_default : goal.invariant_of-self-in_default
 invariant_of-self-in_default c =
     let inside = c.self.inside in
     let unnamed = ap (fin.get inside.names.items) (sym c.number.ensures) ∙ c.in_default.ensures.absent in
-    rw (c.in-Ok.ensures.ok, c.in_default.ensures.ok, c.number.ensures) (has-given inside.objects inside.names.items c.self.invariant c.in-Ok.name c.args.object unnamed c.in-Ok.ensures.fresh c.in-Ok.ensures.low c.in-Ok.ensures.high)
+    rw (c.in-Ok.ensures.ok, c.in_default.ensures.ok, c.number.ensures)
+    (has-given inside.objects inside.names.items c.self.invariant c.in-Ok.name c.args.object unnamed c.in-Ok.ensures.fresh c.in-Ok.ensures.low c.in-Ok.ensures.high)
 
 pub returns-clause-given : goal.returns-clause-given
-returns-clause-given c = rw (← c.self.view_is) (free_name_is c.self.inside.objects c.self.invariant.numbered.first_is ∙ c.in-Ok.ensures.given)
+returns-clause-given c =
+    rw (← c.self.view_is)
+    (free_name_is c.self.inside.objects c.self.invariant.numbered.first_is ∙ c.in-Ok.ensures.given)
 
 pub returns-clause-low : goal.returns-clause-low
 returns-clause-low c = omega (arith, c.in-Ok.ensures.low, c.self.invariant.numbered.first_is)

@@ -11,4 +11,5 @@ returns-clause-object c =
     ∙ ap (λ (l : NameList). option_map (λ row. row.object) (find (is_name c.args.name) l.names)) c.self.view_is
 
 pub returns-clause-names : goal.returns-clause-names
-returns-clause-names c = rw (← c.self.view_is) (names_are c.self.inside.objects c.self.inside.names.items c.self.invariant)
+returns-clause-names c =
+    rw (← c.self.view_is) (names_are c.self.inside.objects c.self.inside.names.items c.self.invariant)

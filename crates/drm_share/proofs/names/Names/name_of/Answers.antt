@@ -13,4 +13,5 @@ returns-clause-name c =
     ∙ ap (λ (l : NameList). name_of l c.args.object) c.self.view_is
 
 pub returns-clause-names : goal.returns-clause-names
-returns-clause-names c = rw (← c.self.view_is) (names_are c.self.inside.objects c.self.inside.names.items c.self.invariant)
+returns-clause-names c =
+    rw (← c.self.view_is) (names_are c.self.inside.objects c.self.inside.names.items c.self.invariant)

@@ -1,6 +1,6 @@
 use Rattle.std.proofs.Common.{ap, ◌∙◌, slice_get, option_map, option_and_then}
 use Rattle.std.specs.FinMap as fin
-use Rattle.drm_index_array.proofs.Keyed.{row_at}
+use Rattle.drm_index_array.proofs.RowsByKey.{row_at}
 use Rattle.drm_share.specs.Names.{NameList, shared_name}
 use Rattle.drm_share.specs.Tables.{name_row}
 use Rattle.drm_share.proofs.NameFacts.{names_are}
@@ -32,10 +32,13 @@ returns-clause-row c =
     ∙ ap (λ (l : NameList). slice_get l.names c.args.position) c.self.view_is
 
 pub returns-in_err-name-clause-names : goal.returns-in_err-name-clause-names
-returns-in_err-name-clause-names c = rw (← c.self.view_is) (names_are c.self.inside.objects c.self.inside.names.items c.self.invariant)
+returns-in_err-name-clause-names c =
+    rw (← c.self.view_is) (names_are c.self.inside.objects c.self.inside.names.items c.self.invariant)
 
 pub returns-in_err-object-clause-names : goal.returns-in_err-object-clause-names
-returns-in_err-object-clause-names c = rw (← c.self.view_is) (names_are c.self.inside.objects c.self.inside.names.items c.self.invariant)
+returns-in_err-object-clause-names c =
+    rw (← c.self.view_is) (names_are c.self.inside.objects c.self.inside.names.items c.self.invariant)
 
 pub returns-clause-names : goal.returns-clause-names
-returns-clause-names c = rw (← c.self.view_is) (names_are c.self.inside.objects c.self.inside.names.items c.self.invariant)
+returns-clause-names c =
+    rw (← c.self.view_is) (names_are c.self.inside.objects c.self.inside.names.items c.self.invariant)

@@ -8,4 +8,5 @@ returns c =
     let exports = c.self.inside.exports in
     let full = full_is exports c.self.invariant.numbered in
     let next = next_token_is exports c.self.invariant.numbered.first_is in
-    rw (← c.self.view_is) ((λ yes. next ∙ full.0 (c.is_full.ensures.0 yes)), λ none. c.is_full.ensures.1 (full.1 (sym next ∙ none)))
+    rw (← c.self.view_is)
+    ((λ yes. next ∙ full.0 (c.is_full.ensures.0 yes)), λ none. c.is_full.ensures.1 (full.1 (sym next ∙ none)))

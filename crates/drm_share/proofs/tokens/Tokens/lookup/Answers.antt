@@ -12,7 +12,8 @@ returns-in_err-found-clause-object c =
     ∙ ap (λ (l : TokenList). option_map (λ row. row.object) (find (is_token c.args.token) l.tokens)) c.self.view_is
 
 pub returns-in_err-found-clause-tokens : goal.returns-in_err-found-clause-tokens
-returns-in_err-found-clause-tokens c = rw (← c.self.view_is) (tokens_are c.self.inside.exports c.self.invariant.numbered)
+returns-in_err-found-clause-tokens c =
+    rw (← c.self.view_is) (tokens_are c.self.inside.exports c.self.invariant.numbered)
 
 pub returns-clause-object : goal.returns-clause-object
 returns-clause-object c =

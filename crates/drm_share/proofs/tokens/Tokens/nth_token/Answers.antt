@@ -1,6 +1,6 @@
 use Rattle.std.proofs.Common.{ap, ◌∙◌, slice_get, option_map, option_and_then}
 use Rattle.std.specs.FinMap as fin
-use Rattle.drm_index_array.proofs.Keyed.{row_at}
+use Rattle.drm_index_array.proofs.RowsByKey.{row_at}
 use Rattle.drm_share.specs.Tokens.{TokenList}
 use Rattle.drm_share.specs.Tables.{token_row}
 use Rattle.drm_share.proofs.TokenFacts.{tokens_are}
@@ -32,10 +32,12 @@ returns-clause-row c =
     ∙ ap (λ (l : TokenList). slice_get l.tokens c.args.position) c.self.view_is
 
 pub returns-in_err-token-clause-tokens : goal.returns-in_err-token-clause-tokens
-returns-in_err-token-clause-tokens c = rw (← c.self.view_is) (tokens_are c.self.inside.exports c.self.invariant.numbered)
+returns-in_err-token-clause-tokens c =
+    rw (← c.self.view_is) (tokens_are c.self.inside.exports c.self.invariant.numbered)
 
 pub returns-in_err-export-clause-tokens : goal.returns-in_err-export-clause-tokens
-returns-in_err-export-clause-tokens c = rw (← c.self.view_is) (tokens_are c.self.inside.exports c.self.invariant.numbered)
+returns-in_err-export-clause-tokens c =
+    rw (← c.self.view_is) (tokens_are c.self.inside.exports c.self.invariant.numbered)
 
 pub returns-clause-tokens : goal.returns-clause-tokens
 returns-clause-tokens c = rw (← c.self.view_is) (tokens_are c.self.inside.exports c.self.invariant.numbered)

@@ -6,5 +6,6 @@ use Rattle.drm_trails.proofs.trail.Trail.chain_end_of.Goals as goal
 
 pub returns-clause-whole : goal.returns-clause-whole
 returns-clause-whole c =
-    subst (λ (steps : List Step). IfOk c.chain_end_in.result (λ found. IfSome found (λ end. IfNone end.left ((o : ℕ) × Explains (history_of (take c.args.count steps)) c.args.client c.args.handle o end.links.items))))
+    subst
+    (λ (steps : List Step). IfOk c.chain_end_in.result (λ found. IfSome found (λ end. IfNone end.left ((o : ℕ) × Explains (history_of (take c.args.count steps)) c.args.client c.args.handle o end.links.items))))
     (c.deref.ensures.value ∙ c.self.view_is) c.chain_end_in.ensures.whole

@@ -14,5 +14,6 @@ pub compare_exchange-requires : goal.compare_exchange-requires
 compare_exchange-requires g c = let kept = c.loop.invariant in let found = c.load-found.ensures in (
   found.0 ∙ (kept.2 ∙ (c.requires.own ∙ sym c.self.view_is)),
   (let w = c.self.invariant.0 in omega arith),
-  draws_moves _ _ c.load-found.new.seat.me c.load-found.result (ap (λ (m : Sat). m.0.stage) found.2.0) (let other = c.if-found.false in let fits = c.load-found.type_inv in omega arith),
+  draws_moves _ _ c.load-found.new.seat.me c.load-found.result (ap (λ (m : Sat). m.0.stage) found.2.0)
+      (let other = c.if-found.false in let fits = c.load-found.type_inv in omega arith),
 )

@@ -8,5 +8,6 @@ join_seat-requires c = (
   search rules,
   c.other.invariant.empty,
   (let w = c.self.invariant.0 in omega arith),
-  joins_moves _ c.participant.inside.place.me.0 _ c.other.inside.place.me.0 c.participant.invariant.idle c.other.invariant.idle c.participant.invariant.numbered c.other.invariant.numbered,
+  joins_moves _ c.participant.inside.place.me.0 _ c.other.inside.place.me.0 c.participant.invariant.idle
+      c.other.invariant.idle c.participant.invariant.numbered c.other.invariant.numbered,
 )

@@ -8,5 +8,6 @@ join_seat-requires c = (
   search rules,
   c.note.invariant.empty,
   (let w = c.self.invariant.0 in omega arith),
-  meets_moves _ c.participant.inside.place.me.0 _ c.note.inside.place.me.0 c.participant.invariant.idle c.note.invariant.idle c.participant.invariant.numbered,
+  meets_moves _ c.participant.inside.place.me.0 _ c.note.inside.place.me.0 c.participant.invariant.idle
+      c.note.invariant.idle c.participant.invariant.numbered,
 )

@@ -10,7 +10,7 @@ use Rattle.drm_turns.specs.Rule.{Slot, Sat}
 use Rattle.drm_turns.specs.Views.{counted}
 use Rattle.drm_turns.specs.Turns.{Turn}
 use Rattle.drm_turns.specs.History.{device_at, entry, rows_after}
-use Rattle.drm_turns.proofs.Held.{after_put, events-length, grows_by, grows_not, held_is, noting_at, refuses, step_ok, turn_of}
+use Rattle.drm_turns.proofs.HeldDevice.{after_put, events-length, grows_by, grows_not, held_is, noting_at, refuses, step_ok, turn_of}
 use Rattle.drm_turns.proofs.shared.SharedDevice.step_in_turn.Goals as goal
 use Rattle.drm_turns.proofs.shared.SharedDevice.step_in_turn.Goals.{in-Ok, in-Err}
 
@@ -24,14 +24,19 @@ pub count-requires-clause-serving : goal.count-requires-clause-serving
 count-requires-clause-serving c =
     let v = c.args.place.now.me.0 in
     let e = c.exchange.ensures.3 in
-    let found = held_is c.args.place.now.me.1 c.exchange.result (Some (device_at v.origin v.seen)) c.exchange.ensures.2 c.requires.device in
+    let found =
+    held_is c.args.place.now.me.1 c.exchange.result (Some (device_at v.origin v.seen)) c.exchange.ensures.2
+    c.requires.device in
     let full = sym c.unwrap.ensures ∙ found in
     let opened = c.into_box-device.ensures in
     let lies = c.deref_mut.ensures.value in
     let device : c.deref_mut.result.now ≡ device_at v.origin v.seen = cc in
-    let same : length c.deref_mut.result.now.journal ≡ length v.seen = ap (λ (d : DeviceValue). length d.journal) device ∙ events-length v.seen in
+    let same : length c.deref_mut.result.now.journal ≡ length v.seen =
+    ap (λ (d : DeviceValue). length d.journal) device ∙ events-length v.seen in
     let is = rw c.in-Ok.is at c.step_at.ensures.ok in
-    let journaled : length c.step_at.new.self.journal ≡ length c.deref_mut.result.now.journal + 1 = ap (λ (d : DeviceValue). length d.journal) is ∙ length-append c.deref_mut.result.now.journal (c.args.event ∷ []) in
+    let journaled : length c.step_at.new.self.journal ≡ length c.deref_mut.result.now.journal + 1 =
+    ap (λ (d : DeviceValue). length d.journal) is
+    ∙ length-append c.deref_mut.result.now.journal (c.args.event ∷ []) in
     let within = c.step_at.ensures.within in
     let bounded = c.step_at.ensures.bounded in
     let seen : length c.exchange.new.seat.me.0.seen ≡ length v.seen = ap (λ (m : Sat). length m.0.seen) e in (
@@ -44,12 +49,15 @@ pub count-requires-clause-legal : goal.count-requires-clause-legal
 count-requires-clause-legal c =
     let v = c.args.place.now.me.0 in
     let e = c.exchange.ensures.3 in
-    let found = held_is c.args.place.now.me.1 c.exchange.result (Some (device_at v.origin v.seen)) c.exchange.ensures.2 c.requires.device in
+    let found =
+    held_is c.args.place.now.me.1 c.exchange.result (Some (device_at v.origin v.seen)) c.exchange.ensures.2
+    c.requires.device in
     let full = sym c.unwrap.ensures ∙ found in
     let opened = c.into_box-device.ensures in
     let lies = c.deref_mut.ensures.value in
     let device : c.deref_mut.result.now ≡ device_at v.origin v.seen = cc in
-    let rows : rows_of c.deref_mut.result.now ≡ rows_after c.exchange.new.seat.me.0.origin c.exchange.new.seat.me.0.seen = ap rows_of device ∙ ap (λ (m : Sat). rows_after m.0.origin m.0.seen) (sym e) in
+    let rows : rows_of c.deref_mut.result.now ≡ rows_after c.exchange.new.seat.me.0.origin c.exchange.new.seat.me.0.seen =
+    ap rows_of device ∙ ap (λ (m : Sat). rows_after m.0.origin m.0.seen) (sym e) in
     let answer = step_ok _ _ _ _ (rw c.in-Ok.is at c.step_at.ensures.step) in (
       subst (λ (z : Rows × Event). no_room z.0 z.1 ≡ false) (λ i. (rows i, sym c.of-journaled.ensures i)) answer.0,
       answer.1 ∙ (λ i. reply (rows i) (sym c.of-journaled.ensures i)),
@@ -84,7 +92,9 @@ pub returns-clause-device : goal.returns-clause-device
 returns-clause-device c =
     let v = c.args.place.now.me.0 in
     let e = c.exchange.ensures.3 in
-    let found = held_is c.args.place.now.me.1 c.exchange.result (Some (device_at v.origin v.seen)) c.exchange.ensures.2 c.requires.device in
+    let found =
+    held_is c.args.place.now.me.1 c.exchange.result (Some (device_at v.origin v.seen)) c.exchange.ensures.2
+    c.requires.device in
     let full = sym c.unwrap.ensures ∙ found in
     let opened = c.into_box-device.ensures in
     let lies = c.deref_mut.ensures.value in
@@ -96,12 +106,14 @@ returns-clause-device c =
           let counts = w.count.ensures.counted in
           let me : c.match-outcome.place.me ≡ (counted v (entry v.number c.args.event w.in-Ok.answer), c.exchange.new.seat.me.1) =
           placed w.place-is ∙ (counts ∙ (λ i. let u : View = (e i).0 in (counted u (entry u.number (c.of-journaled.ensures i) w.in-Ok.answer), c.exchange.new.seat.me.1))) in
-          after_put c.match-outcome.place.me c.exchange-2.new.seat.me c.step_at.new.self c.exchange-2.ensures.3 (ap (λ (m : Sat). rest m.1) me ∙ none_more)
+          after_put c.match-outcome.place.me c.exchange-2.new.seat.me c.step_at.new.self c.exchange-2.ensures.3
+          (ap (λ (m : Sat). rest m.1) me ∙ none_more)
           (is ∙ (ap (λ d. journaled_in d c.args.event) device ∙ (noting_at v.origin v.seen (entry v.number c.args.event w.in-Ok.answer) ∙ ap (λ (m : Sat). device_at m.0.origin m.0.seen) (sym me))))
       | in-Err w ↦
           let is = rw w.in-Err.is at c.step_at.ensures.err in
           let me : c.match-outcome.place.me ≡ c.exchange.new.seat.me = placed w.place-is in
-          after_put c.match-outcome.place.me c.exchange-2.new.seat.me c.step_at.new.self c.exchange-2.ensures.3 (ap (λ (m : Sat). rest m.1) me ∙ none_more)
+          after_put c.match-outcome.place.me c.exchange-2.new.seat.me c.step_at.new.self c.exchange-2.ensures.3
+          (ap (λ (m : Sat). rest m.1) me ∙ none_more)
           (is ∙ (device ∙ ap (λ (m : Sat). device_at m.0.origin m.0.seen) (sym (me ∙ e))))
     ]
 
@@ -109,7 +121,9 @@ pub returns-clause-grows : goal.returns-clause-grows
 returns-clause-grows c =
     let v = c.args.place.now.me.0 in
     let e = c.exchange.ensures.3 in
-    let found = held_is c.args.place.now.me.1 c.exchange.result (Some (device_at v.origin v.seen)) c.exchange.ensures.2 c.requires.device in
+    let found =
+    held_is c.args.place.now.me.1 c.exchange.result (Some (device_at v.origin v.seen)) c.exchange.ensures.2
+    c.requires.device in
     let full = sym c.unwrap.ensures ∙ found in
     let opened = c.into_box-device.ensures in
     let lies = c.deref_mut.ensures.value in
@@ -121,18 +135,22 @@ returns-clause-grows c =
           let counts = w.count.ensures.counted in
           let me : c.match-outcome.place.me ≡ (counted v (entry v.number c.args.event w.in-Ok.answer), c.exchange.new.seat.me.1) =
           placed w.place-is ∙ (counts ∙ (λ i. let u : View = (e i).0 in (counted u (entry u.number (c.of-journaled.ensures i) w.in-Ok.answer), c.exchange.new.seat.me.1))) in
-          grows_by v (entry v.number c.args.event w.in-Ok.answer) c.exchange-2.new.seat.me.0 (put ∙ ap (λ (m : Sat). m.0) me) c.requires.seen refl
+          grows_by v (entry v.number c.args.event w.in-Ok.answer) c.exchange-2.new.seat.me.0
+          (put ∙ ap (λ (m : Sat). m.0) me) c.requires.seen refl
           (subst (λ (d : DeviceValue). no_room (rows_of d) c.args.event ≡ false) device answer.0)
           (subst (λ (d : DeviceValue). w.in-Ok.answer ≡ reply (rows_of d) c.args.event) device answer.1)
       | in-Err w ↦
-          grows_not v c.exchange-2.new.seat.me.0 (put ∙ (ap (λ (m : Sat). m.0) (placed w.place-is) ∙ ap (λ (m : Sat). m.0) e)) c.requires.seen
+          grows_not v c.exchange-2.new.seat.me.0
+          (put ∙ (ap (λ (m : Sat). m.0) (placed w.place-is) ∙ ap (λ (m : Sat). m.0) e)) c.requires.seen
     ]
 
 pub returns-clause-turn : goal.returns-clause-turn
 returns-clause-turn c =
     let v = c.args.place.now.me.0 in
     let e = c.exchange.ensures.3 in
-    let found = held_is c.args.place.now.me.1 c.exchange.result (Some (device_at v.origin v.seen)) c.exchange.ensures.2 c.requires.device in
+    let found =
+    held_is c.args.place.now.me.1 c.exchange.result (Some (device_at v.origin v.seen)) c.exchange.ensures.2
+    c.requires.device in
     let full = sym c.unwrap.ensures ∙ found in
     let opened = c.into_box-device.ensures in
     let lies = c.deref_mut.ensures.value in
@@ -145,7 +163,9 @@ returns-clause-turn c =
           let counts = w.count.ensures.counted in
           let me : c.match-outcome.place.me ≡ (counted v (entry v.number c.args.event w.in-Ok.answer), c.exchange.new.seat.me.1) =
           placed w.place-is ∙ (counts ∙ (λ i. let u : View = (e i).0 in (counted u (entry u.number (c.of-journaled.ensures i) w.in-Ok.answer), c.exchange.new.seat.me.1))) in
-          is ∙ (ap (λ d. journaled_in d c.args.event) device ∙ (noting_at v.origin v.seen (entry v.number c.args.event w.in-Ok.answer) ∙ ap (λ (u : View). device_at u.origin u.seen) (sym (put ∙ ap (λ (m : Sat). m.0) me))))
+          is
+          ∙
+          (ap (λ d. journaled_in d c.args.event) device ∙ (noting_at v.origin v.seen (entry v.number c.args.event w.in-Ok.answer) ∙ ap (λ (u : View). device_at u.origin u.seen) (sym (put ∙ ap (λ (m : Sat). m.0) me))))
       | in-Err w ↦
           let is = rw w.in-Err.is at c.step_at.ensures.err in
           let me : c.match-outcome.place.me ≡ c.exchange.new.seat.me = placed w.place-is in
@@ -159,7 +179,9 @@ pub returns-clause-err : goal.returns-clause-err
 returns-clause-err c =
     let v = c.args.place.now.me.0 in
     let e = c.exchange.ensures.3 in
-    let found = held_is c.args.place.now.me.1 c.exchange.result (Some (device_at v.origin v.seen)) c.exchange.ensures.2 c.requires.device in
+    let found =
+    held_is c.args.place.now.me.1 c.exchange.result (Some (device_at v.origin v.seen)) c.exchange.ensures.2
+    c.requires.device in
     let full = sym c.unwrap.ensures ∙ found in
     let opened = c.into_box-device.ensures in
     let lies = c.deref_mut.ensures.value in
@@ -168,6 +190,7 @@ returns-clause-err c =
     elim c.match-outcome.branch [
       | in-Ok w ↦ rw w.in-Ok.is tt
       | in-Err w ↦
-          refuses c.deref_mut.result.now c.step_at.new.self c.args.event c.step_at.new.outcome v c.exchange-2.new.seat.me.0 device c.step_at.ensures.step c.step_at.ensures.err
+          refuses c.deref_mut.result.now c.step_at.new.self c.args.event c.step_at.new.outcome v
+          c.exchange-2.new.seat.me.0 device c.step_at.ensures.step c.step_at.ensures.err
           (rw w.in-Err.is (put ∙ (ap (λ (m : Sat). m.0) (placed w.place-is) ∙ ap (λ (m : Sat). m.0) e)))
     ]
