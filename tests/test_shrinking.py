@@ -123,7 +123,7 @@ class ShrinkingTests(FolderCase):
             ran = run_program("shrink", script, "--line", str(number))
             expect_told(ran, 3, [f"ERROR {script}: {reason}", "fault: command line"], "")
         script.write_text("open a card\nfly away\na version\n")
-        cause = f"ERROR {script}:2: column 1: `fly` is no label from a to z, and none of limits, open, open2 and close"
+        cause = f"ERROR {script}:2: column 1: `fly` is not a label from a to z, limits, open, open2 or close"
         expect_told(run_program("shrink", script, "--line", "3"), 2, [cause, "fault: script line 2"], "")
         expect("the line before it", run_program("shrink", script, "--line", "1").stdout, "open a card -> client 1\n")
         missing = self.folder / "missing"
