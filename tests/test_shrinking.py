@@ -79,7 +79,9 @@ class ShrinkingTests(FolderCase):
         for words, is_denied in (((), True), (("--topology", topology), False)):
             ran = run_program("shrink", script, "--line", "3", *words)
             last = ran.stdout.splitlines()[-1]
-            expect(f"whether CRTC 3 is denied with {words}", last == "a getcrtc 3 -> denied 30 NoModeObject 2", is_denied)
+            expect(
+                f"whether CRTC 3 is denied with {words}", last == "a getcrtc 3 -> denied 30 NoModeObject 2", is_denied
+            )
         script.write_text("open b render\na version\nopen c card\nopen d card\n")
         ran = run_program("shrink", script, "--line", "4", "--limits", "2 8 8 8 8 4 4 64")
         expect("the last line", ran.stdout.splitlines()[-1], "open d card -> denied 43 Full 28")
@@ -108,7 +110,9 @@ class ShrinkingTests(FolderCase):
             for place in range(len(left) - 1):
                 rest = scripts[:place] + scripts[place + 1 :]
                 answers = run_program("run", script="\n".join(rest) + "\n").stdout.splitlines()
-                expect(f"whether line {place + 1} is needed", answers[-1:] != [lines[number - 1].split(" -> ")[1]], True)
+                expect(
+                    f"whether line {place + 1} is needed", answers[-1:] != [lines[number - 1].split(" -> ")[1]], True
+                )
 
     def test_lines_that_have_no_shorter_script(self):
         script = self.folder / "script"
