@@ -34,7 +34,7 @@ lines-preserved c =
     elim c.if-is_last.branch [
       | then-is_last+in_ok-came+in_ok-put+else-is_last-2 w ↦
           joined_so_far w.interpreter-is (ap (λ t. t.items) w.written-is) w.count-is
-          (one_used c.lines.invariant l.result.0.now l.result.1.now first w.use_line.new.interpreter w.in_ok-came.came w.put.new.text.items w.if-is_last-2.false w.in_ok-came.ensures
+          (one_used c.lines.invariant l.result.0.now l.result.1.now first w.use_line.new.interpreter w.in_ok-came.came w.put.new.text.items (ne_eqb _ _ w.if-is_last-2.false) w.in_ok-came.ensures
           (w.in_ok-put.ensures ∙ ap (λ (s : List ℕ). c.lines.written.items ++ ended (with_answer s w.in_ok-came.came)) w.script_of.ensures))
       | else-is_last+else-is_kept w ↦
           joined_so_far w.interpreter-is (ap (λ t. t.items) w.written-is) w.count-is
