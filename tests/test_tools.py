@@ -259,7 +259,7 @@ class ToolsTests(FolderCase):
         expect_end(run(tool, "--check"), 1, "", "other imports than it uses: drm_table::Rule\n")
 
     def test_examples_that_no_test_runs(self):
-        """One that is not to be run is an example, and stands in no test."""
+        """An example marked `no_run` is counted, and no test runs it."""
         folder = self.folder
         tool = examples_in(folder, 40)
         rules = folder / "crates/drm_table/src/rules.rt"

@@ -5,7 +5,7 @@ use Rattle.drm_table.specs.declared.answers.Answer.{Answer}
 use Rattle.drm_table.specs.declared.apart.Apart.{Apart}
 use Rattle.drm_script.specs.Lines.{answer_words, lines_of}
 use Rattle.drm_runs.specs.Lines.{IsBare, ended}
-use Rattle.drm_runs.specs.Script.{Setting, Place, Uses, IsMisplaced, unbound}
+use Rattle.drm_runs.specs.Script.{Setting, Place, Uses, IsMisplaced, IsNowhere, unbound}
 use Rattle.drm_runs.specs.Script.Place.{Planned}
 use Rattle.drm_runs.specs.Interpreter.{InterpreterState}
 use Rattle.drm_checks.specs.Expectations.{script_part, expected_part, is_met}
@@ -69,13 +69,16 @@ abbrev pub HasFault : Setting → List ℕ → UpdateFault → Type 0
 HasFault setting text (faults.Malformed number cause) = HasUnfitLine setting text number
 HasFault setting text faults.NoMemory = Unit {0}
 
--- the result of the line with this number
+-- The result of the line with this number. A line that can't be used changes nothing. Without memory for the device there
+-- is none, before and after.
 abbrev pub UsesLine : InterpreterState → InterpreterState → ℕ → List ℕ
     → Result (Option (Result Answer Apart)) UpdateFault → Type 0
 UsesLine old new number next (Ok came) =
     (length next ≤ 255) × Uses old.device old.labels (script_part next) (results_of came) new.device new.labels
-UsesLine old new number next (Err (faults.Malformed told cause)) = (told ≡ number) × IsUnfit old.device next
-UsesLine old new number next (Err faults.NoMemory) = Unit {0}
+UsesLine old new number next (Err (faults.Malformed told cause)) =
+    (told ≡ number) × IsUnfit old.device next × (new ≡ old)
+UsesLine old new number next (Err faults.NoMemory) =
+    IsNowhere old.device × IsNowhere new.device × (new.labels ≡ old.labels)
 
 -- An updated text passes its check. None of its lines is too long, and all can be used, up to the same device and
 -- labels. All expectations are met.
