@@ -384,6 +384,7 @@ class AuditsTests(FolderCase):
                 re.findall(r"(?:src|href)=|https?://(?!www\.w3\.org/2000/svg)|@import", body),
                 [],
             )
+            expect("whether it says how to see steps", "<code>--journal FILE</code>" in body, True)
             expect("what it may take", headers["Content-Security-Policy"].split("; ")[0], "default-src 'none'")
             expect(
                 "another path, and another name of it",

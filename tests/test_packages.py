@@ -141,6 +141,8 @@ class PackagesTests(FolderCase):
             )
         )
         expect("who asked for the audit", audit["auditor"], 1)
+        page = "from zirkoshe.page import text_of; print(text_of('steps.html').splitlines()[0])"
+        expect("a page", tried(sys.executable, "-c", page, cwd=empty, env=environment), "<!DOCTYPE html>\n")
 
     def test_pytest_fixture(self):
         folder = self.folder
@@ -464,6 +466,7 @@ class DebianTests(FolderCase):
 OF_THE_WHEEL = """
 import os, subprocess
 from zirkoshe import Client, Denied
+from zirkoshe.page import text_of
 from zirkoshe.server import Server, find_library, find_program
 
 with Server(cards=64) as server:
@@ -479,6 +482,7 @@ with Server(cards=64) as server:
     shown = subprocess.run(words, env={**os.environ, **server.libdrm_environment}, stdout=subprocess.PIPE, text=True)
     print(shown.stdout.count("Virtual"))
 print(find_program().count("site-packages"), find_library().count("site-packages"))
+print(text_of("steps.html").splitlines()[0])
 """
 
 
@@ -497,7 +501,7 @@ class WheelTests(FolderCase):
         expect("what pip says", (installed.returncode, installed.stdout), (0, ""))
         environment = {name: value for name, value in os.environ.items() if not name.startswith(("DRM_", "PYTHON"))}
         ran = run(python, "-c", OF_THE_WHEEL, cwd=self.folder, env=environment)
-        expect_end(ran, 0, "", "denied 30 NoModeObject 2 (ENOENT)\n2\n1 1\n")
+        expect_end(ran, 0, "", "denied 30 NoModeObject 2 (ENOENT)\n2\n1 1\n<!DOCTYPE html>\n")
 
 
 if __name__ == "__main__":

@@ -7,6 +7,7 @@ import contextlib
 import multiprocessing
 import os
 import resource
+import shlex
 import socket
 import subprocess
 import sys
@@ -155,8 +156,19 @@ class ProgramTests(FolderCase):
             expect("status", ran.returncode, 0)
             expect("help of " + " ".join(words), "Usage" in ran.stdout, True)
             _, _, listed = ran.stdout.partition("\nExit status:\n")
+            statuses, _, examples = listed.partition("\n\nExamples:\n")
             wanted = ["0", "1", "2", "3"] + (["4"] if words[0] in ("--help", "check") else [])
-            expect("the statuses that it lists", [line.split()[0] for line in listed.splitlines()], wanted)
+            expect("the statuses that it lists", [line.split()[0] for line in statuses.splitlines()], wanted)
+            expect("examples", {line.split()[0] for line in examples.splitlines() if line}, {"drm_server"})
+
+    def test_examples_of_the_help_run(self):
+        (self.folder / "examples").symlink_to(REPOSITORY / "examples")
+        for command in ("run", "check", "explain", "shrink", "serve"):
+            _, _, examples = run_program(command, "--help").stdout.partition("\nExamples:\n")
+            for example in filter(None, examples.splitlines()):
+                function = f"drm_server() {{ {shlex.quote(str(PROGRAM))} \"$@\"; }}"
+                ran = run("sh", "-c", f"{function}; {example}", cwd=self.folder)
+                expect(f"status of {example.strip()}", (ran.returncode, "fault" in ran.stderr), (0, False))
 
     def test_version_is_printed(self):
         for word in ("--version", "-V"):

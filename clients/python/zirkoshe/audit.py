@@ -16,12 +16,21 @@ that client becomes its master.
 import argparse
 import json
 import sys
-from typing import Any, Dict, List, Optional, Sequence, Tuple, Type
+from typing import Any, Dict, List, Optional, Protocol, Sequence, Tuple, Type
 
 from .client import DEFAULT_TIMEOUT, Client, PathLike
 from .constants import MOST_ROWS, ClientCap, ClientFlag, Rule
 from .graph import dot, graph_of, svg
-from .protocol import ClientError, ProtocolError, Refusal, message_of
+from .protocol import (
+    ClientError,
+    Done,
+    Opened,
+    ProtocolError,
+    Refusal,
+    Resources,
+    Rows,
+    message_of,
+)
 from .rows import (
     KINDS,
     Audit,
@@ -68,7 +77,31 @@ __all__ = [
 MOST_PAGES = 100_000
 
 
-def read_kind(client: Client, number: int, row_type: Type[Any]) -> List[Any]:
+class Auditor(Protocol):
+    """What an audit needs of a client that reads it. `Client` has it."""
+
+    opened: Opened
+
+    def audit(self, kind: int, skipped: int = 0) -> Rows:
+        """Returns up to 16 rows of a kind, after the first `skipped`."""
+
+    def getresources(self) -> Resources:
+        """Returns the ids of the mode objects."""
+
+    def getplaneresources(self) -> Tuple[int, ...]:
+        """Returns the ids of the planes."""
+
+    def getconnector(self, connector: int) -> int:
+        """Returns the encoder of a connector."""
+
+    def getencoder(self, encoder: int) -> int:
+        """Returns the mask of an encoder's possible CRTCs."""
+
+    def set_client_cap(self, cap: int, value: int) -> Done:
+        """Sets a capability."""
+
+
+def read_kind(client: Auditor, number: int, row_type: Type[Any]) -> List[Any]:
     """Returns all rows of one kind, page by page."""
     rows: List[Any] = []
     for _ in range(MOST_PAGES):
@@ -79,7 +112,7 @@ def read_kind(client: Client, number: int, row_type: Type[Any]) -> List[Any]:
     raise ProtocolError(f"there is no end of the rows of kind {number}")
 
 
-def routes_by(client: Client) -> Dict[int, List[int]]:
+def routes_by(client: Auditor) -> Dict[int, List[int]]:
     """Returns the possible CRTCs of each connector that a client sees.
 
     They are the same as long as the server runs. It takes two steps for each connector,
@@ -96,7 +129,7 @@ def routes_by(client: Client) -> Dict[int, List[int]]:
     }
 
 
-def audit_by(client: Client, routes: Optional[Dict[int, List[int]]] = None) -> Audit:
+def audit_by(client: Auditor, routes: Optional[Dict[int, List[int]]] = None) -> Audit:
     """Returns the audit of a root client, with these routes if they are known.
 
     The audit lists all planes: a client with universal planes off turns them on for a

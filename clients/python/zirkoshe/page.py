@@ -3,159 +3,85 @@
 `Page(port)` serves it on the loopback address alone, at `url`. `show` shows a new
 audit, and `end` says that the server has ended. The page has the picture of the last
 audit, and a list of the rows that were added, changed and removed, each with the
-journal's length when that was seen. It does not show steps or denials. It loads nothing
-from elsewhere.
+journal's length when that was seen. It does not show steps or denials, which
+`zirkoshe.steps_page` reads from a journal. It loads nothing from elsewhere.
 """
 
 import http.server
 import json
+import pkgutil
 import secrets
 import threading
 import time
+import urllib.parse
 from typing import Any, Dict, List, NamedTuple, Optional, Tuple
 
-from .audit import formed, plain
+from .audit import formed
+from .changes import KINDS, Change, Row, changes_between, rows_of, shown
 from .rows import Audit
+
+__all__ = [
+    "BEAT",
+    "KINDS",
+    "MOST_CHANGES",
+    "Change",
+    "Handler",
+    "LivePage",
+    "Page",
+    "Refused",
+    "Row",
+    "Server",
+    "changes_between",
+    "document",
+    "rows_of",
+    "shown",
+]
 
 #: How many changes the page keeps.
 MOST_CHANGES = 200
 #: How often an open page is sent a sign of life, in seconds.
 BEAT = 15.0
-#: The key fields of each kind of row, and how a row is called.
-KINDS: Dict[str, Tuple[Tuple[str, ...], str]] = {
-    "clients": (("client",), "client {client}"),
-    "masters": (("master",), "master {master}"),
-    "objects": (("object",), "buffer {object}"),
-    "names": (("name",), "name {name}"),
-    "tokens": (("token",), "PRIME token {token}"),
-    "holds": (("client", "handle"), "handle {handle} of client {client}"),
-    "grants": (("master", "mode_object"), "{thing} in the lease of master {master}"),
-    "framebuffers": (("framebuffer",), "framebuffer {framebuffer}"),
-    "shown": (("mode_object",), "what {thing} shows"),
-}
-PAGE = """<!DOCTYPE html>
-<html lang="en">
-<head>
-<meta charset="utf-8">
-<title>What a drm_server holds</title>
-<style>
-body {
-  font: 15px/1.5 system-ui, sans-serif;
-  margin: 1.5rem;
-  color: #1f2937;
-  background: #ffffff;
-}
-h1 { font-size: 1.2rem; margin: 0 0 0.25rem; }
-#state { color: #4b5563; margin: 0 0 1rem; }
-main { display: flex; flex-wrap: wrap; gap: 2rem; align-items: flex-start; }
-#picture { overflow-x: auto; border: 1px solid #d1d5db; border-radius: 6px; }
-#changes {
-  list-style: none;
-  margin: 0;
-  padding: 0;
-  min-width: 20rem;
-  font-variant-numeric: tabular-nums;
-}
-#changes li { border-bottom: 1px solid #e5e7eb; padding: 0.15rem 0; }
-#changes b { font-weight: 600; color: #4b5563; margin-right: 0.6rem; }
-</style>
-</head>
-<body>
-<h1>What a drm_server holds</h1>
-<p id="state" role="status">waiting for the server</p>
-<main>
-<div id="picture"></div>
-<ul id="changes" aria-label="Changes, the last first"></ul>
-</main>
-<script nonce="NONCE">
-"use strict";
-const state = document.getElementById("state");
-const changes = document.getElementById("changes");
-function show(news) {
-  document.getElementById("picture").innerHTML = news.svg;
-  state.textContent = news.has_ended ? "the server has ended"
-    : "live, " + news.journal + " steps";
-  changes.replaceChildren(...news.changes.map(change => {
-    const item = document.createElement("li"), number = document.createElement("b");
-    number.textContent = change.journal;
-    item.append(number, change.text);
-    return item;
-  }));
-}
-const first = FIRST;
-if (first.is_new) { show(first); }
-const live = new EventSource("live");
-live.onmessage = event => {
-  const news = JSON.parse(event.data);
-  show(news);
-  if (news.has_ended) { live.close(); }
-};
-live.onerror = () => { state.textContent = "the watch has ended"; };
-</script>
-</body>
-</html>
-"""
 
 
-class Change(NamedTuple):
-    """A change, and the length of the journal when it was seen."""
+class Refused(Exception):
+    """A request of a page that is answered with a status alone."""
 
-    journal: int
-    text: str
-
-
-class Row(NamedTuple):
-    """A row of an audit: how it is called, and its other fields."""
-
-    name: str
-    fields: Dict[str, Any]
+    def __init__(self, status: int) -> None:
+        super().__init__(status)
+        self.status = status
 
 
-def rows_of(audit: Audit) -> Dict[Tuple[Any, ...], Row]:
-    """Returns the rows by kind and key, without the device's and the auditor's own."""
-    listed, found = plain(audit), {}
-    for kind, (keys, name) in KINDS.items():
-        for row in listed[kind]:
-            if kind != "clients" or row["client"] != audit.auditor:
-                thing = audit.name_of(row.get("mode_object", 0))
-                fields = {key: value for key, value in row.items() if key not in keys}
-                found[(kind, *(row[key] for key in keys))] = Row(
-                    name.format(thing=thing, **row), fields
-                )
-    return found
+class Sources(NamedTuple):
+    """The files of a page in the folder `pages`."""
+
+    html: str
+    styles: Tuple[str, ...]
+    scripts: Tuple[str, ...]
 
 
-def shown(value: Any) -> str:
-    """Returns a field's value as text, or - if there is none."""
-    if isinstance(value, list):
-        return " ".join(map(str, value)) or "-"
-    return str(value or "-")
+CHANGES = Sources("changes.html", ("page.css", "picture.css"), ("changes.js",))
 
 
-def changes_between(before: Audit, after: Audit) -> List[str]:
-    """Returns what was added, changed and removed between two audits, in words."""
-    old, new = rows_of(before), rows_of(after)
-    lines = [f"{row.name} was removed" for key, row in old.items() if key not in new]
-    for key, row in new.items():
-        fields = {
-            name.replace("_", " "): shown(value) for name, value in row.fields.items()
-        }
-        if key not in old:
-            given = ", ".join(
-                f"{name} {value}" for name, value in fields.items() if value != "-"
-            )
-            lines.append(f"{row.name} was added" + (f": {given}" if given else ""))
-        else:
-            lines += [
-                f"{row.name}: {name} {shown(was)} → {value}"
-                for (name, value), was in zip(fields.items(), old[key].fields.values())
-                if shown(was) != value
-            ]
-    masters = [shown(audit.device[0].master) for audit in (before, after)]
-    return lines + (
-        [f"the device's master: {masters[0]} → {masters[1]}"]
-        if masters[0] != masters[1]
-        else []
+def text_of(name: str) -> str:
+    """Returns the text of a file in the folder `pages`."""
+    data = pkgutil.get_data(__package__, f"pages/{name}")
+    assert data is not None, name
+    return data.decode()
+
+
+def document(sources: Sources, nonce: str, first: Any) -> str:
+    """Returns the page as one document, which contains what it shows at first."""
+    # a text of the page's data has no `</script>`
+    data = json.dumps(first).replace("<", "\\u003c")
+    scripts = [f"const first = {data};", *map(text_of, sources.scripts)]
+    parts = {
+        "STYLE": "\n".join(map(text_of, sources.styles)),
+        "NONCE": nonce,
+        "SCRIPT": "\n".join(scripts),
+    }
+    pieces = text_of(sources.html).split("%%")
+    return "".join(
+        parts[piece] if place % 2 else piece for place, piece in enumerate(pieces)
     )
 
 
@@ -169,18 +95,34 @@ class Handler(http.server.BaseHTTPRequestHandler):
 
     def do_GET(self) -> None:  # the name that http.server calls
         """Answers a request."""
+        try:
+            self.answer()
+        except Refused as refused:
+            self.refuse(refused.status)
+        except OSError:  # the browser has closed the page
+            self.close_connection = True
+
+    def answer(self) -> None:
+        """Answers a request, or raises `Refused`."""
         # a host name of another site that leads here is refused
         if self.headers.get("Host") not in (
             f"127.0.0.1:{self.server.server_port}",
             f"localhost:{self.server.server_port}",
         ):
-            self.refuse(403)
-        elif self.path == "/":
+            raise Refused(403)
+        path, _, query = self.path.partition("?")
+        if path == "/":
             self.send_page()
-        elif self.path == "/live":
+            return
+        # only the page itself may ask for more; another site may lead to the page
+        if self.headers.get("Sec-Fetch-Site", "same-origin") != "same-origin":
+            raise Refused(403)
+        if path == "/live":
             self.send_news()
         else:
-            self.refuse(404)
+            fields = dict(urllib.parse.parse_qsl(query))
+            answer = self.server.page.answer(path[1:], fields)
+            self.send("application/json", json.dumps(answer).encode(), {})
 
     def refuse(self, status: int) -> None:
         """Sends a status alone."""
@@ -188,22 +130,29 @@ class Handler(http.server.BaseHTTPRequestHandler):
         self.send_header("Content-Length", "0")
         self.end_headers()
 
+    def send(self, kind: str, body: bytes, headers: Dict[str, str]) -> None:
+        """Sends an answer that no cache keeps."""
+        self.send_response(200)
+        self.send_header("Content-Type", kind)
+        self.send_header("Content-Length", str(len(body)))
+        self.send_header("Cache-Control", "no-store")
+        self.send_header("X-Content-Type-Options", "nosniff")
+        for name, value in headers.items():
+            self.send_header(name, value)
+        self.end_headers()
+        self.wfile.write(body)
+
     def send_page(self) -> None:
         """Sends the page with what it shows at first."""
         nonce = secrets.token_urlsafe(16)
-        # the page contains what it shows at first, and that has no `</script>`
-        first = json.dumps(self.server.page.now()).replace("<", "\\u003c")
-        body = PAGE.replace("NONCE", nonce).replace("FIRST", first).encode()
-        self.send_response(200)
-        self.send_header("Content-Type", "text/html; charset=utf-8")
-        self.send_header("Content-Length", str(len(body)))
-        self.send_header(
-            "Content-Security-Policy",
+        body = self.server.page.document(nonce).encode()
+        policy = (
             "default-src 'none'; connect-src 'self'; style-src 'unsafe-inline'; "
-            f"script-src 'nonce-{nonce}'",
+            f"script-src 'nonce-{nonce}'; base-uri 'none'; form-action 'none'; "
+            "frame-ancestors 'none'"
         )
-        self.end_headers()
-        self.wfile.write(body)
+        headers = {"Content-Security-Policy": policy, "Referrer-Policy": "no-referrer"}
+        self.send("text/html; charset=utf-8", body, headers)
 
     def send_news(self) -> None:
         """Sends what the page shows at each change, until the server has ended."""
@@ -214,15 +163,12 @@ class Handler(http.server.BaseHTTPRequestHandler):
         self.end_headers()
         self.close_connection = True
         known, has_ended = 0, False
-        try:
-            while not has_ended:
-                known, news = self.server.page.next_after(known)
-                has_ended = news["has_ended"]
-                data = f"data: {json.dumps(news)}" if news["is_new"] else ": still live"
-                self.wfile.write(f"{data}\n\n".encode())
-                self.wfile.flush()
-        except OSError:  # the browser has closed the page
-            pass
+        while not has_ended:
+            known, news = self.server.page.next_after(known)
+            has_ended = news["has_ended"]
+            data = f"data: {json.dumps(news)}" if news["is_new"] else ": still live"
+            self.wfile.write(f"{data}\n\n".encode())
+            self.wfile.flush()
 
     def log_message(self, format: str, *args: Any) -> None:
         """Logs nothing."""
@@ -232,36 +178,47 @@ class Server(http.server.ThreadingHTTPServer):
     """The server of a page."""
 
     daemon_threads = True
-    page: "Page"
+    page: "LivePage"
 
 
-class Page:
-    """The page. Port 0 is any free port.
+class LivePage:
+    """A page that receives news. Port 0 is any free port.
 
-    Its picture is without the client that reads the audits by default.
+    A subclass defines `document`, `news` and, if the page requests more, `answer`. It
+    calls `serve` when it is ready.
     """
 
-    def __init__(self, port: int, with_auditor: bool = False) -> None:
-        self._with_auditor = with_auditor
+    def __init__(self, port: int) -> None:
         self._turn = threading.Condition()
         self._number = 0
         self._has_ended = False
-        self._audit: Optional[Audit] = None
-        self._changes: List[Change] = []
         self._server = Server(("127.0.0.1", port), Handler)
         self._server.page = self
         self.url = f"http://127.0.0.1:{self._server.server_port}/"
+
+    def serve(self) -> None:
+        """Starts to answer browsers."""
         threading.Thread(target=self._server.serve_forever, daemon=True).start()
 
-    def show(self, audit: Audit) -> None:
-        """Shows an audit, and its changes since the one before."""
+    def document(self, nonce: str) -> str:
+        """Returns the text of the page, whose scripts have this nonce."""
+        raise NotImplementedError
+
+    def is_ready(self) -> bool:
+        """Returns whether there is something to show."""
+        return True
+
+    def news(self) -> Dict[str, Any]:
+        """Returns the news of a page that is ready."""
+        raise NotImplementedError
+
+    def answer(self, path: str, fields: Dict[str, str]) -> Any:
+        """Returns the answer to a request of the page, or raises `Refused`."""
+        raise Refused(404)
+
+    def notice(self) -> None:
+        """Sends the news to open pages."""
         with self._turn:
-            before, self._audit = self._audit, audit
-            journal = audit.device[0].journal
-            lines = changes_between(before, audit) if before is not None else []
-            self._changes = (
-                [Change(journal, line) for line in reversed(lines)] + self._changes
-            )[:MOST_CHANGES]
             self._number += 1
             self._turn.notify_all()
 
@@ -282,24 +239,58 @@ class Page:
         """
         with self._turn:
             is_new = self._turn.wait_for(
-                lambda: self._number > known
-                and self._audit is not None
-                or self._has_ended,
+                lambda: self._number > known and self.is_ready() or self._has_ended,
                 BEAT,
             )
-            return (self._number if is_new else known), self._news(is_new)
+            return (self._number if is_new else known), self._sent(is_new)
 
     def now(self) -> Dict[str, Any]:
         """Returns what the page shows now."""
         with self._turn:
-            return self._news(True)
+            return self._sent(True)
 
-    def _news(self, is_new: bool) -> Dict[str, Any]:
-        if not is_new or self._audit is None:
-            return {"is_new": False, "has_ended": self._has_ended}
+    def _sent(self, is_new: bool) -> Dict[str, Any]:
+        is_new = is_new and self.is_ready()
+        sent = {"is_new": is_new, "has_ended": self._has_ended}
+        return {**sent, **(self.news() if is_new else {})}
+
+
+class Page(LivePage):
+    """The page of audits and of what changed between them. Port 0 is any free port.
+
+    Its picture is without the client that reads the audits by default.
+    """
+
+    def __init__(self, port: int, with_auditor: bool = False) -> None:
+        super().__init__(port)
+        self._with_auditor = with_auditor
+        self._audit: Optional[Audit] = None
+        self._changes: List[Change] = []
+        self.serve()
+
+    def show(self, audit: Audit) -> None:
+        """Shows an audit, and its changes since the one before."""
+        with self._turn:
+            before, self._audit = self._audit, audit
+            journal = audit.device[0].journal
+            lines = changes_between(before, audit) if before is not None else []
+            self._changes = (
+                [Change(journal, line) for line in reversed(lines)] + self._changes
+            )[:MOST_CHANGES]
+            self.notice()
+
+    def document(self, nonce: str) -> str:
+        """Returns the text of the page, whose scripts have this nonce."""
+        return document(CHANGES, nonce, self.now())
+
+    def is_ready(self) -> bool:
+        """Returns whether there was an audit."""
+        return self._audit is not None
+
+    def news(self) -> Dict[str, Any]:
+        """Returns what the page shows."""
+        assert self._audit is not None
         return {
-            "is_new": True,
-            "has_ended": self._has_ended,
             "journal": self._audit.device[0].journal,
             "svg": formed(self._audit, "svg", self._with_auditor),
             "changes": [change._asdict() for change in self._changes],

@@ -172,6 +172,7 @@ authority_of_answers topology limits events results v k =
 
 -- ---- no two the same
 
+-- The masters of a device differ from each other.
 pub masters_differ : (h : DeviceValue) → MastersDiffer (rows_of h)
 masters_differ h =
     let past = history_of h in

@@ -1,4 +1,4 @@
-//! The file of a journal.
+//! The files that a command writes while or after it makes steps.
 
 ghost use Rattle.std.specs.Prelude.{◌≡◌, true};
 ghost use Rattle.drm_table.specs.Limits.{are_in_range};
@@ -46,6 +46,36 @@ pub struct JournalFile<'a, F: Drop> {
     file: F,
 }
 
+impl<'a, F: Drop> JournalFile<'a, F> {
+    /// Returns the path.
+    ///
+    /// # Examples
+    ///
+    /// ```rust
+    /// use drm_commands::create_trace;
+    ///
+    /// let Ok(file) = create_trace(&rt, "/dev/null", None, None) else { return };
+    /// assert!(rt; file.path() == "/dev/null");
+    /// ```
+    pub fn path(&self) -> &'a str {
+        self.path
+    }
+
+    /// Returns the open file.
+    ///
+    /// # Examples
+    ///
+    /// ```rust
+    /// use drm_commands::create_trace;
+    ///
+    /// let Ok(named) = create_trace(&rt, "/dev/null", None, None) else { return };
+    /// let file = named.file();
+    /// ```
+    pub fn file(&self) -> &F {
+        &self.file
+    }
+}
+
 /// The files that a journal must not replace (own).
 ///
 /// # Examples
@@ -64,16 +94,17 @@ pub struct FilesRead<'a> {
     pub script: Option<&'a str>,
 }
 
-/// Refuses a journal that would replace a file that is read. `kind` names that file.
+/// Refuses a file to be written that is another file of the same command. `written` and `kind` name them.
 fn refuse_same<R: Files + Log>(
     rt: &R,
     path: &str,
+    written: &str,
     other: Option<&str>,
     kind: &str,
 ) -> Result<(), Fault> {
     match other {
         Some(other) if is_same_file(rt, path, other) => {
-            error!(rt; target: PROGRAM, "{path}: the journal would replace the {kind}: choose another file");
+            error!(rt; target: PROGRAM, "{path}: the {written} would replace the {kind}: choose another file");
             Err(Fault::CommandLine)
         }
         _ => Ok(()),
@@ -87,8 +118,39 @@ pub(crate) fn create_journal<'a, R: Files + Log>(
     path: &'a str,
     read: FilesRead<'_>,
 ) -> Result<JournalFile<'a, R::File>, Fault> {
-    refuse_same(rt, path, read.topology, "topology")?;
-    refuse_same(rt, path, read.script, "script")?;
+    refuse_same(rt, path, "journal", read.topology, "topology")?;
+    refuse_same(rt, path, "journal", read.script, "script")?;
+    match fs::create(rt, path) {
+        Ok(file) => Ok(JournalFile { path, file }),
+        Err(reason) => Err(write_fault(rt, path, &reason)),
+    }
+}
+
+/// Creates the file of a trace or empties it (own). The topology's file and the journal's are refused.
+///
+/// # Errors
+///
+/// - `Fault::CommandLine` if it would replace one of these.
+/// - `Fault::Write` if it can't be created.
+///
+/// Both are logged.
+///
+/// # Examples
+///
+/// ```rust
+/// use drm_commands::create_trace;
+///
+/// let Ok(trace) = create_trace(&rt, "/dev/null", None, None) else { return };
+/// assert!(rt; trace.path() == "/dev/null");
+/// ```
+pub fn create_trace<'a, R: Files + Log>(
+    rt: &R,
+    path: &'a str,
+    topology: Option<&str>,
+    journal: Option<&str>,
+) -> Result<JournalFile<'a, R::File>, Fault> {
+    refuse_same(rt, path, "trace", topology, "topology")?;
+    refuse_same(rt, path, "trace", journal, "journal")?;
     match fs::create(rt, path) {
         Ok(file) => Ok(JournalFile { path, file }),
         Err(reason) => Err(write_fault(rt, path, &reason)),
@@ -124,7 +186,21 @@ pub fn create_asked<'a, R: Files + Log>(
     }
 }
 
-/// Writes the events of a journal to its file, with the answers of an empty device of the same topology and limits.
+/// Logs that a journal at this path has comments in place of its last steps.
+///
+/// # Examples
+///
+/// ```rust
+/// use drm_commands::warn_of_comments;
+///
+/// warn_of_comments(&rt, "steps.script");
+/// ```
+pub fn warn_of_comments<R: Log>(rt: &R, path: &str) {
+    warn!(rt; target: PROGRAM, "{path}: more clients were open at once than a script has labels: the last steps are comments");
+}
+
+/// Writes the events of a journal to its file, with the answers of an empty device of the same topology and limits. The
+/// file has this many bytes of the script already.
 fn write_journal<R: Log, F: Write + Drop>(
     rt: &R,
     alloc: Global,
@@ -132,17 +208,19 @@ fn write_journal<R: Log, F: Write + Drop>(
     limits: Limits,
     events: &[Event],
     replayed: Device,
+    written: usize,
 ) -> Result<(), Fault> {
     let JournalFile { path, file } = journal;
     let Ok(script) = journal_of(alloc, events, limits, replayed) else {
         return Err(Fault::Memory);
     };
     let mut file = file;
-    if let Err(reason) = file.write_all(script.text.as_slice()) {
+    let rest = script.text.as_slice().get(written..).unwrap_or(&[]);
+    if let Err(reason) = file.write_all(rest) {
         return Err(write_fault(rt, path, &reason));
     }
     if !script.is_whole {
-        warn!(rt; target: PROGRAM, "{path}: more clients were open at once than a script has labels: the last steps are comments");
+        warn_of_comments(rt, path);
     }
     Ok(())
 }
@@ -181,6 +259,39 @@ pub fn write_noted<R: Files + AllocGlobal + Log>(
     let Some(journal) = journal else {
         return Ok(());
     };
+    write_rest(rt, alloc, journal, topology, limits, events, 0)
+}
+
+/// Writes the events of a journal to its file as [`write_noted`] does, if the file has this many bytes of the script
+/// already (own).
+///
+/// # Errors
+///
+/// Those of [`write_noted`].
+///
+/// # Examples
+///
+/// ```rust
+/// use drm_commands::{FilesRead, create_asked, write_rest};
+/// use drm_device::Limits;
+///
+/// let alloc = rt.alloc();
+/// let read = FilesRead { topology: None, script: None };
+/// let Ok(Some(journal)) = create_asked(&rt, Some("/dev/null"), read) else { return };
+/// let written = write_rest(&rt, alloc, journal, None, Limits::PROGRAM, &[], 4);
+/// assert!(rt; written.is_ok());
+/// ```
+pub fn write_rest<R: Files + AllocGlobal + Log>(
+    rt: &R,
+    alloc: Global,
+    journal: JournalFile<'_, R::File>,
+    topology: Option<&TopologyText<'_>>,
+    limits: Limits,
+    events: &[Event],
+    written: usize,
+) -> Result<(), Fault>
+    requires { are_in_range limits ≡ true }
+{
     let replayed = asked_device(rt, alloc, topology, limits)?;
-    write_journal(rt, alloc, journal, limits, events, replayed)
+    write_journal(rt, alloc, journal, limits, events, replayed, written)
 }

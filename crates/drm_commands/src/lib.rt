@@ -22,7 +22,9 @@ pub use checking::check;
 pub use devices::{TopologyText, asked_device, asked_limits, read_asked};
 pub use explaining::explain_script;
 pub use faults::{Fault, FaultLine};
-pub use journal::{FilesRead, JournalFile, create_asked, write_noted};
+pub use journal::{
+    FilesRead, JournalFile, create_asked, create_trace, warn_of_comments, write_noted, write_rest,
+};
 pub use outcomes::{Outcome, outcome_by, outcome_of, outcome_of_checks, outcome_of_fault};
 pub use running::run;
 pub use shrinking::shrink;

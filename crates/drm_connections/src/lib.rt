@@ -9,6 +9,8 @@ mod counts;
 mod greeting;
 mod notes;
 mod open_connections;
+mod reporting;
+mod watch;
 
 pub use accepting::{accept_next, accept_unless_ended, note_beyond};
 pub use answering::Answering;
@@ -18,3 +20,5 @@ pub use counts::{Counts, MOST, MOST_AT_ONCE};
 pub use greeting::Greeting;
 pub use notes::{Note, Notes, PROGRAM};
 pub use open_connections::{Attendance, OpenConnections, Role};
+pub use reporting::Reporting;
+pub use watch::{Batch, Watch, WatchedCall, WatchedFault};

@@ -6,6 +6,7 @@ ghost use Rattle.std.specs.Prelude.{◌≤◌};
 
 use crate::counts::{Counts, MOST_AT_ONCE};
 use crate::notes::Notes;
+use crate::watch::Watch;
 use libc::net::{POLLHUP, SHUT_RDWR, poll, shutdown};
 use libc::types::pollfd;
 use std::alloc::{AllocError, Global};
@@ -187,6 +188,7 @@ pub struct OpenConnections {
     left: Condvar,
     ended: Option<UnixStream>,
     notes: Notes,
+    watch: Option<Watch>,
 }
 
 impl OpenConnections {
@@ -229,7 +231,26 @@ impl OpenConnections {
             left: Condvar::new(),
             ended,
             notes,
+            watch: None,
         })
+    }
+
+    /// Returns the same table, whose connections report their calls to this watch.
+    pub fn watched_by(self, watch: Watch) -> OpenConnections {
+        let OpenConnections {
+            places,
+            left,
+            ended,
+            notes,
+            watch: _unused,
+        } = self;
+        OpenConnections {
+            places,
+            left,
+            ended,
+            notes,
+            watch: Some(watch),
+        }
     }
 
     /// Asks all connections to end. A thread that still waits for one gets one that has ended.
@@ -261,6 +282,11 @@ impl OpenConnections {
     /// Returns what is to be logged of the connections.
     pub fn notes(&self) -> &Notes {
         &self.notes
+    }
+
+    /// Returns what the connections report their calls to, if there is such a watch.
+    pub fn watch(&self) -> Option<&Watch> {
+        self.watch.as_ref()
     }
 
     /// Returns the allocator that the connections were assigned.

@@ -263,6 +263,7 @@ hold_there objects hs i x n position e k p =
 
 -- ---- the same for names, tokens, framebuffers, shown rows and grants: the audit's row at a place is that of the item
 
+-- A name's row of an audit, with the step of its object, has the name's place among those of the model.
 pub name_there : (objects : List Object) (ns : List SharedName) (i : ℕ) (x : SharedName) (n : ℕ)
     → slice_get ns i ≡ Some x → option_map (λ (x : Object). x.step_number) (find (is_key x.object) objects) ≡ Some n →
     Some (audit_row x.name n 0 0) ≡ slice_get (map name_audit (map (name_row_of objects) ns)) i
@@ -271,6 +272,7 @@ name_there objects ns i x n e k =
     ∙ sym
     (slice_get-map name_audit (map (name_row_of objects) ns) i ∙ ap (option_map name_audit) (slice_get-map (name_row_of objects) ns i ∙ ap (option_map (name_row_of objects)) e))
 
+-- A token's row of an audit, with its client and the step of its object, has the token's place among those of the model.
 pub token_there : (objects : List Object) (ts : List SharedToken) (i : ℕ) (x : SharedToken) (n : ℕ)
     → slice_get ts i ≡ Some x → option_map (λ (x : Object). x.step_number) (find (is_key x.object) objects) ≡ Some n →
     Some (audit_row x.token x.client n 0) ≡ slice_get (map token_audit (map (token_row_of objects) ts)) i
@@ -279,6 +281,7 @@ token_there objects ts i x n e k =
     ∙ sym
     (slice_get-map token_audit (map (token_row_of objects) ts) i ∙ ap (option_map token_audit) (slice_get-map (token_row_of objects) ts i ∙ ap (option_map (token_row_of objects)) e))
 
+-- A framebuffer's row of an audit, with its client and the step of its object, has its place among those of the model.
 pub framebuffer_there : (objects : List Object) (fs : List Framebuffer) (i : ℕ) (x : Framebuffer) (n : ℕ)
     → slice_get fs i ≡ Some x → option_map (λ (x : Object). x.step_number) (find (is_key x.object) objects) ≡ Some n →
     Some (audit_row x.framebuffer x.client n 0) ≡ slice_get
@@ -288,12 +291,14 @@ framebuffer_there objects fs i x n e k =
     ∙ sym
     (slice_get-map framebuffer_audit (map (framebuffer_row_of objects) fs) i ∙ ap (option_map framebuffer_audit) (slice_get-map (framebuffer_row_of objects) fs i ∙ ap (option_map (framebuffer_row_of objects)) e))
 
+-- A row of an audit for what is shown has its place among those of the model.
 pub shown_there : (xs : List Shown) (i : ℕ) (x : Shown) → slice_get xs i ≡ Some x
     → Some (audit_row x.engine x.framebuffer 0 0) ≡ slice_get (map shown_audit (map shown_row_of xs)) i
 shown_there xs i x e =
     sym
     (slice_get-map shown_audit (map shown_row_of xs) i ∙ ap (option_map shown_audit) (slice_get-map shown_row_of xs i ∙ ap (option_map shown_row_of) e))
 
+-- A row of an audit for a granted mode object has its place among those of the model.
 pub grant_there : (xs : List Grant) (i : ℕ) (x : Grant) → slice_get xs i ≡ Some x
     → Some (audit_row x.master x.mode_object 0 0) ≡ slice_get (map grant_audit (map grant_row_of xs)) i
 grant_there xs i x e =

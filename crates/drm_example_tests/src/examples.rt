@@ -5,6 +5,7 @@ mod frames;
 mod refusals;
 mod rights;
 mod script;
+mod sentences;
 mod streams;
 mod table;
 mod topologies;

@@ -12,14 +12,14 @@ use Rattle.std.specs.List.{slice_get}
 use Rattle.drm_index_array.specs.Position.{passing, IsPlaced}
 use Rattle.drm_index_array.proofs.PlaceLemmas.{passing-moved, passing-none, len_counted, key_placed}
 use Rattle.drm_index_array.specs.Indexed.{Indexed, marked_with, with_item, without_item, written_mark}
-use Rattle.drm_index_array.specs.Marked.{Marked, MarkedMap, mark_of, with_mark, unmarked, get, write_mark, set_value, values, array_of}
+use Rattle.drm_index_array.specs.Marked.{Marked, MarkedMap, mark_of, with_mark, unmarked, get, write_mark, set_value, array_of}
 use Rattle.drm_index_array.specs.Root.{IsRooted}
 use Rattle.drm_index_array.specs.Slots.{option_marked}
 use Rattle.drm_index_array.specs.declared.tree.Entry.{Entry}
 use Rattle.drm_index_array.specs.declared.marks.Mark.{Mark}
 use Rattle.drm_index_array.specs.declared.marks.Mark.TheVariants.{M0, M1, M2}
 use Rattle.drm_index_array.proofs.Least.{least_some, least_none, least_is, least_is_none}
-use Rattle.drm_index_array.proofs.MarkedLemmas.{get-insert, get-remove, get-rewrite, same_by_gets, get-values, len-values, len-set_value, values-write_mark, contains_key-values, marked_with-array_of, marked_is_key, array_of-insert, array_of-remove, array_of-set_value, array_of-write_mark}
+use Rattle.drm_index_array.proofs.MarkedLemmas.{get-insert, get-remove, get-rewrite, entry_written, len-write_mark, get-values, len-values, len-set_value, contains_key-values, marked_with-array_of, marked_is_key, array_of-insert, array_of-remove, array_of-set_value, array_of-write_mark}
 use Rattle.drm_index_array.proofs.NextLemmas.{is_some-option_map}
 
 module _ {T : Type 0} (items : MarkedMap T) (v : Indexed T) (view_is : array_of items ≡ v) where
@@ -289,27 +289,14 @@ module _ {T : Type 0} (items : MarkedMap T) (v : Indexed T) (view_is : array_of 
   array_same same = ap array_of (is ∙ same) ∙ view_is
 
 -- a mark written
-module _ {T : Type 0} (items : MarkedMap T) (v : Indexed T) (view_is : array_of items ≡ v) (i : ℕ) (m : Mark) (b : Bool) (now : MarkedMap T) (gets : (k : ℕ) → map.get now k ≡ cond (eqb k i) (option_map (λ s. with_mark s m b) (map.get items i)) (map.get items k)) where
-  is_written : now ≡ write_mark items i m b
-  is_written =
-      same_by_gets now (write_mark items i m b)
-      (λ k. gets k ∙ sym (get-rewrite items i (λ s. with_mark s m b) k ∙ at_index k))
-    where
-      at_index : (k : ℕ)
-          → cond (eqb k i) (option_map (λ s. with_mark s m b) (map.get items k)) (map.get items k) ≡ cond (eqb k i) (option_map (λ s. with_mark s m b) (map.get items i)) (map.get items k)
-      at_index k =
-          elim (cases_eq k i) as (λ _. cond (eqb k i) (option_map (λ s. with_mark s m b) (map.get items k)) (map.get items k) ≡ cond (eqb k i) (option_map (λ s. with_mark s m b) (map.get items i)) (map.get items k)) [
-            | inl same ↦ ap (λ n. cond (eqb k i) (option_map (λ s. with_mark s m b) (map.get items n)) (map.get items k)) same
-            | inr apart ↦ rw (ne_eqb k i apart) refl
-          ]
-
+module _ {T : Type 0} (items : MarkedMap T) (v : Indexed T) (view_is : array_of items ≡ v) (i : ℕ) (m : Mark) (b : Bool) (now : MarkedMap T) (is_written : now ≡ write_mark items i m b) where
   -- Setting or clearing a mark of an entry in the tree does the same in the array.
   pub array_written : IsSome (get items i) → array_of now ≡ written_mark v i m b
   array_written there =
       ap array_of is_written ∙ array_of-write_mark items i m b there ∙ ap (λ a. written_mark a i m b) view_is
 
   keys_kept : (k : ℕ) → map.contains_key now k ≡ map.contains_key items k
-  keys_kept k = ap is_some (gets k) ∙ elim (cases_eq k i) as (λ _. is_some (cond (eqb k i) (option_map (λ s. with_mark s m b) (map.get items i)) (map.get items k)) ≡ map.contains_key items k) [
+  keys_kept k = ap (λ a. map.contains_key a k) is_written ∙ ap is_some (entry_written items i m b k) ∙ elim (cases_eq k i) as (λ _. is_some (cond (eqb k i) (option_map (λ s. with_mark s m b) (map.get items i)) (map.get items k)) ≡ map.contains_key items k) [
     | inl same ↦ rw (eq-eqb k i same) (is_some-option_map _ _ ∙ ap (map.contains_key items) (sym same))
     | inr apart ↦ rw (ne_eqb k i apart) refl
   ]
@@ -319,11 +306,8 @@ module _ {T : Type 0} (items : MarkedMap T) (v : Indexed T) (view_is : array_of 
   rooted_written count rooted =
       record { counted = rooted.counted ∙ sym len_kept; fit = λ k there. rooted.fit k (sym (keys_kept k) ∙ there) }
     where
-      values_kept : values now ≡ values items
-      values_kept = ap values is_written ∙ values-write_mark items i m b
-
       len_kept : map.len now ≡ map.len items
-      len_kept = sym (len-values now) ∙ ap map.len values_kept ∙ len-values items
+      len_kept = ap map.len is_written ∙ len-write_mark items i m b
 
 -- a value lent
 module _ {T : Type 0} (items : MarkedMap T) (v : Indexed T) (view_is : array_of items ≡ v) (i : ℕ) where

@@ -1,5 +1,5 @@
 -- One slot of a node written over.
-use Rattle.std.proofs.Common.{◌≡◌, ℕ, zero, suc, ◌+◌, ◌*◌, ◌/◌, ◌%◌, ◌<◌, ◌≤◌, IsTrue, true, false, cond, eqb, ltb, List, [], ◌∷◌, length, get_or, set, Box, Global, Option, Some, None, is_some, refl, sym, ap, ◌∙◌, subst, inl, inr, arith, Result, Ok, Err, OnErr}
+use Rattle.std.proofs.Common.{◌≡◌, ℕ, zero, suc, ◌+◌, ◌*◌, ◌/◌, ◌%◌, ◌<◌, ◌≤◌, true, cond, eqb, ltb, List, [], ◌∷◌, length, get_or, set, Box, Global, Option, Some, None, is_some, refl, sym, ap, ◌∙◌, subst, inl, inr, arith, Result, Ok, Err, OnErr}
 use Rattle.std.specs.Ordering.{nat_cmp}
 use Rattle.std.specs.FinMap as map
 use Rattle.std.proofs.lemmas.Bool.{cases_eq, cases_lt, eq-eqb, ne_eqb, lt-ltb, le-ltb, false≢true}
@@ -143,14 +143,6 @@ module _ {T : Type 0} {height : ℕ} {slots : List (Slot T)} {q at rest : ℕ} {
 -- An empty map has no entry at any index.
 pub none_below : {X : Type 0} (m : map.FinMap nat_cmp X) → map.len m ≡ 0 → (r : ℕ) → map.get m r ≡ None
 none_below m none r = ap (λ m. map.get m r) (map.empty_of_len m none) ∙ map.get-empty nat_cmp r
-
--- A number that is not 0 is positive.
-pub some_left : (n : ℕ) → (n ≡ 0 → IsTrue false) → 0 < n
-some_left n none =
-    elim (cases_lt 0 n) [
-      | inl some ↦ some
-      | inr few ↦ absurd (false≢true (none (omega arith)))
-    ]
 
 -- Reading a slot that was just written returns what was written.
 pub read_set : {T : Type 0} (slots : List (Slot T)) (at : ℕ) (s now : Slot T) → at < length slots

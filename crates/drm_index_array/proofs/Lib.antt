@@ -12,6 +12,7 @@ mod NodeLemmas
 mod CountLemmas
 mod EditLemmas
 mod FillLemmas
+mod CutLemmas
 mod EmptyLemmas
 mod LendLemmas
 mod RootLemmas

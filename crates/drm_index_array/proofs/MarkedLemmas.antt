@@ -7,7 +7,7 @@ use Rattle.std.specs.FinMap as map
 use Rattle.std.specs.FinSet as set
 use Rattle.std.specs.FinMap.{nat_cmp-IsAntisymmetric}
 use Rattle.std.specs.FinMap.Entries.{find, is_sorted, below_all}
-use Rattle.std.proofs.lemmas.Bool.{cases_eq, false≢true}
+use Rattle.std.proofs.lemmas.Bool.{ne_eqb, cases_eq, false≢true}
 use Rattle.std.proofs.lemmas.Bool.Decides.{nat_tests}
 use Rattle.drm_index_array.specs.declared.marks.Mark.{Mark}
 use Rattle.drm_index_array.specs.declared.marks.Mark.TheVariants.{M0, M1, M2}
@@ -436,3 +436,25 @@ len-rewritten a i f (Some s) is =
 pub len-set_value : {T : Type 0} (a : MarkedMap T) (i : ℕ) (w : T) → map.len (set_value a i w) ≡ map.len a
 unfolding rewrite
 len-set_value a i w = len-rewritten a i (λ s. record s { value = w }) (map.get a i) refl
+
+-- Writing a mark keeps the number of entries.
+pub len-write_mark : {T : Type 0} (a : MarkedMap T) (i : ℕ) (m : Mark) (b : Bool)
+    → map.len (write_mark a i m b) ≡ map.len a
+unfolding rewrite
+len-write_mark a i m b = len-rewritten a i (λ s. with_mark s m b) (map.get a i) refl
+
+-- Writing a mark changes the marks of the entry at its index if there is one, and no other.
+pub entry_written : {T : Type 0} (a : MarkedMap T) (i : ℕ) (m : Mark) (b : Bool) (k : ℕ)
+    → map.get (write_mark a i m b) k ≡ cond (eqb k i) (option_map (λ s. with_mark s m b) (map.get a i)) (map.get a k)
+entry_written a i m b k =
+    get-rewrite a i (λ s. with_mark s m b) k ∙ elim (cases_eq k i) as (λ _. cond (eqb k i) (option_map (λ s. with_mark s m b) (map.get a k)) (map.get a k) ≡ cond (eqb k i) (option_map (λ s. with_mark s m b) (map.get a i)) (map.get a k)) [
+      | inl same ↦ ap (λ n. cond (eqb k i) (option_map (λ s. with_mark s m b) (map.get a n)) (map.get a k)) same
+      | inr apart ↦ rw (ne_eqb k i apart) refl
+    ]
+
+-- A map that differs from another by a mark at an index only is that map with the mark written.
+pub written_by : {T : Type 0} (old now : MarkedMap T) (i : ℕ) (m : Mark) (b : Bool)
+    → ((k : ℕ) → map.get now k ≡ cond (eqb k i) (option_map (λ s. with_mark s m b) (map.get old i)) (map.get old k))
+    → now ≡ write_mark old i m b
+written_by old now i m b gets =
+    same_by_gets now (write_mark old i m b) (λ k. gets k ∙ sym (entry_written old i m b k))

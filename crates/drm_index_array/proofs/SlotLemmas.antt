@@ -1,9 +1,10 @@
 -- Indices at a node: the slot that one lies in, and where below it.
-use Rattle.std.proofs.Common.{◌≡◌, ℕ, zero, suc, ◌+◌, ◌*◌, ◌/◌, ◌%◌, ◌^◌, ◌<◌, ◌≤◌, List, [], ◌∷◌, length, get_or, is_some, option_map, ◌-◌, refl, sym, ap, ◌∙◌, subst, arith}
+use Rattle.std.proofs.Common.{◌≡◌, ℕ, zero, suc, ◌+◌, ◌*◌, ◌/◌, ◌%◌, ◌^◌, ◌<◌, ◌≤◌, List, [], ◌∷◌, length, get_or, is_some, option_map, ◌-◌, ◌↔◌, IsTrue, nat_lt, true, refl, sym, ap, ◌∙◌, subst, inl, inr, arith}
 use Rattle.std.specs.FinMap as map
+use Rattle.std.proofs.lemmas.Bool.{cases_lt, lt-ltb, le-ltb, false≢true}
 use Rattle.std.proofs.lemmas.List.{get_or_read}
-use Rattle.std.proofs.lemmas.Nat.{pow_pos, pow-add, div-mul-add, mod-mul-add}
-use Rattle.std.proofs.Math.Nat.{mod-lt, div-lt_iff_lt-mul, pow-le-pow_right, mul-le-mul_right}
+use Rattle.std.proofs.lemmas.Nat.{pow_pos, pow-add, div-mul-add, mod-mul-add, div-add-mod'}
+use Rattle.std.proofs.Math.Nat.{mod-lt, div-lt_iff_lt-mul, pow-le-pow_right, mul-le-mul_right, mul_assoc, mul_comm}
 use Rattle.drm_index_array.specs.Tree.{Tree, width, span, is_sought}
 use Rattle.drm_index_array.specs.Slots.{Fits as SlotFits, AllFit, slot, look, below, view_of, IsSound}
 use Rattle.drm_index_array.specs.Word.{tells_of}
@@ -19,9 +20,44 @@ use Rattle.drm_index_array.proofs.TableLemmas.{get-table_within}
 pub slot_in_range : (height q : ℕ) → q < span height → q / width height < 64
 slot_in_range height q lt = (div-lt_iff_lt-mul (pow_pos (6 * height))).1 (omega (arith, pow-add 2 (6 * height) 6))
 
+-- An index is within the span if and only if it lies in one of the 64 slots.
+pub covered : (height q : ℕ) → IsTrue (nat_lt (q / width height) 64) ↔ (q < span height)
+covered height q =
+    (λ low. within (lower low), λ lt. lt-ltb _ 64 (slot_in_range height q lt))
+  where
+    lower : nat_lt (q / width height) 64 ≡ true → q / width height < 64
+    lower low = elim (cases_lt (q / width height) 64) [
+      | inl lt ↦ lt
+      | inr le ↦ absurd (false≢true (sym (le-ltb (q / width height) 64 le) ∙ low))
+    ]
+
+    within : q / width height < 64 → q < span height
+    within low = omega (arith, (div-lt_iff_lt-mul (pow_pos (6 * height))).0 low, pow-add 2 (6 * height) 6)
+
 -- The index below a slot is lower than the slot's width.
 pub rest_in_range : (height q : ℕ) → q % width height < width height
 rest_in_range height q = mod-lt q (pow_pos (6 * height))
+
+-- An index is in the slot that the low digits of its division by the slot's width tell, whatever lies above the node.
+module _ (height q : ℕ) where
+  whole : (q / span height * 64 + q % span height / width height) * width height + q % span height % width height ≡ q
+  whole =
+      let wide : span height ≡ width height * 64 = pow-add 2 (6 * height) 6 in
+      let moved : q / span height * 64 * width height ≡ q / span height * span height =
+      mul_assoc (q / span height) 64 (width height) ∙ ap (λ n. q / span height * n) (mul_comm 64 (width height) ∙ sym wide) in
+      omega (arith, moved, div-add-mod' (q % span height) (width height), div-add-mod' q (span height))
+
+  pub place_in_node : q / width height % 64 ≡ q % span height / width height
+  place_in_node =
+      let digit = slot_in_range height (q % span height) (mod-lt q (pow_pos (6 * height + 6))) in
+      ap (λ n. n / width height % 64) (sym whole)
+      ∙ ap (λ n. n % 64) (div-mul-add _ (width height) _ (rest_in_range height (q % span height)))
+      ∙ mod-mul-add (q / span height) 64 _ digit
+
+  pub rest_in_node : q % span height % width height ≡ q % width height
+  rest_in_node =
+      sym
+      (ap (λ n. n % width height) (sym whole) ∙ mod-mul-add _ (width height) _ (rest_in_range height (q % span height)))
 
 -- In a node of a height up to 5, a slot covers at most 2^30 indices.
 pub width_low : (height : ℕ) → height ≤ 5 → width height ≤ 2 ^ 30

@@ -10,9 +10,9 @@ ghost use Rattle.drm_index_array.specs.Least.{least};
 ghost use Rattle.drm_index_array.specs.InsertFault.{value_of, IsTaken};
 
 use crate::faults::InsertFault;
-use crate::growth::{inserted, removed};
+use crate::growth::{insert_below, remove_below};
 use crate::marks::Mark;
-use crate::tree::{Edit, Node};
+use crate::tree::Node;
 use crate::words::Sought;
 use std::alloc::Global;
 use std::marker::Model;
@@ -124,9 +124,7 @@ impl<T: Drop> IndexArray<T> {
         ensures absent { OnOk result (map.get self.old.items index ≡ None) }
         ensures taken { IfErr result (λ fault. IsTaken fault ↔ IsSome (map.get self.old.items index)) }
     {
-        let (root, done) = inserted(self.alloc, self.root.take(), index as u64, value);
-        self.root = root;
-        if let Err(fault) = done {
+        if let Err(fault) = insert_below(&mut self.root, self.alloc, index as u64, value) {
             return Err(fault);
         }
         self.count += 1;
@@ -208,9 +206,7 @@ impl<T: Drop> IndexArray<T> {
         ensures after { self.new ≡ without_item self.old index }
         ensures absent { IfNone result (self.new ≡ self.old) }
     {
-        let (root, value) = removed(self.root.take(), index as u64);
-        self.root = root;
-        let Some(value) = value else {
+        let Some(value) = remove_below(&mut self.root, index as u64) else {
             return None;
         };
         self.count -= 1;
@@ -281,7 +277,7 @@ impl<T: Drop> IndexArray<T> {
         if root.find(index as u64).is_none() {
             return false;
         }
-        root.edit(index as u64, Edit::Write(mark, on));
+        root.write_mark(index as u64, mark, on);
         true
     }
 

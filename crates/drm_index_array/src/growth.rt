@@ -1,6 +1,6 @@
-//! How a tree grows.
+//! How a tree grows and shrinks.
 
-ghost use Rattle.std.specs.Prelude.{◌≡◌, ℕ, ◌+◌, ◌-◌, ◌*◌, ◌^◌, ◌<◌, ◌≤◌, ◌↔◌, IsSome, Option, Some, None, OnOk, OnErr, IfOk, IfErr, IfNone};
+ghost use Rattle.std.specs.Prelude.{◌≡◌, ℕ, ◌+◌, ◌-◌, ◌*◌, ◌^◌, ◌<◌, ◌≤◌, ◌↔◌, IsSome, Option, Some, None, OnOk, OnErr, IfOk, IfErr, IfSome, IfNone, true, false};
 ghost use Rattle.std.specs.FinMap as map;
 ghost use Rattle.drm_index_array.specs.Marked.{get, unmarked};
 ghost use Rattle.drm_index_array.specs.InsertFault.{value_of, IsTaken};
@@ -8,7 +8,7 @@ ghost use Rattle.drm_index_array.specs.Tree.{width, span};
 ghost use Rattle.drm_index_array.specs.Root.{items_of, IsPast};
 
 use crate::faults::InsertFault;
-use crate::tree::{Edit, Node};
+use crate::tree::Node;
 use std::alloc::Global;
 
 /// Returns the lowest height of a node that covers the index.
@@ -111,69 +111,125 @@ fn grown<T: Drop>(
             top.hang(child);
             Ok(top)
         }
-        Err(root) => match top.edit(index, Edit::Remove) {
+        Err(root) => match top.remove(index) {
             Some(value) => Err((root, value)),
             None => unreachable!(),
         },
     }
 }
 
-/// Returns the tree with one more entry, with no mark, and the result. If the index has an entry or memory is refused,
-/// the tree is unchanged, and the result has the value.
-pub fn inserted<T: Drop>(
+/// Returns whether there is a tree, and it covers the index.
+fn covers<T>(root: &Option<Box<Node<T>>>, index: u64) -> bool
+    ensures within { result ≡ true → IsSome root.now × IfSome root.now (λ node. index < span node.value.height) }
+    ensures beyond { result ≡ false → IfSome root.now (λ node. (span node.value.height ≤ index) × IsPast node.value (span node.value.height)) }
+    ensures absent { result ≡ false → map.get (items_of root.now) index ≡ None }
+    ensures few { map.len (items_of root.now) ≤ 2 ^ 36 }
+{
+    match root {
+        Some(root) => root.covers(index),
+        None => false,
+    }
+}
+
+/// Returns the tree with one more entry, with no mark, at an index that it does not cover, and the result. If memory is
+/// refused, the tree is unchanged, and the result has the value.
+fn widened<T: Drop>(
     alloc: Global,
     root: Option<Box<Node<T>>>,
     index: u64,
     value: T,
-) -> (Option<Box<Node<T>>>, Result<(), InsertFault<T>>)
+) -> (Option<Box<Node<T>>>, Result<(), T>)
     requires index { index < 2 ^ 36 }
+    requires beyond { IfSome root (λ node. (span node.value.height ≤ index) × IsPast node.value (span node.value.height)) }
     ensures ok { OnOk result.1 (items_of result.0 ≡ map.insert (items_of root) index (unmarked value)) }
     ensures err { OnErr result.1 (result.0 ≡ root) }
-    ensures returned { IfErr result.1 (λ fault. value_of fault ≡ value) }
-    ensures absent { OnOk result.1 (map.get (items_of root) index ≡ None) }
-    ensures taken { IfErr result.1 (λ fault. IsTaken fault ↔ IsSome (map.get (items_of root) index)) }
-    ensures few { map.len (items_of root) ≤ 2 ^ 36 }
+    ensures returned { IfErr result.1 (λ v. v ≡ value) }
 {
-    let Some(mut root) = root else {
+    let Some(root) = root else {
         return match sole(alloc, index, value) {
             Ok(root) => (Some(root), Ok(())),
-            Err(value) => (None, Err(InsertFault::NoMemory(value))),
+            Err(value) => (None, Err(value)),
         };
     };
-    if root.covers(index) {
-        return match root.insert(alloc, index, value) {
-            Ok(_is_full) => (Some(root), Ok(())),
-            Err(fault) => (Some(root), Err(fault)),
-        };
-    }
     if root.is_empty() {
         return match sole(alloc, index, value) {
             Ok(root) => (Some(root), Ok(())),
-            Err(value) => (Some(root), Err(InsertFault::NoMemory(value))),
+            Err(value) => (Some(root), Err(value)),
         };
     }
     match grown(alloc, root, index, value) {
         Ok(root) => (Some(root), Ok(())),
-        Err((root, value)) => (Some(root), Err(InsertFault::NoMemory(value))),
+        Err((root, value)) => (Some(root), Err(value)),
     }
 }
 
-/// Returns the tree with no entry at the index, and its old value. Does not allocate. A tree that became empty is
-/// dropped if it has more than one level; a lone node is kept for the next entry.
-pub fn removed<T: Drop>(root: Option<Box<Node<T>>>, index: u64) -> (Option<Box<Node<T>>>, Option<T>)
-    ensures items { items_of result.0 ≡ map.remove (items_of root) index }
-    ensures value { result.1 ≡ get (items_of root) index }
-    ensures kept { IfNone result.1 (map.remove (items_of root) index ≡ items_of root) }
+/// Adds an entry with no mark to a tree. If the index has an entry or memory is refused, the tree is unchanged, and the
+/// error has the value.
+pub fn insert_below<T: Drop>(
+    root: &mut Option<Box<Node<T>>>,
+    alloc: Global,
+    index: u64,
+    value: T,
+) -> Result<(), InsertFault<T>>
+    requires index { index < 2 ^ 36 }
+    ensures ok { OnOk result (items_of root.new ≡ map.insert (items_of root.old) index (unmarked value)) }
+    ensures err { OnErr result (root.new ≡ root.old) }
+    ensures returned { IfErr result (λ fault. value_of fault ≡ value) }
+    ensures absent { OnOk result (map.get (items_of root.old) index ≡ None) }
+    ensures taken { IfErr result (λ fault. IsTaken fault ↔ IsSome (map.get (items_of root.old) index)) }
+    ensures few { map.len (items_of root.old) ≤ 2 ^ 36 }
 {
-    let Some(mut root) = root else {
-        return (None, None);
-    };
-    if !root.covers(index) {
-        return (Some(root), None);
+    if !covers(root, index) {
+        let (tree, done) = widened(alloc, root.take(), index, value);
+        *root = tree;
+        return match done {
+            Ok(()) => Ok(()),
+            Err(value) => Err(InsertFault::NoMemory(value)),
+        };
     }
-    let value = root.edit(index, Edit::Remove);
-    if root.height() > 0 && root.is_empty() {
-        return (None, value);
+    match root {
+        Some(root) => match root.insert(alloc, index, value) {
+            Ok(_is_full) => Ok(()),
+            Err(fault) => Err(fault),
+        },
+        None => unreachable!(),
     }
-    (Some(root), value)
+}
+
+/// Removes the entry at the index from a tree, which stays even if it is empty then, and returns its value.
+fn take_below<T: Drop>(root: &mut Option<Box<Node<T>>>, index: u64) -> Option<T>
+    ensures items { items_of root.new ≡ map.remove (items_of root.old) index }
+    ensures value { result ≡ get (items_of root.old) index }
+{
+    if !covers(root, index) {
+        return None;
+    }
+    match root {
+        Some(root) => root.remove(index),
+        None => None,
+    }
+}
+
+/// Returns whether there is a tree with more than one level and no entry.
+fn is_spare<T>(root: &Option<Box<Node<T>>>) -> bool
+    ensures { result ≡ true → items_of root.now ≡ map.empty }
+{
+    match root {
+        Some(root) => root.height() > 0 && root.is_empty(),
+        None => false,
+    }
+}
+
+/// Removes the entry at the index from a tree, and returns its value. Does not allocate. A tree that became empty is
+/// dropped if it has more than one level; a lone node is kept for the next entry.
+pub fn remove_below<T: Drop>(root: &mut Option<Box<Node<T>>>, index: u64) -> Option<T>
+    ensures items { items_of root.new ≡ map.remove (items_of root.old) index }
+    ensures value { result ≡ get (items_of root.old) index }
+    ensures kept { IfNone result (map.remove (items_of root.old) index ≡ items_of root.old) }
+{
+    let value = take_below(root, index);
+    if is_spare(root) {
+        *root = None;
+    }
+    value
 }

@@ -1,16 +1,16 @@
 //! The tree of nodes.
 
-ghost use Rattle.std.specs.Prelude.{◌≡◌, ℕ, ◌+◌, ◌-◌, ◌*◌, ◌^◌, ◌<◌, ◌≤◌, ◌/◌, ◌%◌, ◌↔◌, ◌==◌, if◌then◌else◌, IsTrue, OnSome, IsSome, is_some, not, nat_lt, option_map, Some, None, option_copied, OnOk, OnErr, IfOk, IfErr, IfSome, IfNone};
+ghost use Rattle.std.specs.Prelude.{◌≡◌, ℕ, ◌+◌, ◌-◌, ◌*◌, ◌^◌, ◌<◌, ◌≤◌, ◌/◌, ◌%◌, ◌↔◌, ◌==◌, if◌then◌else◌, IsTrue, OnSome, IsSome, is_some, not, nat_lt, option_map, Some, None, true, false, option_copied, OnOk, OnErr, IfOk, IfErr, IfSome, IfNone};
 ghost use Rattle.std.specs.FinMap as map;
 ghost use Rattle.drm_index_array.specs.Least.{least, IsLeastFrom};
 ghost use Rattle.drm_index_array.specs.Position.{passing, IsPlaced};
 ghost use Rattle.drm_index_array.specs.Word.{has_bit, tells_of, AreWords};
-ghost use Rattle.drm_index_array.specs.Marked.{mark_of, with_mark, unmarked};
+ghost use Rattle.drm_index_array.specs.Marked.{mark_of, with_mark, unmarked, write_mark};
 ghost use Rattle.drm_index_array.specs.InsertFault.{value_of, IsTaken};
 ghost use Rattle.drm_index_array.specs.Tree.{width, span, is_sought};
 ghost use Rattle.drm_index_array.specs.Slots.{marked, option_marked, Fits, IsUsed, InSlot, below, entries_below, has_below};
-ghost use Rattle.drm_index_array.specs.declared.words.Sought.TheVariants.{Vacant as Free};
-ghost use Rattle.drm_index_array.specs.Edit.{edited_by, taken_by};
+ghost use Rattle.drm_index_array.specs.declared.marks.Mark.{Mark};
+ghost use Rattle.drm_index_array.specs.declared.words.Sought.TheVariants.{Vacant as Free, Marked as WithMark};
 ghost use Rattle.std.specs.Option.{option_copied_mut};
 
 use crate::faults::InsertFault;
@@ -45,15 +45,6 @@ pub struct Node<T> {
     words: Words,
     // The entries below it.
     count: usize,
-}
-
-/// A change of the entry at an index, if there is one.
-#[derive(Clone, Copy, Debug)]
-pub enum Edit {
-    /// Removes it.
-    Remove,
-    /// Sets the mark, or clears it.
-    Write(Mark, bool),
 }
 
 impl<T> Model for Node<T> {
@@ -130,6 +121,14 @@ fn parts(height: u32, index: u64) -> (usize, u64)
     ((index >> shift) as usize, index & ((1 << shift) - 1))
 }
 
+/// Returns the slot of a node of this height where an index lies, whatever lies above the node.
+fn place(height: u32, index: u64) -> usize
+    requires { height ≤ 5 }
+    ensures { result ≡ index % span height / width height }
+{
+    (index >> (6 * height) & 63) as usize
+}
+
 /// Returns the first index past those that a node of this height covers.
 fn first_past(height: u32) -> u64
     requires { height ≤ 5 }
@@ -201,6 +200,24 @@ fn refreshed<T>(words: &Words, height: u32, slot: &Slot<T>, at: usize) -> Words
     }
 }
 
+/// Writes the words of a node for one slot, once an entry below it was removed.
+fn reduce<T>(words: &mut Words, height: u32, slot: &Slot<T>, at: usize)
+    requires words { AreWords words.old }
+    requires slot { at < 64 }
+    requires fits { Fits height slot.now }
+    requires vacant { has_below height slot.now Free ≡ true }
+    requires unmarked { (m : Mark) → tells_of words.old (WithMark m) at ≡ false → has_below height slot.now (WithMark m) ≡ false }
+    ensures words { AreWords words.new }
+    ensures tells { (x : Sought) (i : ℕ) → i < 64 → tells_of words.new x i ≡ (if i == at then has_below height slot.now x else tells_of words.old x i) }
+{
+    if words.has_marks() {
+        *words = refreshed(words, height, slot, at);
+        return;
+    }
+    let is_used = any_below(slot, height, Sought::Taken);
+    words.remove(at, is_used);
+}
+
 impl<T> Node<T> {
     pub fn height(&self) -> u32
         ensures height { result ≡ self.now.height }
@@ -223,7 +240,7 @@ impl<T> Node<T> {
         ensures past { (k : ℕ) → span self.now.height ≤ k → map.get self.now.items k ≡ None }
         ensures few { map.len self.now.items ≤ 2 ^ 36 }
     {
-        index < first_past(self.height)
+        index >> (6 * self.height) < 64
     }
 
     /// Returns whether there is no entry.
@@ -245,14 +262,20 @@ impl<T> Node<T> {
         ensures entry { option_marked (option_copied result) ≡ map.get self.now.items index }
         ensures within { OnSome result (index < span self.now.height) }
     {
-        match self.level_of(index) {
-            0 => self.get::<Lowest>(0, index),
-            1 => self.get::<Above<Lowest>>(1, index),
-            2 => self.get::<Above<Above<Lowest>>>(2, index),
-            3 => self.get::<Above<Above<Above<Lowest>>>>(3, index),
-            4 => self.get::<Above<Above<Above<Above<Lowest>>>>>(4, index),
-            5 => self.get::<Above<Above<Above<Above<Above<Lowest>>>>>>(5, index),
-            _ => None,
+        if !self.covers(index) {
+            return None;
+        }
+        let mut node = self;
+        let mut level = self.height;
+        loop {
+            match node.slot_at(level, index) {
+                Slot::Vacant => return None,
+                Slot::Value(entry) => return Some(entry),
+                Slot::Child(child) => {
+                    node = child;
+                    level -= 1;
+                }
+            }
         }
     }
 
@@ -280,16 +303,13 @@ impl<T> Node<T> {
         }
     }
 
-    /// Returns the same, in a node of this level that covers the index.
-    fn get<L: Level>(&self, level: u32, index: u64) -> Option<&Entry<T>>
-        requires level { level ≡ L.height }
-        requires low { level ≤ 5 }
-        requires height { self.now.height ≡ L.height }
-        requires index { index < span self.now.height }
-        ensures { option_marked (option_copied result) ≡ map.get self.now.items index }
+    /// Returns the slot where an index lies, whatever lies above the node.
+    fn slot_at(&self, level: u32, index: u64) -> &Slot<T>
+        requires { level ≡ self.now.height }
+        ensures fits { Fits level result.now }
+        ensures below { below result.now (index % width level) ≡ map.get self.now.items (index % span level) }
     {
-        let (at, rest) = parts(level, index);
-        L::find(&self.slots[at], level, rest)
+        &self.slots[place(level, index)]
     }
 
     /// Returns the lowest index not below `from` that is sought.
@@ -408,6 +428,8 @@ impl<T> Node<T> {
 }
 
 impl<T: Drop> Node<T> {
+    ghost use Rattle.drm_index_array.specs.Marked.{get};
+
     /// Returns a node with no entry.
     pub fn new(alloc: Global, height: u32) -> Result<Node<T>, AllocError>
         requires { height ≤ 5 }
@@ -477,6 +499,44 @@ impl<T: Drop> Node<T> {
         Ok(!has_vacant)
     }
 
+    /// Removes the entry at the index, if there is one. Does not allocate, and each node below that became empty is
+    /// dropped.
+    pub fn remove(&mut self, index: u64) -> Option<T>
+        requires { index < span self.old.height }
+        ensures height { self.new.height ≡ self.old.height }
+        ensures items { self.new.items ≡ map.remove self.old.items index }
+        ensures value { result ≡ get self.old.items index }
+    {
+        match self.height {
+            0 => self.cut::<Lowest>(0, index),
+            1 => self.cut::<Above<Lowest>>(1, index),
+            2 => self.cut::<Above<Above<Lowest>>>(2, index),
+            3 => self.cut::<Above<Above<Above<Lowest>>>>(3, index),
+            4 => self.cut::<Above<Above<Above<Above<Lowest>>>>>(4, index),
+            5 => self.cut::<Above<Above<Above<Above<Above<Lowest>>>>>>(5, index),
+            _ => unreachable!(),
+        }
+    }
+
+    /// Removes an entry as `remove` does, in a node of this level.
+    fn cut<L: Level>(&mut self, level: u32, index: u64) -> Option<T>
+        requires level { level ≡ L.height }
+        requires low { level ≤ 5 }
+        requires height { self.old.height ≡ L.height }
+        requires index { index < span self.old.height }
+        ensures height { self.new.height ≡ self.old.height }
+        ensures items { self.new.items ≡ map.remove self.old.items index }
+        ensures value { result ≡ get self.old.items index }
+    {
+        let (at, rest) = parts(level, index);
+        let Some(value) = L::cut(&mut self.slots[at], level, rest) else {
+            return None;
+        };
+        self.count -= 1;
+        reduce(&mut self.words, level, &self.slots[at], at);
+        Some(value)
+    }
+
     /// Puts a subtree into the first slot.
     pub fn hang(&mut self, child: Box<Node<T>>)
         requires lower { child.value.height + 1 ≡ self.old.height }
@@ -490,23 +550,18 @@ impl<T: Drop> Node<T> {
         self.words = refreshed(&self.words, self.height, &self.slots[0], 0);
     }
 
-    /// Edits the entry at the index, if there is one. Does not allocate, and each node below that became empty is
-    /// dropped.
-    #[cycle(edit)]
-    pub fn edit(&mut self, index: u64, edit: Edit) -> Option<T>
+    /// Writes the mark of the entry at the index, if there is one.
+    #[cycle(mark)]
+    pub fn write_mark(&mut self, index: u64, mark: Mark, on: bool)
         requires { index < span self.old.height }
         ensures height { self.new.height ≡ self.old.height }
-        ensures items { (k : ℕ) → map.get self.new.items k ≡ (if k == index then edited_by edit (map.get self.old.items index) else map.get self.old.items k) }
-        ensures taken { result ≡ taken_by edit (map.get self.old.items index) }
+        ensures items { self.new.items ≡ write_mark self.old.items index mark on }
     {
         let (at, rest) = parts(self.height, index);
         let slot = mem::replace(&mut self.slots[at], Slot::Vacant);
-        let others = self.count - count_below(&slot);
-        let (slot, taken) = edited(slot, self.height, rest, edit);
-        self.count = others + count_below(&slot);
+        let slot = marked_slot(slot, self.height, rest, mark, on);
         self.slots[at] = slot;
         self.words = refreshed(&self.words, self.height, &self.slots[at], at);
-        taken
     }
 }
 
@@ -536,39 +591,59 @@ fn planted<L: Level, T: Drop>(
     Ok(node)
 }
 
-/// Returns the slot, once the entry at an index below it was edited, and the value that was taken out.
-#[cycle(edit)]
-fn edited<T: Drop>(slot: Slot<T>, height: u32, rest: u64, edit: Edit) -> (Slot<T>, Option<T>)
+/// Removes the entry at an index below a slot above this level, if there is one.
+fn cut_child<L: Level, T: Drop>(slot: &mut Slot<T>, level: u32, rest: u64) -> Option<T>
+    requires level { level ≡ L.height }
+    requires low { level ≤ 5 }
+    requires fits { Fits (L.height + 1) slot.old }
+    requires rest { rest < width (L.height + 1) }
+    ensures fits { Fits (L.height + 1) slot.new }
+    ensures below { (r : ℕ) → below slot.new r ≡ (if r == rest then None else below slot.old r) }
+    ensures value { result ≡ option_map (λ s. s.value) (below slot.old rest) }
+{
+    match slot {
+        Slot::Child(child) => child.cut::<L>(level, rest),
+        Slot::Value(_) => unreachable!(),
+        Slot::Vacant => None,
+    }
+}
+
+/// Returns whether a subtree with no entry lies in a slot.
+fn is_hollow<T>(slot: &Slot<T>) -> bool
+    ensures used { result ≡ false → IsUsed slot.now }
+    ensures none { result ≡ true → (r : ℕ) → below slot.now r ≡ None }
+{
+    match slot {
+        Slot::Child(child) => child.is_empty(),
+        _ => false,
+    }
+}
+
+/// Returns the slot, once the mark of the entry at an index below it was written, if there is one.
+#[cycle(mark)]
+fn marked_slot<T: Drop>(slot: Slot<T>, height: u32, rest: u64, mark: Mark, on: bool) -> Slot<T>
     requires fits { Fits height slot }
     requires used { IsUsed slot }
     requires rest { rest < width height }
-    ensures fits { Fits height result.0 }
-    ensures used { IsUsed result.0 }
-    ensures below { (r : ℕ) → r < width height → below result.0 r ≡ (if r == rest then edited_by edit (below slot rest) else below slot r) }
-    ensures taken { result.1 ≡ taken_by edit (below slot rest) }
+    ensures fits { Fits height result }
+    ensures used { IsUsed result }
+    ensures below { (r : ℕ) → r < width height → below result r ≡ (if r == rest then option_map (λ s. with_mark s mark on) (below slot rest) else below slot r) }
 {
     match slot {
-        Slot::Vacant => (Slot::Vacant, None),
+        Slot::Vacant => Slot::Vacant,
         Slot::Value(mut entry) => {
-            let Edit::Write(mark, on) = edit else {
-                let Entry { value, .. } = entry;
-                return (Slot::Vacant, Some(value));
-            };
             entry.write_mark(mark, on);
-            (Slot::Value(entry), None)
+            Slot::Value(entry)
         }
         Slot::Child(mut child) => {
-            let taken = child.edit(rest, edit);
-            if child.is_empty() {
-                return (Slot::Vacant, taken);
-            }
-            (Slot::Child(child), taken)
+            child.write_mark(rest, mark, on);
+            Slot::Child(child)
         }
     }
 }
 
 /// The height of the node that a slot is in, as a type. A function that calls itself cannot lend a `&mut` on, but a
-/// function of one level can lend it on to that of the level below. A look-up and an insertion go by levels, too, so that
+/// function of one level can lend it on to that of the level below. An insertion and a removal go by levels, too, so that
 /// a compiler can inline them.
 trait Level {
     ghost use Rattle.std.specs.Prelude.{ℕ};
@@ -578,19 +653,25 @@ trait Level {
     ghost height: { ℕ };
 
     /// Returns the value at an index below the slot for writing, if there is one.
-    fn lend<T>(slot: &mut Slot<T>, rest: u64) -> Option<&mut T>
+    fn lend<T>(slot: &mut Slot<T>, level: u32, rest: u64) -> Option<&mut T>
+        requires level { level ≡ height }
+        requires low { level ≤ 5 }
         requires fits { Fits height slot.old }
         requires rest { rest < width height }
         ensures* writes_back { sem 𝓛 (lends_slot T.row slot.entry rest result) }
         ensures value { option_copied_mut result ≡ option_map (λ s. s.value) (below slot.old rest) };
 
-    /// Returns the entry at an index below the slot, if there is one.
-    fn find<T>(slot: &Slot<T>, level: u32, rest: u64) -> Option<&Entry<T>>
+    /// Removes the entry at an index below the slot, if there is one, and a subtree that became empty.
+    fn cut<T: Drop>(slot: &mut Slot<T>, level: u32, rest: u64) -> Option<T>
         requires level { level ≡ height }
         requires low { level ≤ 5 }
-        requires fits { Fits height slot.now }
+        requires fits { Fits height slot.old }
+        requires used { IsUsed slot.old }
         requires rest { rest < width height }
-        ensures { option_marked (option_copied result) ≡ below slot.now rest };
+        ensures fits { Fits height slot.new }
+        ensures used { IsUsed slot.new }
+        ensures below { (r : ℕ) → r < width height → below slot.new r ≡ (if r == rest then None else below slot.old r) }
+        ensures value { result ≡ option_map (λ s. s.value) (below slot.old rest) };
 
     /// Adds an entry with no mark at an index below the slot that has none, and returns whether no index below the slot
     /// is vacant; or returns the value. All nodes that the entry needs are created before the first is linked.
@@ -626,17 +707,18 @@ struct Above<L> {
 impl Level for Lowest {
     ghost height = { 0 };
 
-    fn lend<T>(slot: &mut Slot<T>, _rest: u64) -> Option<&mut T> {
+    fn lend<T>(slot: &mut Slot<T>, _level: u32, _rest: u64) -> Option<&mut T> {
         match slot {
             Slot::Value(entry) => Some(entry.value_mut()),
             _ => None,
         }
     }
 
-    fn find<T>(slot: &Slot<T>, _level: u32, _rest: u64) -> Option<&Entry<T>> {
-        match slot {
-            Slot::Value(entry) => Some(entry),
-            _ => None,
+    fn cut<T: Drop>(slot: &mut Slot<T>, _level: u32, _rest: u64) -> Option<T> {
+        match mem::replace(slot, Slot::Vacant) {
+            Slot::Vacant => None,
+            Slot::Value(entry) => Some(entry.value),
+            Slot::Child(_) => unreachable!(),
         }
     }
 
@@ -666,18 +748,19 @@ impl Level for Lowest {
 impl<L: Level> Level for Above<L> {
     ghost height = { L.height + 1 };
 
-    fn lend<T>(slot: &mut Slot<T>, rest: u64) -> Option<&mut T> {
+    fn lend<T>(slot: &mut Slot<T>, level: u32, rest: u64) -> Option<&mut T> {
         match slot {
-            Slot::Child(child) => child.lend::<L>(rest),
+            Slot::Child(child) => child.lend::<L>(level - 1, rest),
             _ => None,
         }
     }
 
-    fn find<T>(slot: &Slot<T>, level: u32, rest: u64) -> Option<&Entry<T>> {
-        match slot {
-            Slot::Child(child) => child.get::<L>(level - 1, rest),
-            _ => None,
+    fn cut<T: Drop>(slot: &mut Slot<T>, level: u32, rest: u64) -> Option<T> {
+        let value = cut_child::<L, T>(slot, level - 1, rest);
+        if is_hollow(slot) {
+            *slot = Slot::Vacant;
         }
+        value
     }
 
     fn fill<T: Drop>(
@@ -708,14 +791,16 @@ impl<T> Node<T> {
     ghost use Rattle.drm_index_array.specs.Marked.{get};
 
     /// Returns the value at the index for writing, if there is one, in a node of this level.
-    fn lend<L: Level>(&mut self, index: u64) -> Option<&mut T>
+    fn lend<L: Level>(&mut self, level: u32, index: u64) -> Option<&mut T>
+        requires level { level ≡ L.height }
+        requires low { level ≤ 5 }
         requires height { self.old.height ≡ L.height }
         requires index { index < span self.old.height }
         ensures* writes_back { sem 𝓛 (lends_node T.row self.entry index result) }
         ensures value { option_copied_mut result ≡ get self.old.items index }
     {
-        let (at, rest) = parts(self.height, index);
-        L::lend(&mut self.slots[at], rest)
+        let (at, rest) = parts(level, index);
+        L::lend(&mut self.slots[at], level, rest)
     }
 
     /// Returns the height of a node that covers the index; 6 for one that does not.
@@ -735,12 +820,12 @@ impl<T> Node<T> {
         ensures value { option_copied_mut result ≡ get self.old.items index }
     {
         match self.level_of(index) {
-            0 => self.lend::<Lowest>(index),
-            1 => self.lend::<Above<Lowest>>(index),
-            2 => self.lend::<Above<Above<Lowest>>>(index),
-            3 => self.lend::<Above<Above<Above<Lowest>>>>(index),
-            4 => self.lend::<Above<Above<Above<Above<Lowest>>>>>(index),
-            5 => self.lend::<Above<Above<Above<Above<Above<Lowest>>>>>>(index),
+            0 => self.lend::<Lowest>(0, index),
+            1 => self.lend::<Above<Lowest>>(1, index),
+            2 => self.lend::<Above<Above<Lowest>>>(2, index),
+            3 => self.lend::<Above<Above<Above<Lowest>>>>(3, index),
+            4 => self.lend::<Above<Above<Above<Above<Lowest>>>>>(4, index),
+            5 => self.lend::<Above<Above<Above<Above<Above<Lowest>>>>>>(5, index),
             _ => None,
         }
     }

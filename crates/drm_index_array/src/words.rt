@@ -62,6 +62,26 @@ impl Words {
         self.full = with_bit(self.full, at, full);
     }
 
+    /// Notes an entry less, with no mark, below a slot, and whether some entry is left there.
+    pub fn remove(&mut self, at: usize, is_used: bool)
+        requires words { AreWords self.old }
+        requires slot { at < 64 }
+        ensures words { AreWords self.new }
+        ensures taken { (i : ℕ) → i < 64 → tells_of self.new Taken i ≡ (if i == at then is_used else tells_of self.old Taken i) }
+        ensures vacant { (i : ℕ) → i < 64 → tells_of self.new Vacant i ≡ (if i == at then true else tells_of self.old Vacant i) }
+        ensures marked { (m : Mark) (i : ℕ) → tells_of self.new (Marked m) i ≡ tells_of self.old (Marked m) i }
+    {
+        self.present = with_bit(self.present, at, is_used);
+        self.full = with_bit(self.full, at, false);
+    }
+
+    /// Returns whether some entry below the node carries a mark.
+    pub fn has_marks(&self) -> bool
+        ensures { result ≡ false → (m : Mark) (i : ℕ) → tells_of self.now (Marked m) i ≡ false }
+    {
+        self.m0 | self.m1 | self.m2 != 0
+    }
+
     /// Returns the number of slots before the first with a vacant index below it.
     pub fn full_slots(&self) -> usize
         requires { AreWords self.now }

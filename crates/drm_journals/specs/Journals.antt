@@ -68,17 +68,35 @@ abbrev pub IsScriptOf : Limits → DeviceValue → List Event → List ℕ → B
 IsScriptOf limits first events text true = IsWhole limits first events text
 IsScriptOf limits first events text false = IsCut limits first events text
 
+-- What a writer of a journal keeps: the device after the events so far, the clients of the labels, and whether each event
+-- has its line.
+pub record WriterView : Type 0 where
+  pub device : DeviceValue
+  pub labels : List ℕ
+  pub is_whole : Bool
+
+-- The text is the script of the events so far, and the writer has their device, and their labels while each has its line.
+abbrev pub IsWrittenAs : Limits → DeviceValue → List Event → List ℕ → DeviceValue → List ℕ → Bool → Type 0
+IsWrittenAs limits first events text device labels true = Lines limits first (map written_event events) text device labels
+IsWrittenAs limits first events text device labels false = (cut : IsCut limits first events text) × (cut.after ≡ device)
+
+abbrev pub IsWritten : Limits → DeviceValue → List Event → List ℕ → WriterView → Type 0
+IsWritten limits first events text writer =
+    IsWrittenAs limits first events text writer.device writer.labels writer.is_whole
+
 -- Adds one more line, after any lines before it.
 abbrev pub AddsLine : Event → List ℕ → DeviceValue → List ℕ → List ℕ → DeviceValue → List ℕ → Type 0
 AddsLine event text device labels text' device' labels' =
-    (limits : Limits) (first : DeviceValue) (events : List Event) → Lines limits first events text device labels
-    → Lines limits first (events ++ event ∷ []) text' device' labels'
+    (limits : Limits) (first : DeviceValue) (events : List Event) (front : List ℕ)
+    → Lines limits first events (front ++ text) device labels
+    → Lines limits first (events ++ event ∷ []) (front ++ text') device' labels'
 
 -- Adds one more comment, after any comments before it.
 abbrev pub AddsComment : Event → List ℕ → DeviceValue → List ℕ → DeviceValue → Type 0
 AddsComment event text device text' device' =
-    (front : List ℕ) (first : DeviceValue) (events : List Event) → Comments front first events text device
-    → Comments front first (events ++ event ∷ []) text' device'
+    (start : List ℕ) (first : DeviceValue) (events : List Event) (front : List ℕ)
+    → Comments start first events (front ++ text) device
+    → Comments start first (events ++ event ∷ []) (front ++ text') device'
 
 -- One more line, if there is a label for the event, or else the comment before the first event without a line.
 abbrev pub Advances : Event → List ℕ → DeviceValue → List ℕ → List ℕ → DeviceValue → List ℕ → Bool → Type 0

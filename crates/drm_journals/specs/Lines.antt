@@ -1,5 +1,5 @@
 -- The spelling of a journal's events as lines of a script (own).
-use Rattle.std.specs.Prelude.{ℕ, ◌+◌, Bool, true, false, nat_lt, if◌then◌else◌, List, [], ◌∷◌, ◌++◌, Option, Some, None, codes, decimal, length}
+use Rattle.std.specs.Prelude.{ℕ, ◌+◌, true, false, nat_lt, if◌then◌else◌, List, [], ◌∷◌, ◌++◌, Option, Some, None, codes, decimal, length}
 use Rattle.std.specs.List.{flat_map}
 use Rattle.drm_table.specs.declared.calls.Call.{Call}
 use Rattle.drm_table.specs.declared.calls.Call.TheVariants.{BadLayout}
@@ -79,11 +79,15 @@ command_at place (events.Ask client call) = commands.Ask place call
 
 -- ---- comments
 
--- the comment in place of an event's line; `?` is the label of a client without one
+-- an event in the words of a line, with the client's number in place of its label; `?` is the label of a client without one
+abbrev pub words_text : Event → List ℕ
+words_text (events.Open opening) = open_text opening ++ (codes "?" ++ opening_text opening)
+words_text (events.Close client) = codes "close client" ++ spaced client
+words_text (events.Ask client call) = codes "client" ++ (spaced client ++ call_text call)
+
+-- the comment in place of an event's line
 abbrev pub comment_text : Event → List ℕ
-comment_text (events.Open opening) = codes "# " ++ (open_text opening ++ (codes "?" ++ opening_text opening))
-comment_text (events.Close client) = codes "# close client" ++ spaced client
-comment_text (events.Ask client call) = codes "# client" ++ (spaced client ++ call_text call)
+comment_text event = codes "# " ++ words_text event
 
 -- A call whose comment has more than 255 bytes is written as one with the wrong fields.
 abbrev pub brief_call : ℕ → Call → Call

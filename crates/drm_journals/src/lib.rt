@@ -6,5 +6,8 @@
 mod journal;
 mod lines;
 mod namings;
+mod writer;
 
 pub use journal::{Journal, journal_of};
+pub use lines::put_words;
+pub use writer::JournalWriter;

@@ -4,7 +4,7 @@ ghost use Rattle.std.specs.Prelude.{◌≡◌, ◌<◌, ◌++◌, OnOk, codes};
 ghost use Rattle.std.specs.List.{flat_map};
 ghost use Rattle.drm_table.specs.declared.events.Event.TheVariants.{Ask, Close};
 ghost use Rattle.drm_script.specs.Lines.{number_behind};
-ghost use Rattle.drm_journals.specs.Lines.{call_text, command_at, command_text, comment_text, label_text, limits_text, open_text, opening_text, spaced};
+ghost use Rattle.drm_journals.specs.Lines.{call_text, command_at, command_text, comment_text, label_text, limits_text, open_text, opening_text, spaced, words_text};
 
 use drm_script::Label;
 use drm_table::{Call, Event, Field, Limits, Opening};
@@ -155,30 +155,46 @@ pub(crate) fn put_event(text: &mut Vec<u8>, place: usize, event: &Event) -> Resu
     }
 }
 
-/// Writes the comment for a call of a client.
+/// Writes a call of a client.
 pub(crate) fn put_asked(text: &mut Vec<u8>, client: u32, call: &Call) -> Result<(), AllocError>
-    ensures { OnOk result (text.new.items ≡ text.old.items ++ comment_text (Ask client call.now)) }
+    ensures { OnOk result (text.new.items ≡ text.old.items ++ words_text (Ask client call.now)) }
 {
-    text.extend_from_slice(b"# client")?;
+    text.extend_from_slice(b"client")?;
     put_number(text, u64::from(client))?;
     put_call(text, call)
 }
 
-/// Writes the comment for the closing of a client.
+/// Writes the closing of a client.
 fn put_closed(text: &mut Vec<u8>, client: u32) -> Result<(), AllocError>
-    ensures { OnOk result (text.new.items ≡ text.old.items ++ comment_text (Close client)) }
+    ensures { OnOk result (text.new.items ≡ text.old.items ++ words_text (Close client)) }
 {
-    text.extend_from_slice(b"# close client")?;
+    text.extend_from_slice(b"close client")?;
     put_number(text, u64::from(client))
 }
 
-/// Writes the comment for an event.
-pub(crate) fn put_comment(text: &mut Vec<u8>, event: &Event) -> Result<(), AllocError>
-    ensures { OnOk result (text.new.items ≡ text.old.items ++ comment_text event.now) }
+/// Appends an event in a script's words, with the client's number in place of a label, as `client 3 version`,
+/// `open ? card` or `close client 3` (own). Allocates what it appends.
+///
+/// # Errors
+///
+/// `AllocError` if memory is refused. The text may then end with a part of the words.
+///
+/// # Examples
+///
+/// ```rust
+/// use drm_journals::put_words;
+/// use drm_table::{Call, Event};
+///
+/// let alloc = rt.alloc();
+/// let mut text = Vec::new(alloc);
+/// let Ok(()) = put_words(&mut text, &Event::Ask(3, Call::Version)) else { return };
+/// assert!(rt; text.as_slice() == b"client 3 version".as_slice());
+/// ```
+pub fn put_words(text: &mut Vec<u8>, event: &Event) -> Result<(), AllocError>
+    ensures { OnOk result (text.new.items ≡ text.old.items ++ words_text event.now) }
 {
     match event {
         Event::Open(opening) => {
-            text.extend_from_slice(b"# ")?;
             text.extend_from_slice(open_word(*opening))?;
             text.extend_from_slice(b"?")?;
             put_opening(text, *opening)
@@ -186,4 +202,12 @@ pub(crate) fn put_comment(text: &mut Vec<u8>, event: &Event) -> Result<(), Alloc
         Event::Close(client) => put_closed(text, *client),
         Event::Ask(client, call) => put_asked(text, *client, call),
     }
+}
+
+/// Writes the comment for an event.
+pub(crate) fn put_comment(text: &mut Vec<u8>, event: &Event) -> Result<(), AllocError>
+    ensures { OnOk result (text.new.items ≡ text.old.items ++ comment_text event.now) }
+{
+    text.extend_from_slice(b"# ")?;
+    put_words(text, event)
 }

@@ -32,10 +32,12 @@ later_still : {X : Type 0} (f : X → ℕ) (n : ℕ) (xs : List X) → AllByRecu
     → AllByRecursion (λ x. f x < n + 1) xs
 later_still f n xs h = all_weaker (λ x. f x < n) (λ x. f x < n + 1) (λ x lt. omega (arith, lt)) xs h
 
+-- Masters older than a number are older than the next one.
 pub later : (v : MasterSet) (n : ℕ) → IsBefore v n → IsBefore v (n + 1)
 later v n h =
     record { step_numbers = later_still (λ (x : Master). x.step_number) n v.masters h.step_numbers; four = h.four }
 
+-- Leases older than a number are older than the next one.
 pub later_lessees : (l : LeaseSet) (n : ℕ) → IsNewLessee l n → IsNewLessee l (n + 1)
 later_lessees l n h =
     record
@@ -104,6 +106,7 @@ module _ (v : MasterSet) (n : ℕ) (p : ℕ → Bool) (h : IsBefore v n) where
         four = h.four;
       }
 
+-- After a release, the masters are as old as before.
 pub ended_before : (v v2 : MasterSet) (chosen : ℕ → Bool) (n : ℕ) → IsBefore v n
     → v2 ≡ swept (masters_calls.released chosen v) → IsBefore v2 n
 ended_before v v2 chosen n h e = subst (λ (w : MasterSet). IsBefore w n) (sym e) (released_older v n chosen h)
@@ -117,18 +120,21 @@ module _ (l : LeaseSet) (n : ℕ) (p : ℕ → Bool) (h : IsNewLessee l n) where
     grants = all_filter (λ (g : Grant). g.master < n) (λ (g : Grant). not (p g.master)) l.grants h.grants;
   }
 
+-- After leases ended, the leases are as old as before.
 pub ended_lessees : (l l2 : LeaseSet) (masters : List Master) (top n : ℕ) → IsNewLessee l n → l2 ≡ ended masters top l
     → IsNewLessee l2 n
 ended_lessees l l2 masters top n h e =
     subst (λ (w : LeaseSet). IsNewLessee w n) (sym e)
     (thinned_lessees l n (is_under (lessor_of masters) top) h (ended masters top l).lendings)
 
+-- After the leases below a master ended, the leases are as old as before.
 pub ended_below_lessees : (l l2 : LeaseSet) (masters : List Master) (top n : ℕ) → IsNewLessee l n
     → l2 ≡ ended_below masters top l → IsNewLessee l2 n
 ended_below_lessees l l2 masters top n h e =
     subst (λ (w : LeaseSet). IsNewLessee w n) (sym e)
     (thinned_lessees l n (is_below masters top) h (ended_below masters top l).lendings)
 
+-- After a token was spent, the leases are as old as before.
 pub spent_lessees : (l l2 : LeaseSet) (t n : ℕ) → IsNewLessee l n → l2 ≡ without_token t l → IsNewLessee l2 n
 spent_lessees l l2 t n h e =
     subst (λ (w : LeaseSet). IsNewLessee w n) (sym e)
@@ -136,6 +142,7 @@ spent_lessees l l2 t n h e =
 
 -- ---- a client comes
 
+-- After a client redeemed a lease, masters and clients are older than the next number.
 pub entered_before : (v v2 : MasterSet) (c m : ℕ) → IsBefore v c → v2 ≡ masters_calls.redeemed c m v
     → IsBefore v2 (c + 1)
 entered_before v v2 c m h e =
@@ -150,6 +157,7 @@ entered_before v v2 c m h e =
       four = k.four;
     })
 
+-- What did not change is older than the next number too.
 pub same_before : (v v2 : MasterSet) (c : ℕ) → IsBefore v c → v2 ≡ v → IsBefore v2 (c + 1)
 same_before v v2 c h e = subst (λ (w : MasterSet). IsBefore w (c + 1)) (sym e) (later v c h)
 
@@ -168,6 +176,7 @@ of_its_key v are b x at keyed = by_row (find (is_key x.key) v.masters) refl keye
         in
         e ∙ sym here ∙ ap (master_at v.masters) num ∙ at
 
+-- A kept lessee that is found by its step is found by its key.
 pub unredeemed : (v : MasterSet) → AreMasters v → (b : ℕ) (x : Master) → master_at v.masters b ≡ Some x
     → IsKeyOf v.masters b x.key → x.kept ≡ true → is_some x.lessor ≡ true
     → option_map_or (λ (y : Master). y.kept && is_some y.lessor) (find (is_key x.key) v.masters) false ≡ true

@@ -4,7 +4,7 @@ use Rattle.std.proofs.Math.Bool.{and-false, and-true, or-false}
 use Rattle.std.specs.Prelude.{nat_le, if◌then◌else◌}
 use Rattle.std.specs.List.{AllByRecursion}
 use Rattle.std.specs.Int.RustNames.{bit_and, bit_or}
-use Rattle.std.proofs.lemmas.Bool.{cases_eq, eqb-true}
+use Rattle.std.proofs.lemmas.Bool.{cases_eq, eqb-true, false≢true}
 use Rattle.std.specs.Int.{bit_at, bit_not}
 use Rattle.std.proofs.lemmas.Nat.Bits.{bit_at-zero, bit_at-lt, bit_at_and, bit_at_or, bit_at_not, bit_at_set_same, bit_at_set_other}
 use Rattle.std.proofs.lemmas.Bool.Decides.{nat_tests}
@@ -95,6 +95,14 @@ one_set mask id x fixed = by_range (nat_le 1 x && nat_le x 64) refl
         ∙ ap (λ b. if b then true else has_bit mask (x - 1)) (shifted x id ge2 ge)
         ∙ merged (id == x) (has_bit mask (x - 1))
     by_range false h = sym (outside x id h fixed.0 fixed.1)
+
+-- A number outside the range of a mask is none of those within.
+pub none_outside : (number x : ℕ) → 1 ≤ x → x ≤ 64 → (IsFixed number → false ≡ true) → (number == x) ≡ false
+none_outside number x ge le outside =
+    elim (number == x) as (λ b. (number == x) ≡ b → b ≡ false) [
+      | true ↦ λ e. let same = eqb-true number x e in absurd (false≢true (outside (omega (arith, same, ge), omega (arith, same, le))))
+      | false ↦ λ _. refl
+    ] refl
 
 -- ---- the objects of such a mask
 

@@ -19,7 +19,7 @@ use crate::lists::passing;
 use crate::masks;
 use crate::rows::{Grant, Leased};
 use crate::rules::{are_leasable, are_seen, is_lease, may_lease, planes_along, stand_once};
-use crate::searches::{any_leased_out, controlled, has_lease, is_leased_out, nth_grant};
+use crate::searches::{any_leased_out, controlled, is_leased_out, lessee_mask, nth_grant};
 use crate::tokens::LeaseTokens;
 use crate::views::View;
 use crate::writes::listed_mask;
@@ -287,11 +287,8 @@ impl Leases {
             unreachable!()
         };
         masters.laws();
-        let granted = &self.granted;
-        let master = lessor.step_number;
-        passing(masters.last_lessee(), |id| {
-            has_lease(granted, masters, master, id)
-        })
+        let lessees = lessee_mask(&self.granted, masters, lessor.step_number);
+        passing(masters.last_lessee(), |id| masks::has(lessees, id))
     }
 
     /// Returns the mode objects in the lease of a lessee, in rising order. The list is empty if no lessee with a lease

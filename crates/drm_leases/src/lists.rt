@@ -9,7 +9,7 @@ use drm_table::ShownList;
 pub fn passing<F: Fn(u32) -> bool>(last: u32, test: F) -> ShownList
     requires few { last ≤ 64 }
     requires callable { F.IsAlwaysCallable test }
-    ensures { (p : ℕ → Bool) → ((n : ℕ) (b : Bool) → n ≤ 64 → F.post test n b → b ≡ p n) → result ≡ filter p (numbers_from 1 last) }
+    ensures { (p : ℕ → Bool) → ((n : ℕ) (b : Bool) → 1 ≤ n → n ≤ 64 → F.post test n b → b ≡ p n) → result ≡ filter p (numbers_from 1 last) }
 {
     let mut list = ShownList::new();
     for id in 1..last + 1 {

@@ -1,6 +1,6 @@
 //! Sets of fixed mode objects, as words of 64 bits: bit x - 1 is object x (own).
 
-ghost use Rattle.std.specs.Prelude.{◌≡◌, ℕ, ◌&&◌, ◌||◌, not};
+ghost use Rattle.std.specs.Prelude.{◌≡◌, ◌≤◌, ◌==◌, ◌↔◌, ℕ, ◌&&◌, ◌||◌, not, IsTrue};
 ghost use Rattle.std.specs.List.{AllByRecursion};
 ghost use Rattle.drm_lists.specs.Numbers.{is_among};
 ghost use Rattle.drm_leases.specs.Masks.{has_object, objects_in, IsFixed};
@@ -13,6 +13,22 @@ pub fn has(mask: u64, mode_object: u32) -> bool
     ensures { result ≡ has_object mask mode_object }
 {
     1 <= mode_object && mode_object <= 64 && mask >> (mode_object - 1) & 1 == 1
+}
+
+/// Returns the mask with a number, if it is one from 1 to 64.
+pub fn with_number(mask: u64, number: u32) -> u64
+    ensures { (x : ℕ) → 1 ≤ x → x ≤ 64 → has_object result x ≡ (has_object mask x || (number == x)) }
+{
+    if !is_fixed(number) {
+        return mask;
+    }
+    mask | 1 << (number - 1)
+}
+
+fn is_fixed(number: u32) -> bool
+    ensures { IsTrue result ↔ IsFixed number }
+{
+    1 <= number && number <= 64
 }
 
 /// Returns the mask of these mode objects.

@@ -1,12 +1,12 @@
 //! Searches among grants.
 
-ghost use Rattle.std.specs.Prelude.{◌≡◌, ◌==◌, ◌+◌, ◌&&◌, false, find, slice_get, unwrap_or};
+ghost use Rattle.std.specs.Prelude.{◌≡◌, ◌≤◌, ℕ, ◌==◌, ◌+◌, ◌&&◌, ◌||◌, false, find, slice_get, unwrap_or};
 ghost use Rattle.std.specs.List.{list_any, AllByRecursion};
 ghost use Rattle.std.specs.Option.{option_map_or};
 ghost use Rattle.drm_masters.specs.Masters as masters_sets;
 ghost use Rattle.drm_leases.specs.Leases as sets;
 ghost use Rattle.drm_leases.specs.Agreed.{IsAgreed};
-ghost use Rattle.drm_leases.specs.Masks.{grants_in, lendings_in};
+ghost use Rattle.drm_leases.specs.Masks.{grants_in, has_object, lendings_in};
 ghost use Rattle.drm_leases.specs.Views.{AreControlled};
 
 use crate::granted::Granted;
@@ -78,29 +78,32 @@ pub fn lessor_of(masters: &Masters, master: u32) -> Option<u32>
     }
 }
 
-/// Returns whether the direct lessee of the master with this id has a lease that isn't empty.
-pub fn has_lease(granted: &Granted, masters: &Masters, master: u32, id: u32) -> bool
-    ensures { result ≡ sets.has_lease (grants_in granted.now.rows) masters.now.masters master id }
+/// Returns a mask of the ids of the direct lessees of the master that have a lease. It looks at each lease once.
+pub fn lessee_mask(granted: &Granted, masters: &Masters, master: u32) -> u64
+    ensures { (id : ℕ) → 1 ≤ id → id ≤ 64 → has_object result id ≡ sets.has_lease (grants_in granted.now.rows) masters.now.masters master id }
 {
     granted.laws();
+    let mut mask = 0;
     for position in 0..granted.len() {
         let Some(lease) = granted.nth(position) else {
             unreachable!()
         };
-        if is_direct_lessee(masters, master, id, lease.lessee) {
-            return true;
-        }
+        mask = with_lessee(mask, masters, master, lease.lessee);
     }
-    false
+    mask
 }
 
-fn is_direct_lessee(masters: &Masters, master: u32, id: u32, lessee: u32) -> bool
-    ensures { result ≡ option_map_or (sets.is_direct_lessee master id) (masters_sets.master_at masters.now.masters lessee) false }
+/// Returns the mask with the id of a master that is a direct lessee of the other.
+fn with_lessee(mask: u64, masters: &Masters, master: u32, lessee: u32) -> u64
+    ensures { (id : ℕ) → 1 ≤ id → id ≤ 64 → has_object result id ≡ (has_object mask id || option_map_or (sets.is_direct_lessee master id) (masters_sets.master_at masters.now.masters lessee) false) }
 {
-    match masters.master(lessee) {
-        Some(row) => is_option(master, row.lessor) && row.lessee_id == id,
-        None => false,
+    let Some(row) = masters.master(lessee) else {
+        return mask;
+    };
+    if !is_option(master, row.lessor) {
+        return mask;
     }
+    masks::with_number(mask, row.lessee_id)
 }
 
 fn is_option(number: u32, option: Option<u32>) -> bool

@@ -13,8 +13,10 @@ ghost use Rattle.drm_listeners.specs.Connections.{IsFailed, IsFresh, IsRoomFor, 
 use crate::hall::Gathering;
 use crate::serve_faults::ServeFault;
 use arrayvec::ArrayVec;
-use drm_connections::{Ahead, Answering, Greeting, MOST, Note, Role, accept_next, note_beyond};
-use drm_sessions::{Class, NoGate, Served, Session, serve_through};
+use drm_connections::{
+    Ahead, Answering, Greeting, MOST, Note, Reporting, Role, accept_next, note_beyond,
+};
+use drm_sessions::{Class, NoGate, Served, Session, Witness, serve_witnessed};
 use drm_streams::{FromRead, Sink, Source, ToWrite};
 use drm_turns::{Seat, SharedDevice, Sharing};
 use libc::net::{SHUT_RDWR, shutdown};
@@ -84,11 +86,12 @@ pub(crate) struct Visitor {
 /// A list that is reserved before can't move to that thread, since handles don't cross threads.
 type ConnectionHandles = ArrayVec<Option<ConnectionHandle>, MOST>;
 
-// Serves a connection over its two sides, which no client had asked before.
-fn serve_sides<R: Wait, D: Sharing, S: Source, K: Sink>(
+// Serves a connection over its two sides, which no client had asked before. The witness receives its calls.
+fn serve_sides<R: Wait, D: Sharing, W: Witness + Drop, S: Source, K: Sink>(
     rt: &R,
     shared: &D,
     participant: Seat,
+    witness: W,
     class: Class,
     source: &mut S,
     sink: &mut K,
@@ -102,10 +105,11 @@ fn serve_sides<R: Wait, D: Sharing, S: Source, K: Sink>(
     ensures costs { Costs (S.trace source.old) (S.trace source.new)
         (K.trace sink.old) (K.trace sink.new) connection_turns result.session.end }
 {
-    serve_through(
+    serve_witnessed(
         rt,
         shared.device(),
         participant,
+        witness,
         &mut NoGate,
         class,
         source,
@@ -137,7 +141,16 @@ fn serve_attended<R: Wait, D: Gathering>(
     let ahead = Ahead::new(open.alloc(rt));
     let mut source = FromRead::new(Greeting::new(&stream, &ahead, &attendance));
     let mut sink = ToWrite::new(Answering::new(rt, &stream, &ahead, open.notes()));
-    serve_sides(rt, shared, participant, class, &mut source, &mut sink)
+    let witness = Reporting::new(rt, open.watch(), class);
+    serve_sides(
+        rt,
+        shared,
+        participant,
+        witness,
+        class,
+        &mut source,
+        &mut sink,
+    )
 }
 
 // Serves a connection. A session that doesn't end plainly is logged once its connection is closed, unless all were

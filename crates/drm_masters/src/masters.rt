@@ -286,6 +286,26 @@ impl Masters {
         is_current_among(&self.masters, self.device_master, member)
     }
 
+    /// Returns whether a client is current ([`is_current`](Masters::is_current)), for one whose row is at hand
+    /// ([`member`](Masters::member)), so that it need not be found again. Does not allocate.
+    ///
+    /// # Examples
+    ///
+    /// ```rust
+    /// use drm_masters::Masters;
+    ///
+    /// let alloc = rt.alloc();
+    /// let mut masters = Masters::new(alloc, 4, 4);
+    /// let Ok(is_first) = masters.on_open(1, 1) else { return };
+    /// let Some(member) = masters.member(1) else { return };
+    /// assert!(rt; masters.is_current_member(member));
+    /// ```
+    pub fn is_current_member(&self, member: Member) -> bool
+        ensures { result ≡ sets.is_current_member self.now member }
+    {
+        is_current_among(&self.masters, self.device_master, member)
+    }
+
     /// Adds a client that opened the primary node (drm(7)). No client may have this number yet, and no master this
     /// birth.
     ///

@@ -71,6 +71,7 @@ set-same w c false false row =
     (record row { authenticated = true; once_master = true; is_master = true; master = Some (step_number w) }) row refl
     refl
 
+-- A client's row keeps its number.
 pub client-same : (w : Rows) (event : Event) (row : ClientRow) → (client_after w event row).client ≡ row.client
 client-same w (Ask c (AuthMagic magic)) row =
     either (λ (x : ClientRow). x.client ≡ row.client) (is_option row.client (magic_client w (caller_master w c) magic))
@@ -83,11 +84,13 @@ client-same w (Ask c call) row = refl
 client-same w (Open opening) row = refl
 client-same w (Close c) row = refl
 
+-- A master's row keeps its number.
 pub master-same : (w : Rows) (event : Event) (row : MasterRow) → (master_after w event row).master ≡ row.master
 master-same w event row =
     either (λ (x : MasterRow). x.master ≡ row.master) (spends_token w event row) (record row { lease_token = None }) row
     refl refl
 
+-- An object's row keeps its number.
 pub object-same : (w : Rows) (event : Event) (row : ObjectRow) → (object_after w event row).object ≡ row.object
 object-same w (Ask c (StampWrite handle stamp)) row =
     either (λ (x : ObjectRow). x.object ≡ row.object) (row.object == object_of w c handle)
@@ -104,6 +107,7 @@ pub new_primary : (w : Rows) (root universal : Bool) (m : Option ℕ)
 new_primary w root universal None = refl
 new_primary w root universal (Some m) = refl
 
+-- A new client has the number of its step.
 pub client-new : (w : Rows) (event : Event) → IfSome (new_client_row w event) (λ row. row.client ≡ step_number w)
 client-new w (Open (Primary root universal)) = new_primary w root universal w.device_master
 client-new w (Open Render) = refl
@@ -121,6 +125,7 @@ set-new w true master = tt
 set-new w false true = tt
 set-new w false false = refl
 
+-- A new master has the number of its step.
 pub master-new : (w : Rows) (event : Event) → IfSome (new_master_row w event) (λ row. row.master ≡ step_number w)
 master-new w (Open (Primary root universal)) = founded-new w w.device_master
 master-new w (Open Render) = tt
@@ -130,6 +135,7 @@ master-new w (Ask c (CreateLease ids)) = refl
 master-new w (Ask c call) = tt
 master-new w (Close c) = tt
 
+-- A new object has the number of its step.
 pub object-new : (w : Rows) (event : Event) → IfSome (new_object_row w event) (λ row. row.object ≡ step_number w)
 object-new w (Ask c (BufCreate size)) = refl
 object-new w (Ask c (CreateDumb width height bpp)) = refl

@@ -25,6 +25,7 @@ pub fn changes() {
 /// The calls that read them.
 pub fn reads() {
     let _is_current: fn(&Masters, u32) -> bool = Masters::is_current;
+    let _is_current_member: fn(&Masters, Member) -> bool = Masters::is_current_member;
     let _master_of: fn(&Masters, u32) -> Option<MasterKey> = Masters::master_of;
     let _lessor_of: fn(&Masters, MasterKey) -> Option<MasterKey> = Masters::lessor_of;
     let _nth: fn(&Masters, u32, usize) -> Option<MasterRow> = Masters::nth;

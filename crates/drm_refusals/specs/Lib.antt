@@ -2,5 +2,4 @@ pub mod Facts
 pub mod Leases
 pub mod Reports
 pub mod Searches
-pub mod Texts
 pub mod Withdrawals

@@ -44,7 +44,7 @@ pub struct Line {
 }
 
 /// Returns the caller's client, or `None` if the step opens a client or the label names no client.
-pub(crate) fn caller_of(step: &Step) -> Option<u64> {
+fn caller_of(step: &Step) -> Option<u64> {
     let client = match &step.event {
         Event::Open(_) => 0,
         Event::Ask(client, _) => u64::from(*client),

@@ -15,10 +15,8 @@ mod rows;
 mod scene;
 mod screens;
 mod searching;
-mod sentences;
 mod sizes;
 mod withdrawals;
-mod writing;
 
 pub use answering::{Line, explain_answer};
 pub use facts::{
@@ -26,4 +24,3 @@ pub use facts::{
     Quantity, RequestFact, SizeFact,
 };
 pub use rows::{AnswerRow, WrittenAnswer};
-pub use writing::{lines_of_answer, write_answer};

@@ -11,55 +11,80 @@ use std::alloc::{AllocError, Global};
 /// The most connections that a listener accepts by its option.
 const MOST_CONNECTIONS: u64 = 64;
 
-/// The exit statuses of all commands.
+/// The exit statuses of all commands, and examples.
 const STATUS: &str = "\
 Exit status:
   0  done
   1  a fault outside: a file, a socket, memory or a thread
   2  a malformed script or topology
   3  a refused command line
-  4  check: an expectation is not met, or a file has none";
+  4  check: an expectation is not met, or a file has none
 
-/// The exit statuses of `run`.
+Examples:
+  drm_server run examples/buffer.script
+  drm_server serve --card card --render render --root root --until-ended
+  drm_server help serve";
+
+/// The exit statuses of `run`, and examples.
 const RUN_STATUS: &str = "\
 Exit status:
   0  the script ended
   1  the script, the journal or standard output failed, or no memory
   2  a line of the script or of the topology is malformed
-  3  a refused command line";
+  3  a refused command line
 
-/// The exit statuses of `check`.
+Examples:
+  drm_server run examples/buffer.script
+  drm_server run --topology examples/topologies/laptop.topology --journal steps.script < examples/modes.script";
+
+/// The exit statuses of `check`, and examples.
 const CHECK_STATUS: &str = "\
 Exit status:
   0  all expectations are met, and each file has one
   1  a file or standard output failed, or no memory
   2  a file or the topology is malformed
   3  a refused command line
-  4  an expectation is not met, or a file has none";
+  4  an expectation is not met, or a file has none
 
-/// The exit statuses of `explain`.
+Examples:
+  drm_server check examples/linux/addfb_handle.script
+  drm_server check --update steps.script";
+
+/// The exit statuses of `explain`, and examples.
 const EXPLAIN_STATUS: &str = "\
 Exit status:
   0  explained
   1  the script or standard output failed, or no memory
   2  a line of the script or of the topology is malformed
-  3  a refused command line, or no such client or line";
+  3  a refused command line, or no such client or line
 
-/// The exit statuses of `shrink`.
+Examples:
+  drm_server explain examples/leases.script
+  drm_server explain examples/denials.script --line 10";
+
+/// The exit statuses of `shrink`, and examples.
 const SHRINK_STATUS: &str = "\
 Exit status:
   0  a script was printed
   1  the script or standard output failed, or no memory
   2  a line of the script or of the topology is malformed
-  3  a refused command line, or no such line";
+  3  a refused command line, or no such line
 
-/// The exit statuses of `serve`.
+Examples:
+  drm_server shrink steps.script --line 9 > short.script";
+
+/// The exit statuses of `serve`, and examples.
 const SERVE_STATUS: &str = "\
 Exit status:
   0  all connections ended, and the device is listed
   1  a socket, the journal or standard output failed, or no memory or thread
   2  a line of the topology is malformed
-  3  a refused command line";
+  3  a refused command line
+
+Examples:
+  drm_server serve --card card --render render --root root --until-ended --journal steps.script
+  drm_server serve --card card --render render --root root --until-ended --trace -
+  drm_server serve --card card --render render --root root --cards 2 --until-input-ends --verbose";
 
 /// The number of connections that a server accepts.
 #[derive(Clone, Copy, Debug, PartialEq, Eq)]
@@ -80,8 +105,10 @@ pub(crate) struct Serving<'a> {
     /// Whether it logs the sockets that it listens on.
     pub(crate) is_verbose: bool,
     pub(crate) device: AskedDevice<'a>,
-    /// The file to which the journal is written at the end.
+    /// The file to which the journal is written.
     pub(crate) journal: Option<&'a str>,
+    /// The file to which each call is written with its answer.
+    pub(crate) trace: Option<&'a str>,
 }
 
 /// A command with its arguments.
@@ -149,13 +176,21 @@ fn script_limits<'a>(alloc: Global) -> Arg<'a> {
     )
 }
 
-fn journal<'a>(alloc: Global) -> Arg<'a> {
+fn journal<'a>(alloc: Global, help: &'a str) -> Arg<'a> {
     Arg::new(alloc, "journal")
         .long("journal")
         .value_name("FILE")
         .value_parser(ValueParser::NonEmptyString)
+        .help(help)
+}
+
+fn trace<'a>(alloc: Global) -> Arg<'a> {
+    Arg::new(alloc, "trace")
+        .long("trace")
+        .value_name("FILE")
+        .value_parser(ValueParser::NonEmptyString)
         .help(
-            "Writes the journal, a script with the expected answers, into this file at the end, also after a fault",
+            "Writes a line for each call and its answer into this file, as it happens; - is standard error",
         )
 }
 
@@ -292,7 +327,11 @@ fn serve_command<'a>(alloc: Global) -> Result<Command<'a>, Error> {
             alloc,
             "The device's limits: clients, handles, names, tokens, objects, framebuffers, lessees, journal",
         ))?
-        .arg(journal(alloc))?;
+        .arg(journal(
+            alloc,
+            "Writes the journal, a script with the expected answers, into this file: a line for each step, as it happens",
+        ))?
+        .arg(trace(alloc))?;
     Ok(command)
 }
 
@@ -306,7 +345,10 @@ fn run_command<'a>(alloc: Global) -> Result<Command<'a>, Error> {
         .arg(file)?
         .arg(topology(alloc))?
         .arg(script_limits(alloc))?
-        .arg(journal(alloc))?;
+        .arg(journal(
+            alloc,
+            "Writes the journal, a script with the expected answers, into this file at the end, also after a fault",
+        ))?;
     Ok(command)
 }
 
@@ -364,6 +406,7 @@ fn serving_of<'a>(matches: &ArgMatches<'a>) -> Option<Serving<'a>> {
         is_verbose: matches.get_flag("verbose"),
         device: device_of(matches),
         journal: matches.get_str("journal"),
+        trace: matches.get_str("trace"),
     })
 }
 

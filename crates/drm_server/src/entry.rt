@@ -7,12 +7,12 @@ use crate::command_line::{Asked, Serving, is_memory, read_words};
 use crate::listing::{list_audit, outcome_of_listing};
 use crate::serving::{Ended, serve_device};
 use crate::standard::open_standard;
+use crate::watching::{TraceTarget, create_target, finish_journal, warn_of_left_out, writers_of};
 use crate::words::words_of;
 use clap::Error;
 use drm_commands::{
     Fault, FilesRead, JournalFile, Outcome, TopologyText, asked_device, asked_limits, check,
     create_asked, explain_script, outcome_by, outcome_of_fault, read_asked, run, shrink, update,
-    write_noted,
 };
 use drm_connections::PROGRAM;
 use drm_device::{Device, Limits};
@@ -21,6 +21,7 @@ use log::{Log, error};
 use std::alloc::Global;
 use std::io;
 use std::net::Net;
+use std::os::fd::AsRawFd;
 use std::process::ExitCode;
 use std::rt::{Env, Files};
 use std::sync::Wait;
@@ -35,20 +36,29 @@ fn list<R: Print>(rt: &R, device: &Device) -> Outcome {
     outcome_of_listing(&list_audit(device, &mut sink, MOST_TURNS))
 }
 
-/// Writes the journal of a device, if there is a file for it, and lists its rows on standard output. Then it logs a
-/// fault of the listeners.
+/// The files that are written while a device is served.
+#[derive(Drop)]
+struct Written<'a, F: Drop> {
+    journal: Option<JournalFile<'a, F>>,
+    trace: Option<TraceTarget<'a, F>>,
+}
+
+/// Writes what is missing in the journal of a device, if there is a file for it, and lists its rows on standard output.
+/// Then it logs a fault of the listeners.
 fn write_and_list<R: Print + Files + AllocGlobal + Log>(
     rt: &R,
     alloc: Global,
     topology: Option<&TopologyText<'_>>,
-    journal: Option<JournalFile<'_, R::File>>,
+    files: Written<'_, R::File>,
     limits: Limits,
     ended: &Ended,
 ) -> Result<Outcome, Fault>
     requires { are_in_range limits ≡ true }
 {
-    let noted = ended.device.journal();
-    let written = write_noted(rt, alloc, journal, topology, limits, noted);
+    let Written { journal, trace } = files;
+    let growth = ended.written.journal;
+    let written = finish_journal(rt, alloc, journal, topology, limits, &ended.device, growth);
+    warn_of_left_out(rt, trace.as_ref(), ended.written.left_out);
     let listed = list(rt, &ended.device);
     if let Some(fault) = ended.fault {
         error!(rt; target: PROGRAM, "{fault}");
@@ -58,13 +68,16 @@ fn write_and_list<R: Print + Files + AllocGlobal + Log>(
     Ok(listed)
 }
 
-/// Serves an empty device. At the end it writes the journal if requested, and lists the rows on standard output, also
-/// after a fault of a listener.
-fn serve_and_list<R: Input + Print + Files + Net + AllocGlobal + Log + Wait + Threads + Sync>(
+/// Serves an empty device. The journal and the trace are written meanwhile, if requested. At the end it lists the rows on
+/// standard output, also after a fault of a listener.
+fn serve_and_list<R: Input + Print + Files + Net + Env + AllocGlobal + Log + Wait + Threads + Sync>(
     rt: &R,
     alloc: Global,
     serving: Serving<'_>,
-) -> Result<Outcome, Fault> {
+) -> Result<Outcome, Fault>
+where
+    R::File: AsRawFd,
+{
     let limits = asked_limits(rt, serving.device.limits)?;
     let topology = read_asked(rt, serving.device)?;
     let device = asked_device(rt, alloc, topology.as_ref(), limits)?;
@@ -73,16 +86,29 @@ fn serve_and_list<R: Input + Print + Files + Net + AllocGlobal + Log + Wait + Th
         script: None,
     };
     let journal = create_asked(rt, serving.journal, read)?;
-    let ended = serve_device(rt, alloc, device, serving)?;
-    write_and_list(rt, alloc, topology.as_ref(), journal, limits, &ended)
+    let trace = create_target(rt, &serving)?;
+    let writers = writers_of(
+        rt,
+        alloc,
+        topology.as_ref(),
+        limits,
+        journal.as_ref(),
+        trace.as_ref(),
+    )?;
+    let ended = serve_device(rt, alloc, device, serving, writers)?;
+    let files = Written { journal, trace };
+    write_and_list(rt, alloc, topology.as_ref(), files, limits, &ended)
 }
 
 /// Serves connections.
-fn serve<R: Input + Print + Files + Net + AllocGlobal + Log + Wait + Threads + Sync>(
+fn serve<R: Input + Print + Files + Net + Env + AllocGlobal + Log + Wait + Threads + Sync>(
     rt: &R,
     alloc: Global,
     serving: Serving<'_>,
-) -> Outcome {
+) -> Outcome
+where
+    R::File: AsRawFd,
+{
     match serve_and_list(rt, alloc, serving) {
         Ok(outcome) => outcome,
         Err(fault) => outcome_of_fault(fault),
@@ -106,8 +132,11 @@ fn stop_at<R: Print + Eprint>(rt: &R, error: &Error) -> Outcome {
 
 /// Executes the command.
 fn carry_out_command<
-    R: Input + Print + Eprint + Files + Net + AllocGlobal + Log + Wait + Threads + Sync,
->(rt: &R, alloc: Global, words: &[String]) -> Outcome {
+    R: Input + Print + Eprint + Files + Net + Env + AllocGlobal + Log + Wait + Threads + Sync,
+>(rt: &R, alloc: Global, words: &[String]) -> Outcome
+where
+    R::File: AsRawFd,
+{
     match read_words(alloc, words) {
         Ok(Some(Asked::Run(running))) => run(rt, alloc, running),
         Ok(Some(Asked::Check(checking))) => check(rt, alloc, &checking),
@@ -135,7 +164,10 @@ fn carry_out_command<
 /// ```
 pub fn program<
     R: Input + Print + Eprint + Files + Net + Env + AllocGlobal + Log + Wait + Threads + Sync,
->(rt: &R) -> ExitCode {
+>(rt: &R) -> ExitCode
+where
+    R::File: AsRawFd,
+{
     let alloc: Global = rt.alloc();
     let _standard = open_standard(rt);
     let outcome = match words_of(rt, alloc) {

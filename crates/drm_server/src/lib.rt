@@ -4,10 +4,14 @@
 mod command_line;
 mod ending;
 mod entry;
+mod growing_journal;
 mod listing;
+mod outlet;
 mod serving;
 mod sockets;
 mod standard;
+mod tracing;
+mod watching;
 mod words;
 
 pub use drm_commands::{

@@ -2,9 +2,11 @@
 
 use crate::command_line::{Accepts, Serving};
 use crate::ending::end_with_input;
+use crate::growing_journal::{GrowingJournal, Growth, grow};
 use crate::sockets::{Listeners, Sockets, bind_all};
+use crate::tracing::{Trace, write_trace};
 use drm_commands::Fault;
-use drm_connections::{MOST_AT_ONCE, OpenConnections, PROGRAM};
+use drm_connections::{MOST_AT_ONCE, OpenConnections, PROGRAM, Watch};
 use drm_device::Device;
 use drm_listeners::{ServeFault, Unserved, serve_keeping, serve_until_ended};
 use log::{Log, error, info};
@@ -176,20 +178,178 @@ fn make_ends<R: Net + Log>(rt: &R) -> Result<Ends, ServeFault> {
     Ok(Ends { ended, served })
 }
 
-/// Serves the connections, and asks them to end once standard input has ended.
-fn serve_until_input_ends<R: Input + Net + Log + Wait + Threads + Sync>(
+/// Serves the connections. If there are ends, it waits here for the end of standard input, too.
+fn serve_open<R: Input + Log + Wait + Threads + Sync>(
     rt: &R,
     alloc: Global,
     task: Task,
+    open: &OpenConnections,
+    ends: Option<(UnixStream, UnixStream)>,
 ) -> Result<Device, Unserved> {
-    let Ends { ended, served } = match make_ends(rt) {
-        Ok(ends) => ends,
-        Err(fault) => return Err(unbegun(fault, task)),
-    };
-    match open_of(alloc, task.accepts, Some(ended)) {
-        Ok(open) => serve_beside_input(rt, alloc, task, &open, served),
-        Err(_) => Err(unbegun(ServeFault::NoMemory, task)),
+    match ends {
+        Some(ends) => serve_beside_input(rt, alloc, task, open, ends),
+        None => serve_all_of(rt, alloc, task, open),
     }
+}
+
+/// What is written while a device is served, and the watch from which it is taken.
+#[derive(Drop)]
+pub(crate) struct Writers {
+    pub(crate) watch: Watch,
+    pub(crate) journal: Option<GrowingJournal>,
+    pub(crate) trace: Option<Trace>,
+}
+
+/// What was written while a device was served.
+#[derive(Clone, Copy)]
+pub(crate) struct WrittenLines {
+    /// The lines of the journal, if its thread was started.
+    pub(crate) journal: Option<Growth>,
+    /// The number of calls without a line in the trace, if its thread was started.
+    pub(crate) left_out: Option<u64>,
+}
+
+/// The threads that write.
+#[derive(Drop)]
+struct WriterThreads {
+    journal: Option<JoinHandle<Growth>>,
+    trace: Option<JoinHandle<u64>>,
+    /// Whether no other is needed.
+    are_all: bool,
+}
+
+/// Starts the thread that writes the journal.
+fn start_journal<'s, E: 's, R: Wait + Threads + Sync>(
+    scope: &Scope<'s, E>,
+    rt: &'s R,
+    watch: &'s Watch,
+    journal: GrowingJournal,
+) -> Option<JoinHandle<Growth>> {
+    let thread = scope.spawn(move || grow(rt, watch, journal));
+    match thread {
+        Ok(thread) => Some(thread),
+        Err(_) => None,
+    }
+}
+
+/// Starts the thread that writes the trace.
+fn start_trace<'s, E: 's, R: Wait + Threads + Sync>(
+    scope: &Scope<'s, E>,
+    rt: &'s R,
+    watch: &'s Watch,
+    trace: Trace,
+) -> Option<JoinHandle<u64>> {
+    let thread = scope.spawn(move || write_trace(rt, watch, trace));
+    match thread {
+        Ok(thread) => Some(thread),
+        Err(_) => None,
+    }
+}
+
+/// Starts a thread for each of the journal and the trace that there is.
+fn start_writers<'s, E: 's, R: Wait + Threads + Sync>(
+    scope: &Scope<'s, E>,
+    rt: &'s R,
+    watch: &'s Watch,
+    journal: Option<GrowingJournal>,
+    trace: Option<Trace>,
+) -> WriterThreads {
+    let (needs_journal, needs_trace) = (journal.is_some(), trace.is_some());
+    let journal = match journal {
+        Some(journal) => start_journal(scope, rt, watch, journal),
+        None => None,
+    };
+    let trace = match trace {
+        Some(trace) => start_trace(scope, rt, watch, trace),
+        None => None,
+    };
+    let are_all = journal.is_some() == needs_journal && trace.is_some() == needs_trace;
+    WriterThreads {
+        journal,
+        trace,
+        are_all,
+    }
+}
+
+/// Waits for a thread, if it was started, and returns its result.
+fn joined<T: Drop, R: Threads>(rt: &R, thread: Option<JoinHandle<T>>) -> Option<T> {
+    match thread {
+        Some(thread) => Some(thread.join(rt)),
+        None => None,
+    }
+}
+
+/// Waits for the threads that write, to which no more calls are reported.
+fn join_writers<R: Threads>(rt: &R, threads: WriterThreads) -> WrittenLines {
+    let WriterThreads { journal, trace, .. } = threads;
+    let journal = joined(rt, journal);
+    let left_out = joined(rt, trace);
+    WrittenLines { journal, left_out }
+}
+
+/// A device after any end of its server, and what was written meanwhile.
+#[derive(Drop)]
+struct Served {
+    device: Result<Device, Unserved>,
+    written: WrittenLines,
+}
+
+/// Returns a device for which no thread wrote anything.
+fn unwritten(device: Result<Device, Unserved>) -> Served {
+    let written = WrittenLines {
+        journal: None,
+        left_out: None,
+    };
+    Served { device, written }
+}
+
+/// Serves the connections, next to the threads of the scope that write. If one of these can't be started, nothing is
+/// served.
+fn serve_next_to_writers<'s, E: 's, R: Input + Log + Wait + Threads + Sync>(
+    scope: &Scope<'s, E>,
+    rt: &'s R,
+    alloc: Global,
+    task: Task,
+    open: &'s OpenConnections,
+    ends: Option<(UnixStream, UnixStream)>,
+    journal: Option<GrowingJournal>,
+    trace: Option<Trace>,
+) -> Served {
+    let Some(watch) = open.watch() else {
+        return unwritten(serve_open(rt, alloc, task, open, ends));
+    };
+    let threads = start_writers(scope, rt, watch, journal, trace);
+    let device = if threads.are_all {
+        serve_open(rt, alloc, task, open, ends)
+    } else {
+        Err(unbegun(ServeFault::NoThread, task))
+    };
+    watch.end(rt);
+    Served {
+        device,
+        written: join_writers(rt, threads),
+    }
+}
+
+/// Serves the connections, which report their calls for what is written meanwhile.
+fn serve_watched<R: Input + Log + Wait + Threads + Sync>(
+    rt: &R,
+    alloc: Global,
+    task: Task,
+    open: OpenConnections,
+    ends: Option<(UnixStream, UnixStream)>,
+    writers: Writers,
+) -> Served {
+    let Writers {
+        watch,
+        journal,
+        trace,
+    } = writers;
+    let watched = open.watched_by(watch);
+    let open = &watched;
+    thread::scope(thread::scope_env(), rt, move |scope| {
+        serve_next_to_writers(scope, rt, alloc, task, open, ends, journal, trace)
+    })
 }
 
 /// Serves the connections, as the command line says.
@@ -198,21 +358,31 @@ fn serve_listeners<R: Input + Net + Log + Wait + Threads + Sync>(
     alloc: Global,
     task: Task,
     ends_with_input: bool,
-) -> Result<Device, Unserved> {
-    if ends_with_input {
-        return serve_until_input_ends(rt, alloc, task);
-    }
-    match open_of(alloc, task.accepts, None) {
-        Ok(open) => serve_all_of(rt, alloc, task, &open),
-        Err(_) => Err(unbegun(ServeFault::NoMemory, task)),
+    writers: Option<Writers>,
+) -> Served {
+    let (ended, ends) = if ends_with_input {
+        match make_ends(rt) {
+            Ok(Ends { ended, served }) => (Some(ended), Some(served)),
+            Err(fault) => return unwritten(Err(unbegun(fault, task))),
+        }
+    } else {
+        (None, None)
+    };
+    let Ok(open) = open_of(alloc, task.accepts, ended) else {
+        return unwritten(Err(unbegun(ServeFault::NoMemory, task)));
+    };
+    match writers {
+        Some(writers) => serve_watched(rt, alloc, task, open, ends, writers),
+        None => unwritten(serve_open(rt, alloc, task, &open, ends)),
     }
 }
 
-/// A device that was served, and the fault if not all connections were.
+/// A device that was served, the fault if not all connections were, and what was written meanwhile.
 #[derive(Drop)]
 pub(crate) struct Ended {
     pub(crate) device: Device,
     pub(crate) fault: Option<ServeFault>,
+    pub(crate) written: WrittenLines,
 }
 
 /// Serves a device on three sockets, whose files are removed at the end.
@@ -221,6 +391,7 @@ pub(crate) fn serve_device<R: Input + Files + Net + Log + Wait + Threads + Sync>
     alloc: Global,
     device: Device,
     serving: Serving<'_>,
+    writers: Option<Writers>,
 ) -> Result<Ended, Fault> {
     let Sockets { card, render, root } = bind_all(rt, serving.paths)?;
     let _files = (card.file, render.file, root.file);
@@ -237,14 +408,23 @@ pub(crate) fn serve_device<R: Input + Files + Net + Log + Wait + Threads + Sync>
         listeners,
         accepts: serving.accepts,
     };
-    match serve_listeners(rt, alloc, task, serving.ends_with_input) {
+    let Served { device, written } = serve_listeners(
+        rt,
+        alloc,
+        task,
+        serving.ends_with_input,
+        writers,
+    );
+    match device {
         Ok(device) => Ok(Ended {
             device,
             fault: None,
+            written,
         }),
         Err(unserved) => Ok(Ended {
             device: unserved.device,
             fault: Some(unserved.fault),
+            written,
         }),
     }
 }

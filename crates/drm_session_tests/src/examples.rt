@@ -1,4 +1,5 @@
 //! The examples of doc comments, made by `tools/doc_examples`.
 
 mod sessions;
+mod traces;
 mod turns;

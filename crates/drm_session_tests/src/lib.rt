@@ -18,4 +18,8 @@ mod mode_frames;
 #[cfg(test)]
 mod sessions;
 #[cfg(test)]
+mod traces;
+#[cfg(test)]
 mod turns;
+#[cfg(test)]
+mod witnesses;

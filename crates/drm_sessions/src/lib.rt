@@ -17,6 +17,7 @@ mod reading;
 mod requests;
 mod serving;
 mod through;
+mod witness;
 mod writing;
 
 pub use access::{Access, Gate, NoGate};
@@ -27,4 +28,5 @@ pub use jobs::{Finished, Job};
 pub use laws::{bytes_written_follow_from_bytes_read, results_follow_from_the_frames};
 pub use many::{ManyFault, serve_many};
 pub use serving::serve;
-pub use through::{Served, Through, serve_through};
+pub use through::{Served, Through, serve_through, serve_witnessed};
+pub use witness::{NoWitness, Witness};

@@ -9,13 +9,15 @@ use crate::access::{Access, Gate};
 use crate::class::Class;
 use crate::end::Session;
 use crate::serving::serve;
+use crate::witness::{NoWitness, Witness};
 use drm_streams::{Sink, Source};
 use drm_table::{Answer, Apart, Event};
 use drm_turns::{Seat, SharedDevice};
 use std::marker::Model;
 use std::sync::Wait;
 
-/// A shared device as a session reaches it: each call is a call through the participant. Contracts see the participant.
+/// A shared device as a session reaches it: each call is a call through the participant. A witness receives each call after
+/// its turn. Contracts see the participant.
 ///
 /// # Examples
 ///
@@ -31,13 +33,14 @@ use std::sync::Wait;
 /// let mut through = Through::new(&rt, &shared, participant);
 /// ```
 #[derive(Drop)]
-pub struct Through<'a, R: Wait> {
+pub struct Through<'a, R: Wait, W = NoWitness> {
     rt: &'a R,
     shared: &'a SharedDevice,
     participant: Seat,
+    witness: W,
 }
 
-impl<'a, R: Wait> Model for Through<'a, R> {
+impl<'a, R: Wait, W> Model for Through<'a, R, W> {
     ghost use Rattle.drm_turns.specs.Participants.{ParticipantView};
 
     ghost Value = { ParticipantView };
@@ -72,10 +75,43 @@ impl<'a, R: Wait> Through<'a, R> {
         requires own { participant.table ≡ shared.now }
         ensures participant { result ≡ participant }
     {
+        Through::witnessed(rt, shared, participant, NoWitness)
+    }
+}
+
+impl<'a, R: Wait, W: Witness + Drop> Through<'a, R, W> {
+    /// Returns the shared device, through this participant of it. The witness receives each call.
+    ///
+    /// # Examples
+    ///
+    /// ```rust
+    /// use drm_device::{Device, Limits, Topology};
+    /// use drm_sessions::{Access, NoWitness, Through};
+    /// use drm_table::{Answer, Event, Opening};
+    /// use drm_turns::SharedDevice;
+    ///
+    /// let alloc = rt.alloc();
+    /// let Some(topology) = Topology::new(2, &[1, 2], &[3, 2], &[5, 6]) else { return };
+    /// let Ok(device) = Device::new(alloc, topology, Limits::PROGRAM) else { return };
+    /// let Ok((shared, participant)) = SharedDevice::new(alloc, device) else { return };
+    /// let mut through = Through::witnessed(&rt, &shared, participant, NoWitness);
+    /// let opened = through.call(Event::Open(Opening::Render));
+    /// assert!(rt; opened == Ok(Answer::Opened { client: 1 }));
+    /// ```
+    pub fn witnessed(
+        rt: &'a R,
+        shared: &'a SharedDevice,
+        participant: Seat,
+        witness: W,
+    ) -> Through<'a, R, W>
+        requires own { participant.table ≡ shared.now }
+        ensures participant { result ≡ participant }
+    {
         Through {
             rt,
             shared,
             participant,
+            witness,
         }
     }
 
@@ -107,16 +143,23 @@ impl<'a, R: Wait> Through<'a, R> {
     }
 }
 
-impl<R: Wait> Access for Through<'_, R> {
+impl<R: Wait, W: Witness + Drop> Access for Through<'_, R, W> {
     ghost answers = { TakesTurn };
 
     fn call(&mut self, event: Event) -> Result<Answer, Apart> {
-        self.shared.call(self.rt, &mut self.participant, event)
+        let mut outcome = Err(Apart::Worn);
+        self.call_at(event, &mut outcome);
+        outcome
     }
 
     fn call_at(&mut self, event: Event, outcome: &mut Result<Answer, Apart>) {
-        self.shared
-            .call_at(self.rt, &mut self.participant, event, outcome);
+        let copy = self.witness.copy_of(&event);
+        let place = self
+            .shared
+            .call_placed(self.rt, &mut self.participant, event, outcome);
+        if let Some(event) = copy {
+            self.witness.tell(event, place, outcome);
+        }
     }
 }
 
@@ -199,7 +242,63 @@ pub fn serve_through<R: Wait, G: Gate, S: Source, K: Sink>(
     ensures costs { Costs (S.trace source.old) (S.trace source.new)
         (K.trace sink.old) (K.trace sink.new) turns result.session.end }
 {
-    let mut through = Through::new(rt, shared, participant);
+    serve_witnessed(
+        rt,
+        shared,
+        participant,
+        NoWitness,
+        gate,
+        class,
+        source,
+        sink,
+        turns,
+    )
+}
+
+/// Serves one session as [`serve_through`] does. The witness receives each call of the session after its turn, in the
+/// order of the calls.
+///
+/// # Examples
+///
+/// ```rust
+/// use drm_device::{Device, Limits, Topology};
+/// use drm_frames::{FromRead, ToWrite};
+/// use drm_sessions::{Class, NoGate, NoWitness, SessionEnd, serve_witnessed};
+/// use drm_turns::SharedDevice;
+///
+/// let alloc = rt.alloc();
+/// let hello = [14, 0, 0, 0, 0, 1, 1, 0, 0, 0, 0, 0, 0, 0, 0, 0, 0, 0];
+/// let mut sink = ToWrite::new(Vec::new(alloc));
+/// let card = Class::Card;
+/// let Some(topology) = Topology::new(2, &[1, 2], &[3, 2], &[5, 6]) else { return };
+/// let Ok(fresh) = Device::new(alloc, topology, Limits::PROGRAM) else { return };
+/// let Ok((shared, mut participant)) = SharedDevice::new(alloc, fresh) else { return };
+/// let mut source = FromRead::new(hello.as_slice());
+/// let mut gate = NoGate;
+/// let served = serve_witnessed(&rt, &shared, participant, NoWitness, &mut gate, card, &mut source, &mut sink, 1000);
+/// assert!(rt; served.session.end == SessionEnd::Ended);
+/// ```
+pub fn serve_witnessed<R: Wait, W: Witness + Drop, G: Gate, S: Source, K: Sink>(
+    rt: &R,
+    shared: &SharedDevice,
+    participant: Seat,
+    witness: W,
+    gate: &mut G,
+    class: Class,
+    source: &mut S,
+    sink: &mut K,
+    turns: u64,
+) -> Served
+    requires own { participant.table ≡ shared.now }
+    requires source { (S.trace source.old).counts.calls + turns < 2 ^ 48 }
+    requires sink { (K.trace sink.old).counts.calls + turns < 2 ^ 48 }
+    ensures serves { (serves : ServesShared class participant result.participant
+        (S.trace source.old) (S.trace source.new) (K.trace sink.old) (K.trace sink.new)
+        result.session) × LetsAllPass G.passes gate.old (calls_made serves.serves) gate.new }
+    ensures costs { Costs (S.trace source.old) (S.trace source.new)
+        (K.trace sink.old) (K.trace sink.new) turns result.session.end }
+{
+    let mut through = Through::witnessed(rt, shared, participant, witness);
     let session = serve(&mut through, gate, class, source, sink, turns);
     Served {
         session,

@@ -23,6 +23,7 @@ use Rattle.drm_lists.proofs.Each.{none_passes}
 
 -- ---- the same for a search, a test and a property: of optional rows it concerns those that exist
 
+-- The first of the mapped items that passes a test is that of the first item whose image passes it.
 pub find-filter_map : {X Y : Type 0} (p : Y → Bool) (h : X → Option Y) → (xs : List X)
     → find p (filter_map h xs) ≡ option_and_then h (find (λ x. option_map_or p (h x) false) xs)
 find-filter_map p h [] = refl
@@ -36,6 +37,7 @@ find-filter_map {Y = Y} p h (x ∷ xs) = by_row (h x) refl (find-filter_map p h 
     by_row (Some y) e again =
         (elim (p y) as (λ b. cond b (Some y) (find p (filter_map h xs)) ≡ option_and_then h (cond b (Some x) (find (λ x. option_map_or p (h x) false) xs))) [ true ↦ sym e | false ↦ again ])
 
+-- Some mapped item passes a test exactly if the image of some item does.
 pub any-filter_map : {X Y : Type 0} (p : Y → Bool) (h : X → Option Y) → (xs : List X)
     → list_any p (filter_map h xs) ≡ list_any (λ x. option_map_or p (h x) false) xs
 any-filter_map p h [] = refl
@@ -46,6 +48,7 @@ any-filter_map {Y = Y} p h (x ∷ xs) = by_row (h x) ∙ ap (λ b. option_map_or
     by_row None = refl
     by_row (Some y) = refl
 
+-- If each image of an item has a property, each mapped item has it.
 pub all-filter_map : {X Y : Type 0} (P : Y → Type 0) (h : X → Option Y) → (xs : List X)
     → AllByRecursion (λ x. (y : Y) → h x ≡ Some y → P y) xs → AllByRecursion P (filter_map h xs)
 all-filter_map P h [] k = tt

@@ -31,11 +31,16 @@ impl Caller {
         ensures none { IfNone result (is_open_client state.now.files client ≡ false) }
     {
         let flags = state.files.flags_of(client)?;
+        let member = state.masters.member(client);
+        let current = match member {
+            Some(member) => state.masters.is_current_member(member),
+            None => false,
+        };
         Some(Caller {
             client,
             flags,
-            member: state.masters.member(client),
-            current: state.masters.is_current(client),
+            member,
+            current,
         })
     }
 

@@ -6,8 +6,8 @@ ghost use Rattle.drm_sessions.specs.Jobs.{HasTurns};
 use drm_device::Device;
 use drm_frames::{Sink, Source};
 use drm_sessions::{
-    Access, Alone, Class, Finished, Gate, Job, ManyFault, NoGate, Session, SessionEnd, Through,
-    serve, serve_many,
+    Access, Alone, Class, Finished, Gate, Job, ManyFault, NoGate, NoWitness, Session, SessionEnd,
+    Through, Witness, serve, serve_many,
 };
 use drm_table::{Answer, Apart, Event, Rule};
 use drm_turns::{Seat, SharedDevice};
@@ -57,6 +57,32 @@ pub fn through<'a, R: Wait>(rt: &'a R, shared: &'a SharedDevice, seat: Seat) -> 
     let mut through = Through::new(rt, shared, seat);
     access(&mut through);
     through
+}
+
+/// The same with a witness.
+pub fn witnessed<'a, R: Wait, W: Witness + Drop>(
+    rt: &'a R,
+    shared: &'a SharedDevice,
+    seat: Seat,
+    witness: W,
+) -> Through<'a, R, W>
+    requires own { seat.table ≡ shared.now }
+{
+    let mut through = Through::witnessed(rt, shared, seat, witness);
+    access(&mut through);
+    through
+}
+
+/// The calls of a witness.
+pub fn witness<W: Witness>(
+    witness: &W,
+    event: Event,
+    outcome: &Result<Answer, Apart>,
+) -> Option<Event> {
+    let copy = witness.copy_of(&event);
+    witness.tell(event, Some(0), outcome);
+    NoWitness.tell(Event::Close(1), None, outcome);
+    copy
 }
 
 /// Sessions in threads.

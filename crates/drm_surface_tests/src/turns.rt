@@ -25,6 +25,19 @@ pub fn faults() -> (NoMemory, TurnOut) {
     (NoMemory, TurnOut)
 }
 
+/// The call that returns the place of its entry.
+pub fn placed<R: Wait>(
+    rt: &R,
+    shared: &SharedDevice,
+    seat: &mut Seat,
+    event: Event,
+    outcome: &mut Result<Answer, Apart>,
+) -> Option<u64>
+    requires own { seat.old.table ≡ shared.now }
+{
+    shared.call_placed(rt, seat, event, outcome)
+}
+
 /// The call that waits.
 pub fn waiting<R: Wait>(
     rt: &R,

@@ -1,5 +1,5 @@
 -- The device while a participant has it.
-use Rattle.std.proofs.Common.{◌≡◌, ℕ, suc, ◌+◌, ◌-◌, ◌<◌, ◌^◌, List, [], ◌∷◌, ◌++◌, length, get_or, sym, refl, ap, ◌∙◌, subst, Some, Result, Ok, Err, true, false, append-nil, append_assoc, arith}
+use Rattle.std.proofs.Common.{◌≡◌, ℕ, suc, ◌+◌, ◌-◌, ◌<◌, ◌^◌, List, [], ◌∷◌, ◌++◌, length, get_or, sym, refl, ap, ◌∙◌, subst, Some, None, Option, Result, Ok, Err, true, false, append-nil, append_assoc, arith}
 use Rattle.std.specs.Prelude.{IfErr, IfOk, OnErr, OnOk}
 use Rattle.atomic_table.specs.Table.{rest}
 use Rattle.drm_table.specs.declared.answers.Answer.{Answer}
@@ -18,6 +18,7 @@ use Rattle.drm_turns.specs.Rule.{Slot, Sat}
 use Rattle.drm_turns.specs.Views.{Grows, IsOwn, counted, serving, waiting}
 use Rattle.drm_turns.specs.Participants.{Commits, Aborts, ParticipantView, entries_of, tickets_of}
 use Rattle.drm_turns.specs.Turns.{Answered, Turn}
+use Rattle.drm_turns.specs.Places.{IsNext, IsPlaced}
 use Rattle.drm_turns.proofs.GrowingHistories.{calls_own, events-snoc, legal-more}
 
 -- A history has as many events as entries.
@@ -151,6 +152,19 @@ commits (Ok answer) event s t u w between h seen mine number saw ours few = (
   mine ∙ (ap (λ (x : View). x.mine) h ∙ (λ i. ours i ++ entry (number i) event answer ∷ [])),
   few,
 )
+
+-- A call's entry is the last that its participant has seen, after those that it had seen when it was served.
+pub placed_after : (result : Result Answer Apart) (place : Option ℕ) (event : Event) (s t : ParticipantView) (u w : View)
+    → IsNext u.seen result place → IfOk result (λ answer. w ≡ counted u (entry u.number event answer))
+    → t.seen ≡ w.seen → u.number ≡ s.number → IsPlaced s event result place t
+placed_after (Ok answer) (Some place) event s t u w next ok seen number = (
+  u.seen,
+  seen ∙ (ap (λ (x : View). x.seen) ok ∙ (λ i. u.seen ++ entry (number i) event answer ∷ [])),
+  sym next,
+)
+placed_after (Ok answer) None event s t u w next ok seen number = next
+placed_after (Err apart) (Some place) event s t u w next ok seen number = next
+placed_after (Err apart) None event s t u w next ok seen number = tt
 
 -- ---- what a call counts
 

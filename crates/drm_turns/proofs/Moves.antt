@@ -281,7 +281,7 @@ counts_moves slots id me e serves by some_number few room answer s r wide at sma
           (lent_set s.views id v w r.lent at (λ k. absurd (cc)) (λ _. (refl, omega arith)))
           (total_kept (λ u. u.drawn) s.views id v w at refl ∙ r.drawn)
           (let more = total_set (λ u. u.journaled) s.views id v w at in let journaled = r.journaled in omega (arith, more, journaled, len)),
-      refl,
+      (refl, is ∙ sym seen_len),
     )
 
 -- what others know, where the ticket that was served is passed

@@ -5,3 +5,4 @@ pub mod Plays
 pub mod Participants
 pub mod Turns
 pub mod ParticipantFields
+pub mod Places

@@ -1,5 +1,5 @@
 -- What each step says: of the step, the participant before, the number found and the participant after (own).
-use Rattle.std.specs.Prelude.{◌≡◌, ◌≢◌, ℕ, List, [], ◌∷◌, Some}
+use Rattle.std.specs.Prelude.{◌≡◌, ◌≢◌, ℕ, List, [], ◌∷◌, Some, length}
 use Rattle.atomic_table.specs.Table.{Step, rest}
 use Rattle.drm_turns.specs.declared.history.Entry.{Entry}
 use Rattle.drm_turns.specs.declared.history.View.{View}
@@ -35,9 +35,9 @@ IsServed m n =
 abbrev pub looks : Play
 looks st m r n = (r ≡ m.0.ticket → IsServed m n) × (r ≢ m.0.ticket → n ≡ m)
 
--- counts an entry
+-- counts an entry, whose place is the number found
 abbrev pub counts : Entry → Play
-counts e st m r n = n ≡ (counted m.0 e, m.1)
+counts e st m r n = (n ≡ (counted m.0 e, m.1)) × (r ≡ length m.0.seen)
 
 -- passes the turn on
 abbrev pub passes : Play

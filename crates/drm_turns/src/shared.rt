@@ -9,6 +9,7 @@ ghost use Rattle.drm_turns.specs.declared.history.Stage.TheVariants.{Idle, Servi
 ghost use Rattle.drm_turns.specs.History.{AllDiffer, StartsWith, calls_by, device_at, entry, journaled_before, rows_after};
 ghost use Rattle.drm_turns.specs.Views.{Grows, IsOwn, counted, found_at, outstanding_after, passed, waiting};
 ghost use Rattle.drm_turns.specs.Plays.{IsInformed, IsServed};
+ghost use Rattle.drm_turns.specs.Places.{IsNext, IsPlaced};
 ghost use Rattle.drm_turns.specs.Participants.{Commits, Closes, Aborts, Extends, IsTurnOut, Unchanged, entries_of, tickets_of, with_outstanding};
 ghost use Rattle.drm_table.specs.declared.apart.Apart.TheVariants.{Worn};
 ghost use Rattle.drm_turns.specs.Turns.{Answered, Turn};
@@ -256,13 +257,13 @@ impl SharedDevice {
         unreachable!()
     }
 
-    /// Adds the entry to the history. The device answered it so in this turn.
+    /// Adds the entry to the history, and returns its place there. The device answered it so in this turn.
     fn count<E: Noted>(
         &self,
         place: &mut Place<Slot, View>,
         event: &Snapshot<Event>,
         answer: &Answer,
-    )
+    ) -> u64
         requires own { place.old.table_id ≡ self.now }
         requires serving { (place.old.me.0.stage ≡ Serving) × (place.old.me.0.number ≢ 0) × (length place.old.me.0.seen < 2 ^ 32) }
         requires entry { E.entry ≡ entry place.old.me.0.number event.now.value answer.now }
@@ -270,20 +271,21 @@ impl SharedDevice {
             × (answer.now ≡ reply (rows_after place.old.me.0.origin place.old.me.0.seen) event.now.value) }
         ensures own { (place.new.table_id ≡ place.old.table_id) × (place.new.id ≡ place.old.id) }
         ensures counted { place.new.me ≡ (counted place.old.me.0 (entry place.old.me.0.number event.now.value answer.now), place.old.me.1) }
+        ensures next { result ≡ length place.old.me.0.seen }
     {
         let _ = event;
         let _ = answer;
-        self.table.shared.fetch_add::<Count<E>>(place, COUNT, 1);
+        self.table.shared.fetch_add::<Count<E>>(place, COUNT, 1)
     }
 
     /// Takes the device out of the slot, steps it, counts the step if it is journaled, and puts the device back. What
-    /// resulted from the step is written to its place, so that it moves less.
+    /// resulted from the step is written to its place, so that it moves less. It returns the place of the step's entry.
     fn step_in_turn(
         &self,
         place: &mut Place<Slot, View>,
         event: Event,
         outcome: &mut Result<Answer, Apart>,
-    )
+    ) -> Option<u64>
         requires own { place.old.table_id ≡ self.now }
         requires serving { (place.old.me.0.stage ≡ Serving) × (place.old.me.0.number ≢ 0) }
         requires device { place.old.me.1 ≡ (0, Some (device_at place.old.me.0.origin place.old.me.0.seen)) ∷ [] }
@@ -296,16 +298,18 @@ impl SharedDevice {
         ensures device { place.new.me.1 ≡ (0, Some (device_at place.new.me.0.origin place.new.me.0.seen)) ∷ [] }
         ensures turn { Turn (device_at place.new.me.0.origin place.new.me.0.seen) event outcome.new }
         ensures few { FitsOneFrame outcome.new }
+        ensures next { IsNext place.old.me.0.seen outcome.new result }
     {
         let shared = &self.table.shared;
         let mut device = shared.exchange(place, 0, None).unwrap().into_box();
         let journaled = Snapshot::of(&event);
         device.step_at(event, outcome);
-        match &*outcome {
-            Ok(answer) => self.count::<Brand>(place, &journaled, answer),
-            Err(_) => {}
-        }
+        let counted = match &*outcome {
+            Ok(answer) => Some(self.count::<Brand>(place, &journaled, answer)),
+            Err(_) => None,
+        };
         drop(shared.exchange(place, 0, Some(BoxedDevice { device })));
+        counted
     }
 
     /// Leaves the device at home and lets the next ticket be served. Of the calls that sleep one is woken, or all where a ticket
@@ -470,15 +474,62 @@ impl SharedDevice {
             × (participant.new.journaled ≡ participant.old.journaled + entries_of outcome.new) }
         ensures worn { outcome.new ≡ Err Worn → participant.old.number ≡ 1 → participant.old.outstanding ≡ 0 → participant.old.drawn ≡ 2 ^ 64 - 1 }
     {
+        let _ = self.call_placed(rt, participant, event, outcome);
+    }
+
+    /// Answers one event as [`call_at`](SharedDevice::call_at) does, and returns the place of its entry in the history,
+    /// counted from 0. So it is the entry's place in the device's journal, which begins with what the device had recorded
+    /// before it was shared. A fault has no entry.
+    ///
+    /// # Examples
+    ///
+    /// ```rust
+    /// use drm_device::{Device, Limits, Topology};
+    /// use drm_table::{Answer, Apart, Call, Event, Opening};
+    /// use drm_turns::SharedDevice;
+    ///
+    /// let alloc = rt.alloc();
+    /// let Some(topology) = Topology::new(2, &[1, 2], &[3, 2], &[5, 6]) else { return };
+    /// let Ok(device) = Device::new(alloc, topology, Limits::PROGRAM) else { return };
+    /// let Ok((shared, mut participant)) = SharedDevice::new(alloc, device) else { return };
+    /// let opening = Event::Open(Opening::Render);
+    /// assert!(rt; shared.call(&rt, &mut participant, opening) == Ok(Answer::Opened { client: 1 }));
+    /// let mut outcome = Err(Apart::Worn);
+    /// shared.call_at(&rt, &mut participant, Event::Ask(1, Call::Version), &mut outcome);
+    /// let closing = Event::Close(1);
+    /// let place = shared.call_placed(&rt, &mut participant, closing, &mut outcome);
+    /// assert!(rt; place == Some(2) && outcome == Ok(Answer::Closed));
+    /// ```
+    pub fn call_placed<R: Wait>(
+        &self,
+        rt: &R,
+        participant: &mut Seat,
+        event: Event,
+        outcome: &mut Result<Answer, Apart>,
+    ) -> Option<u64>
+        requires own { participant.old.table ≡ self.now }
+        ensures extends { Extends participant.old participant.new }
+        ensures merged { participant.new.merged ≡ participant.old.merged }
+        ensures unchanged { Unchanged participant.old participant.new }
+        ensures ok { IfOk outcome.new (λ answer. Commits participant.old event answer participant.new) }
+        ensures err { IfErr outcome.new (λ apart. Aborts participant.old event apart participant.new) }
+        ensures turn { Answered (device_at participant.new.origin participant.new.seen) event outcome.new }
+        ensures few { FitsOneFrame outcome.new }
+        ensures counts { (participant.new.drawn ≡ participant.old.drawn + tickets_of outcome.new)
+            × (participant.new.journaled ≡ participant.old.journaled + entries_of outcome.new) }
+        ensures worn { outcome.new ≡ Err Worn → participant.old.number ≡ 1 → participant.old.outstanding ≡ 0 → participant.old.drawn ≡ 2 ^ 64 - 1 }
+        ensures place { IsPlaced participant.old event outcome.new result participant.new }
+    {
         let place = &mut participant.place;
         self.schedule_before_turn(rt);
         let Some(ticket) = self.draw(rt, place) else {
             Apart::Worn.replace(outcome);
-            return;
+            return None;
         };
         self.wait_turn(rt, place, ticket);
-        self.step_in_turn(place, event, outcome);
+        let counted = self.step_in_turn(place, event, outcome);
         self.pass(place);
+        counted
     }
 
     /// Returns a further participant with a new number, which has seen as much. The participant that it is split off

@@ -95,6 +95,10 @@ fn masters(rt: HostRuntime) {
     assert!(rt; masters.nth_lessee(1, 0).is_none());
     assert!(rt; masters.device_master() == Some(1));
     assert!(rt; masters.is_current(1) && !masters.is_current(2));
+    let Some(member) = masters.member(1) else {
+        panic!(rt; "refused")
+    };
+    assert!(rt; masters.is_current_member(member));
     assert!(rt; is_first);
     let mut masters = Masters::new(alloc, 4, 4);
     let Ok(_first) = masters.on_open(1, 1) else {
@@ -113,13 +117,10 @@ fn masters(rt: HostRuntime) {
     if masters.member(1).is_some() {
         assert!(rt; masters.set(1, false, 9) == Ok(SetDone::Already));
     }
-    if masters.member(1).is_some() {
-        assert!(rt; masters.drop_master(1, false) == Ok(()));
-    }
 }
 
 #[test]
-fn masters_from_magic(rt: HostRuntime) {
+fn masters_from_drop_master(rt: HostRuntime) {
     let alloc = rt.alloc();
     let mut masters = Masters::new(alloc, 4, 4);
     let Ok(_first) = masters.on_open(1, 1) else {

@@ -3,8 +3,9 @@
 use drm_checks::Totals;
 use drm_commands::{
     AskedDevice, Checking, Explaining, Fault, FaultLine, FilesRead, Outcome, Running, Shrinking,
-    asked_device, asked_limits, check, create_asked, explain_script, outcome_by, outcome_of,
-    outcome_of_checks, outcome_of_fault, read_asked, run, shrink, update, write_noted,
+    asked_device, asked_limits, check, create_asked, create_trace, explain_script, outcome_by,
+    outcome_of, outcome_of_checks, outcome_of_fault, read_asked, run, shrink, update, write_noted,
+    write_rest,
 };
 use drm_device::Limits;
 use drm_runs::ScriptEnd;
@@ -103,17 +104,13 @@ fn values_from_explain_script(rt: HostRuntime) {
     assert!(rt; explain_script(&rt, alloc, explaining).status == 0);
     let read = FilesRead {
         topology: None,
-        script: None,
-    };
-    let Ok(journal) = create_asked(&rt, Some("/dev/null"), read) else {
-        panic!(rt; "refused")
-    };
-    assert!(rt; journal.is_some());
-    let read = FilesRead {
-        topology: None,
         script: Some("a.script"),
     };
     assert!(rt; read.topology.is_none());
+    let Ok(trace) = create_trace(&rt, "/dev/null", None, None) else {
+        panic!(rt; "refused")
+    };
+    assert!(rt; trace.path() == "/dev/null");
     let read = FilesRead {
         topology: None,
         script: None,
@@ -123,6 +120,11 @@ fn values_from_explain_script(rt: HostRuntime) {
     };
     assert!(rt; journal.is_none());
     let written = write_noted(&rt, alloc, journal, None, Limits::PROGRAM, &[]);
+    assert!(rt; written.is_ok());
+    let Ok(Some(journal)) = create_asked(&rt, Some("/dev/null"), read) else {
+        panic!(rt; "refused")
+    };
+    let written = write_rest(&rt, alloc, journal, None, Limits::PROGRAM, &[], 4);
     assert!(rt; written.is_ok());
 }
 
@@ -180,4 +182,24 @@ fn fault(rt: HostRuntime) {
     assert!(rt; fault.status() == 2);
     assert!(rt; Fault::CommandLine.status() == 3);
     assert!(rt; Fault::ScriptLine(3).line().as_str() == "fault: script line 3");
+}
+
+#[test]
+fn journal_file_journal(rt: HostRuntime) {
+    let read = FilesRead {
+        topology: None,
+        script: None,
+    };
+    let Ok(journal) = create_asked(&rt, Some("/dev/null"), read) else {
+        panic!(rt; "refused")
+    };
+    assert!(rt; journal.is_some());
+    let Ok(file) = create_trace(&rt, "/dev/null", None, None) else {
+        panic!(rt; "refused")
+    };
+    assert!(rt; file.path() == "/dev/null");
+    let Ok(named) = create_trace(&rt, "/dev/null", None, None) else {
+        panic!(rt; "refused")
+    };
+    let file = named.file();
 }

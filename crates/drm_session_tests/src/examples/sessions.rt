@@ -3,8 +3,9 @@
 use drm_device::{Device, Limits, Topology};
 use drm_frames::{FromRead, ToWrite};
 use drm_sessions::{
-    Access, Alone, Class, Finished, Gate, Job, ManyFault, NoGate, Served, Session, SessionEnd,
-    Through, serve, serve_alone, serve_lent, serve_many, serve_through,
+    Access, Alone, Class, Finished, Gate, Job, ManyFault, NoGate, NoWitness, Served, Session,
+    SessionEnd, Through, Witness, serve, serve_alone, serve_lent, serve_many, serve_through,
+    serve_witnessed,
 };
 use drm_table::{Answer, Event, Opening};
 use drm_turns::SharedDevice;
@@ -287,6 +288,41 @@ fn values_from_serve_through(rt: HostRuntime) {
 }
 
 #[test]
+fn values_from_serve_witnessed(rt: HostRuntime) {
+    let alloc = rt.alloc();
+    let hello = [14, 0, 0, 0, 0, 1, 1, 0, 0, 0, 0, 0, 0, 0, 0, 0, 0, 0];
+    let mut sink = ToWrite::new(Vec::new(alloc));
+    let card = Class::Card;
+    let Some(topology) = Topology::new(2, &[1, 2], &[3, 2], &[5, 6]) else {
+        panic!(rt; "refused")
+    };
+    let Ok(fresh) = Device::new(alloc, topology, Limits::PROGRAM) else {
+        panic!(rt; "refused")
+    };
+    let Ok((shared, mut participant)) = SharedDevice::new(alloc, fresh) else {
+        panic!(rt; "refused")
+    };
+    let mut source = FromRead::new(hello.as_slice());
+    let mut gate = NoGate;
+    let served = serve_witnessed(
+        &rt,
+        &shared,
+        participant,
+        NoWitness,
+        &mut gate,
+        card,
+        &mut source,
+        &mut sink,
+        1000,
+    );
+    assert!(rt; served.session.end == SessionEnd::Ended);
+    let event = Event::Close(1);
+    assert!(rt; NoWitness.copy_of(&event).is_none());
+    NoWitness.tell(event, Some(0), &Ok(Answer::Closed));
+    assert!(rt; NoWitness.copy_of(&Event::Close(1)).is_none());
+}
+
+#[test]
 fn through(rt: HostRuntime) {
     let alloc = rt.alloc();
     let Some(topology) = Topology::new(2, &[1, 2], &[3, 2], &[5, 6]) else {
@@ -301,6 +337,34 @@ fn through(rt: HostRuntime) {
     let mut through = Through::new(&rt, &shared, participant);
     let opened = through.call(Event::Open(Opening::Render));
     assert!(rt; opened == Ok(Answer::Opened { client: 1 }));
+    let Some(topology) = Topology::new(2, &[1, 2], &[3, 2], &[5, 6]) else {
+        panic!(rt; "refused")
+    };
+    let Ok(device) = Device::new(alloc, topology, Limits::PROGRAM) else {
+        panic!(rt; "refused")
+    };
+    let Ok((shared, participant)) = SharedDevice::new(alloc, device) else {
+        panic!(rt; "refused")
+    };
+    let mut through = Through::witnessed(&rt, &shared, participant, NoWitness);
+    let opened = through.call(Event::Open(Opening::Render));
+    assert!(rt; opened == Ok(Answer::Opened { client: 1 }));
+}
+
+#[test]
+fn through_from_into_seat(rt: HostRuntime) {
+    let alloc = rt.alloc();
+    let Some(topology) = Topology::new(2, &[1, 2], &[3, 2], &[5, 6]) else {
+        panic!(rt; "refused")
+    };
+    let Ok(device) = Device::new(alloc, topology, Limits::PROGRAM) else {
+        panic!(rt; "refused")
+    };
+    let Ok((shared, participant)) = SharedDevice::new(alloc, device) else {
+        panic!(rt; "refused")
+    };
+    let mut through = Through::new(&rt, &shared, participant);
+    let opened = through.call(Event::Open(Opening::Render));
     let participant = through.into_seat();
     let Ok(device) = shared.close(participant) else {
         panic!(rt; "refused")

@@ -91,17 +91,13 @@ fn shared_device_shared(rt: HostRuntime) {
                 patch: 0
             })
     );
-    let mut other = shared.split(&mut participant);
     let closing = Event::Close(1);
-    assert!(rt; shared.call(&rt, &mut other, closing) == Ok(Answer::Closed));
-    shared.join(&mut participant, other);
-    let note = shared.note(&mut participant);
-    shared.meet(&mut participant, note);
-    assert!(rt; shared.peek_count() == 3);
+    let place = shared.call_placed(&rt, &mut participant, closing, &mut outcome);
+    assert!(rt; place == Some(2) && outcome == Ok(Answer::Closed));
 }
 
 #[test]
-fn shared_device_shared_from_close(rt: HostRuntime) {
+fn shared_device_shared_from_split(rt: HostRuntime) {
     let alloc = rt.alloc();
     let Some(topology) = Topology::new(2, &[1, 2], &[3, 2], &[5, 6]) else {
         panic!(rt; "refused")
@@ -127,6 +123,7 @@ fn shared_device_shared_from_close(rt: HostRuntime) {
     shared.join(&mut participant, other);
     let note = shared.note(&mut participant);
     shared.meet(&mut participant, note);
+    assert!(rt; shared.peek_count() == 3);
     let Ok(device) = shared.close(participant) else {
         panic!(rt; "refused")
     };

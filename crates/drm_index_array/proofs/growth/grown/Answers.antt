@@ -30,7 +30,7 @@ hang-requires g c =
 pub unreachable-requires : goal.unreachable-requires
 unreachable-requires g c =
     none-some c.args.value
-    (lone_taken c.args.index c.args.value _ _ _ c.in-None.ensures.taken c.deref_mut-in-Err-raised.ensures.value c.in-Ok.ensures.items)
+    (lone_taken c.args.index c.args.value _ _ _ c.in-None.ensures.value c.deref_mut-in-Err-raised.ensures.value c.in-Ok.ensures.items)
 
 pub returns-in-Ok-raised-clause-items : goal.returns-in-Ok-raised-clause-items
 returns-in-Ok-raised-clause-items g c =
@@ -46,4 +46,4 @@ returns-in-Ok-raised-clause-items g c =
 pub returns-in-Some-clause-returned : goal.returns-in-Some-clause-returned
 returns-in-Some-clause-returned g c =
     same_Some _ _
-    (lone_taken c.args.index c.args.value _ _ _ c.in-Some.ensures.taken c.deref_mut-in-Err-raised.ensures.value c.in-Ok.ensures.items)
+    (lone_taken c.args.index c.args.value _ _ _ c.in-Some.ensures.value c.deref_mut-in-Err-raised.ensures.value c.in-Ok.ensures.items)

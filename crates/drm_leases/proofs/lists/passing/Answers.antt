@@ -18,7 +18,7 @@ loop-id-preserved g c =
       callable = l.invariant.callable;
       told = λ p tests.
           looked p l.list (filter p (numbers_from 1 c.args.last)) l.id stop lt c.test.result
-          (tests l.id c.test.result (omega (arith, lt, c.requires.few)) c.test.ensures) c.if-test.list how
+          (tests l.id c.test.result (omega (arith, l.invariant.short)) (omega (arith, lt, c.requires.few)) c.test.ensures) c.if-test.list how
           (l.invariant.told p tests);
       short = omega (arith, longer, l.invariant.short);
     }

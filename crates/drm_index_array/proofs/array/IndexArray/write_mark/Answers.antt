@@ -18,7 +18,7 @@ returns-then-is_none-clause-result g c =
 pub invariant_of-self-2 : goal.invariant_of-self-2
 invariant_of-self-2 g c =
     let at = ap items_of c.in-Some.is in
-    let items = rw c.deref_mut.ensures.value at c.edit.ensures.items in
+    let items = rw c.deref_mut.ensures.value at c.write_mark.ensures.items in
     let view = ap array_of (sym at) ∙ c.self.view_is in
     let was = subst (λ m. IsRooted m c.self.inside.count) at c.self.invariant.rooted in
     let rooted = rooted_written _ _ view c.args.index c.args.mark c.args.on _ items _ was in
@@ -35,7 +35,7 @@ returns-clause-present g c =
     let tree = ap (λ t. t.items) c.deref.ensures ∙ sym (ap items_of c.in-Some.is) in
     let key = key_found _ _ c.self.view_is c.args.index c.find.result _ c.find.ensures.entry tree in
     let at = ap items_of c.in-Some.is in
-    let items = rw c.deref_mut.ensures.value at c.edit.ensures.items in
+    let items = rw c.deref_mut.ensures.value at c.write_mark.ensures.items in
     let view = ap array_of (sym at) ∙ c.self.view_is in
     let there = subst IsSome (sym (item_at _ _ view c.args.index)) (sym key ∙ c.if-is_none.ensures) in
     array_written _ _ view c.args.index c.args.mark c.args.on _ items there

@@ -1,0 +1,257 @@
+//! The calls of all connections, for threads that show or write them in the order of the history.
+//!
+//! Nothing here is in a contract: no clause says what is shown.
+
+use drm_sessions::Class;
+use drm_table::{Answer, Apart, Event};
+use libc::CLOCK_MONOTONIC;
+use libc::types::timespec;
+use std::alloc::{AllocError, Global};
+use std::mem;
+use std::sync::{Condvar, Mutex, Wait};
+use std::time::Duration;
+
+/// The most faults that wait to be shown.
+const MOST_FAULTS: usize = 1_024;
+
+/// The most steps that a reader takes at once.
+const BATCH: usize = 64;
+
+/// Returns the time since the system was started.
+fn now() -> Duration {
+    let mut time = timespec {
+        tv_sec: 0,
+        tv_nsec: 0,
+    };
+    if libc::clock_gettime(CLOCK_MONOTONIC, &mut time) != 0 {
+        return Duration::ZERO;
+    }
+    let seconds = Duration::from_secs(time.tv_sec.unsigned_abs());
+    seconds.saturating_add(Duration::from_nanos(time.tv_nsec.unsigned_abs()))
+}
+
+/// A call of a connection, which is answered.
+#[derive(Drop)]
+pub struct WatchedCall {
+    /// The time from the start of the watch to the answer.
+    pub since: Duration,
+    /// The class of the connection's listener.
+    pub class: Class,
+    /// What was asked.
+    pub event: Event,
+}
+
+impl WatchedCall {
+    /// Returns the same. Does not allocate.
+    fn copy(&self) -> Option<WatchedCall> {
+        let Ok(event) = self.event.clone() else {
+            return None;
+        };
+        Some(WatchedCall {
+            since: self.since,
+            class: self.class,
+            event,
+        })
+    }
+}
+
+/// A call that was answered by a fault. The history has no entry of it.
+#[derive(Drop)]
+pub struct WatchedFault {
+    /// The call.
+    pub call: WatchedCall,
+    /// Its answer.
+    pub fault: Apart,
+}
+
+/// What a reader takes at once.
+#[derive(Drop)]
+pub struct Batch {
+    /// Steps of the history, in its order, without a gap.
+    pub steps: Vec<WatchedCall>,
+    /// Faults since the last batch, in the order of their reports.
+    pub faults: Vec<WatchedFault>,
+    /// The number of faults since the last batch for which there was no room.
+    pub left_out: u64,
+}
+
+impl Batch {
+    /// Creates an empty batch, with room for all that is taken at once.
+    pub fn new(alloc: Global) -> Result<Batch, AllocError> {
+        let steps = Vec::with_capacity(alloc, BATCH)?;
+        let faults = Vec::with_capacity(alloc, MOST_FAULTS)?;
+        Ok(Batch {
+            steps,
+            faults,
+            left_out: 0,
+        })
+    }
+
+    /// Returns whether there is nothing in it.
+    fn is_empty(&self) -> bool {
+        self.steps.is_empty() && self.faults.is_empty() && self.left_out == 0
+    }
+}
+
+/// The reported calls.
+#[derive(Drop)]
+struct Calls {
+    /// The steps by their places in the history. Threads report them in any order.
+    steps: Vec<Option<WatchedCall>>,
+    faults: Vec<WatchedFault>,
+    left_out: u64,
+    /// Whether some reader waits for more.
+    is_awaited: bool,
+    has_ended: bool,
+}
+
+impl Calls {
+    fn add_step(&mut self, place: u64, call: WatchedCall) {
+        let place = place as usize;
+        for _ in self.steps.len()..place.saturating_add(1) {
+            if self.steps.len() < self.steps.capacity() {
+                self.steps.push_reserved(None);
+            }
+        }
+        if let Some(step) = self.steps.get_mut(place) {
+            *step = Some(call);
+        }
+    }
+
+    fn add_fault(&mut self, call: WatchedCall, fault: Apart) {
+        if self.faults.len() < self.faults.capacity() {
+            self.faults.push_reserved(WatchedFault { call, fault });
+        } else {
+            self.left_out = self.left_out.saturating_add(1);
+        }
+    }
+
+    fn step_at(&self, place: usize) -> Option<&WatchedCall> {
+        match self.steps.get(place) {
+            Some(Some(told)) => Some(told),
+            _ => None,
+        }
+    }
+
+    /// Returns whether a reader of the steps from this place on has to wait, and notes that it does.
+    fn awaits(&mut self, place: usize, takes_faults: bool) -> bool {
+        let has_fault = takes_faults && (!self.faults.is_empty() || self.left_out > 0);
+        let waits = !self.has_ended && !has_fault && self.step_at(place).is_none();
+        // another reader may wait, too
+        self.is_awaited = self.is_awaited || waits;
+        waits
+    }
+
+    /// Copies the steps from this place on to a batch that has room for them.
+    fn copy_steps(&self, place: usize, steps: &mut Vec<WatchedCall>) {
+        for at in place..place.saturating_add(BATCH) {
+            let Some(told) = self.step_at(at) else {
+                return;
+            };
+            let Some(copy) = told.copy() else {
+                return;
+            };
+            if steps.len() == steps.capacity() {
+                return;
+            }
+            steps.push_reserved(copy);
+        }
+    }
+
+    /// Moves the faults to a batch that has none.
+    fn move_faults(&mut self, batch: &mut Batch) {
+        mem::swap(&mut self.faults, &mut batch.faults);
+        batch.left_out = mem::replace(&mut self.left_out, 0);
+    }
+}
+
+/// The calls of all connections. A thread that reports one never waits for one that shows it. There is room for each
+/// step of the journal, so that no step is left out. There is also room for some faults. Those beyond are counted.
+#[derive(Drop)]
+pub struct Watch {
+    start: Duration,
+    calls: Mutex<Calls>,
+    more: Condvar,
+}
+
+impl Watch {
+    /// Creates a watch for a device whose journal has room for this number of steps. Allocates room for all of them.
+    pub fn new(alloc: Global, most_steps: usize) -> Result<Watch, AllocError> {
+        let steps = Vec::with_capacity(alloc, most_steps)?;
+        let faults = Vec::with_capacity(alloc, MOST_FAULTS)?;
+        Ok(Watch {
+            start: now(),
+            calls: Mutex::new(Calls {
+                steps,
+                faults,
+                left_out: 0,
+                is_awaited: false,
+                has_ended: false,
+            }),
+            more: Condvar::new(),
+        })
+    }
+
+    /// Reports a call of a connection of this class, and its answer. `place` is that of its entry in the history, from 0;
+    /// none for a fault.
+    pub fn report<R: Wait>(
+        &self,
+        rt: &R,
+        class: Class,
+        event: Event,
+        place: Option<u64>,
+        outcome: &Result<Answer, Apart>,
+    ) {
+        let call = WatchedCall {
+            since: now().saturating_sub(self.start),
+            class,
+            event,
+        };
+        let mut calls = self.calls.lock(rt);
+        match (place, outcome) {
+            (Some(place), _) => calls.add_step(place, call),
+            (None, Err(fault)) => calls.add_fault(call, *fault),
+            (None, Ok(_)) => {}
+        }
+        let is_awaited = mem::replace(&mut calls.is_awaited, false);
+        drop(calls);
+        if is_awaited {
+            self.more.notify_all();
+        }
+    }
+
+    /// Announces that no more calls follow.
+    pub fn end<R: Wait>(&self, rt: &R) {
+        self.calls.lock(rt).has_ended = true;
+        self.more.notify_all();
+    }
+
+    /// Returns whether no more calls follow.
+    pub fn has_ended<R: Wait>(&self, rt: &R) -> bool {
+        self.calls.lock(rt).has_ended
+    }
+
+    /// Waits until there is a step at this place, a fault if faults are taken, or the end, and fills the batch. Returns
+    /// whether there is something in it: at the end there is nothing.
+    pub fn take<R: Wait>(
+        &self,
+        rt: &R,
+        place: usize,
+        takes_faults: bool,
+        batch: &mut Batch,
+    ) -> bool {
+        batch.steps.clear();
+        batch.faults.clear();
+        batch.left_out = 0;
+        let locked = self.calls.lock(rt);
+        let mut calls = self
+            .more
+            .wait_while(rt, locked, |calls| calls.awaits(place, takes_faults));
+        calls.copy_steps(place, &mut batch.steps);
+        if takes_faults {
+            calls.move_faults(batch);
+        }
+        drop(calls);
+        !batch.is_empty()
+    }
+}

@@ -1,0 +1,45 @@
+//! The calls of a session, as a witness receives them.
+
+use drm_table::{Answer, Apart, Event};
+
+/// Receives the calls of a session with their answers, each after its turn. No contract says what it does with them.
+///
+/// # Examples
+///
+/// ```rust
+/// use drm_sessions::{NoWitness, Witness};
+/// use drm_table::{Answer, Event};
+///
+/// let event = Event::Close(1);
+/// assert!(rt; NoWitness.copy_of(&event).is_none());
+/// NoWitness.tell(event, Some(0), &Ok(Answer::Closed));
+/// ```
+pub trait Witness {
+    /// Returns a copy of the event of a call, for [`tell`](Witness::tell) after the call. If there is none, the witness
+    /// does not receive the call.
+    fn copy_of(&self, event: &Event) -> Option<Event>;
+
+    /// Receives a call with its answer, and the place of its entry in the history, counted from 0. A fault has no entry.
+    fn tell(&self, event: Event, place: Option<u64>, outcome: &Result<Answer, Apart>);
+}
+
+/// A witness that receives no call.
+///
+/// # Examples
+///
+/// ```rust
+/// use drm_sessions::{NoWitness, Witness};
+/// use drm_table::Event;
+///
+/// assert!(rt; NoWitness.copy_of(&Event::Close(1)).is_none());
+/// ```
+#[derive(Clone, Copy, Debug)]
+pub struct NoWitness;
+
+impl Witness for NoWitness {
+    fn copy_of(&self, _event: &Event) -> Option<Event> {
+        None
+    }
+
+    fn tell(&self, _event: Event, _place: Option<u64>, _outcome: &Result<Answer, Apart>) {}
+}

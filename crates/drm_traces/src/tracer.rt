@@ -1,0 +1,235 @@
+//! The lines of a trace.
+
+use drm_connections::{WatchedCall, WatchedFault, class_word};
+use drm_device::Device;
+use drm_journals::put_words;
+use drm_script::line_of;
+use drm_table::{Answer, Apart};
+use std::alloc::AllocError;
+use std::io::Write;
+
+/// The codes before and after a denial or a fault on a terminal.
+const RED: &[u8] = b"\x1b[31m";
+
+const PLAIN: &[u8] = b"\x1b[0m";
+
+/// Whether denials and faults are in colour (own).
+///
+/// # Examples
+///
+/// ```rust
+/// use drm_traces::Palette;
+///
+/// let palette = Palette::Plain;
+/// assert!(rt; palette != Palette::Red);
+/// ```
+#[derive(Clone, Copy, Debug, PartialEq, Eq)]
+pub enum Palette {
+    /// No colour.
+    Plain,
+    /// Denials and faults are red.
+    Red,
+}
+
+/// What writes the lines of a trace (own): one for each step, in the order of the history, and one for each fault.
+///
+/// A line begins with the seconds since the start of the server, the number of the step from 1, and the class of the
+/// connection. A fault has `-` in place of the number. Then it has the event in a script's words, ` -> ` and the answer.
+/// The answers are those of a device that begins as the server's did.
+///
+/// # Examples
+///
+/// ```rust
+/// use drm_connections::WatchedCall;
+/// use drm_device::{Device, Limits, Topology};
+/// use drm_sessions::Class;
+/// use drm_table::{Event, Opening};
+/// use drm_traces::{Palette, Tracer};
+/// use std::time::Duration;
+///
+/// let alloc = rt.alloc();
+/// let Some(topology) = Topology::new(2, &[1, 2], &[3, 2], &[5, 6]) else { return };
+/// let Ok(device) = Device::new(alloc, topology, Limits::PROGRAM) else { return };
+/// let mut tracer = Tracer::new(device, Palette::Plain);
+/// let mut text = Vec::new(alloc);
+/// let call = WatchedCall {
+///     since: Duration::from_millis(1_500),
+///     class: Class::Card,
+///     event: Event::Open(Opening::Render),
+/// };
+/// let Ok(()) = tracer.put_step(&mut text, call) else { return };
+/// assert!(rt; text.as_slice() == b"    1.500000      1 card   open ? render -> client 1\n".as_slice());
+/// ```
+#[derive(Drop)]
+pub struct Tracer {
+    device: Device,
+    steps: u64,
+    palette: Palette,
+}
+
+/// Appends the front of a line, before the words of the event.
+fn put_head(text: &mut Vec<u8>, call: &WatchedCall, number: Option<u64>) -> Result<(), AllocError> {
+    let seconds = call.since.as_secs();
+    let micros = call.since.subsec_micros();
+    let class = class_word(call.class);
+    let written = match number {
+        Some(number) => write!(text, "{seconds:>5}.{micros:06} {number:>6} {class:<6} "),
+        None => write!(text, "{seconds:>5}.{micros:06}      - {class:<6} "),
+    };
+    match written {
+        Ok(()) => Ok(()),
+        Err(_) => Err(AllocError),
+    }
+}
+
+/// Returns whether an answer is marked.
+fn is_refusal(outcome: &Result<Answer, Apart>) -> bool {
+    match outcome {
+        Ok(Answer::Denied { .. }) => true,
+        Ok(_) => false,
+        Err(_) => true,
+    }
+}
+
+impl Tracer {
+    /// Creates what writes the trace of a server whose device began as this one. Does not allocate.
+    ///
+    /// # Examples
+    ///
+    /// ```rust
+    /// use drm_device::{Device, Limits, Topology};
+    /// use drm_traces::{Palette, Tracer};
+    ///
+    /// let alloc = rt.alloc();
+    /// let Some(topology) = Topology::new(2, &[1, 2], &[3, 2], &[5, 6]) else { return };
+    /// let Ok(empty) = Device::new(alloc, topology, Limits::PROGRAM) else { return };
+    /// let tracer = Tracer::new(empty, Palette::Plain);
+    /// let mut text = Vec::new(alloc);
+    /// let Ok(()) = tracer.put_left_out(&mut text, 2) else { return };
+    /// assert!(rt; text.starts_with(b"# 2 faults"));
+    /// ```
+    pub fn new(device: Device, palette: Palette) -> Tracer {
+        Tracer {
+            device,
+            steps: 0,
+            palette,
+        }
+    }
+
+    /// Appends ` -> ` and an answer, with the end of the line.
+    fn put_answer(
+        &self,
+        text: &mut Vec<u8>,
+        outcome: &Result<Answer, Apart>,
+    ) -> Result<(), AllocError> {
+        let line = line_of(outcome);
+        text.extend_from_slice(b" -> ")?;
+        if self.palette == Palette::Plain || !is_refusal(outcome) {
+            return text.extend_from_slice(line.as_bytes());
+        }
+        text.extend_from_slice(RED)?;
+        text.extend_from_slice(line.as_bytes().trim_ascii_end())?;
+        text.extend_from_slice(PLAIN)?;
+        text.extend_from_slice(b"\n")
+    }
+
+    /// Appends the line of the next step. Allocates what it appends, and what the step adds to its device.
+    ///
+    /// # Errors
+    ///
+    /// `AllocError` if memory is refused. The text may then end with a part of the line.
+    ///
+    /// # Examples
+    ///
+    /// ```rust
+    /// use drm_connections::WatchedCall;
+    /// use drm_device::{Device, Limits, Topology};
+    /// use drm_sessions::Class;
+    /// use drm_table::{Event, Opening};
+    /// use drm_traces::{Palette, Tracer};
+    /// use std::time::Duration;
+    ///
+    /// let alloc = rt.alloc();
+    /// let Some(topology) = Topology::new(2, &[1, 2], &[3, 2], &[5, 6]) else { return };
+    /// let Ok(fresh) = Device::new(alloc, topology, Limits::PROGRAM) else { return };
+    /// let mut steps = Tracer::new(fresh, Palette::Plain);
+    /// let mut text = Vec::new(alloc);
+    /// let call = WatchedCall {
+    ///     since: Duration::from_millis(20),
+    ///     class: Class::Root,
+    ///     event: Event::Open(Opening::Render),
+    /// };
+    /// let Ok(()) = steps.put_step(&mut text, call) else { return };
+    /// assert!(rt; text.starts_with(b"    0.020000      1 root "));
+    /// ```
+    pub fn put_step(&mut self, text: &mut Vec<u8>, call: WatchedCall) -> Result<(), AllocError> {
+        self.steps = self.steps.saturating_add(1);
+        put_head(text, &call, Some(self.steps))?;
+        put_words(text, &call.event)?;
+        let outcome = self.device.step(call.event);
+        self.put_answer(text, &outcome)
+    }
+
+    /// Appends the line of a fault, which is no step. Allocates what it appends.
+    ///
+    /// # Errors
+    ///
+    /// `AllocError` if memory is refused. The text may then end with a part of the line.
+    ///
+    /// # Examples
+    ///
+    /// ```rust
+    /// use drm_connections::{WatchedCall, WatchedFault};
+    /// use drm_device::{Device, Limits, Topology};
+    /// use drm_sessions::Class;
+    /// use drm_table::{Apart, Event, Opening};
+    /// use drm_traces::{Palette, Tracer};
+    /// use std::time::Duration;
+    ///
+    /// let alloc = rt.alloc();
+    /// let Some(topology) = Topology::new(2, &[1, 2], &[3, 2], &[5, 6]) else { return };
+    /// let Ok(full) = Device::new(alloc, topology, Limits::PROGRAM) else { return };
+    /// let faults = Tracer::new(full, Palette::Plain);
+    /// let mut text = Vec::new(alloc);
+    /// let called = WatchedCall {
+    ///     since: Duration::from_secs(1),
+    ///     class: Class::Card,
+    ///     event: Event::Open(Opening::Render),
+    /// };
+    /// let fault = WatchedFault { call: called, fault: Apart::JournalFull };
+    /// let Ok(()) = faults.put_fault(&mut text, &fault) else { return };
+    /// assert!(rt; text.starts_with(b"    1.000000      - card "));
+    /// ```
+    pub fn put_fault(&self, text: &mut Vec<u8>, fault: &WatchedFault) -> Result<(), AllocError> {
+        put_head(text, &fault.call, None)?;
+        put_words(text, &fault.call.event)?;
+        self.put_answer(text, &Err(fault.fault))
+    }
+
+    /// Appends the line for faults that were not kept. Allocates what it appends.
+    ///
+    /// # Errors
+    ///
+    /// `AllocError` if memory is refused. The text may then end with a part of the line.
+    ///
+    /// # Examples
+    ///
+    /// ```rust
+    /// use drm_device::{Device, Limits, Topology};
+    /// use drm_traces::{Palette, Tracer};
+    ///
+    /// let alloc = rt.alloc();
+    /// let Some(topology) = Topology::new(2, &[1, 2], &[3, 2], &[5, 6]) else { return };
+    /// let Ok(other) = Device::new(alloc, topology, Limits::PROGRAM) else { return };
+    /// let counter = Tracer::new(other, Palette::Plain);
+    /// let mut text = Vec::new(alloc);
+    /// let Ok(()) = counter.put_left_out(&mut text, 3) else { return };
+    /// assert!(rt; text.as_slice() == b"# 3 faults are left out here\n".as_slice());
+    /// ```
+    pub fn put_left_out(&self, text: &mut Vec<u8>, count: u64) -> Result<(), AllocError> {
+        match write!(text, "# {count} faults are left out here\n") {
+            Ok(()) => Ok(()),
+            Err(_) => Err(AllocError),
+        }
+    }
+}

@@ -1,0 +1,335 @@
+#!/usr/bin/env python3
+"""Tests of what a server writes while it runs: the trace of its calls, and the journal that grows.
+
+Each test has a folder of its own. The last line is `N passed, M failed`. Standard library only.
+"""
+import contextlib
+import os
+import pathlib
+import pty
+import re
+import signal
+import subprocess
+import sys
+import threading
+import time
+
+sys.dont_write_bytecode = True
+from support import (  # noqa: E402
+    CLASSES,
+    PROGRAM,
+    SECONDS,
+    FolderCase,
+    connect,
+    connect_raw,
+    expect,
+    expect_end,
+    lasting_server,
+    path_words,
+    retry,
+    run,
+    run_program,
+    run_tests,
+    stopped,
+    told_by,
+    wait_until,
+    wait_until_it_listens,
+)
+
+LINE = re.compile(r" *(\d+\.\d{6}) +(\d+|-) (card|render|root) +(.*)")
+HELLO = b"\x0e\0\0\0\0\x01\x01" + bytes(11)
+VERSION = b"\x02\0\0\0\0\0"
+# the lengths of the answers to these
+OPENED, ANSWERED = 10, 18
+RED, PLAIN = "\x1b[31m", "\x1b[0m"
+
+
+def ask_often(path, calls):
+    """A client that sends all its calls at once, and reads the answers."""
+    with contextlib.closing(retry(lambda: connect_raw(path))) as client:
+        client.sendall(HELLO + calls * VERSION)
+        left = OPENED + calls * ANSWERED
+        while left > 0:
+            received = len(client.recv(65536))
+            expect("whether there are more answers", received > 0, True)
+            left -= received
+
+
+def ask_at_once(folder, clients, calls):
+    """As many clients at once, which each make so many calls. Returns the number of steps."""
+    threads = [
+        threading.Thread(target=ask_often, args=(folder / CLASSES[number % 3], calls)) for number in range(clients)
+    ]
+    for thread in threads:
+        thread.start()
+    for thread in threads:
+        thread.join()
+    return clients * (calls + 2)
+
+
+def parts_of(line):
+    """The time, the number, the class and the words of a line of a trace."""
+    found = LINE.fullmatch(line)
+    if found is None:
+        raise AssertionError(f"no line of a trace: {line!r}")
+    return float(found[1]), found[2], found[3], found[4]
+
+
+def as_traced(journal):
+    """The lines of a journal, with the words that a trace has for them."""
+    numbers = {}
+    traced = []
+    for line in journal.splitlines()[1:]:
+        words, arrow, answer = line.partition(" -> ")
+        first, _, rest = words.partition(" ")
+        if first in ("open", "open2"):
+            label, _, kind = rest.partition(" ")
+            if answer.startswith("client "):
+                numbers[label] = answer.split()[1]
+            words = f"{first} ? {kind}"
+        elif first == "close":
+            words = f"close client {numbers[rest]}"
+        else:
+            words = f"client {numbers[first]} {rest}"
+        traced.append(words + arrow + answer)
+    return traced
+
+
+def words_of(trace):
+    """The words of a trace's lines, whose numbers rise from 1 and whose times do not fall."""
+    parts = [parts_of(line) for line in trace.splitlines()]
+    expect("the numbers", [number for _, number, _, _ in parts], [str(number + 1) for number in range(len(parts))])
+    expect("whether a time is before the last", any(a[0] > b[0] + 1 for a, b in zip(parts, parts[1:])), False)
+    return [words for _, _, _, words in parts]
+
+
+class TracesTests(FolderCase):
+    """Tests of what a server writes while it runs."""
+
+    def test_trace_of_a_session(self):
+        """Each step has a line, and each fault. They are there while the clients are."""
+        folder = self.folder
+        trace = folder / "trace"
+        with lasting_server(folder, "--trace", str(trace), "--limits", "8 8 8 8 8 8 8 5") as started:
+            with contextlib.closing(connect(folder / "card")) as client:
+                client.ask("version")
+                client.ask("gem_close 9")
+                client.ask("buf_create 1")
+                client.ask("version")
+                wait_until("whether the lines are there", lambda: len(trace.read_text().splitlines()) == 5)
+            ran = stopped(started)
+            expect("status and listing", (ran.returncode, ran.stdout), (0, "device 0 0 0 5\n"))
+        lines = [parts_of(line)[1:] for line in trace.read_text().splitlines()]
+        expect(
+            "the trace",
+            lines,
+            [
+                ("1", "card", "open ? card -> client 1"),
+                ("2", "card", "client 1 version -> version 1 0 0"),
+                ("3", "card", "client 1 gem_close 9 -> denied 22 NoHandleToClose 22"),
+                ("4", "card", "client 1 buf_create 1 -> buffer 1 4096"),
+                ("-", "card", "client 1 version -> apart 50 JournalFull 28"),
+                ("5", "card", "close client 1 -> closed"),
+            ],
+        )
+
+    def test_order_of_many_clients(self):
+        """The trace of 16 clients at once with 90,000 steps has the steps of the journal, line by line."""
+        folder = self.folder
+        journal, trace = folder / "journal", folder / "trace"
+        with lasting_server(folder, "--trace", str(trace), "--journal", str(journal)) as started:
+            wait_until_it_listens(folder / "root")
+            steps = ask_at_once(folder, 16, 5_623)
+            # what was not written yet is written first
+            output, error = started.communicate("", timeout=8 * SECONDS)
+            expect("the end", (started.returncode, error, output), (0, "", f"device 0 0 0 {steps}\n"))
+        expect("the number of steps", steps, 90_000)
+        traced = words_of(trace.read_text())
+        wanted = as_traced(journal.read_text())
+        expect("the number of lines", (len(traced), len(wanted)), (steps, steps))
+        for number, (line, step) in enumerate(zip(traced, wanted)):
+            expect(f"line {number + 1}", line, step)
+        expect_end(run(PROGRAM, "check", journal), 0, "", f"{steps} passed, 0 failed\n")
+
+    def test_journal_grows(self):
+        """It has a line for each step while the server runs. After SIGKILL it passes its check, and can be explained."""
+        folder = self.folder
+        journal = folder / "journal"
+        with lasting_server(folder, "--journal", str(journal)) as started:
+            client = connect(folder / "card")
+            calls = ["version", "buf_create 1", "gem_close 9", "set_master", "list_handles 0"]
+            for number, call in enumerate(calls):
+                answer = client.ask(call)
+                wanted = f"a {call} -> {answer}"
+                wait_until(
+                    f"whether {call} is there",
+                    lambda: len(journal.read_text().splitlines()) == number + 3  # pylint: disable=cell-var-from-loop
+                    and journal.read_text().endswith("\n"),
+                )
+                expect("the last line", journal.read_text().splitlines()[-1], wanted)
+            started.send_signal(signal.SIGKILL)
+            started.communicate(timeout=SECONDS)
+            client.abandon()
+        expect_end(run(PROGRAM, "check", journal), 0, "", f"{len(calls) + 1} passed, 0 failed\n")
+        explained = run(PROGRAM, "explain", journal)
+        expect("the explanation's status", (explained.returncode, explained.stderr), (0, ""))
+        expect("whether the client is explained", "a is client 1: a primary client" in explained.stdout, True)
+
+    def test_killed_among_many_steps(self):
+        """Up to its last whole line, the journal of a server that is killed passes its check."""
+        folder = self.folder
+        journal = folder / "journal"
+        with lasting_server(folder, "--journal", str(journal)) as started:
+            wait_until_it_listens(folder / "root")
+
+            def ask():
+                with contextlib.suppress(OSError, AssertionError):
+                    ask_often(folder / "card", 20_000)
+
+            threads = [threading.Thread(target=ask) for _ in range(4)]
+            for thread in threads:
+                thread.start()
+            wait_until("whether it has many lines", lambda: journal.stat().st_size > 200_000)
+            started.send_signal(signal.SIGKILL)
+            started.communicate(timeout=SECONDS)
+            for thread in threads:
+                thread.join()
+        whole = journal.read_bytes().rpartition(b"\n")[0] + b"\n"
+        journal.write_bytes(whole)
+        steps = whole.count(b"\n") - 1
+        expect("whether there are many steps", steps > 1_000, True)
+        expect_end(run(PROGRAM, "check", journal), 0, "", f"{steps} passed, 0 failed\n")
+
+    def test_trace_that_nobody_reads(self):
+        """It delays no client, and the end by a second. The number of calls without a line is logged."""
+        folder = self.folder
+        pipe = folder / "pipe"
+        os.mkfifo(pipe)
+        read = os.open(pipe, os.O_RDONLY | os.O_NONBLOCK)
+        try:
+            with lasting_server(folder, "--trace", str(pipe)) as started:
+                wait_until_it_listens(folder / "root")
+                begun = time.monotonic()
+                steps = ask_at_once(folder, 4, 500)
+                expect("whether the clients waited", time.monotonic() - begun < SECONDS / 2, True)
+                begun = time.monotonic()
+                ran = stopped(started)
+                expect("whether the end was delayed", time.monotonic() - begun < SECONDS / 2, True)
+            text = b""
+            with contextlib.suppress(BlockingIOError):
+                for more in iter(lambda: os.read(read, 65536), b""):
+                    text += more
+        finally:
+            os.close(read)
+        written = text.count(b"\n")
+        expect("whether the pipe was filled", 0 < written < steps, True)
+        expect("whether the last line is whole", text.endswith(b"\n"), True)
+        expect("the listing", (ran.returncode, ran.stdout), (0, f"device 0 0 0 {steps}\n"))
+        told = f"WARN {pipe}: {steps - written} calls have no line in the trace"
+        expect("what is logged", [told_by(line) for line in ran.stderr.splitlines()], [told])
+        words_of(text.decode())
+
+    def test_trace_on_standard_error_that_nobody_reads(self):
+        """Neither a client nor the listing waits for it."""
+        folder = self.folder
+        with lasting_server(folder, "--trace", "-") as started:
+            wait_until_it_listens(folder / "root")
+            steps = ask_at_once(folder, 4, 500)
+            with started.stdin, started.stdout, started.stderr:
+                started.stdin.close()
+                expect("the listing", started.stdout.read(), f"device 0 0 0 {steps}\n")
+                expect("the status", started.wait(timeout=SECONDS), 0)
+                lines = started.stderr.read().splitlines()
+            expect("whether standard error was filled", 0 < len(lines) < steps, True)
+            expect("the first line", parts_of(lines[0])[1], "1")
+
+    def test_reader_that_goes(self):
+        """A trace whose reader has gone is written no further. All else goes on."""
+        folder = self.folder
+        pipe = folder / "pipe"
+        os.mkfifo(pipe)
+        read = os.open(pipe, os.O_RDONLY | os.O_NONBLOCK)
+        with lasting_server(folder, "--trace", str(pipe)) as started:
+            wait_until_it_listens(folder / "root")
+            os.close(read)
+            steps = ask_at_once(folder, 2, 100)
+            ran = stopped(started)
+        expect("the listing", (ran.returncode, ran.stdout), (0, f"device 0 0 0 {steps}\n"))
+        told = f"WARN {pipe}: {steps} calls have no line in the trace"
+        expect("what is logged", [told_by(line) for line in ran.stderr.splitlines()], [told])
+
+    def colours(self, **environment):
+        """What a terminal shows as standard error of a denied call."""
+        folder = self.folder
+        near, far = pty.openpty()
+        words = [PROGRAM, "serve", *path_words(folder), "--until-ended", "--trace", "-"]
+        given = {**{name: value for name, value in os.environ.items() if name != "NO_COLOR"}, **environment}
+        with subprocess.Popen(
+            words, stdin=subprocess.PIPE, stdout=subprocess.DEVNULL, stderr=far, env=given, text=True
+        ) as started:
+            os.close(far)
+            with contextlib.closing(connect(folder / "card")) as client:
+                client.ask("gem_close 9")
+            started.communicate("", timeout=SECONDS)
+        shown = b""
+        with contextlib.suppress(OSError):
+            for more in iter(lambda: os.read(near, 65536), b""):
+                shown += more
+        os.close(near)
+        return shown.decode().replace("\r\n", "\n").splitlines()
+
+    def test_colour(self):
+        """On a terminal denials are red, unless NO_COLOR is set and not empty. A file has no colour."""
+        denied = "client 1 gem_close 9 -> "
+        answer = "denied 22 NoHandleToClose 22"
+        for environment, wanted in (({}, RED + answer + PLAIN), ({"NO_COLOR": ""}, RED + answer + PLAIN)):
+            shown = self.colours(**environment)
+            expect("a denial", parts_of(shown[1])[3], denied + wanted)
+            expect("another answer", parts_of(shown[0])[3], "open ? card -> client 1")
+        expect("a denial", parts_of(self.colours(NO_COLOR="1")[1])[3], denied + answer)
+
+    def test_files_that_cannot_be_traced_to(self):
+        """The trace replaces neither the topology nor the journal, and its file must be writable."""
+        folder = self.folder
+        topology, journal = folder / "topology", folder / "journal"
+        topology.write_text("crtcs 1\nprimary 1\nencoder 1\nconnector 1\n")
+        serve = ["serve", *path_words(folder), "--until-ended"]
+        for path, more, fault, told in (
+            (
+                topology,
+                ["--topology", str(topology)],
+                "command line",
+                "the trace would replace the topology: choose another file",
+            ),
+            (
+                journal,
+                ["--journal", str(journal)],
+                "command line",
+                "the trace would replace the journal: choose another file",
+            ),
+            (folder / "no" / "trace", [], "write", "No such file or directory (os error 2)"),
+        ):
+            ran = run_program(*serve, *more, "--trace", str(path))
+            expect("the output", ran.stdout, "")
+            expect(
+                "what is told",
+                [told_by(line) for line in ran.stderr.splitlines()],
+                [f"ERROR {path}: {told}", f"fault: {fault}"],
+            )
+        expect("the topology", topology.read_text().startswith("crtcs 1\n"), True)
+
+    def test_journal_that_takes_no_bytes(self):
+        """A journal on a full disk is the fault `write` at the end, as ever."""
+        if not pathlib.Path("/dev/full").exists():
+            self.skipTest("there is no /dev/full")
+        folder = self.folder
+        with lasting_server(folder, "--journal", "/dev/full") as started:
+            connect(folder / "card").close()
+            ran = stopped(started)
+        told = [told_by(line) for line in ran.stderr.splitlines()]
+        expect("what is told", told, ["ERROR /dev/full: No space left on device (os error 28)", "fault: write"])
+        expect("status and listing", (ran.returncode, ran.stdout), (1, "device 0 0 0 2\n"))
+
+
+if __name__ == "__main__":
+    sys.exit(run_tests())
