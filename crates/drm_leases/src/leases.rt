@@ -100,6 +100,32 @@ impl Leases {
         }
     }
 
+    /// Makes CREATE_LEASE answer as where memory is refused, or ends that (own). Contracts never say that there is memory, so
+    /// they say nothing of it. Nothing else changes. Does not allocate.
+    ///
+    /// # Examples
+    ///
+    /// ```rust
+    /// use drm_leases::{LeaseFault, Leases};
+    /// use drm_masters::Masters;
+    /// use drm_modes::{Modes, Topology};
+    ///
+    /// let alloc = rt.alloc();
+    /// let Some(topology) = Topology::new(2, &[1, 2], &[3, 2], &[5, 6]) else { return };
+    /// let modes = Modes::new(alloc, topology, 4);
+    /// let mut masters = Masters::new(alloc, 4, 4);
+    /// let Ok(_first) = masters.on_open(1, 1) else { return };
+    /// let mut leases = Leases::new(alloc, 8);
+    /// leases.refuse_memory(true);
+    /// let Err(fault) = leases.create(&mut masters, &modes, 1, true, &[1, 3, 7], 2) else { return };
+    /// assert!(rt; fault == LeaseFault::NoMemory);
+    /// ```
+    pub fn refuse_memory(&mut self, refuses: bool)
+        ensures { self.new ≡ self.old }
+    {
+        self.granted.refuse_memory(refuses);
+    }
+
     /// States the facts that always hold for leases. Calling it does nothing.
     pub fn laws(&self)
         ensures { sets.AreLeases self.now }

@@ -45,6 +45,8 @@ pub struct Masters {
     device_master: Option<u32>,
     last_magic: u32,
     last_lessee: u32,
+    // whether calls that need memory answer as where it is refused
+    refuses_memory: bool,
 }
 
 // Written out, so that it is proved once: a derived one is proved again in each crate that drops such a value.
@@ -56,6 +58,7 @@ impl Drop for Masters {
             device_master: _,
             last_magic: _,
             last_lessee: _,
+            refuses_memory: _,
         } = self;
         drop(members);
         drop(masters);
@@ -98,7 +101,32 @@ impl Masters {
             device_master: None,
             last_magic: clients,
             last_lessee: lessees,
+            refuses_memory: false,
         }
+    }
+
+    /// Makes SET_MASTER answer as where memory is refused, or ends that (own). Contracts never say that there is memory, so
+    /// they say nothing of it. Nothing else changes. Does not allocate.
+    ///
+    /// # Examples
+    ///
+    /// ```rust
+    /// use drm_masters::{Masters, SetFault};
+    ///
+    /// let alloc = rt.alloc();
+    /// let mut masters = Masters::new(alloc, 4, 4);
+    /// let Ok(_first) = masters.on_open(1, 1) else { return };
+    /// let Ok(_second) = masters.on_open(2, 2) else { return };
+    /// let Ok(()) = masters.drop_master(1, false) else { return };
+    /// masters.refuse_memory(true);
+    /// if masters.member(2).is_some() {
+    ///     assert!(rt; masters.set(2, true, 3) == Err(SetFault::NoMemory));
+    /// }
+    /// ```
+    pub fn refuse_memory(&mut self, refuses: bool)
+        ensures { self.new ≡ self.old }
+    {
+        self.refuses_memory = refuses;
     }
 
     /// States the facts that always hold for the clients and the masters. Calling it does nothing.
@@ -874,6 +902,9 @@ impl Masters {
         ensures free { IfOk result (λ key. calls.IsFreeKey self.old key) }
         ensures err { OnErr result (self.new ≡ self.old) }
     {
+        if self.refuses_memory {
+            return Err(NoMemory);
+        }
         let Some(old) = self.members.get(client) else {
             unreachable!()
         };
