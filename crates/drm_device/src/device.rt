@@ -2,12 +2,14 @@
 
 ghost use Rattle.std.specs.Prelude.{◌≡◌, ◌+◌, ◌^◌, ◌<◌, ◌≤◌, ◌↔◌, false, true, not, [], length, Err, IfOk, OnOk, OnErr};
 ghost use Rattle.drm_table.specs.Limits.{are_in_range};
+ghost use Rattle.drm_table.specs.declared.apart.Apart.TheVariants.{NoMemory};
 ghost use Rattle.drm_table.specs.Results.{FitsOneFrame};
 ghost use Rattle.drm_model.specs.Audit.{audit_page, audit_rows, rising_rows};
 ghost use Rattle.drm_model.specs.Run.{Step, FoundRoom, no_room, journaled_in, rows_of, start_of};
 
 use crate::audits::page_of;
 use crate::events::advance_at;
+use crate::shortage::Shortage;
 use drm_files::Files;
 use drm_gem::Objects;
 use drm_leases::Leases;
@@ -199,6 +201,90 @@ impl Device {
         self.journal.push_reserved(event);
     }
 
+    /// Answers one event as [`step_at`](Device::step_at) does, and refuses memory to an event of a shortage, so that a program can be
+    /// tested where memory is short (own).
+    ///
+    /// Each event that adds a row, and needs memory for it, lowers the number of the shortage by one. Memory is refused to the event
+    /// with which it becomes 0: it is answered with the fault for refused memory, and nothing changes. Other events are answered as
+    /// usual, and all events where the shortage is over or there is none.
+    ///
+    /// # Examples
+    ///
+    /// ```rust
+    /// use drm_device::{Device, Limits, Shortage, Topology};
+    /// use drm_table::{Answer, Apart, Call, Event, Opening};
+    ///
+    /// let alloc = rt.alloc();
+    /// let Some(topology) = Topology::new(2, &[1, 2], &[3, 2], &[5, 6]) else { return };
+    /// let Ok(mut device) = Device::new(alloc, topology, Limits::PROGRAM) else { return };
+    /// let opening = Opening::Primary { root: false, universal: true };
+    /// assert!(rt; device.step(Event::Open(opening)) == Ok(Answer::Opened { client: 1 }));
+    /// let shortage = Shortage::new(1);
+    /// let mut outcome = Ok(Answer::Done);
+    /// device.step_short_at(Event::Ask(1, Call::Version), Some(&shortage), &mut outcome);
+    /// assert!(rt; outcome.is_ok());
+    /// device.step_short_at(Event::Ask(1, Call::BufCreate { size: 4096 }), Some(&shortage), &mut outcome);
+    /// assert!(rt; outcome == Err(Apart::NoMemory));
+    /// device.step_short_at(Event::Ask(1, Call::BufCreate { size: 4096 }), Some(&shortage), &mut outcome);
+    /// assert!(rt; outcome == Ok(Answer::Buffer { handle: 1, size: 4096 }));
+    /// ```
+    pub fn step_short_at(
+        &mut self,
+        event: Event,
+        shortage: Option<&Shortage>,
+        outcome: &mut Result<Answer, Apart>,
+    )
+        ensures step { Step (rows_of self.old) event outcome.new (rows_of self.new) }
+        ensures few { FitsOneFrame outcome.new }
+        ensures ok { OnOk outcome.new (self.new ≡ journaled_in self.old event) }
+        ensures err { OnErr outcome.new (self.new ≡ self.old) }
+        ensures in_range { are_in_range self.new.limits ≡ true }
+        ensures found_room { FoundRoom (start_of self.new) self.new.journal }
+        ensures within { length self.new.journal ≤ self.new.limits.journal }
+        ensures bounded { self.new.limits.journal ≤ 100000 }
+    {
+        match shortage {
+            Some(shortage) if shortage.left() > 0 => {
+                self.step_in_shortage(event, shortage, outcome);
+            }
+            _ => self.step_at(event, outcome),
+        }
+    }
+
+    /// Answers an event with memory refused, and then with memory if that was what it lacked, unless the shortage ends with it.
+    fn step_in_shortage(
+        &mut self,
+        event: Event,
+        shortage: &Shortage,
+        outcome: &mut Result<Answer, Apart>,
+    )
+        ensures step { Step (rows_of self.old) event outcome.new (rows_of self.new) }
+        ensures few { FitsOneFrame outcome.new }
+        ensures ok { OnOk outcome.new (self.new ≡ journaled_in self.old event) }
+        ensures err { OnErr outcome.new (self.new ≡ self.old) }
+        ensures in_range { are_in_range self.new.limits ≡ true }
+        ensures found_room { FoundRoom (start_of self.new) self.new.journal }
+        ensures within { length self.new.journal ≤ self.new.limits.journal }
+        ensures bounded { self.new.limits.journal ≤ 100000 }
+    {
+        self.refuse_memory(true);
+        let Ok(copy) = event.clone() else {
+            unreachable!()
+        };
+        self.step_at(copy, outcome);
+        self.refuse_memory(false);
+        if is_refused(outcome) && !shortage.ends_here() {
+            self.step_at(event, outcome);
+        }
+    }
+
+    /// Makes events that need memory for a row answer as where it is refused, or ends that. Nothing else changes.
+    fn refuse_memory(&mut self, refuses: bool)
+        ensures { self.new ≡ self.old }
+    {
+        self.state.refuse_memory(refuses);
+    }
+
     /// Returns whether the journal has a place for the event next to those kept for closings.
     fn has_room(&self, event: &Event) -> bool
         ensures { result ≡ not (no_room (rows_of self.now) event.now) }
@@ -290,4 +376,11 @@ impl Device {
     {
         self.limits.journal - self.journal.len() as u32 - self.state.files.len() as u32
     }
+}
+
+/// Returns whether memory was refused.
+fn is_refused(outcome: &Result<Answer, Apart>) -> bool
+    ensures { result ≡ true → outcome.now ≡ Err NoMemory }
+{
+    matches!(outcome, Err(Apart::NoMemory))
 }

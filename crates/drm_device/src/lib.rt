@@ -10,8 +10,10 @@ mod device;
 mod events;
 mod families;
 mod replays;
+mod shortage;
 
 pub use device::{Device, NewFault};
 pub use drm_modes::{PlaneKind, Topology};
 pub use drm_table::Limits;
 pub use replays::{ReplayFault, replay};
+pub use shortage::Shortage;

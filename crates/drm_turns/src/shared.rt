@@ -21,7 +21,7 @@ use crate::turn::{
     Another, Count, Draw, Find, InTurn, Learn, Look, Met, Noted, Pass, Settle, Slot, Told,
 };
 use atomic_table::{Refused, Seat as Place, Table};
-use drm_device::Device;
+use drm_device::{Device, Shortage};
 use drm_table::{Answer, Apart, Event};
 use std::alloc::Global;
 use std::hint;
@@ -284,6 +284,7 @@ impl SharedDevice {
         &self,
         place: &mut Place<Slot, View>,
         event: Event,
+        shortage: Option<&Shortage>,
         outcome: &mut Result<Answer, Apart>,
     ) -> Option<u64>
         requires own { place.old.table_id ≡ self.now }
@@ -303,7 +304,7 @@ impl SharedDevice {
         let shared = &self.table.shared;
         let mut device = shared.exchange(place, 0, None).unwrap().into_box();
         let journaled = Snapshot::of(&event);
-        device.step_at(event, outcome);
+        device.step_short_at(event, shortage, outcome);
         let counted = match &*outcome {
             Ok(answer) => Some(self.count::<Brand>(place, &journaled, answer)),
             Err(_) => None,
@@ -474,7 +475,7 @@ impl SharedDevice {
             × (participant.new.journaled ≡ participant.old.journaled + entries_of outcome.new) }
         ensures worn { outcome.new ≡ Err Worn → participant.old.number ≡ 1 → participant.old.outstanding ≡ 0 → participant.old.drawn ≡ 2 ^ 64 - 1 }
     {
-        let _ = self.call_placed(rt, participant, event, outcome);
+        let _ = self.call_placed(rt, participant, event, None, outcome);
     }
 
     /// Answers one event as [`call_at`](SharedDevice::call_at) does, and returns the place of its entry in the history,
@@ -505,6 +506,7 @@ impl SharedDevice {
         rt: &R,
         participant: &mut Seat,
         event: Event,
+        shortage: Option<&Shortage>,
         outcome: &mut Result<Answer, Apart>,
     ) -> Option<u64>
         requires own { participant.old.table ≡ self.now }
@@ -527,7 +529,7 @@ impl SharedDevice {
             return None;
         };
         self.wait_turn(rt, place, ticket);
-        let counted = self.step_in_turn(place, event, outcome);
+        let counted = self.step_in_turn(place, event, shortage, outcome);
         self.pass(place);
         counted
     }

@@ -33,12 +33,12 @@ count-requires-clause-serving c =
     let device : c.deref_mut.result.now ≡ device_at v.origin v.seen = cc in
     let same : length c.deref_mut.result.now.journal ≡ length v.seen =
     ap (λ (d : DeviceValue). length d.journal) device ∙ events-length v.seen in
-    let is = rw c.in-Ok.is at c.step_at.ensures.ok in
-    let journaled : length c.step_at.new.self.journal ≡ length c.deref_mut.result.now.journal + 1 =
+    let is = rw c.in-Ok.is at c.step_short_at.ensures.ok in
+    let journaled : length c.step_short_at.new.self.journal ≡ length c.deref_mut.result.now.journal + 1 =
     ap (λ (d : DeviceValue). length d.journal) is
     ∙ length-append c.deref_mut.result.now.journal (c.args.event ∷ []) in
-    let within = c.step_at.ensures.within in
-    let bounded = c.step_at.ensures.bounded in
+    let within = c.step_short_at.ensures.within in
+    let bounded = c.step_short_at.ensures.bounded in
     let seen : length c.exchange.new.seat.me.0.seen ≡ length v.seen = ap (λ (m : Sat). length m.0.seen) e in (
       ap (λ (m : Sat). m.0.stage) e ∙ c.requires.serving.0,
       (λ z. c.requires.serving.1 (sym (ap (λ (m : Sat). m.0.number) e) ∙ z)),
@@ -58,7 +58,7 @@ count-requires-clause-legal c =
     let device : c.deref_mut.result.now ≡ device_at v.origin v.seen = cc in
     let rows : rows_of c.deref_mut.result.now ≡ rows_after c.exchange.new.seat.me.0.origin c.exchange.new.seat.me.0.seen =
     ap rows_of device ∙ ap (λ (m : Sat). rows_after m.0.origin m.0.seen) (sym e) in
-    let answer = step_ok _ _ _ _ (rw c.in-Ok.is at c.step_at.ensures.step) in (
+    let answer = step_ok _ _ _ _ (rw c.in-Ok.is at c.step_short_at.ensures.step) in (
       subst (λ (z : Rows × Event). no_room z.0 z.1 ≡ false) (λ i. (rows i, sym c.of-journaled.ensures i)) answer.0,
       answer.1 ∙ (λ i. reply (rows i) (sym c.of-journaled.ensures i)),
     )
@@ -102,17 +102,17 @@ returns-clause-device c =
     let none_more : rest c.exchange.new.seat.me.1 ≡ [] = ap (λ (m : Sat). rest m.1) e ∙ ap rest c.requires.device in
     elim c.match-outcome.branch [
       | in-Ok w ↦
-          let is = rw w.in-Ok.is at c.step_at.ensures.ok in
+          let is = rw w.in-Ok.is at c.step_short_at.ensures.ok in
           let counts = w.count.ensures.counted in
           let me : c.match-outcome.place.me ≡ (counted v (entry v.number c.args.event w.in-Ok.answer), c.exchange.new.seat.me.1) =
           placed w.place-is ∙ (counts ∙ (λ i. let u : View = (e i).0 in (counted u (entry u.number (c.of-journaled.ensures i) w.in-Ok.answer), c.exchange.new.seat.me.1))) in
-          after_put c.match-outcome.place.me c.exchange-2.new.seat.me c.step_at.new.self c.exchange-2.ensures.3
+          after_put c.match-outcome.place.me c.exchange-2.new.seat.me c.step_short_at.new.self c.exchange-2.ensures.3
           (ap (λ (m : Sat). rest m.1) me ∙ none_more)
           (is ∙ (ap (λ d. journaled_in d c.args.event) device ∙ (noting_at v.origin v.seen (entry v.number c.args.event w.in-Ok.answer) ∙ ap (λ (m : Sat). device_at m.0.origin m.0.seen) (sym me))))
       | in-Err w ↦
-          let is = rw w.in-Err.is at c.step_at.ensures.err in
+          let is = rw w.in-Err.is at c.step_short_at.ensures.err in
           let me : c.match-outcome.place.me ≡ c.exchange.new.seat.me = placed w.place-is in
-          after_put c.match-outcome.place.me c.exchange-2.new.seat.me c.step_at.new.self c.exchange-2.ensures.3
+          after_put c.match-outcome.place.me c.exchange-2.new.seat.me c.step_short_at.new.self c.exchange-2.ensures.3
           (ap (λ (m : Sat). rest m.1) me ∙ none_more)
           (is ∙ (device ∙ ap (λ (m : Sat). device_at m.0.origin m.0.seen) (sym (me ∙ e))))
     ]
@@ -131,7 +131,7 @@ returns-clause-grows c =
     let put : c.exchange-2.new.seat.me.0 ≡ c.match-outcome.place.me.0 = ap (λ (m : Sat). m.0) c.exchange-2.ensures.3 in
     elim c.match-outcome.branch [
       | in-Ok w ↦
-          let answer = step_ok _ _ _ _ (rw w.in-Ok.is at c.step_at.ensures.step) in
+          let answer = step_ok _ _ _ _ (rw w.in-Ok.is at c.step_short_at.ensures.step) in
           let counts = w.count.ensures.counted in
           let me : c.match-outcome.place.me ≡ (counted v (entry v.number c.args.event w.in-Ok.answer), c.exchange.new.seat.me.1) =
           placed w.place-is ∙ (counts ∙ (λ i. let u : View = (e i).0 in (counted u (entry u.number (c.of-journaled.ensures i) w.in-Ok.answer), c.exchange.new.seat.me.1))) in
@@ -156,10 +156,10 @@ returns-clause-turn c =
     let lies = c.deref_mut.ensures.value in
     let device : c.deref_mut.result.now ≡ device_at v.origin v.seen = cc in
     let put : c.exchange-2.new.seat.me.0 ≡ c.match-outcome.place.me.0 = ap (λ (m : Sat). m.0) c.exchange-2.ensures.3 in
-    let left : c.step_at.new.self ≡ device_at c.exchange-2.new.seat.me.0.origin c.exchange-2.new.seat.me.0.seen =
+    let left : c.step_short_at.new.self ≡ device_at c.exchange-2.new.seat.me.0.origin c.exchange-2.new.seat.me.0.seen =
     elim c.match-outcome.branch [
       | in-Ok w ↦
-          let is = rw w.in-Ok.is at c.step_at.ensures.ok in
+          let is = rw w.in-Ok.is at c.step_short_at.ensures.ok in
           let counts = w.count.ensures.counted in
           let me : c.match-outcome.place.me ≡ (counted v (entry v.number c.args.event w.in-Ok.answer), c.exchange.new.seat.me.1) =
           placed w.place-is ∙ (counts ∙ (λ i. let u : View = (e i).0 in (counted u (entry u.number (c.of-journaled.ensures i) w.in-Ok.answer), c.exchange.new.seat.me.1))) in
@@ -167,13 +167,13 @@ returns-clause-turn c =
           ∙
           (ap (λ d. journaled_in d c.args.event) device ∙ (noting_at v.origin v.seen (entry v.number c.args.event w.in-Ok.answer) ∙ ap (λ (u : View). device_at u.origin u.seen) (sym (put ∙ ap (λ (m : Sat). m.0) me))))
       | in-Err w ↦
-          let is = rw w.in-Err.is at c.step_at.ensures.err in
+          let is = rw w.in-Err.is at c.step_short_at.ensures.err in
           let me : c.match-outcome.place.me ≡ c.exchange.new.seat.me = placed w.place-is in
           is ∙ (device ∙ ap (λ (u : View). device_at u.origin u.seen) (sym (put ∙ ap (λ (m : Sat). m.0) (me ∙ e))))
     ] in
     let turn =
-    turn_of c.deref_mut.result.now c.step_at.new.self c.args.event c.step_at.new.outcome c.step_at.ensures.step c.step_at.ensures.ok c.step_at.ensures.err c.step_at.ensures.in_range c.step_at.ensures.found_room in
-    subst (λ (d : DeviceValue). Turn d c.args.event c.step_at.new.outcome) left turn
+    turn_of c.deref_mut.result.now c.step_short_at.new.self c.args.event c.step_short_at.new.outcome c.step_short_at.ensures.step c.step_short_at.ensures.ok c.step_short_at.ensures.err c.step_short_at.ensures.in_range c.step_short_at.ensures.found_room in
+    subst (λ (d : DeviceValue). Turn d c.args.event c.step_short_at.new.outcome) left turn
 
 pub returns-clause-err : goal.returns-clause-err
 returns-clause-err c =
@@ -190,7 +190,7 @@ returns-clause-err c =
     elim c.match-outcome.branch [
       | in-Ok w ↦ rw w.in-Ok.is tt
       | in-Err w ↦
-          refuses c.deref_mut.result.now c.step_at.new.self c.args.event c.step_at.new.outcome v
-          c.exchange-2.new.seat.me.0 device c.step_at.ensures.step c.step_at.ensures.err
+          refuses c.deref_mut.result.now c.step_short_at.new.self c.args.event c.step_short_at.new.outcome v
+          c.exchange-2.new.seat.me.0 device c.step_short_at.ensures.step c.step_short_at.ensures.err
           (rw w.in-Err.is (put ∙ (ap (λ (m : Sat). m.0) (placed w.place-is) ∙ ap (λ (m : Sat). m.0) e)))
     ]
