@@ -1,13 +1,15 @@
 //! The calls that a session reports to its witness, each with its place in the history, after its turn.
 
+ghost use Rattle.std.specs.Prelude.{◌≡◌};
+
 use crate::comparing::same;
 use crate::turns::shared;
-use drm_device::Device;
+use drm_device::{Device, Shortage};
 use drm_sessions::{Class, NoGate, Witness, serve_witnessed};
 use drm_streams::{FromRead, ToWrite};
 use drm_table::{Answer, Apart, Event, Limits};
 use drm_test_devices::new_device;
-use drm_turns::TurnOut;
+use drm_turns::{Seat, SharedDevice, TurnOut};
 use std::alloc::Global;
 use std::cell::Cell;
 use std::process::Abort;
@@ -40,6 +42,10 @@ fn digit_of(event: &Event) -> u64 {
 }
 
 impl Witness for Told<'_> {
+    fn shortage(&self, _event: &Event) -> Option<&Shortage> {
+        None
+    }
+
     fn copy_of(&self, event: &Event) -> Option<Event> {
         match event {
             Event::Close(_) if !self.all => None,
@@ -59,6 +65,33 @@ impl Witness for Told<'_> {
     }
 }
 
+/// Serves the hello and VERSION, and returns the participant.
+fn serve_once(
+    rt: &impl Wait,
+    alloc: Global,
+    shared: &SharedDevice,
+    participant: Seat,
+    told: Told<'_>,
+) -> Seat
+    requires own { participant.table ≡ shared.now }
+    ensures own { result.table ≡ shared.now }
+{
+    let mut source = FromRead::new(HELLO_VERSION);
+    let mut sink = ToWrite::new(Vec::new(alloc));
+    let served = serve_witnessed(
+        rt,
+        shared,
+        participant,
+        told,
+        &mut NoGate,
+        Class::Card,
+        &mut source,
+        &mut sink,
+        MANY_TURNS,
+    );
+    served.participant
+}
+
 /// Serves the hello and VERSION on a device with this journal limit, twice. Returns what the witness received, and the device.
 fn serve_twice(
     rt: &impl Wait,
@@ -70,26 +103,16 @@ fn serve_twice(
     let Ok((shared, participant)) = shared(alloc, device) else {
         return Err("memory was refused".into());
     };
-    let mut participant = participant;
-    for _ in 0..2 {
-        let mut source = FromRead::new(HELLO_VERSION);
-        let mut sink = ToWrite::new(Vec::new(alloc));
-        let served = serve_witnessed(
-            rt,
-            &shared,
-            participant,
-            Told {
-                digits: &digits,
-                all,
-            },
-            &mut NoGate,
-            Class::Card,
-            &mut source,
-            &mut sink,
-            MANY_TURNS,
-        );
-        participant = served.participant;
-    }
+    let told = Told {
+        digits: &digits,
+        all,
+    };
+    let participant = serve_once(rt, alloc, &shared, participant, told);
+    let again = Told {
+        digits: &digits,
+        all,
+    };
+    let participant = serve_once(rt, alloc, &shared, participant, again);
     Ok((digits.get(), shared.close(participant)))
 }
 

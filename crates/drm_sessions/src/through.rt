@@ -154,9 +154,10 @@ impl<R: Wait, W: Witness + Drop> Access for Through<'_, R, W> {
 
     fn call_at(&mut self, event: Event, outcome: &mut Result<Answer, Apart>) {
         let copy = self.witness.copy_of(&event);
+        let shortage = self.witness.shortage(&event);
         let place = self
             .shared
-            .call_placed(self.rt, &mut self.participant, event, outcome);
+            .call_placed(self.rt, &mut self.participant, event, shortage, outcome);
         if let Some(event) = copy {
             self.witness.tell(event, place, outcome);
         }

@@ -1,8 +1,10 @@
 //! The calls of a session, as a witness receives them.
 
+use drm_device::Shortage;
 use drm_table::{Answer, Apart, Event};
 
-/// Receives the calls of a session with their answers, each after its turn. No contract says what it does with them.
+/// Receives the calls of a session with their answers, each after its turn. It may also make memory short for a call.
+/// No contract says what it does with them, and what is answered keeps its contracts.
 ///
 /// # Examples
 ///
@@ -11,10 +13,13 @@ use drm_table::{Answer, Apart, Event};
 /// use drm_table::{Answer, Event};
 ///
 /// let event = Event::Close(1);
-/// assert!(rt; NoWitness.copy_of(&event).is_none());
+/// assert!(rt; NoWitness.copy_of(&event).is_none() && NoWitness.shortage(&event).is_none());
 /// NoWitness.tell(event, Some(0), &Ok(Answer::Closed));
 /// ```
 pub trait Witness {
+    /// Returns the shortage of memory for the call of an event, or `None` where there is none.
+    fn shortage(&self, event: &Event) -> Option<&Shortage>;
+
     /// Returns a copy of the event of a call, for [`tell`](Witness::tell) after the call. If there is none, the witness
     /// does not receive the call.
     fn copy_of(&self, event: &Event) -> Option<Event>;
@@ -37,6 +42,10 @@ pub trait Witness {
 pub struct NoWitness;
 
 impl Witness for NoWitness {
+    fn shortage(&self, _event: &Event) -> Option<&Shortage> {
+        None
+    }
+
     fn copy_of(&self, _event: &Event) -> Option<Event> {
         None
     }

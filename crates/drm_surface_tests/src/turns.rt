@@ -2,7 +2,7 @@
 
 ghost use Rattle.std.specs.Prelude.{◌≡◌};
 
-use drm_device::Device;
+use drm_device::{Device, Shortage};
 use drm_table::{Answer, Apart, Event};
 use drm_turns::{NoMemory, Note, Seat, SharedDevice, TurnOut};
 use std::alloc::Global;
@@ -31,11 +31,12 @@ pub fn placed<R: Wait>(
     shared: &SharedDevice,
     seat: &mut Seat,
     event: Event,
+    shortage: Option<&Shortage>,
     outcome: &mut Result<Answer, Apart>,
 ) -> Option<u64>
     requires own { seat.old.table ≡ shared.now }
 {
-    shared.call_placed(rt, seat, event, outcome)
+    shared.call_placed(rt, seat, event, shortage, outcome)
 }
 
 /// The call that waits.

@@ -480,7 +480,8 @@ impl SharedDevice {
 
     /// Answers one event as [`call_at`](SharedDevice::call_at) does, and returns the place of its entry in the history,
     /// counted from 0. So it is the entry's place in the device's journal, which begins with what the device had recorded
-    /// before it was shared. A fault has no entry.
+    /// before it was shared. A fault has no entry. Where there is a shortage, memory is refused as
+    /// [`step_short_at`](drm_device::Device::step_short_at) does.
     ///
     /// # Examples
     ///
@@ -498,7 +499,7 @@ impl SharedDevice {
     /// let mut outcome = Err(Apart::Worn);
     /// shared.call_at(&rt, &mut participant, Event::Ask(1, Call::Version), &mut outcome);
     /// let closing = Event::Close(1);
-    /// let place = shared.call_placed(&rt, &mut participant, closing, &mut outcome);
+    /// let place = shared.call_placed(&rt, &mut participant, closing, None, &mut outcome);
     /// assert!(rt; place == Some(2) && outcome == Ok(Answer::Closed));
     /// ```
     pub fn call_placed<R: Wait>(
