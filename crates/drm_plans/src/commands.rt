@@ -67,7 +67,7 @@ fn rule_of(kind: RuleKind, text: &[u8], wanted: Wanted) -> Result<Control, RuleF
 /// ```
 pub fn read_control(line: &[u8]) -> Result<Control, RuleFault> {
     if line.len() > MOST_BYTES {
-        return Err(RuleFault::plain(RuleCause::TooLong));
+        return Err(RuleFault::too_long());
     }
     let (word, rest) = word_of(line, Wanted::Command)?;
     match word {

@@ -129,6 +129,20 @@ fn shown(byte: u8) -> char {
 }
 
 impl RuleFault {
+    /// Returns the fault of a control line that is too long. Does not allocate.
+    ///
+    /// # Examples
+    ///
+    /// ```rust
+    /// use drm_plans::{RuleCause, RuleFault};
+    ///
+    /// let long = RuleFault::too_long();
+    /// assert!(rt; long.cause == RuleCause::TooLong);
+    /// ```
+    pub fn too_long() -> RuleFault {
+        RuleFault::plain(RuleCause::TooLong)
+    }
+
     /// Returns the fault of a word.
     pub(crate) fn of_word(word: &[u8], cause: RuleCause) -> RuleFault {
         let mut text = ArrayString::new();
