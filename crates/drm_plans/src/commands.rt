@@ -39,7 +39,7 @@ fn word_of(text: &[u8], wanted: Wanted) -> Result<(&[u8], &[u8]), RuleFault> {
 /// Returns a fault if a word is left.
 fn end_of(text: &[u8]) -> Result<(), RuleFault> {
     match next_word(text) {
-        Some((word, _)) => Err(RuleFault::of_word(word, RuleCause::TooMuch)),
+        Some((word, _)) => Err(RuleFault::of_word(word, RuleCause::ExtraWord)),
         None => Ok(()),
     }
 }

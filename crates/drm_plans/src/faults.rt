@@ -26,6 +26,8 @@ pub enum Wanted {
     Call,
     /// The number of a client.
     Client,
+    /// The number behind a colon.
+    Number,
     /// What is refused to a call.
     Memory,
     /// The time by which an answer is delayed.
@@ -38,8 +40,9 @@ impl fmt::Display for Wanted {
             Wanted::Command => write!(f, "fail, stall, break, clear or list"),
             Wanted::Call => write!(f, "call"),
             Wanted::Client => write!(f, "client"),
-            Wanted::Memory => write!(f, "=memory"),
-            Wanted::Millis => write!(f, "=MS"),
+            Wanted::Number => write!(f, "number"),
+            Wanted::Memory => write!(f, "`=memory`"),
+            Wanted::Millis => write!(f, "`=MS`"),
         }
     }
 }
@@ -65,7 +68,7 @@ pub enum RuleCause {
     /// The call needs no memory for a row.
     #[error("adds no row")]
     AddsNoRow,
-    /// The word has another byte than a digit, or none.
+    /// The word has another byte than a digit.
     #[error("is no number")]
     NoNumber,
     /// The number is not in its range.
@@ -74,9 +77,9 @@ pub enum RuleCause {
     /// Something else than memory is to be refused.
     #[error("can't be refused: only memory can")]
     NotMemory,
-    /// A part or a word after all that is taken.
-    #[error("is too much")]
-    TooMuch,
+    /// A word after all that a control line takes.
+    #[error("is an extra word")]
+    ExtraWord,
     /// This is missing.
     #[error("missing {0}")]
     Lacks(Wanted),

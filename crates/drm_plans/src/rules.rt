@@ -245,8 +245,11 @@ fn parted(text: &[u8], byte: u8) -> (&[u8], Option<&[u8]>) {
 
 /// Returns the number from 1 to the greatest that a word spells in decimal digits.
 fn number_of(word: &[u8], greatest: u32) -> Result<u32, RuleFault> {
+    if word.is_empty() {
+        return Err(RuleFault::lacks(Wanted::Number));
+    }
     let has_digits_only = word.iter().all(|byte| byte.is_ascii_digit());
-    if word.is_empty() || !has_digits_only {
+    if !has_digits_only {
         return Err(RuleFault::of_word(word, RuleCause::NoNumber));
     }
     match u32_of(word) {
