@@ -428,7 +428,7 @@ struct Planned {
 }
 
 /// Returns the open connections, which are subject to the plan if there is one.
-fn planned(open: OpenConnections, plan: Option<Plan>) -> OpenConnections {
+fn with_plan(open: OpenConnections, plan: Option<Plan>) -> OpenConnections {
     match plan {
         Some(plan) => open.planned_by(plan),
         None => open,
@@ -456,7 +456,7 @@ fn serve_listeners<R: Input + Net + Log + Wait + Threads + Sync>(
         return unwritten(Err(unbegun(ServeFault::NoMemory, task)));
     };
     let Planned { plan, control } = rules;
-    let open = planned(open, plan);
+    let open = with_plan(open, plan);
     if writers.is_none() && control.is_none() {
         return unwritten(serve_open(rt, alloc, task, &open, ends));
     }
