@@ -2,7 +2,7 @@
 use Rattle.std.specs.Prelude.{ℕ, List, ◌++◌, codes, decimal}
 use Rattle.drm_connections.specs.Classes.{class_word}
 use Rattle.drm_commands.specs.declared.faults.Fault.{Fault}
-use Rattle.drm_commands.specs.declared.faults.Fault.TheVariants.{ScriptLine, Read, Write, Turns, Memory, Thread, Turn, CommandLine, Listen, Accept}
+use Rattle.drm_commands.specs.declared.faults.Fault.TheVariants.{ScriptLine, Read, Write, Turns, Memory, Thread, Turn, CommandLine, Listen, Control, Accept}
 use Rattle.drm_listeners.specs.declared.serve_faults.ServeFault.{ServeFault}
 use Rattle.drm_listeners.specs.declared.serve_faults.ServeFault.TheVariants as serving
 
@@ -17,6 +17,7 @@ fault_status Thread = 1
 fault_status Turn = 1
 fault_status CommandLine = 3
 fault_status (Listen class) = 1
+fault_status Control = 1
 fault_status (Accept class) = 1
 
 -- the words of a fault
@@ -30,6 +31,7 @@ fault_words Thread = codes "thread"
 fault_words Turn = codes "turn"
 fault_words CommandLine = codes "command line"
 fault_words (Listen class) = codes "listen " ++ class_word class
+fault_words Control = codes "listen control"
 fault_words (Accept class) = codes "accept " ++ class_word class
 
 -- the line of a fault

@@ -45,6 +45,8 @@ pub enum Fault {
     CommandLine,
     /// The socket of this class could not be bound.
     Listen(Class),
+    /// The socket of control could not be bound.
+    Control,
     /// A connection on the socket of this class could not be accepted.
     Accept(Class),
 }
@@ -135,6 +137,7 @@ fn push_words(text: &mut ArrayString<LINE>, fault: Fault)
         Fault::Turn => text.push_str("turn"),
         Fault::CommandLine => text.push_str("command line"),
         Fault::Listen(class) => push_class(text, "listen ", class),
+        Fault::Control => text.push_str("listen control"),
         Fault::Accept(class) => push_class(text, "accept ", class),
     }
 }
@@ -157,7 +160,7 @@ impl Fault {
             Fault::ScriptLine(_) => 2,
             Fault::CommandLine => 3,
             Fault::Read | Fault::Write | Fault::Turns | Fault::Memory | Fault::Thread => 1,
-            Fault::Turn | Fault::Listen(_) | Fault::Accept(_) => 1,
+            Fault::Turn | Fault::Listen(_) | Fault::Control | Fault::Accept(_) => 1,
         }
     }
 

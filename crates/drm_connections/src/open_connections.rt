@@ -7,6 +7,7 @@ ghost use Rattle.std.specs.Prelude.{◌≤◌};
 use crate::counts::{Counts, MOST_AT_ONCE};
 use crate::notes::Notes;
 use crate::watch::Watch;
+use drm_plans::Plan;
 use libc::net::{POLLHUP, SHUT_RDWR, poll, shutdown};
 use libc::types::pollfd;
 use std::alloc::{AllocError, Global};
@@ -17,10 +18,13 @@ use std::sync::{Condvar, Mutex, Wait};
 /// How many listeners there are.
 const LISTENERS: usize = 3;
 
+/// How many places there are for control: its listener, and a connection.
+const CONTROLS: usize = 2;
+
 /// What a socket on which a thread waits is.
 #[derive(Clone, Copy, PartialEq, Eq)]
 pub enum Role {
-    /// A listener.
+    /// A listener, or a connection of control.
     Listener,
     /// A connection that has not sent its first frame.
     Connection,
@@ -189,10 +193,12 @@ pub struct OpenConnections {
     ended: Option<UnixStream>,
     notes: Notes,
     watch: Option<Watch>,
+    plan: Option<Plan>,
 }
 
 impl OpenConnections {
-    /// Creates a table without open connections. There is room for this many, and for their listeners.
+    /// Creates a table without open connections. There is room for this many, for their listeners and
+    /// for control.
     ///
     /// During shutdown a connection that was closed at the other end takes the place of those that did not arrive yet.
     /// If there is none, their threads are not woken.
@@ -207,8 +213,8 @@ impl OpenConnections {
         OpenConnections::with_room(alloc, connections, ended)
     }
 
-    /// Creates a table without open connections. There is room for [`MOST_AT_ONCE`] connections of each listener, and
-    /// for the listeners.
+    /// Creates a table without open connections. There is room for [`MOST_AT_ONCE`] connections of each listener, for
+    /// the listeners and for control.
     pub fn until_ended(alloc: Global) -> Result<OpenConnections, AllocError> {
         OpenConnections::with_room(alloc, LISTENERS * MOST_AT_ONCE, None)
     }
@@ -220,7 +226,7 @@ impl OpenConnections {
     ) -> Result<OpenConnections, AllocError>
         requires { connections ≤ 1000 }
     {
-        let places = Vec::with_capacity(alloc, connections + LISTENERS)?;
+        let places = Vec::with_capacity(alloc, connections + LISTENERS + CONTROLS)?;
         let notes = Notes::new(alloc)?;
         Ok(OpenConnections {
             places: Mutex::new(Places {
@@ -232,6 +238,7 @@ impl OpenConnections {
             ended,
             notes,
             watch: None,
+            plan: None,
         })
     }
 
@@ -243,6 +250,7 @@ impl OpenConnections {
             ended,
             notes,
             watch: _unused,
+            plan,
         } = self;
         OpenConnections {
             places,
@@ -250,6 +258,27 @@ impl OpenConnections {
             ended,
             notes,
             watch: Some(watch),
+            plan,
+        }
+    }
+
+    /// Returns the same table, whose connections are subject to the rules of this plan.
+    pub fn planned_by(self, plan: Plan) -> OpenConnections {
+        let OpenConnections {
+            places,
+            left,
+            ended,
+            notes,
+            watch,
+            plan: _unused,
+        } = self;
+        OpenConnections {
+            places,
+            left,
+            ended,
+            notes,
+            watch,
+            plan: Some(plan),
         }
     }
 
@@ -287,6 +316,11 @@ impl OpenConnections {
     /// Returns what the connections report their calls to, if there is such a watch.
     pub fn watch(&self) -> Option<&Watch> {
         self.watch.as_ref()
+    }
+
+    /// Returns the rules to which the connections are subject, if there is such a plan.
+    pub fn plan(&self) -> Option<&Plan> {
+        self.plan.as_ref()
     }
 
     /// Returns the allocator that the connections were assigned.

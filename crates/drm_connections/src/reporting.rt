@@ -1,37 +1,88 @@
-//! The reports of a session to the watch of all connections.
+//! The reports of a session to the watch of all connections, and what a plan does to its answers.
 
 use crate::watch::Watch;
+use drm_plans::{Due, Plan};
 use drm_sessions::{Class, Witness};
 use drm_table::{Answer, Apart, Event};
+use libc::net::{SHUT_RDWR, poll, shutdown};
+use libc::types::pollfd;
+use std::os::fd::RawFd;
 use std::sync::Wait;
+use std::sync::atomic::AtomicU32;
 
-/// Reports the calls of a connection of this class to the watch of all connections, if there is one. Without a watch no
-/// event is copied.
+/// Reports the calls of a connection of this class to the watch of all connections, if there is one. Where a plan is
+/// there, it counts them too: an answer may be delayed, or the connection closed. Without both no event is copied.
 #[derive(Drop)]
 pub struct Reporting<'a, R: Wait> {
     rt: &'a R,
     watch: Option<&'a Watch>,
+    plan: Option<&'a Plan>,
     class: Class,
+    socket: RawFd,
 }
 
 impl<'a, R: Wait> Reporting<'a, R> {
-    /// Creates what reports the calls of a connection.
-    pub fn new(rt: &'a R, watch: Option<&'a Watch>, class: Class) -> Reporting<'a, R> {
-        Reporting { rt, watch, class }
+    /// Creates what reports the calls of a connection. The socket is the connection's.
+    pub fn new(
+        rt: &'a R,
+        watch: Option<&'a Watch>,
+        plan: Option<&'a Plan>,
+        class: Class,
+        socket: RawFd,
+    ) -> Reporting<'a, R> {
+        Reporting {
+            rt,
+            watch,
+            plan,
+            class,
+            socket,
+        }
+    }
+
+    /// Counts a call in the plan, if there is one, and returns what is done to its answer.
+    fn due(&self, event: &Event) -> Due {
+        match self.plan {
+            Some(plan) => plan.due(self.rt, event),
+            None => Due::NOTHING,
+        }
+    }
+
+    /// Waits until an answer is due, or the connection is closed.
+    fn wait_for(&self, millis: u16) {
+        let mut asked = [pollfd {
+            fd: self.socket,
+            events: 0,
+            revents: 0,
+        }];
+        poll(&mut asked, i32::from(millis));
     }
 }
 
 impl<R: Wait> Witness for Reporting<'_, R> {
     fn copy_of(&self, event: &Event) -> Option<Event> {
-        match self.watch {
-            Some(_) => event.clone().ok(),
-            None => None,
+        if self.watch.is_none() && self.plan.is_none() {
+            return None;
         }
+        event.clone().ok()
     }
 
     fn tell(&self, event: Event, place: Option<u64>, outcome: &Result<Answer, Apart>) {
+        let due = self.due(&event);
         if let Some(watch) = self.watch {
             watch.report(self.rt, self.class, event, place, outcome);
+        }
+        if let Some(millis) = due.millis {
+            self.wait_for(millis);
+        }
+        if due.breaks {
+            shutdown(self.socket, SHUT_RDWR);
+        }
+    }
+
+    fn shortage(&self, event: &Event) -> Option<&AtomicU32> {
+        match self.plan {
+            Some(plan) => plan.shortage(event),
+            None => None,
         }
     }
 }

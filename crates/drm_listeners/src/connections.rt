@@ -141,7 +141,7 @@ fn serve_attended<R: Wait, D: Gathering>(
     let ahead = Ahead::new(open.alloc(rt));
     let mut source = FromRead::new(Greeting::new(&stream, &ahead, &attendance));
     let mut sink = ToWrite::new(Answering::new(rt, &stream, &ahead, open.notes()));
-    let witness = Reporting::new(rt, open.watch(), class);
+    let witness = Reporting::new(rt, open.watch(), open.plan(), class, stream.as_raw_fd());
     serve_sides(
         rt,
         shared,

@@ -68,11 +68,12 @@ fn ends_of_checks(rt: HostRuntime) {
 
 #[test]
 fn faults_in_words(rt: HostRuntime) {
-    let rows: [(Fault, u8, &str); 10] = [
+    let rows: [(Fault, u8, &str); 11] = [
         (Fault::CommandLine, 3, "fault: command line"),
         (Fault::Listen(Class::Card), 1, "fault: listen card"),
         (Fault::Listen(Class::Render), 1, "fault: listen render"),
         (Fault::Listen(Class::Root), 1, "fault: listen root"),
+        (Fault::Control, 1, "fault: listen control"),
         (
             ServeFault::Accept(Class::Card).into(),
             1,

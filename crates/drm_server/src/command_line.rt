@@ -81,9 +81,12 @@ Exit status:
   2  a line of the topology is malformed
   3  a refused command line
 
+Faults on purpose count from 1 to N, which is 1 where it is left out. CALL is a call's word in a script, or open.
+
 Examples:
   drm_server serve --card card --render render --root root --until-ended --journal steps.script
   drm_server serve --card card --render render --root root --until-ended --trace -
+  drm_server serve --card card --render render --root root --until-ended --fail create_dumb:2=memory --control control
   drm_server serve --card card --render render --root root --cards 2 --until-input-ends --verbose";
 
 /// The number of connections that a server accepts.
@@ -109,6 +112,23 @@ pub(crate) struct Serving<'a> {
     pub(crate) journal: Option<&'a str>,
     /// The file to which each call is written with its answer.
     pub(crate) trace: Option<&'a str>,
+    /// The socket of control.
+    pub(crate) control: Option<&'a str>,
+}
+
+/// The faults on purpose of a command line, by their options.
+#[derive(Debug, PartialEq, Eq, Drop)]
+pub(crate) struct AskedRules<'a> {
+    pub(crate) fails: Vec<&'a str>,
+    pub(crate) stalls: Vec<&'a str>,
+    pub(crate) breaks: Vec<&'a str>,
+}
+
+impl AskedRules<'_> {
+    /// Returns whether there is none.
+    pub(crate) fn is_empty(&self) -> bool {
+        self.fails.is_empty() && self.stalls.is_empty() && self.breaks.is_empty()
+    }
 }
 
 /// A command with its arguments.
@@ -125,7 +145,7 @@ pub(crate) enum Asked<'a> {
     /// To make a script shorter.
     Shrink(Shrinking<'a>),
     /// To serve connections.
-    Serve(Serving<'a>),
+    Serve(Serving<'a>, AskedRules<'a>),
 }
 
 fn path<'a>(alloc: Global, name: &'a str, help: &'a str) -> Arg<'a> {
@@ -192,6 +212,51 @@ fn trace<'a>(alloc: Global) -> Arg<'a> {
         .help(
             "Writes a line for each call and its answer into this file, as it happens; - is standard error",
         )
+}
+
+/// Returns an option that may be there several times.
+fn repeated<'a>(alloc: Global, name: &'a str, value: &'a str, help: &'a str) -> Arg<'a> {
+    Arg::new(alloc, name)
+        .long(name)
+        .value_name(value)
+        .value_parser(ValueParser::NonEmptyString)
+        .action(ArgAction::Append)
+        .help(help)
+}
+
+fn control<'a>(alloc: Global) -> Arg<'a> {
+    Arg::new(alloc, "control")
+        .long("control")
+        .value_name("PATH")
+        .value_parser(ValueParser::NonEmptyString)
+        .help(
+            "A socket that takes commands for faults on purpose: fail, stall, break, clear and list",
+        )
+}
+
+/// Adds the options of faults on purpose.
+fn with_faults<'a>(alloc: Global, command: Command<'a>) -> Result<Command<'a>, Error> {
+    let command = command
+        .arg(repeated(
+            alloc,
+            "fail",
+            "CALL[:N]=memory",
+            "Refuses memory to the Nth such call that would add a row",
+        ))?
+        .arg(repeated(
+            alloc,
+            "stall",
+            "CALL[:N]=MS",
+            "Delays the answer to the Nth such call by 1 to 60000 milliseconds",
+        ))?
+        .arg(repeated(
+            alloc,
+            "break",
+            "CLIENT[:N]",
+            "Closes the connection of this client in place of the answer to its Nth request",
+        ))?
+        .arg(control(alloc))?;
+    Ok(command)
 }
 
 fn check_command<'a>(alloc: Global) -> Result<Command<'a>, Error> {
@@ -332,7 +397,7 @@ fn serve_command<'a>(alloc: Global) -> Result<Command<'a>, Error> {
             "Writes the journal, a script with the expected answers, into this file: a line for each step, as it happens",
         ))?
         .arg(trace(alloc))?;
-    Ok(command)
+    with_faults(alloc, command)
 }
 
 fn run_command<'a>(alloc: Global) -> Result<Command<'a>, Error> {
@@ -407,7 +472,46 @@ fn serving_of<'a>(matches: &ArgMatches<'a>) -> Option<Serving<'a>> {
         device: device_of(matches),
         journal: matches.get_str("journal"),
         trace: matches.get_str("trace"),
+        control: matches.get_str("control"),
     })
+}
+
+/// Returns the values of an option that may be there several times.
+fn values_of<'a>(
+    alloc: Global,
+    matches: &ArgMatches<'a>,
+    name: &str,
+) -> Result<Vec<&'a str>, AllocError> {
+    let mut values = Vec::new(alloc);
+    if let Some(found) = matches.get_strs(name) {
+        for value in found {
+            values.push(*value)?;
+        }
+    }
+    Ok(values)
+}
+
+fn rules_of<'a>(alloc: Global, matches: &ArgMatches<'a>) -> Result<AskedRules<'a>, AllocError> {
+    let fails = values_of(alloc, matches, "fail")?;
+    let stalls = values_of(alloc, matches, "stall")?;
+    let breaks = values_of(alloc, matches, "break")?;
+    Ok(AskedRules {
+        fails,
+        stalls,
+        breaks,
+    })
+}
+
+/// Returns what `serve` asks for.
+fn asked_serving<'a>(
+    alloc: Global,
+    matches: &ArgMatches<'a>,
+) -> Result<Option<Asked<'a>>, AllocError> {
+    let rules = rules_of(alloc, matches)?;
+    match serving_of(matches) {
+        Some(serving) => Ok(Some(Asked::Serve(serving, rules))),
+        None => Ok(None),
+    }
 }
 
 fn explaining_of<'a>(matches: &ArgMatches<'a>) -> Option<Explaining<'a>> {
@@ -460,7 +564,7 @@ pub(crate) fn read_words<'a>(
         Some(("check", found)) => Ok(checking_of(alloc, found)?.map(Asked::Check)),
         Some(("explain", found)) => Ok(explaining_of(found).map(Asked::Explain)),
         Some(("shrink", found)) => Ok(shrinking_of(found).map(Asked::Shrink)),
-        Some(("serve", found)) => Ok(serving_of(found).map(Asked::Serve)),
+        Some(("serve", found)) => Ok(asked_serving(alloc, found)?),
         _ => Ok(None),
     }
 }

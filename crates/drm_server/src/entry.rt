@@ -3,8 +3,9 @@
 ghost use Rattle.std.specs.Prelude.{◌≡◌, true};
 ghost use Rattle.drm_table.specs.Limits.{are_in_range};
 
-use crate::command_line::{Asked, Serving, is_memory, read_words};
+use crate::command_line::{Asked, AskedRules, Serving, is_memory, read_words};
 use crate::listing::{list_audit, outcome_of_listing};
+use crate::planning::plan_of;
 use crate::serving::{Ended, serve_device};
 use crate::standard::open_standard;
 use crate::watching::{TraceTarget, create_target, finish_journal, warn_of_left_out, writers_of};
@@ -68,17 +69,19 @@ fn write_and_list<R: Print + Files + AllocGlobal + Log>(
     Ok(listed)
 }
 
-/// Serves an empty device. The journal and the trace are written meanwhile, if requested. At the end it lists the rows on
+/// Serves an empty device, with these faults on purpose. The journal and the trace are written meanwhile, if requested. At the end it lists the rows on
 /// standard output, also after a fault of a listener.
 fn serve_and_list<R: Input + Print + Files + Net + Env + AllocGlobal + Log + Wait + Threads + Sync>(
     rt: &R,
     alloc: Global,
     serving: Serving<'_>,
+    rules: &AskedRules<'_>,
 ) -> Result<Outcome, Fault>
 where
     R::File: AsRawFd,
 {
     let limits = asked_limits(rt, serving.device.limits)?;
+    let plan = plan_of(rt, alloc, rules, serving.control)?;
     let topology = read_asked(rt, serving.device)?;
     let device = asked_device(rt, alloc, topology.as_ref(), limits)?;
     let read = FilesRead {
@@ -95,7 +98,7 @@ where
         journal.as_ref(),
         trace.as_ref(),
     )?;
-    let ended = serve_device(rt, alloc, device, serving, writers)?;
+    let ended = serve_device(rt, alloc, device, serving, writers, plan)?;
     let files = Written { journal, trace };
     write_and_list(rt, alloc, topology.as_ref(), files, limits, &ended)
 }
@@ -105,11 +108,12 @@ fn serve<R: Input + Print + Files + Net + Env + AllocGlobal + Log + Wait + Threa
     rt: &R,
     alloc: Global,
     serving: Serving<'_>,
+    rules: &AskedRules<'_>,
 ) -> Outcome
 where
     R::File: AsRawFd,
 {
-    match serve_and_list(rt, alloc, serving) {
+    match serve_and_list(rt, alloc, serving, rules) {
         Ok(outcome) => outcome,
         Err(fault) => outcome_of_fault(fault),
     }
@@ -143,7 +147,7 @@ where
         Ok(Some(Asked::Update(checking))) => update(rt, alloc, &checking),
         Ok(Some(Asked::Explain(explaining))) => explain_script(rt, alloc, explaining),
         Ok(Some(Asked::Shrink(shrinking))) => shrink(rt, alloc, shrinking),
-        Ok(Some(Asked::Serve(serving))) => serve(rt, alloc, serving),
+        Ok(Some(Asked::Serve(serving, rules))) => serve(rt, alloc, serving, &rules),
         Ok(None) => outcome_of_fault(Fault::CommandLine),
         Err(error) => stop_at(rt, &error),
     }

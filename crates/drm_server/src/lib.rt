@@ -2,11 +2,13 @@
 #![tactic(auto)]
 
 mod command_line;
+mod controlling;
 mod ending;
 mod entry;
 mod growing_journal;
 mod listing;
 mod outlet;
+mod planning;
 mod serving;
 mod sockets;
 mod standard;

@@ -1,25 +1,27 @@
 //! A device that is served on three sockets.
 
 use crate::command_line::{Accepts, Serving};
+use crate::controlling::control;
 use crate::ending::end_with_input;
 use crate::growing_journal::{GrowingJournal, Growth, grow};
-use crate::sockets::{Listeners, Sockets, bind_all};
+use crate::sockets::{Listeners, Socket, SocketFile, Sockets, bind_all, bind_control};
 use crate::tracing::{Trace, write_trace};
 use drm_commands::Fault;
 use drm_connections::{MOST_AT_ONCE, OpenConnections, PROGRAM, Watch};
 use drm_device::Device;
 use drm_listeners::{ServeFault, Unserved, serve_keeping, serve_until_ended};
+use drm_plans::Plan;
 use log::{Log, error, info};
 use std::alloc::{AllocError, Global};
 use std::net::Net;
-use std::os::unix::net::UnixStream;
+use std::os::unix::net::{UnixListener, UnixStream};
 use std::rt::Files;
 use std::sync::Wait;
 use std::thread;
 use std::thread::{JoinHandle, Scope, Threads};
 
-/// Logs the paths of the sockets, and the number of connections that the server accepts on each.
-fn log_sockets<R: Log>(rt: &R, serving: &Serving<'_>) {
+/// Logs the paths of the clients' sockets, and the number of connections that the server accepts on each.
+fn log_client_sockets<R: Log>(rt: &R, serving: &Serving<'_>) {
     let paths = serving.paths;
     let Accepts::Counted(counts) = serving.accepts else {
         for (name, path) in [
@@ -34,6 +36,14 @@ fn log_sockets<R: Log>(rt: &R, serving: &Serving<'_>) {
     info!(rt; target: PROGRAM, "card: {} accepts {} in all", paths.card, counts.cards);
     info!(rt; target: PROGRAM, "render: {} accepts {} in all", paths.render, counts.renders);
     info!(rt; target: PROGRAM, "root: {} accepts {} in all", paths.root, counts.roots);
+}
+
+/// Logs the paths of the sockets.
+fn log_sockets<R: Log>(rt: &R, serving: &Serving<'_>) {
+    log_client_sockets(rt, serving);
+    if let Some(path) = serving.control {
+        info!(rt; target: PROGRAM, "control: {path}");
+    }
 }
 
 /// A device, and the sockets on which it is served.
@@ -246,6 +256,20 @@ fn start_trace<'s, E: 's, R: Wait + Threads + Sync>(
     }
 }
 
+/// Starts the thread that answers control lines.
+fn start_control<'s, E: 's, R: Wait + Threads + Sync>(
+    scope: &Scope<'s, E>,
+    rt: &'s R,
+    open: &'s OpenConnections,
+    listener: UnixListener,
+) -> Option<JoinHandle<()>> {
+    let thread = scope.spawn(move || control(rt, open, listener));
+    match thread {
+        Ok(thread) => Some(thread),
+        Err(_) => None,
+    }
+}
+
 /// Starts a thread for each of the journal and the trace that there is.
 fn start_writers<'s, E: 's, R: Wait + Threads + Sync>(
     scope: &Scope<'s, E>,
@@ -268,6 +292,15 @@ fn start_writers<'s, E: 's, R: Wait + Threads + Sync>(
         journal,
         trace,
         are_all,
+    }
+}
+
+/// Returns the threads of no writer.
+fn no_writers() -> WriterThreads {
+    WriterThreads {
+        journal: None,
+        trace: None,
+        are_all: true,
     }
 }
 
@@ -303,53 +336,103 @@ fn unwritten(device: Result<Device, Unserved>) -> Served {
     Served { device, written }
 }
 
-/// Serves the connections, next to the threads of the scope that write. If one of these can't be started, nothing is
-/// served.
-fn serve_next_to_writers<'s, E: 's, R: Input + Log + Wait + Threads + Sync>(
+/// What threads do while a device is served.
+#[derive(Drop)]
+struct Jobs {
+    journal: Option<GrowingJournal>,
+    trace: Option<Trace>,
+    /// The listener of control.
+    control: Option<UnixListener>,
+}
+
+/// Serves the connections, next to the threads of the scope that write or answer control lines. If one of these can't be
+/// started, nothing is served.
+fn serve_next_to_jobs<'s, E: 's, R: Input + Log + Wait + Threads + Sync>(
     scope: &Scope<'s, E>,
     rt: &'s R,
     alloc: Global,
     task: Task,
     open: &'s OpenConnections,
     ends: Option<(UnixStream, UnixStream)>,
-    journal: Option<GrowingJournal>,
-    trace: Option<Trace>,
+    jobs: Jobs,
 ) -> Served {
-    let Some(watch) = open.watch() else {
-        return unwritten(serve_open(rt, alloc, task, open, ends));
+    let Jobs {
+        journal,
+        trace,
+        control,
+    } = jobs;
+    let writers = match open.watch() {
+        Some(watch) => start_writers(scope, rt, watch, journal, trace),
+        None => no_writers(),
     };
-    let threads = start_writers(scope, rt, watch, journal, trace);
-    let device = if threads.are_all {
+    let is_controlled = control.is_some();
+    let controller = match control {
+        Some(listener) => start_control(scope, rt, open, listener),
+        None => None,
+    };
+    let device = if writers.are_all && controller.is_some() == is_controlled {
         serve_open(rt, alloc, task, open, ends)
     } else {
         Err(unbegun(ServeFault::NoThread, task))
     };
-    watch.end(rt);
+    if let Some(watch) = open.watch() {
+        watch.end(rt);
+    }
+    if is_controlled {
+        open.end(rt);
+    }
+    joined(rt, controller);
     Served {
         device,
-        written: join_writers(rt, threads),
+        written: join_writers(rt, writers),
     }
 }
 
-/// Serves the connections, which report their calls for what is written meanwhile.
-fn serve_watched<R: Input + Log + Wait + Threads + Sync>(
+/// Serves the connections, which report their calls for what is written meanwhile, next to the thread of control, if there
+/// is one.
+fn serve_with_jobs<R: Input + Log + Wait + Threads + Sync>(
     rt: &R,
     alloc: Global,
     task: Task,
     open: OpenConnections,
     ends: Option<(UnixStream, UnixStream)>,
-    writers: Writers,
+    writers: Option<Writers>,
+    control: Option<UnixListener>,
 ) -> Served {
-    let Writers {
-        watch,
+    let (open, journal, trace) = match writers {
+        Some(
+            Writers {
+                watch,
+                journal,
+                trace,
+            },
+        ) => (open.watched_by(watch), journal, trace),
+        None => (open, None, None),
+    };
+    let jobs = Jobs {
         journal,
         trace,
-    } = writers;
-    let watched = open.watched_by(watch);
-    let open = &watched;
+        control,
+    };
+    let open = &open;
     thread::scope(thread::scope_env(), rt, move |scope| {
-        serve_next_to_writers(scope, rt, alloc, task, open, ends, journal, trace)
+        serve_next_to_jobs(scope, rt, alloc, task, open, ends, jobs)
     })
+}
+
+/// The rules of a server, and the listener of control, if there is one.
+#[derive(Drop)]
+struct Planned {
+    plan: Option<Plan>,
+    control: Option<UnixListener>,
+}
+
+/// Returns the open connections, which are subject to the plan if there is one.
+fn with_plan(open: OpenConnections, plan: Option<Plan>) -> OpenConnections {
+    match plan {
+        Some(plan) => open.planned_by(plan),
+        None => open,
+    }
 }
 
 /// Serves the connections, as the command line says.
@@ -359,6 +442,7 @@ fn serve_listeners<R: Input + Net + Log + Wait + Threads + Sync>(
     task: Task,
     ends_with_input: bool,
     writers: Option<Writers>,
+    rules: Planned,
 ) -> Served {
     let (ended, ends) = if ends_with_input {
         match make_ends(rt) {
@@ -371,10 +455,12 @@ fn serve_listeners<R: Input + Net + Log + Wait + Threads + Sync>(
     let Ok(open) = open_of(alloc, task.accepts, ended) else {
         return unwritten(Err(unbegun(ServeFault::NoMemory, task)));
     };
-    match writers {
-        Some(writers) => serve_watched(rt, alloc, task, open, ends, writers),
-        None => unwritten(serve_open(rt, alloc, task, &open, ends)),
+    let Planned { plan, control } = rules;
+    let open = with_plan(open, plan);
+    if writers.is_none() && control.is_none() {
+        return unwritten(serve_open(rt, alloc, task, &open, ends));
     }
+    serve_with_jobs(rt, alloc, task, open, ends, writers, control)
 }
 
 /// A device that was served, the fault if not all connections were, and what was written meanwhile.
@@ -385,16 +471,31 @@ pub(crate) struct Ended {
     pub(crate) written: WrittenLines,
 }
 
-/// Serves a device on three sockets, whose files are removed at the end.
+/// Binds the socket of control, if there is to be one. Returns its listener, and its file.
+fn control_at<'a, R: Files + Net + Log>(
+    rt: &'a R,
+    path: Option<&'a str>,
+) -> Result<(Option<UnixListener>, Option<SocketFile<'a, R>>), Fault> {
+    let Some(path) = path else {
+        return Ok((None, None));
+    };
+    let Socket { listener, file } = bind_control(rt, path)?;
+    Ok((Some(listener), Some(file)))
+}
+
+/// Serves a device on three sockets, whose files are removed at the end. The plan has the faults on purpose, if there is
+/// one.
 pub(crate) fn serve_device<R: Input + Files + Net + Log + Wait + Threads + Sync>(
     rt: &R,
     alloc: Global,
     device: Device,
     serving: Serving<'_>,
     writers: Option<Writers>,
+    plan: Option<Plan>,
 ) -> Result<Ended, Fault> {
     let Sockets { card, render, root } = bind_all(rt, serving.paths)?;
-    let _files = (card.file, render.file, root.file);
+    let (control, control_file) = control_at(rt, serving.control)?;
+    let _files = (card.file, render.file, root.file, control_file);
     let listeners = Listeners {
         card: card.listener,
         render: render.listener,
@@ -414,6 +515,7 @@ pub(crate) fn serve_device<R: Input + Files + Net + Log + Wait + Threads + Sync>
         task,
         serving.ends_with_input,
         writers,
+        Planned { plan, control },
     );
     match device {
         Ok(device) => Ok(Ended {

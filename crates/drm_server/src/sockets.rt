@@ -81,20 +81,39 @@ pub(crate) struct Socket<'a, R: Files> {
 
 impl<'a, R: Files + Net + Log> Socket<'a, R> {
     /// Binds a socket at a path without a file. If that fails, an existing file is unchanged, and the cause is logged.
-    pub(crate) fn bind(rt: &'a R, path: &'a str, class: Class) -> Result<Socket<'a, R>, Fault>
-        ensures { IfErr result (λ fault. fault ≡ Listen class) }
-    {
+    fn bound(rt: &'a R, path: &'a str) -> Option<Socket<'a, R>> {
         match UnixListener::bind(rt, path) {
             Ok(listener) => {
                 let bound = file_at(rt, path);
                 let file = SocketFile { rt, path, bound };
-                Ok(Socket { listener, file })
+                Some(Socket { listener, file })
             }
             Err(reason) => {
                 tell(rt, path, &reason);
-                Err(Fault::Listen(class))
+                None
             }
         }
+    }
+
+    /// Binds the socket of this class.
+    pub(crate) fn bind(rt: &'a R, path: &'a str, class: Class) -> Result<Socket<'a, R>, Fault>
+        ensures { IfErr result (λ fault. fault ≡ Listen class) }
+    {
+        match Socket::bound(rt, path) {
+            Some(socket) => Ok(socket),
+            None => Err(Fault::Listen(class)),
+        }
+    }
+}
+
+/// Binds the socket of control.
+pub(crate) fn bind_control<'a, R: Files + Net + Log>(
+    rt: &'a R,
+    path: &'a str,
+) -> Result<Socket<'a, R>, Fault> {
+    match Socket::bound(rt, path) {
+        Some(socket) => Ok(socket),
+        None => Err(Fault::Control),
     }
 }
 

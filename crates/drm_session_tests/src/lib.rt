@@ -16,6 +16,8 @@ mod many;
 #[cfg(test)]
 mod mode_frames;
 #[cfg(test)]
+mod plans;
+#[cfg(test)]
 mod sessions;
 #[cfg(test)]
 mod traces;

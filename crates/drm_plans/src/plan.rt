@@ -1,0 +1,372 @@
+//! The rules that are in force, and the calls that they count.
+
+use crate::commands::{Control, put_fault, put_rule, read_control};
+use crate::faults::{RuleCause, RuleFault};
+use crate::rules::{ADDING, Break, Calls, Fail, Rule, Stall};
+use drm_table::Event;
+use std::alloc::{AllocError, Global};
+use std::sync::atomic::{AtomicU32, Ordering};
+use std::sync::{Mutex, Wait};
+
+/// The most rules of a kind that are in force at once (own).
+pub const MOST_RULES: usize = 64;
+
+/// What is done to the answer of a call (own).
+///
+/// # Examples
+///
+/// ```rust
+/// use drm_plans::Due;
+///
+/// assert!(rt; !Due::NOTHING.breaks);
+/// ```
+#[derive(Clone, Copy, Debug, PartialEq, Eq)]
+pub struct Due {
+    /// The delay in milliseconds, if there is one.
+    pub millis: Option<u16>,
+    /// Whether the connection is closed without an answer.
+    pub breaks: bool,
+}
+
+impl Due {
+    /// Nothing is done.
+    pub const NOTHING: Due = Due {
+        millis: None,
+        breaks: false,
+    };
+}
+
+/// The rules that count calls when they are answered.
+#[derive(Drop)]
+struct Counted {
+    stalls: Vec<Stall>,
+    breaks: Vec<Break>,
+}
+
+impl Counted {
+    /// Makes a rule of `stall`, and returns whether there is room.
+    fn add_stall(&mut self, stall: Stall) -> bool {
+        let found = self
+            .stalls
+            .iter()
+            .position(|rule| rule.calls == stall.calls);
+        if let Some(place) = found {
+            if let Some(rule) = self.stalls.get_mut(place) {
+                *rule = stall;
+            }
+            return true;
+        }
+        if self.stalls.len() >= self.stalls.capacity() {
+            return false;
+        }
+        self.stalls.push_reserved(stall);
+        true
+    }
+
+    /// Makes a rule of `break`, and returns whether there is room.
+    fn add_break(&mut self, end: Break) -> bool {
+        let found = self
+            .breaks
+            .iter()
+            .position(|rule| rule.client == end.client);
+        if let Some(place) = found {
+            if let Some(rule) = self.breaks.get_mut(place) {
+                *rule = end;
+            }
+            return true;
+        }
+        if self.breaks.len() >= self.breaks.capacity() {
+            return false;
+        }
+        self.breaks.push_reserved(end);
+        true
+    }
+
+    /// Counts one of these calls. Returns the delay of its answer, if there is one.
+    fn count_call(&mut self, calls: Calls) -> Option<u16> {
+        let place = self.stalls.iter().position(|rule| rule.calls == calls)?;
+        let rule = self.stalls.get_mut(place)?;
+        if rule.nth > 1 {
+            rule.nth -= 1;
+            return None;
+        }
+        let millis = rule.millis;
+        self.stalls.remove(place);
+        Some(millis)
+    }
+
+    /// Counts a request of a client. Returns whether its connection is closed.
+    fn count_request(&mut self, client: u32) -> bool {
+        let Some(place) = self.breaks.iter().position(|rule| rule.client == client) else {
+            return false;
+        };
+        let Some(rule) = self.breaks.get_mut(place) else {
+            return false;
+        };
+        if rule.nth > 1 {
+            rule.nth -= 1;
+            return false;
+        }
+        self.breaks.remove(place);
+        true
+    }
+}
+
+/// The rules that are in force (own). Threads share it: each method locks it for as long as it takes, and never waits for
+/// a client.
+///
+/// # Examples
+///
+/// ```rust
+/// use drm_plans::{Due, Plan};
+/// use drm_table::{Event, Opening};
+///
+/// let alloc = rt.alloc();
+/// let Ok(plan) = Plan::new(alloc) else { return };
+/// assert!(rt; plan.due(&rt, &Event::Open(Opening::Render)) == Due::NOTHING);
+/// ```
+#[derive(Drop)]
+pub struct Plan {
+    /// The numbers of calls up to the one to which memory is refused, in the order of `ADDING`. 0 for no rule.
+    shortages: Vec<AtomicU32>,
+    counted: Mutex<Counted>,
+}
+
+impl Plan {
+    /// Creates a plan without rules. Allocates room for all of them.
+    ///
+    /// # Errors
+    ///
+    /// `AllocError` if memory is refused.
+    ///
+    /// # Examples
+    ///
+    /// ```rust
+    /// use drm_plans::Plan;
+    ///
+    /// let alloc = rt.alloc();
+    /// let Ok(empty) = Plan::new(alloc) else { return };
+    /// let mut text = Vec::new(alloc);
+    /// let Ok(()) = empty.list(&rt, &mut text) else { return };
+    /// assert!(rt; text.is_empty());
+    /// ```
+    pub fn new(alloc: Global) -> Result<Plan, AllocError> {
+        let mut shortages = Vec::with_capacity(alloc, ADDING.len())?;
+        for _ in 0..ADDING.len() {
+            shortages.push(AtomicU32::new(0))?;
+        }
+        let stalls = Vec::with_capacity(alloc, MOST_RULES)?;
+        let breaks = Vec::with_capacity(alloc, MOST_RULES)?;
+        Ok(Plan {
+            shortages,
+            counted: Mutex::new(Counted { stalls, breaks }),
+        })
+    }
+
+    /// Makes a rule, which takes the place of one of the same kind for the same calls or client. Does not allocate.
+    ///
+    /// # Errors
+    ///
+    /// A `RuleFault` if there is no room, or for a rule of `fail` whose calls add no row. Nothing changes then.
+    ///
+    /// # Examples
+    ///
+    /// ```rust
+    /// use drm_plans::{Break, Plan, Rule};
+    /// use drm_table::{Call, Event};
+    ///
+    /// let alloc = rt.alloc();
+    /// let Ok(made) = Plan::new(alloc) else { return };
+    /// let end = Rule::Break(Break { client: 4, nth: 1 });
+    /// assert!(rt; made.add(&rt, end).is_ok());
+    /// assert!(rt; made.due(&rt, &Event::Ask(4, Call::Version)).breaks);
+    /// ```
+    pub fn add<R: Wait>(&self, rt: &R, rule: Rule) -> Result<(), RuleFault> {
+        let has_room = match rule {
+            Rule::Fail(fail) => return self.add_fail(fail),
+            Rule::Stall(stall) => self.counted.lock(rt).add_stall(stall),
+            Rule::Break(end) => self.counted.lock(rt).add_break(end),
+        };
+        if has_room {
+            Ok(())
+        } else {
+            Err(RuleFault::plain(RuleCause::Full))
+        }
+    }
+
+    /// Makes a rule of `fail`.
+    fn add_fail(&self, fail: Fail) -> Result<(), RuleFault> {
+        match self.count_of(fail.calls) {
+            Some(count) => {
+                count.store(u32::from(fail.nth), Ordering::SeqCst);
+                Ok(())
+            }
+            None => Err(RuleFault::of_word(fail.calls.word(), RuleCause::AddsNoRow)),
+        }
+    }
+
+    /// Returns the count of calls that can add a row.
+    fn count_of(&self, calls: Calls) -> Option<&AtomicU32> {
+        self.shortages.get(calls.place()?)
+    }
+
+    /// Forgets all rules. Does not allocate.
+    ///
+    /// # Examples
+    ///
+    /// ```rust
+    /// use drm_plans::{Break, Plan, Rule};
+    /// use drm_table::{Call, Event};
+    ///
+    /// let alloc = rt.alloc();
+    /// let Ok(cleared) = Plan::new(alloc) else { return };
+    /// let gone = Rule::Break(Break { client: 4, nth: 1 });
+    /// assert!(rt; cleared.add(&rt, gone).is_ok());
+    /// cleared.clear(&rt);
+    /// assert!(rt; !cleared.due(&rt, &Event::Ask(4, Call::Version)).breaks);
+    /// ```
+    pub fn clear<R: Wait>(&self, rt: &R) {
+        let mut counted = self.counted.lock(rt);
+        counted.stalls.clear();
+        counted.breaks.clear();
+        for count in self.shortages.iter() {
+            count.store(0, Ordering::SeqCst);
+        }
+    }
+
+    /// Returns the number of calls that add a row up to the one to which memory is refused, for the calls to which the
+    /// event belongs: 0 for no rule. Returns `None` where no rule can be made. Does not allocate.
+    ///
+    /// # Examples
+    ///
+    /// ```rust
+    /// use drm_plans::Plan;
+    /// use drm_table::{Event, Opening};
+    ///
+    /// let alloc = rt.alloc();
+    /// let Ok(short) = Plan::new(alloc) else { return };
+    /// assert!(rt; short.shortage(&Event::Open(Opening::Render)).is_some());
+    /// assert!(rt; short.shortage(&Event::Close(1)).is_none());
+    /// ```
+    pub fn shortage(&self, event: &Event) -> Option<&AtomicU32> {
+        self.count_of(Calls::of_event(event)?)
+    }
+
+    /// Counts a call that is answered, and returns what is done to its answer. Rules of `stall` count openings and
+    /// requests, and those of `break` count requests. Does not allocate.
+    ///
+    /// # Examples
+    ///
+    /// ```rust
+    /// use drm_plans::{Calls, Plan, Rule, Stall};
+    /// use drm_table::{Event, Opening};
+    ///
+    /// let alloc = rt.alloc();
+    /// let Ok(slow) = Plan::new(alloc) else { return };
+    /// let stall = Rule::Stall(Stall { calls: Calls::Openings, nth: 1, millis: 20 });
+    /// assert!(rt; slow.add(&rt, stall).is_ok());
+    /// assert!(rt; slow.due(&rt, &Event::Open(Opening::Render)).millis == Some(20));
+    /// ```
+    pub fn due<R: Wait>(&self, rt: &R, event: &Event) -> Due {
+        let mut counted = self.counted.lock(rt);
+        let millis = match Calls::of_event(event) {
+            Some(calls) => counted.count_call(calls),
+            None => None,
+        };
+        let breaks = match event {
+            Event::Ask(client, _) => counted.count_request(*client),
+            _ => false,
+        };
+        Due { millis, breaks }
+    }
+
+    /// Appends the lines of the rules that refuse memory.
+    fn list_fails(&self, text: &mut Vec<u8>) -> Result<(), AllocError> {
+        for calls in ADDING {
+            let nth = match self.count_of(calls) {
+                Some(count) => count.load(Ordering::SeqCst),
+                None => 0,
+            };
+            if nth > 0 {
+                let nth = u16::try_from(nth).unwrap_or(u16::MAX);
+                put_rule(text, &Rule::Fail(Fail { calls, nth }))?;
+            }
+        }
+        Ok(())
+    }
+
+    /// Appends a line for each rule, as it could be sent again: those of `fail`, of `stall` and of `break`. Allocates what
+    /// it appends.
+    ///
+    /// # Errors
+    ///
+    /// `AllocError` if memory is refused. The text may then end with a part of a line.
+    ///
+    /// # Examples
+    ///
+    /// ```rust
+    /// use drm_plans::{Calls, Fail, Plan, Rule};
+    ///
+    /// let alloc = rt.alloc();
+    /// let Ok(listed) = Plan::new(alloc) else { return };
+    /// let fail = Rule::Fail(Fail { calls: Calls::Openings, nth: 2 });
+    /// assert!(rt; listed.add(&rt, fail).is_ok());
+    /// let mut text = Vec::new(alloc);
+    /// let Ok(()) = listed.list(&rt, &mut text) else { return };
+    /// assert!(rt; text.as_slice() == b"fail open:2=memory\n".as_slice());
+    /// ```
+    pub fn list<R: Wait>(&self, rt: &R, text: &mut Vec<u8>) -> Result<(), AllocError> {
+        self.list_fails(text)?;
+        let counted = self.counted.lock(rt);
+        for stall in counted.stalls.iter() {
+            put_rule(text, &Rule::Stall(*stall))?;
+        }
+        for end in counted.breaks.iter() {
+            put_rule(text, &Rule::Break(*end))?;
+        }
+        Ok(())
+    }
+
+    /// Does what a control line asks for, and appends its answer: `ok`, after the rules where these are listed, or
+    /// `error: ` and the reason. The line is without its end. Allocates what it appends.
+    ///
+    /// # Errors
+    ///
+    /// `AllocError` if memory is refused. The text may then end with a part of the answer.
+    ///
+    /// # Examples
+    ///
+    /// ```rust
+    /// use drm_plans::Plan;
+    ///
+    /// let alloc = rt.alloc();
+    /// let Ok(asked) = Plan::new(alloc) else { return };
+    /// let mut text = Vec::new(alloc);
+    /// let Ok(()) = asked.answer(&rt, b"break 3:2", &mut text) else { return };
+    /// let Ok(()) = asked.answer(&rt, b"list", &mut text) else { return };
+    /// assert!(rt; text.as_slice() == b"ok\nbreak 3:2\nok\n".as_slice());
+    /// ```
+    pub fn answer<R: Wait>(
+        &self,
+        rt: &R,
+        line: &[u8],
+        text: &mut Vec<u8>,
+    ) -> Result<(), AllocError> {
+        let done = match read_control(line) {
+            Ok(Control::Add(rule)) => self.add(rt, rule),
+            Ok(Control::Clear) => {
+                self.clear(rt);
+                Ok(())
+            }
+            Ok(Control::List) => {
+                self.list(rt, text)?;
+                Ok(())
+            }
+            Err(fault) => Err(fault),
+        };
+        match done {
+            Ok(()) => text.extend_from_slice(b"ok\n"),
+            Err(fault) => put_fault(text, &fault),
+        }
+    }
+}

@@ -1,0 +1,145 @@
+//! The control of a server's plan, while it serves.
+
+use drm_connections::{OpenConnections, Role};
+use drm_plans::{MOST_BYTES, Plan, RuleFault, put_fault};
+use libc::net::{POLLHUP, POLLIN, SHUT_RDWR, poll, shutdown};
+use libc::types::pollfd;
+use std::alloc::{AllocError, Global};
+use std::io;
+use std::io::{ErrorKind, Read, Write};
+use std::os::fd::AsRawFd;
+use std::os::unix::net::{UnixListener, UnixStream};
+use std::sync::Wait;
+
+/// How many bytes of control lines are read at once.
+const PIECE: usize = 256;
+
+/// How long the thread waits if the system can't accept a connection, in milliseconds.
+const PAUSE: i32 = 100;
+
+/// The control lines of a connection, and their answers.
+#[derive(Drop)]
+struct Lines<'a> {
+    plan: &'a Plan,
+    /// The bytes of the line that has not ended.
+    line: Vec<u8>,
+    /// The answers that are not written yet.
+    answers: Vec<u8>,
+}
+
+impl<'a> Lines<'a> {
+    fn new(alloc: Global, plan: &'a Plan) -> Result<Lines<'a>, AllocError> {
+        Ok(Lines {
+            plan,
+            line: Vec::with_capacity(alloc, MOST_BYTES)?,
+            answers: Vec::new(alloc),
+        })
+    }
+
+    /// Takes a byte, and answers the line that it ends. Returns whether more are taken: not after a line that is too
+    /// long.
+    fn take<R: Wait>(&mut self, rt: &R, byte: u8) -> Result<bool, AllocError> {
+        if byte == b'\n' {
+            self.plan.answer(rt, &self.line, &mut self.answers)?;
+            self.line.clear();
+            return Ok(true);
+        }
+        if self.line.len() >= MOST_BYTES {
+            put_fault(&mut self.answers, &RuleFault::too_long())?;
+            return Ok(false);
+        }
+        self.line.push(byte)?;
+        Ok(true)
+    }
+
+    /// Takes the bytes of a piece. Returns whether more are taken.
+    fn take_all<R: Wait>(&mut self, rt: &R, piece: &[u8]) -> Result<bool, AllocError> {
+        for byte in piece {
+            if !self.take(rt, *byte)? {
+                return Ok(false);
+            }
+        }
+        Ok(true)
+    }
+
+    /// Reads a piece of a connection, and answers its lines. Returns whether more is read.
+    fn exchange<R: Wait>(&mut self, rt: &R, stream: &UnixStream) -> io::Result<bool> {
+        let mut stream = stream;
+        let mut piece = [0; PIECE];
+        let count = stream.read(&mut piece)?;
+        let Some(read) = piece.get(..count) else {
+            return Ok(false);
+        };
+        let Ok(goes_on) = self.take_all(rt, read) else {
+            return Err(io::Error::from(ErrorKind::OutOfMemory));
+        };
+        stream.write_all(&self.answers)?;
+        self.answers.clear();
+        Ok(goes_on && count > 0)
+    }
+}
+
+/// Reads what a client has sent, so that the connection ends for it as if nothing more had come.
+fn drain<R: Wait>(rt: &R, stream: &UnixStream) {
+    let mut stream = stream;
+    let mut piece = [0; PIECE];
+    for _ in rt.forever() {
+        match stream.read(&mut piece) {
+            Ok(count) if count > 0 => {}
+            _ => return,
+        }
+    }
+}
+
+/// Answers the control lines of a connection until it ends, or all connections were asked to end.
+fn answer<R: Wait>(rt: &R, open: &OpenConnections, plan: &Plan, place: usize, stream: UnixStream) {
+    let _attendance = open.attend(rt, place, stream.as_raw_fd(), Role::Listener);
+    let Ok(mut lines) = Lines::new(open.alloc(rt), plan) else {
+        return;
+    };
+    for _ in rt.forever() {
+        match lines.exchange(rt, &stream) {
+            Ok(true) => {}
+            _ => break,
+        }
+    }
+    shutdown(stream.as_raw_fd(), SHUT_RDWR);
+    drain(rt, &stream);
+}
+
+/// Waits for the next connection, or until the listener is shut.
+fn accept(listener: &UnixListener) -> io::Result<UnixStream> {
+    let mut asked = [pollfd {
+        fd: listener.as_raw_fd(),
+        events: POLLIN,
+        revents: 0,
+    }];
+    poll(&mut asked, -1);
+    if asked[0].revents & POLLHUP != 0 {
+        return Err(io::Error::from(ErrorKind::NotConnected));
+    }
+    let (stream, _) = listener.accept()?;
+    Ok(stream)
+}
+
+/// Answers the control lines of one connection after the other, until all connections are asked to end.
+pub(crate) fn control<R: Wait>(rt: &R, open: &OpenConnections, listener: UnixListener) {
+    let Some(plan) = open.plan() else {
+        return;
+    };
+    let place = open.reserve(rt);
+    let _attendance = open.attend(rt, place, listener.as_raw_fd(), Role::Listener);
+    let next = open.reserve(rt);
+    for _ in rt.forever() {
+        let accepted = accept(&listener);
+        if open.has_ended(rt) {
+            return;
+        }
+        match accepted {
+            Ok(stream) => answer(rt, open, plan, next, stream),
+            Err(_) => {
+                poll(&mut [], PAUSE);
+            }
+        }
+    }
+}

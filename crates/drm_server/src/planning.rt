@@ -1,0 +1,50 @@
+//! The faults on purpose that the command line asks for.
+
+use crate::command_line::AskedRules;
+use drm_commands::Fault;
+use drm_connections::PROGRAM;
+use drm_plans::{Plan, RuleFault, RuleKind, read_rule};
+use log::{Log, error};
+use std::alloc::Global;
+use std::sync::Wait;
+
+/// Makes the rule that a text spells.
+fn add<R: Wait>(rt: &R, plan: &Plan, kind: RuleKind, text: &str) -> Result<(), RuleFault> {
+    plan.add(rt, read_rule(kind, text.as_bytes())?)
+}
+
+/// Makes the rules of an option. One that can't be used is logged.
+fn add_all<R: Log + Wait>(
+    rt: &R,
+    plan: &Plan,
+    kind: RuleKind,
+    option: &str,
+    texts: &[&str],
+) -> Result<(), Fault> {
+    for text in texts {
+        if let Err(fault) = add(rt, plan, kind, text) {
+            error!(rt; target: PROGRAM, "--{option} {text}: {fault}");
+            return Err(Fault::CommandLine);
+        }
+    }
+    Ok(())
+}
+
+/// Returns the plan of the rules of a command line. Returns `None` without a rule, where no control can make one later.
+pub(crate) fn plan_of<R: Log + Wait>(
+    rt: &R,
+    alloc: Global,
+    rules: &AskedRules<'_>,
+    control: Option<&str>,
+) -> Result<Option<Plan>, Fault> {
+    if rules.is_empty() && control.is_none() {
+        return Ok(None);
+    }
+    let Ok(plan) = Plan::new(alloc) else {
+        return Err(Fault::Memory);
+    };
+    add_all(rt, &plan, RuleKind::Fail, "fail", &rules.fails)?;
+    add_all(rt, &plan, RuleKind::Stall, "stall", &rules.stalls)?;
+    add_all(rt, &plan, RuleKind::Break, "break", &rules.breaks)?;
+    Ok(Some(plan))
+}
