@@ -1,6 +1,7 @@
 //! The reports of a session to the watch of all connections, and what a plan does to its answers.
 
 use crate::watch::Watch;
+use drm_device::Shortage;
 use drm_plans::{Due, Plan};
 use drm_sessions::{Class, Witness};
 use drm_table::{Answer, Apart, Event};
@@ -8,7 +9,6 @@ use libc::net::{SHUT_RDWR, poll, shutdown};
 use libc::types::pollfd;
 use std::os::fd::RawFd;
 use std::sync::Wait;
-use std::sync::atomic::AtomicU32;
 
 /// Reports the calls of a connection of this class to the watch of all connections, if there is one. Where a plan is
 /// there, it counts them too: an answer may be delayed, or the connection closed. Without both no event is copied.
@@ -59,6 +59,13 @@ impl<'a, R: Wait> Reporting<'a, R> {
 }
 
 impl<R: Wait> Witness for Reporting<'_, R> {
+    fn shortage(&self, event: &Event) -> Option<&Shortage> {
+        match self.plan {
+            Some(plan) => plan.shortage(event),
+            None => None,
+        }
+    }
+
     fn copy_of(&self, event: &Event) -> Option<Event> {
         if self.watch.is_none() && self.plan.is_none() {
             return None;
@@ -76,13 +83,6 @@ impl<R: Wait> Witness for Reporting<'_, R> {
         }
         if due.breaks {
             shutdown(self.socket, SHUT_RDWR);
-        }
-    }
-
-    fn shortage(&self, event: &Event) -> Option<&AtomicU32> {
-        match self.plan {
-            Some(plan) => plan.shortage(event),
-            None => None,
         }
     }
 }

@@ -3,9 +3,9 @@
 use crate::commands::{Control, put_fault, put_rule, read_control};
 use crate::faults::{RuleCause, RuleFault};
 use crate::rules::{ADDING, Break, Calls, Fail, Rule, Stall};
+use drm_device::Shortage;
 use drm_table::Event;
 use std::alloc::{AllocError, Global};
-use std::sync::atomic::{AtomicU32, Ordering};
 use std::sync::{Mutex, Wait};
 
 /// The most rules of a kind that are in force at once (own).
@@ -127,8 +127,8 @@ impl Counted {
 /// ```
 #[derive(Drop)]
 pub struct Plan {
-    /// The numbers of calls up to the one to which memory is refused, in the order of `ADDING`. 0 for no rule.
-    shortages: Vec<AtomicU32>,
+    /// The shortages of the calls that can add a row, in the order of `ADDING`.
+    shortages: Vec<Shortage>,
     counted: Mutex<Counted>,
 }
 
@@ -153,7 +153,7 @@ impl Plan {
     pub fn new(alloc: Global) -> Result<Plan, AllocError> {
         let mut shortages = Vec::with_capacity(alloc, ADDING.len())?;
         for _ in 0..ADDING.len() {
-            shortages.push(AtomicU32::new(0))?;
+            shortages.push(Shortage::new(0))?;
         }
         let stalls = Vec::with_capacity(alloc, MOST_RULES)?;
         let breaks = Vec::with_capacity(alloc, MOST_RULES)?;
@@ -196,17 +196,17 @@ impl Plan {
 
     /// Makes a rule of `fail`.
     fn add_fail(&self, fail: Fail) -> Result<(), RuleFault> {
-        match self.count_of(fail.calls) {
-            Some(count) => {
-                count.store(u32::from(fail.nth), Ordering::SeqCst);
+        match self.shortage_of(fail.calls) {
+            Some(shortage) => {
+                shortage.set(u64::from(fail.nth));
                 Ok(())
             }
             None => Err(RuleFault::of_word(fail.calls.word(), RuleCause::AddsNoRow)),
         }
     }
 
-    /// Returns the count of calls that can add a row.
-    fn count_of(&self, calls: Calls) -> Option<&AtomicU32> {
+    /// Returns the shortage of calls that can add a row.
+    fn shortage_of(&self, calls: Calls) -> Option<&Shortage> {
         self.shortages.get(calls.place()?)
     }
 
@@ -229,13 +229,13 @@ impl Plan {
         let mut counted = self.counted.lock(rt);
         counted.stalls.clear();
         counted.breaks.clear();
-        for count in self.shortages.iter() {
-            count.store(0, Ordering::SeqCst);
+        for shortage in self.shortages.iter() {
+            shortage.set(0);
         }
     }
 
-    /// Returns the number of calls that add a row up to the one to which memory is refused, for the calls to which the
-    /// event belongs: 0 for no rule. Returns `None` where no rule can be made. Does not allocate.
+    /// Returns the shortage of the calls to which the event belongs. It is over where there is no rule. Returns `None` for
+    /// calls that add no row. Does not allocate.
     ///
     /// # Examples
     ///
@@ -248,8 +248,8 @@ impl Plan {
     /// assert!(rt; short.shortage(&Event::Open(Opening::Render)).is_some());
     /// assert!(rt; short.shortage(&Event::Close(1)).is_none());
     /// ```
-    pub fn shortage(&self, event: &Event) -> Option<&AtomicU32> {
-        self.count_of(Calls::of_event(event)?)
+    pub fn shortage(&self, event: &Event) -> Option<&Shortage> {
+        self.shortage_of(Calls::of_event(event)?)
     }
 
     /// Counts a call that is answered, and returns what is done to its answer. Rules of `stall` count openings and
@@ -283,8 +283,8 @@ impl Plan {
     /// Appends the lines of the rules that refuse memory.
     fn list_fails(&self, text: &mut Vec<u8>) -> Result<(), AllocError> {
         for calls in ADDING {
-            let nth = match self.count_of(calls) {
-                Some(count) => count.load(Ordering::SeqCst),
+            let nth = match self.shortage_of(calls) {
+                Some(shortage) => shortage.left(),
                 None => 0,
             };
             if nth > 0 {

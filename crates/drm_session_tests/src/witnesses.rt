@@ -14,7 +14,6 @@ use std::alloc::Global;
 use std::cell::Cell;
 use std::process::Abort;
 use std::sync::Wait;
-use std::sync::atomic::AtomicU32;
 use std::test::Fail;
 
 /// A hello for a node, and VERSION.
@@ -63,10 +62,6 @@ impl Witness for Told<'_> {
         let digits = self.digits.get().wrapping_mul(100);
         let more = digit_of(&event).wrapping_mul(10).wrapping_add(place);
         self.digits.set(digits.wrapping_add(more));
-    }
-
-    fn shortage(&self, _event: &Event) -> Option<&AtomicU32> {
-        None
     }
 }
 

@@ -2,7 +2,6 @@
 
 use drm_device::Shortage;
 use drm_table::{Answer, Apart, Event};
-use std::sync::atomic::AtomicU32;
 
 /// Receives the calls of a session with their answers, each after its turn. It may also make memory short for a call.
 /// No contract says what it does with them, and what is answered keeps its contracts.
@@ -27,10 +26,6 @@ pub trait Witness {
 
     /// Receives a call with its answer, and the place of its entry in the history, counted from 0. A fault has no entry.
     fn tell(&self, event: Event, place: Option<u64>, outcome: &Result<Answer, Apart>);
-
-    /// Returns the count of calls that add a row up to the one to which memory is refused, or `None` where no such call
-    /// is planned.
-    fn shortage(&self, event: &Event) -> Option<&AtomicU32>;
 }
 
 /// A witness that receives no call.
@@ -56,8 +51,4 @@ impl Witness for NoWitness {
     }
 
     fn tell(&self, _event: Event, _place: Option<u64>, _outcome: &Result<Answer, Apart>) {}
-
-    fn shortage(&self, _event: &Event) -> Option<&AtomicU32> {
-        None
-    }
 }
