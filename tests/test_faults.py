@@ -512,7 +512,8 @@ class FaultsTests(FolderCase):
         program = compile_client("c", "faults.c", self.folder)
         (self.folder / "temporary").mkdir()
         ran = run(program, env={**os.environ, "TMPDIR": str(self.folder / "temporary")})
-        expect_end(ran, 0, "", C_PRINTS)
+        # the server's log is on standard error
+        expect("status and output", (ran.returncode, ran.stdout), (0, C_PRINTS))
         expect("files left", list((self.folder / "temporary").iterdir()), [])
 
     def test_fixture_of_rust(self):
