@@ -228,6 +228,27 @@ class FaultsTests(FolderCase):
                 )
                 expect_well(started)
 
+    def test_plan_is_in_force_before_its_ok(self):
+        """The first call after a plan is refused memory, each time."""
+        with controlled(self.folder) as started, Clients(self.folder) as clients, Control(self.folder) as control:
+            for _ in range(200):
+                expect("a plan", control.ask("fail create_dumb=memory"), "ok\n")
+                clients.expect(f"a create_dumb 64 64 32 -> {NO_MEMORY}")
+            clients.expect(DUMB)
+            expect_well(started)
+
+    def test_one_of_many_calls_is_refused_memory(self):
+        """Eight clients make 800 calls at once, and the 600th of all is refused."""
+        for way in WAYS:
+            with planning(self.folder, way, "fail buf_create:600=memory") as started, contextlib.ExitStack() as opened:
+                clients = [opened.enter_context(connect(self.folder / "card")) for _ in range(8)]
+                with concurrent.futures.ThreadPoolExecutor(len(clients)) as pool:
+                    asked = pool.map(lambda client: [client.ask("buf_create 4096") for _ in range(100)], clients)
+                    answers = [answer for some in asked for answer in some]
+                expect(f"how many are refused, {way}", answers.count(NO_MEMORY), 1)
+                expect("how many are carried out", sum(answer.startswith("buffer ") for answer in answers), 799)
+                expect("the listing", expect_well(started), f"device 0 0 0 {8 + 799 + 8}\n")
+
     def test_openings_without_memory(self):
         """The opening is refused with the fault, and nothing is changed or recorded."""
         for way in WAYS:
@@ -313,6 +334,20 @@ class FaultsTests(FolderCase):
                 seconds, together = timed(ask_all)
             expect("whether each is late", [took >= 2 * LATE for took in seconds], [True] * len(calls))
             expect("whether they waited for each other", together < 4 * LATE, True)
+            expect_well(started)
+
+    def test_answers_behind_a_late_one_keep_their_order(self):
+        """A client sends three requests at once. The answers come in order, none before the late one."""
+        with planning(self.folder, COMMAND_LINE, f"stall get_cap={1000 * LATE:.0f}") as started:
+            with contextlib.closing(connect(self.folder / "card")) as client:
+                client.socket.sendall(b"".join(request_of(call)[0] for call in ("get_cap 5", "version", "get_cap 1")))
+                data, seconds = timed(lambda: client.socket.recv(1))
+                while len(data) < 14 + 18 + 14:
+                    data += client.socket.recv(1024)
+                expect("whether they are late", seconds >= LATE, True)
+                numbers = "0a000000 0310 {}00000000000000".format
+                wanted = numbers("03") + "0e000000 0210 01000000 00000000 00000000" + numbers("01")
+                expect("the answers", data, bytes.fromhex(wanted))
             expect_well(started)
 
     def test_client_that_hangs_up_is_not_waited_for(self):
