@@ -201,8 +201,8 @@ class LintersTests(FolderCase):
         if shutil.which("cargo") is None or run("cargo", "clippy", "--version").returncode != 0:
             raise Skipped("there is no cargo clippy")
         crate = shutil.copytree(CLIENTS / "rust", folder / "crate")
-        for file in ("tests/fixture.rs", "bench/plain.rs"):
-            (crate / file).parent.mkdir()
+        for file in ("tests/fixture.rs", "tests/faults.rs", "bench/plain.rs"):
+            (crate / file).parent.mkdir(exist_ok=True)
             shutil.copy(REPOSITORY / file, crate / file)
         (crate / "bench").rename(crate / "examples")
         environment = {**os.environ, "CARGO_NET_OFFLINE": "true", "CARGO_TARGET_DIR": str(folder / "target")}
@@ -231,7 +231,7 @@ class LintersTests(FolderCase):
 
     def test_programs_of_the_tests_without_warnings(self):
         want_program("cc")
-        for name in ("session", "opening", "closed", "threads", "fixture"):
+        for name in ("session", "opening", "closed", "threads", "fixture", "faults"):
             ran = run("cc", "-std=c99", *WARNINGS, "-fsyntax-only", "-I", CLIENTS / "c", REPOSITORY / f"tests/{name}.c")
             expect(f"what is said of {name}", (ran.returncode, ran.stderr), (0, ""))
 

@@ -152,12 +152,13 @@ class PackagesTests(FolderCase):
         empty.mkdir()
         (empty / "test_lease.py").write_text(shown("python"))
         (empty / "test_asyncio.py").write_text(shown("python", 1))
+        (empty / "test_faults.py").write_text(shown("python", 3))
         # what is found on the path alone has no entry point
         plain = [python, "-m", "pytest", "-q", "-p", "no:cacheprovider"]
         ran = run(*plain, cwd=empty, env=environment)
         if "fixture 'drm_server' not found" in ran.stdout:
             ran = run(*plain, "-p", "zirkoshe.pytest_plugin", cwd=empty, env=environment)
-        expect("what pytest says", (ran.returncode, ran.stdout.splitlines()[-1][:8]), (0, "3 passed"))
+        expect("what pytest says", (ran.returncode, ran.stdout.splitlines()[-1][:8]), (0, "6 passed"))
 
     def test_types_of_the_package(self):
         """A program's types are checked against those of the installed package."""
@@ -308,7 +309,7 @@ def test_buffer(drm_server):
         folder = self.folder
         environment = cargo(folder)
         printed = tried("cargo", "test", "--quiet", "--doc", cwd=copied_crate(folder), env=environment, timeout=300)
-        expect("the examples", "3 passed" in printed, True)
+        expect("the examples", "4 passed" in printed, True)
 
     def test_server_of_a_rust_test(self):
         """It ends when it is dropped, leaves nothing, and says why it can't be had."""

@@ -13,6 +13,12 @@
  * A server has its own empty device and its sockets in a fresh folder. The program is the one that
  * the options name, that of DRM_SERVER_PROGRAM, or `drm_server` of the path. Its standard error is
  * the test's.
+ *
+ * A server with the option `control` takes plans of faults while it runs:
+ *
+ *     options.control = true;
+ *     if (zirkoshe_server_start(&server, &options) == 0)
+ *         zirkoshe_server_fail(&server, "create_dumb", 2);
  */
 #ifndef ZIRKOSHE_DRM_TESTING_H
 #define ZIRKOSHE_DRM_TESTING_H
@@ -35,6 +41,9 @@
 /* The flag of a listening socket in /proc/net/unix. */
 #define ZIRKOSHE_LISTENS 0x10000UL
 #define ZIRKOSHE_MOST_WORDS 24
+/* The sizes of a line for the control socket and of its answer, with their ends. */
+#define ZIRKOSHE_MOST_PLAN 129
+#define ZIRKOSHE_MOST_REASON 256
 
 /* The options of a server. A pointer may be NULL. */
 struct zirkoshe_server_options {
@@ -45,19 +54,22 @@ struct zirkoshe_server_options {
     unsigned cards;       /* how many connections each socket accepts in total, 0 to 64 */
     unsigned renders;     /* if all three are 0: any number, and at most 64 at once */
     unsigned roots;
+    bool control; /* the server takes plans of faults, such as those of zirkoshe_server_fail */
 };
 
 /* The options by default, as an initializer: any number of connections on each socket. */
 /* clang-format off */
-#define ZIRKOSHE_SERVER_DEFAULTS {NULL, NULL, NULL, NULL, 0, 0, 0}
+#define ZIRKOSHE_SERVER_DEFAULTS {NULL, NULL, NULL, NULL, 0, 0, 0, false}
 /* clang-format on */
 
 /* A running server, and the paths of its sockets. */
 struct zirkoshe_server {
     char folder[80];
     char card[100], render[100], root[100];
-    pid_t process; /* -1 if it has ended */
-    int input;     /* the server ends at the end of its standard input */
+    char control[100];                 /* empty without the option `control` */
+    char reason[ZIRKOSHE_MOST_REASON]; /* why the server refused the last plan, otherwise empty */
+    pid_t process;                     /* -1 if it has ended */
+    int input;                         /* the server ends at the end of its standard input */
 };
 
 /* The words of a command line. */
@@ -115,11 +127,12 @@ static inline void zirkoshe_server_command(struct zirkoshe_words *words,
     zirkoshe_add_option(words, "--topology", options->topology);
     zirkoshe_add_option(words, "--limits", options->limits);
     zirkoshe_add_option(words, "--journal", options->journal);
+    zirkoshe_add_option(words, "--control", options->control ? server->control : NULL);
 }
 
 /* Creates the folder, which no other user can read, and the paths of the sockets; 0 or a negative
  * errno. */
-static inline int zirkoshe_server_folder(struct zirkoshe_server *server)
+static inline int zirkoshe_server_folder(struct zirkoshe_server *server, bool has_control)
 {
     const char *parent = getenv("TMPDIR");
     const size_t most = sizeof server->folder;
@@ -133,6 +146,8 @@ static inline int zirkoshe_server_folder(struct zirkoshe_server *server)
     snprintf(server->card, sizeof server->card, "%s/card", server->folder);
     snprintf(server->render, sizeof server->render, "%s/render", server->folder);
     snprintf(server->root, sizeof server->root, "%s/root", server->folder);
+    if (has_control)
+        snprintf(server->control, sizeof server->control, "%s/control", server->folder);
     return 0;
 }
 
@@ -141,6 +156,8 @@ static inline void zirkoshe_server_clean(const struct zirkoshe_server *server)
     unlink(server->card);
     unlink(server->render);
     unlink(server->root);
+    if (server->control[0] != '\0')
+        unlink(server->control);
     rmdir(server->folder);
 }
 
@@ -237,7 +254,8 @@ static inline bool zirkoshe_server_listens(const struct zirkoshe_server *server,
 
     return ((options->cards == 0 && !is_any) || zirkoshe_is_listening(server->card))
            && ((options->renders == 0 && !is_any) || zirkoshe_is_listening(server->render))
-           && ((options->roots == 0 && !is_any) || zirkoshe_is_listening(server->root));
+           && ((options->roots == 0 && !is_any) || zirkoshe_is_listening(server->root))
+           && (!options->control || zirkoshe_is_listening(server->control));
 }
 
 /* Waits until the server listens, and uses up none of its connections; 0 or a negative errno. */
@@ -272,7 +290,7 @@ static inline int zirkoshe_server_start(struct zirkoshe_server *server,
 
     memset(server, 0, sizeof *server);
     server->process = -1;
-    failed = zirkoshe_server_folder(server);
+    failed = zirkoshe_server_folder(server, chosen->control);
     if (failed)
         return failed;
     zirkoshe_server_command(&words, server, chosen);
@@ -285,6 +303,118 @@ static inline int zirkoshe_server_start(struct zirkoshe_server *server,
     if (failed)
         zirkoshe_server_end(server);
     return failed;
+}
+
+/* Plans of faults */
+
+/* Takes a line of at most `size - 1` bytes, without its end; 0 or a negative errno. */
+static inline int zirkoshe_take_line(int fd, char *line, size_t size, int64_t until)
+{
+    size_t length = 0;
+
+    while (length < size - 1) {
+        unsigned char byte;
+        int failed = zirkoshe_take_all(fd, &byte, 1, until, -ECONNRESET);
+
+        if (failed)
+            return failed;
+        if (byte == '\n')
+            break;
+        line[length++] = ZIRKOSHE_CAST(char, byte);
+    }
+    line[length] = '\0';
+    return 0;
+}
+
+/* Sends a line of this length to the control socket, and takes the line that answers it; 0 or a
+ * negative errno. */
+static inline int zirkoshe_ask_control(const char *path, const char *line, size_t length,
+                                       char *answer, size_t size)
+{
+    int64_t until = zirkoshe_now() + ZIRKOSHE_TIMEOUT;
+    const void *bytes = line;
+    int fd = zirkoshe_connect(path, until);
+    int failed;
+
+    if (fd < 0)
+        return fd;
+    failed = zirkoshe_send_all(fd, ZIRKOSHE_CAST(const unsigned char *, bytes), length, until);
+    if (!failed)
+        failed = zirkoshe_take_line(fd, answer, size, until);
+    close(fd);
+    return failed;
+}
+
+/* Sends a line of this length to the server; 0, -EINVAL if the server refuses it, which writes the
+ * `reason`, -EINVAL if it isn't one line of at most 128 bytes, -EOPNOTSUPP if the server was
+ * started without `control`, -ENOTCONN if it has ended, or another negative errno. */
+static inline int zirkoshe_server_plan(struct zirkoshe_server *server, const char *line, int length)
+{
+    static const char refused[] = "error: ";
+    const size_t begin = sizeof refused - 1;
+    char answer[ZIRKOSHE_MOST_REASON];
+    int failed;
+
+    server->reason[0] = '\0';
+    if (server->control[0] == '\0')
+        return -EOPNOTSUPP;
+    if (server->process < 0)
+        return -ENOTCONN;
+    if (length <= 0 || length >= ZIRKOSHE_MOST_PLAN || strchr(line, '\n') != line + length - 1)
+        return -EINVAL;
+    failed = zirkoshe_ask_control(server->control, line, ZIRKOSHE_CAST(size_t, length), answer,
+                                  sizeof answer);
+    if (failed || strcmp(answer, "ok") == 0)
+        return failed;
+    if (strncmp(answer, refused, begin) != 0)
+        return -EPROTO;
+    memcpy(server->reason, answer + begin, strlen(answer + begin) + 1);
+    return -EINVAL;
+}
+
+/* Refuses memory to the nth call from now that would add a row, nth 1 to 65535. The call is a word
+ * of a script, or "open" for openings. It is refused by ZIRKOSHE_APART_NO_MEMORY and changes
+ * nothing. Denied calls, and calls that add no row, are not counted. The plan replaces an earlier
+ * one for this call. Returns what zirkoshe_server_plan returns. */
+static inline int zirkoshe_server_fail(struct zirkoshe_server *server, const char *call,
+                                       unsigned nth)
+{
+    char line[ZIRKOSHE_MOST_PLAN];
+    int length = snprintf(line, sizeof line, "fail %s:%u=memory\n", call, nth);
+
+    return zirkoshe_server_plan(server, line, length);
+}
+
+/* Delays the answer to the nth call from now by 1 to 60000 milliseconds, nth 1 to 65535. The call
+ * is a word of a script, or "open" for openings. It is carried out at once, and other clients are
+ * answered meanwhile. The plan replaces an earlier one for this call. Returns what
+ * zirkoshe_server_plan returns. */
+static inline int zirkoshe_server_stall(struct zirkoshe_server *server, const char *call,
+                                        unsigned nth, unsigned milliseconds)
+{
+    char line[ZIRKOSHE_MOST_PLAN];
+    int length = snprintf(line, sizeof line, "stall %s:%u=%u\n", call, nth, milliseconds);
+
+    return zirkoshe_server_plan(server, line, length);
+}
+
+/* Closes the connection of the client with this number after its nth request from now, nth 1 to
+ * 65535. That request is carried out and not answered. The plan replaces an earlier one for this
+ * client. Returns what zirkoshe_server_plan returns. */
+static inline int zirkoshe_server_break(struct zirkoshe_server *server, uint32_t client,
+                                        unsigned nth)
+{
+    char line[ZIRKOSHE_MOST_PLAN];
+    int length =
+        snprintf(line, sizeof line, "break %lu:%u\n", ZIRKOSHE_CAST(unsigned long, client), nth);
+
+    return zirkoshe_server_plan(server, line, length);
+}
+
+/* Forgets all faults that are planned. Returns what zirkoshe_server_plan returns. */
+static inline int zirkoshe_server_clear_faults(struct zirkoshe_server *server)
+{
+    return zirkoshe_server_plan(server, "clear\n", 6);
 }
 
 #endif

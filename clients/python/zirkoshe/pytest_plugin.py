@@ -11,6 +11,9 @@ mark sets its options:
 
     @pytest.mark.drm_server(cards=2, limits="8 8 8 8 8 8 8 100")
 
+It has a control socket, so that a test plans faults with `drm_server.fail`, `stall` and
+`break_connection`. `@pytest.mark.drm_server(control=False)` leaves it out.
+
 If the test fails, its captured output ends with the requests and answers of the server,
 as a script for `drm_server check` and `drm_server explain`. A server that does not end
 normally is an error of the test.
@@ -49,6 +52,7 @@ def drm_server(request: pytest.FixtureRequest) -> Iterator[Server]:
     """A running server of this test alone."""
     marker = request.node.get_closest_marker("drm_server")
     options = dict(marker.kwargs) if marker is not None else {}
+    options.setdefault("control", True)
     with tempfile.TemporaryDirectory(prefix="drm-journal-") as folder:
         journal = options.setdefault("journal", os.path.join(folder, "journal.script"))
         try:

@@ -13,6 +13,13 @@ listens. At the end of `with` it ends the server: all connections end, `listing`
 what the device still held, and the folder is removed. Each server starts with an empty
 device, so clients, tokens and ids have the same numbers in each test.
 
+With `Server(control=True)` a test plans faults while the server runs: memory that is
+refused (`fail`), answers that are late (`stall`) and connections that break
+(`break_connection`).
+
+    with Server(control=True) as server:
+        server.fail("create_dumb", 2)
+
 The program is the parameter `program`, that of DRM_SERVER_PROGRAM, the one in this
 package if it was installed from a wheel, the one that `drm_server` of this checkout or
 archive would run, or that of a `drm_server` on the path.
@@ -21,13 +28,15 @@ archive would run, or that of a `drm_server` on the path.
 import os
 import pathlib
 import shutil
+import socket
 import subprocess
 import tempfile
 import time
 from types import TracebackType
-from typing import IO, Dict, Iterable, List, Optional, Type
+from typing import IO, Dict, Iterable, List, Optional, Type, Union
 
-from .client import PathLike
+from .aio import AsyncClient
+from .client import Client, PathLike
 
 PACKAGE = pathlib.Path(__file__).resolve().parent
 CLASSES = ("card", "render", "root")
@@ -37,6 +46,10 @@ COUNT = 16
 START_SECONDS = 60.0
 #: A server writes its journal at its end, if it has one.
 STOP_SECONDS = 60.0
+#: The control socket serves one connection at a time, so a command waits for others.
+CONTROL_SECONDS = 30.0
+#: How the control socket's answer to a line begins that it refuses.
+REFUSED = "error: "
 #: The greatest length of a socket's path.
 MOST_PATH = 107
 #: The flag of a listening socket in /proc/net/unix.
@@ -44,7 +57,10 @@ LISTENS = 0x10000
 
 
 class ServerError(Exception):
-    """The server cannot be found, does not start, or does not end normally."""
+    """The server cannot be found, does not start, or does not end normally.
+
+    It is also raised for a fault that the server does not plan, with the reason.
+    """
 
 
 def find_program() -> str:
@@ -107,7 +123,9 @@ class Server:
     total, 0 to 64, and the other sockets accept 16. `topology` is a file, and `limits`
     the eight numbers of a script's limits line. With `journal` the server writes the
     requests and answers to that file at its end, as a script for `drm_server check` and
-    `drm_server explain`.
+    `drm_server explain`. With `control` it takes plans of faults: see `fail`, `stall`
+    and `break_connection`. The path of the socket for that is `control`, otherwise
+    `control` is None.
     """
 
     def __init__(
@@ -120,6 +138,7 @@ class Server:
         topology: Optional[PathLike] = None,
         limits: Optional[str] = None,
         journal: Optional[PathLike] = None,
+        control: bool = False,
     ) -> None:
         self.listing = ""
         self.status: Optional[int] = None
@@ -127,14 +146,21 @@ class Server:
         self._log: Optional[IO[bytes]] = None
         self._process: "Optional[subprocess.Popen[bytes]]" = None
         self.card, self.render, self.root = map(self._path, CLASSES)
+        self.control = self._path("control") if control else None
         counts = _counts_of(cards, renders, roots)
-        named = {"topology": topology, "limits": limits, "journal": journal}
+        named = {
+            "topology": topology,
+            "limits": limits,
+            "journal": journal,
+            "control": self.control,
+        }
         options = {name: value for name, value in named.items() if value is not None}
+        served = [self._path(name) for name in CLASSES if counts.get(name) != 0]
+        if self.control is not None:
+            served.append(self.control)
         try:
             self._start(program, counts, options)
-            self._wait_until_it_listens(
-                self._path(name) for name in CLASSES if counts.get(name) != 0
-            )
+            self._wait_until_it_listens(served)
         except BaseException:
             self._kill()
             self._clean()
@@ -188,6 +214,60 @@ class Server:
         del variables["DRM_SERVER_RENDER"]
         return variables
 
+    def fail(self, call: str, nth: int = 1) -> None:
+        """Refuses memory to the nth call from now that would add a row.
+
+        `call` is its word in a script, or `open` for openings, and `nth` 1 to 65535.
+        The call raises `Apart` with fault 51, and changes nothing. Denied calls, and
+        calls that add no row, are not counted. The plan replaces an earlier one for
+        this call. Raises `ServerError` if the server refuses it.
+        """
+        self._plan(f"fail {call}:{nth:d}=memory")
+
+    def stall(self, call: str, *, milliseconds: int, nth: int = 1) -> None:
+        """Delays the answer to the nth call from now by 1 to 60000 milliseconds.
+
+        `call` is its word in a script, or `open` for openings, and `nth` 1 to 65535.
+        The call itself is carried out at once, and other clients are answered
+        meanwhile. The plan replaces an earlier one for this call. Raises `ServerError`
+        if the server refuses it.
+        """
+        self._plan(f"stall {call}:{nth:d}={milliseconds:d}")
+
+    def break_connection(
+        self, client: Union[int, Client, AsyncClient], nth: int = 1
+    ) -> None:
+        """Closes a client's connection after its nth request from now, 1 to 65535.
+
+        That request is carried out and not answered. `client` is an open client, or a
+        client's number. The plan replaces an earlier one for this client. Raises
+        `ServerError` if the server refuses it.
+        """
+        number = client if isinstance(client, int) else client.opened.client
+        self._plan(f"break {number:d}:{nth:d}")
+
+    def clear_faults(self) -> None:
+        """Forgets all faults that are planned."""
+        self._plan("clear")
+
+    def planned_faults(self) -> List[str]:
+        """Returns the faults to come, each as a line with the count that is left.
+
+        An example is `fail create_dumb:2=memory`.
+        """
+        return self._plan("list")
+
+    def _plan(self, line: str) -> List[str]:
+        """Sends a line to the control socket, and returns what is before its `ok`."""
+        if self.control is None:
+            raise ServerError(
+                "the server takes no plans of faults: start it with "
+                "Server(control=True)"
+            )
+        if self._process is None:
+            raise ServerError("the server has ended")
+        return ask_control(self.control, line)
+
     def end(self) -> str:
         """Ends the server, and returns its listing. A second time it does nothing.
 
@@ -230,7 +310,7 @@ class Server:
         counts: Dict[str, int],
         options: Dict[str, PathLike],
     ) -> None:
-        if len(os.fsencode(self.render)) > MOST_PATH:
+        if len(os.fsencode(self.control or self.render)) > MOST_PATH:
             raise ServerError(
                 f"the path {self.folder} is too long for sockets: set TMPDIR to a "
                 "shorter path"
@@ -300,6 +380,38 @@ def _counts_of(*counts: Optional[int]) -> Dict[str, int]:
         return {}
     chosen = (COUNT if count is None else count for count in counts)
     return dict(zip(CLASSES, chosen))
+
+
+def ask_control(path: str, line: str) -> List[str]:
+    """Sends a line to a control socket, and returns the lines before its `ok`.
+
+    Raises `ServerError` with the server's reason if the server refuses the line.
+    """
+    if "\n" in line:
+        raise ServerError(f"{line!r} is more than one line")
+    try:
+        with socket.socket(socket.AF_UNIX) as control:
+            control.settimeout(CONTROL_SECONDS)
+            control.connect(path)
+            control.sendall(line.encode() + b"\n")
+            with control.makefile(encoding="utf-8", errors="replace") as answers:
+                return _told_before_ok(answers)
+    except OSError as error:
+        reason = error.strerror or error
+        raise ServerError(f"the control socket {path} failed: {reason}") from error
+
+
+def _told_before_ok(answers: Iterable[str]) -> List[str]:
+    """Returns the lines of an answer before its `ok`."""
+    told: List[str] = []
+    for answer in answers:
+        text = answer.rstrip("\n")
+        if text == "ok":
+            return told
+        if text.startswith(REFUSED):
+            raise ServerError(text[len(REFUSED) :])
+        told.append(text)
+    raise ServerError("the server closed the control connection without an answer")
 
 
 def listening() -> List[bytes]:

@@ -26,6 +26,7 @@
 
 mod client;
 mod constants;
+mod control;
 mod error;
 mod frames;
 mod ids;

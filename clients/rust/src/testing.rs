@@ -12,6 +12,24 @@
 //! # Ok(())
 //! # }
 //! ```
+//!
+//! With [`ServerBuilder::control`] a test plans faults while the server runs: memory that is
+//! refused, answers that are late, and connections that break.
+//!
+//! ```
+//! use drm_client::{testing::Server, Client, Error, Fault};
+//!
+//! # fn main() -> Result<(), Box<dyn std::error::Error>> {
+//! let server = Server::builder().control().start()?;
+//! let mut client = Client::open(server.card())?;
+//! server.fail("create_dumb", 2)?;
+//! client.create_dumb(64, 64, 32)?;
+//! let refused = client.create_dumb(64, 64, 32);
+//! assert!(matches!(refused, Err(Error::Fault(Fault::NoMemory))));
+//! client.create_dumb(64, 64, 32)?;
+//! # Ok(())
+//! # }
+//! ```
 
 use std::collections::HashSet;
 use std::env;
@@ -25,6 +43,8 @@ use std::process::{self, Child, Command, Stdio};
 use std::sync::atomic::{AtomicUsize, Ordering};
 use std::thread;
 use std::time::{Duration, Instant};
+
+use super::control;
 
 /// The classes of sockets.
 const CLASSES: [&str; 3] = ["card", "render", "root"];
@@ -45,6 +65,8 @@ pub struct ServerBuilder {
     /// Without counts, a server accepts any number of connections.
     counts: Option<[u32; 3]>,
     options: Vec<(&'static str, OsString)>,
+    /// Whether the server has a control socket.
+    control: bool,
 }
 
 impl ServerBuilder {
@@ -97,6 +119,13 @@ impl ServerBuilder {
         self
     }
 
+    /// Lets the server take plans of faults: those of [`Server::fail`], [`Server::stall`] and
+    /// [`Server::break_connection`].
+    pub fn control(mut self) -> ServerBuilder {
+        self.control = true;
+        self
+    }
+
     /// Starts the server, and waits until it listens.
     ///
     /// # Errors
@@ -105,8 +134,9 @@ impl ServerBuilder {
     /// text says why.
     pub fn start(self) -> io::Result<Server> {
         let program = self.program.clone().map_or_else(find_program, Ok)?;
-        let mut server = Server::new(make_folder()?);
-        if server.render().as_os_str().len() > MOST_PATH {
+        let mut server = Server::new(make_folder()?, self.control);
+        let longest = server.control.as_deref().unwrap_or(server.render());
+        if longest.as_os_str().len() > MOST_PATH {
             let text = format!(
                 "the path {} is too long for sockets: set TMPDIR to a shorter path",
                 server.folder.display()
@@ -132,6 +162,9 @@ impl ServerBuilder {
         for (name, value) in &self.options {
             command.arg(format!("--{name}")).arg(value);
         }
+        if let Some(path) = &server.control {
+            command.arg("--control").arg(path);
+        }
         let log = File::create(server.folder.join("log"))?;
         command
             .stdin(Stdio::piped())
@@ -148,6 +181,8 @@ impl ServerBuilder {
 pub struct Server {
     folder: PathBuf,
     paths: [PathBuf; 3],
+    /// The path of the control socket, if there is one.
+    control: Option<PathBuf>,
     process: Option<Child>,
 }
 
@@ -158,6 +193,7 @@ impl Server {
             program: None,
             counts: None,
             options: Vec::new(),
+            control: false,
         }
     }
 
@@ -195,6 +231,78 @@ impl Server {
         ]
     }
 
+    /// Refuses memory to the `nth` call from now that would add a row, from 1.
+    ///
+    /// `call` is its word in a script, or `open` for openings. The call is answered with
+    /// [`Fault::NoMemory`](super::Fault::NoMemory) and changes nothing. Denied calls, and calls
+    /// that add no row, are not counted. The plan replaces an earlier one for this call.
+    ///
+    /// # Errors
+    ///
+    /// `InvalidInput` with the server's reason if it refuses the plan, `Unsupported` if it was
+    /// started without [`ServerBuilder::control`], and other errors if it does not answer.
+    pub fn fail(&self, call: &str, nth: u16) -> io::Result<()> {
+        self.plan(&format!("fail {call}:{nth}=memory")).map(drop)
+    }
+
+    /// Delays the answer to the `nth` call from now, from 1, by 1 millisecond to 60 seconds.
+    ///
+    /// `call` is its word in a script, or `open` for openings. The call itself is carried out at
+    /// once, and other clients are answered meanwhile. `delay` is rounded up to milliseconds. The
+    /// plan replaces an earlier one for this call.
+    ///
+    /// # Errors
+    ///
+    /// Those of [`Server::fail`].
+    pub fn stall(&self, call: &str, nth: u16, delay: Duration) -> io::Result<()> {
+        let milliseconds = delay.as_nanos().div_ceil(1_000_000);
+        self.plan(&format!("stall {call}:{nth}={milliseconds}"))
+            .map(drop)
+    }
+
+    /// Closes the connection of a client after its `nth` request from now, from 1.
+    ///
+    /// That request is carried out and not answered. `client` is the
+    /// [`number`](super::Client::number) of the client. The plan replaces an earlier one for this
+    /// client.
+    ///
+    /// # Errors
+    ///
+    /// Those of [`Server::fail`].
+    pub fn break_connection(&self, client: u32, nth: u16) -> io::Result<()> {
+        self.plan(&format!("break {client}:{nth}")).map(drop)
+    }
+
+    /// Forgets all faults that are planned.
+    ///
+    /// # Errors
+    ///
+    /// Those of [`Server::fail`].
+    pub fn clear_faults(&self) -> io::Result<()> {
+        self.plan("clear").map(drop)
+    }
+
+    /// Returns the faults to come, each as a line with the count that is left, such as
+    /// `fail create_dumb:2=memory`.
+    ///
+    /// # Errors
+    ///
+    /// Those of [`Server::fail`].
+    pub fn planned_faults(&self) -> io::Result<Vec<String>> {
+        self.plan("list")
+    }
+
+    /// Sends a line to the control socket, and returns the lines before its `ok`.
+    fn plan(&self, line: &str) -> io::Result<Vec<String>> {
+        match &self.control {
+            Some(path) => control::ask(path, line),
+            None => Err(io::Error::new(
+                ErrorKind::Unsupported,
+                "the server takes no plans of faults: start it with Server::builder().control()",
+            )),
+        }
+    }
+
     /// Ends the server, and returns the listing of what the device still held.
     ///
     /// # Errors
@@ -215,9 +323,10 @@ impl Server {
         }
     }
 
-    fn new(folder: PathBuf) -> Server {
+    fn new(folder: PathBuf, has_control: bool) -> Server {
         let paths = CLASSES.map(|class| folder.join(class));
         Server {
+            control: has_control.then(|| folder.join("control")),
             folder,
             paths,
             process: None,
@@ -232,7 +341,8 @@ impl Server {
             .iter()
             .zip(counts)
             .filter(|&(_, count)| count > 0);
-        let expected: Vec<PathBuf> = served.map(|(path, _)| path.clone()).collect();
+        let paths = served.map(|(path, _)| path).chain(&self.control);
+        let expected: Vec<PathBuf> = paths.cloned().collect();
         loop {
             let listening = listening()?;
             if expected.iter().all(|path| listening.contains(path)) {
