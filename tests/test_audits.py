@@ -207,11 +207,11 @@ def answer_of(url, path="", **headers):
 
 
 def next_live(lines):
-    """What a page is told next."""
+    """Returns what a page receives next."""
     for line in lines:
         if line.startswith(b"data: "):
             return json.loads(line[len(b"data: ") :])
-    raise AssertionError("nothing more is told")
+    raise AssertionError("nothing more is received")
 
 
 def free_port():

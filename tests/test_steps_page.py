@@ -558,7 +558,7 @@ class StepsPageTests(FolderCase):
 
 
 def next_news(lines):
-    """What a page is told next."""
+    """Returns what a page receives next."""
     for line in lines:
         if line.startswith(b"data: "):
             return json.loads(line[len(b"data: ") :])

@@ -56,7 +56,7 @@ def ask_often(path, calls):
 
 
 def ask_at_once(folder, clients, calls):
-    """As many clients at once, which each make so many calls. Returns the number of steps."""
+    """Runs clients at once that each make this number of calls. Returns the number of steps."""
     threads = [
         threading.Thread(target=ask_often, args=(folder / CLASSES[number % 3], calls)) for number in range(clients)
     ]
@@ -244,7 +244,7 @@ class TracesTests(FolderCase):
             expect("the first line", parts_of(lines[0])[1], "1")
 
     def test_reader_that_goes(self):
-        """A trace whose reader has gone is written no further. All else goes on."""
+        """A trace whose reader closed it is written no further. All else goes on."""
         folder = self.folder
         pipe = folder / "pipe"
         os.mkfifo(pipe)

@@ -450,7 +450,7 @@ class Journal:
             return bisect.bisect_right(self._matching(chosen), row) - 1
 
     def row_of(self, number: int) -> int:
-        """Returns the row of a step, or the last one if there are not so many."""
+        """Returns the row of a step, or the last one if there are fewer."""
         with self.turn:
             row = bisect.bisect_left(self._table.numbers, number)
             return min(row, len(self._table) - 1)

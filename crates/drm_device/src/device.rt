@@ -251,7 +251,7 @@ impl Device {
         }
     }
 
-    /// Answers an event with memory refused, and then with memory if that was what it lacked, unless the shortage ends with it.
+    /// Answers an event with memory refused. If it needed memory, it is answered again with memory, unless the shortage ends with it.
     fn step_in_shortage(
         &mut self,
         event: Event,

@@ -25,7 +25,7 @@ IsShown history c rows one = (o : ℕ) → Has history c one.handle o → is_sho
 abbrev pub IsBelow : ℕ → HandleRow → Type 0
 IsBelow h row = row.handle < h
 
--- the rows of the first handles, so many
+-- the rows of a number of first handles
 pub record AreRows (history : List AnsweredEvent) (c : ℕ) (held : List Held) (n : ℕ) (rows : List HandleRow) : Type 0 where
   pub rising : InOrder (λ (x y : HandleRow). x.handle < y.handle) rows
   pub below : (k : ℕ) (d : Held) → n ≤ k → k < length held → AllByRecursion (IsBelow (get_or held k d).handle) rows

@@ -29,7 +29,7 @@ use Rattle.drm_rights.specs.declared.notes.MasterState.{MasterState}
 use Rattle.drm_explanations.specs.Rows.{is_step}
 use Rattle.drm_explanations.specs.declared.rows.At.{At}
 
--- a number is that of one of so many steps
+-- a number is at least 1 and at most the number of steps
 abbrev pub IsStep : ℕ → ℕ → Type 0
 IsStep count n = (0 < n) × (n ≤ count)
 

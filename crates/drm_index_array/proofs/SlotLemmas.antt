@@ -38,7 +38,7 @@ covered height q =
 pub rest_in_range : (height q : ℕ) → q % width height < width height
 rest_in_range height q = mod-lt q (pow_pos (6 * height))
 
--- An index is in the slot that the low digits of its division by the slot's width tell, whatever lies above the node.
+-- The slot of an index is given by the low digits of its quotient by the slot's width, whatever lies above the node.
 module _ (height q : ℕ) where
   whole : (q / span height * 64 + q % span height / width height) * width height + q % span height % width height ≡ q
   whole =

@@ -50,7 +50,7 @@ master-put notes note d =
     (find-newest (λ (s : MasterState). d == s.client) notes note)
     ∙ then-if (d == note.client) note (master_state_of notes d)
 
--- the notes tell what a master state tells of clients
+-- the notes have what a master state has of clients
 pub record Stands (notes : List MasterState) (is_master : ℕ → Bool) (master : ℕ → Option ℕ) : Type 0 where
   pub are_masters : (c : ℕ) → is_master_noted notes c ≡ is_master c
   pub masters : (c : ℕ) → master_noted notes c ≡ master c

@@ -163,7 +163,7 @@ lease_fits (step ∷ past) m l e = by (effect step) (λ k. fits_still step past 
 lessor_up : (past : List AnsweredEvent) (m : ℕ) (l : Lease) → Fits past m l → UpTo (length past) l.lessor
 lessor_up past m l f k e = let less = f.lessor k e in let born = f.born in omega (arith, less, born)
 
--- a noted lease tells the lessor
+-- a noted lease has its lessor
 lease_lessor : (past : List AnsweredEvent) (m : ℕ) (l : Lease) → lease_at (leases_in past) m ≡ Some l
     → l.lessor ≡ lessor_in past m
 lease_lessor past m l e =

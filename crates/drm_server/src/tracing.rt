@@ -24,7 +24,7 @@ pub(crate) struct Trace {
     has_stopped: bool,
 }
 
-/// Returns whether a fault came after this time.
+/// Returns whether a fault is later than this time.
 fn is_later(fault: &WatchedFault, until: Option<Duration>) -> bool {
     match until {
         Some(until) => fault.call.since > until,
