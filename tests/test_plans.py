@@ -189,7 +189,7 @@ class PlansTests(FolderCase):
         expect("the listing", (ran.returncode, ran.stdout), (0, "device 0 0 0 12\n"))
 
     def test_control_lines(self):
-        """Rules are in force once they are made, can be listed and forgotten, and are listed with what is left of their counts."""
+        """Rules are in force once they are made. They are listed with what is left of their counts, and forgotten."""
         with lasting_server(self.folder, "--fail", "addfb:7=memory", "--control", str(self.control())) as started:
             with Control(self.control()) as control:
                 expect("the rule of the option", control.ask("list"), "fail addfb:7=memory\n" + OK)

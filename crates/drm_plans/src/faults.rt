@@ -26,7 +26,7 @@ pub enum Wanted {
     Call,
     /// The number of a client.
     Client,
-    /// The number behind a colon.
+    /// The number after a colon.
     Number,
     /// What is refused to a call.
     Memory,

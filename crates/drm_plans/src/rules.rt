@@ -49,7 +49,7 @@ pub(crate) const ADDING: [Calls; 11] = [
 ];
 
 impl Calls {
-    /// Returns the calls that a word stands for: a call's word in a script, or `open`. Returns `None` for another word.
+    /// Returns the calls that a word names: a call's word in a script, or `open`. Returns `None` for another word.
     /// Does not allocate.
     ///
     /// # Examples
@@ -232,7 +232,7 @@ pub enum RuleKind {
     Break,
 }
 
-/// Returns the text before the first of these bytes, and the text behind it, if there is one.
+/// Returns the text before the first of these bytes, and the text after it, if there is one.
 fn parted(text: &[u8], byte: u8) -> (&[u8], Option<&[u8]>) {
     let Some(place) = text.iter().position(|found| *found == byte) else {
         return (text, None);
@@ -275,7 +275,7 @@ fn nth_of(word: Option<&[u8]>) -> Result<u16, RuleFault> {
     }
 }
 
-/// Returns the calls that a word stands for.
+/// Returns the calls that a word names.
 fn calls_of(word: &[u8]) -> Result<Calls, RuleFault> {
     if word.is_empty() {
         return Err(RuleFault::lacks(Wanted::Call));

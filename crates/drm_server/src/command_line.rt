@@ -81,7 +81,8 @@ Exit status:
   2  a line of the topology is malformed
   3  a refused command line
 
-In a RULE, CALL is a call's word in a script, or open. N is 1 if it is left out. A rule is carried out once. Each option of a rule may be there several times.
+In a RULE, CALL is a call's word in a script, or open. N is 1 if it is left out. A rule is carried out once.
+Each option of a RULE may be there several times.
 
 Examples:
   drm_server serve --card card --render render --root root --until-ended --journal steps.script

@@ -345,8 +345,8 @@ struct Jobs {
     control: Option<UnixListener>,
 }
 
-/// Serves the connections, next to the threads of the scope that write or answer control lines. If one of these can't be
-/// started, nothing is served.
+/// Serves the connections, next to the threads of the scope that write or answer control lines. If one of these can't
+/// be started, nothing is served.
 fn serve_next_to_jobs<'s, E: 's, R: Input + Log + Wait + Threads + Sync>(
     scope: &Scope<'s, E>,
     rt: &'s R,
@@ -388,8 +388,8 @@ fn serve_next_to_jobs<'s, E: 's, R: Input + Log + Wait + Threads + Sync>(
     }
 }
 
-/// Serves the connections, which report their calls for what is written meanwhile, next to the thread of control, if there
-/// is one.
+/// Serves the connections, which report their calls for what is written meanwhile, next to the thread of control, if
+/// there is one.
 fn serve_with_jobs<R: Input + Log + Wait + Threads + Sync>(
     rt: &R,
     alloc: Global,
@@ -483,8 +483,8 @@ fn control_at<'a, R: Files + Net + Log>(
     Ok((Some(listener), Some(file)))
 }
 
-/// Serves a device on three sockets, whose files are removed at the end. The plan has the faults on purpose, if there is
-/// one.
+/// Serves a device on three sockets, whose files are removed at the end. The plan has the faults on purpose, if there
+/// is one.
 pub(crate) fn serve_device<R: Input + Files + Net + Log + Wait + Threads + Sync>(
     rt: &R,
     alloc: Global,
