@@ -86,8 +86,8 @@ pub fn read_control(line: &[u8]) -> Result<Control, RuleFault> {
     }
 }
 
-/// Appends the answer to a control line that can't be used: `error: ` and the reason, with the end of the line. Allocates
-/// what it appends.
+/// Appends the answer to a control line that can't be used: `error: ` and the reason, with the end of the line.
+/// Allocates what it appends.
 ///
 /// # Errors
 ///

@@ -112,8 +112,8 @@ impl Counted {
     }
 }
 
-/// The rules that are in force (own). Threads share it: each method locks it for as long as it takes, and never waits for
-/// a client.
+/// The rules that are in force (own). Threads share it: each method locks it for as long as it takes, and never waits
+/// for a client.
 ///
 /// # Examples
 ///
@@ -295,8 +295,8 @@ impl Plan {
         Ok(())
     }
 
-    /// Appends a line for each rule, as it could be sent again: those of `fail`, of `stall` and of `break`. Allocates what
-    /// it appends.
+    /// Appends a line for each rule, as it could be sent again: those of `fail`, of `stall` and of `break`. Allocates
+    /// what it appends.
     ///
     /// # Errors
     ///

@@ -81,7 +81,8 @@ Exit status:
   2  a line of the topology is malformed
   3  a refused command line
 
-Faults on purpose count from 1 to N, which is 1 where it is left out. CALL is a call's word in a script, or open.
+In a RULE, CALL is a call's word in a script, or open. N is 1 if it is left out. A rule is carried out once.
+Each option of a RULE may be there several times.
 
 Examples:
   drm_server serve --card card --render render --root root --until-ended --journal steps.script
@@ -214,11 +215,11 @@ fn trace<'a>(alloc: Global) -> Arg<'a> {
         )
 }
 
-/// Returns an option that may be there several times.
-fn repeated<'a>(alloc: Global, name: &'a str, value: &'a str, help: &'a str) -> Arg<'a> {
+/// Returns the option of a rule, which may be there several times.
+fn rule<'a>(alloc: Global, name: &'a str, help: &'a str) -> Arg<'a> {
     Arg::new(alloc, name)
         .long(name)
-        .value_name(value)
+        .value_name("RULE")
         .value_parser(ValueParser::NonEmptyString)
         .action(ArgAction::Append)
         .help(help)
@@ -230,30 +231,27 @@ fn control<'a>(alloc: Global) -> Arg<'a> {
         .value_name("PATH")
         .value_parser(ValueParser::NonEmptyString)
         .help(
-            "A socket that takes commands for faults on purpose: fail, stall, break, clear and list",
+            "A socket that takes such rules as lines while the server runs: fail, stall, break, clear, list",
         )
 }
 
 /// Adds the options of faults on purpose.
 fn with_faults<'a>(alloc: Global, command: Command<'a>) -> Result<Command<'a>, Error> {
     let command = command
-        .arg(repeated(
+        .arg(rule(
             alloc,
             "fail",
-            "CALL[:N]=memory",
-            "Refuses memory to the Nth such call that would add a row",
+            "CALL[:N]=memory: refuses memory to the Nth call CALL that would add a row",
         ))?
-        .arg(repeated(
+        .arg(rule(
             alloc,
             "stall",
-            "CALL[:N]=MS",
-            "Delays the answer to the Nth such call by 1 to 60000 milliseconds",
+            "CALL[:N]=MS: delays the answer to the Nth call CALL by MS milliseconds, from 1 to 60000",
         ))?
-        .arg(repeated(
+        .arg(rule(
             alloc,
             "break",
-            "CLIENT[:N]",
-            "Closes the connection of this client in place of the answer to its Nth request",
+            "CLIENT[:N]: closes the connection of client CLIENT in place of the answer to its Nth request",
         ))?
         .arg(control(alloc))?;
     Ok(command)

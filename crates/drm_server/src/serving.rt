@@ -345,8 +345,18 @@ struct Jobs {
     control: Option<UnixListener>,
 }
 
-/// Serves the connections, next to the threads of the scope that write or answer control lines. If one of these can't be
-/// started, nothing is served.
+/// Announces to the threads of a server that no more calls follow.
+fn end_jobs<R: Wait>(rt: &R, open: &OpenConnections, is_controlled: bool) {
+    if let Some(watch) = open.watch() {
+        watch.end(rt);
+    }
+    if is_controlled {
+        open.end(rt);
+    }
+}
+
+/// Serves the connections, next to the threads of the scope that write or answer control lines. If one of these can't
+/// be started, nothing is served.
 fn serve_next_to_jobs<'s, E: 's, R: Input + Log + Wait + Threads + Sync>(
     scope: &Scope<'s, E>,
     rt: &'s R,
@@ -375,12 +385,7 @@ fn serve_next_to_jobs<'s, E: 's, R: Input + Log + Wait + Threads + Sync>(
     } else {
         Err(unbegun(ServeFault::NoThread, task))
     };
-    if let Some(watch) = open.watch() {
-        watch.end(rt);
-    }
-    if is_controlled {
-        open.end(rt);
-    }
+    end_jobs(rt, open, is_controlled);
     joined(rt, controller);
     Served {
         device,
@@ -388,8 +393,8 @@ fn serve_next_to_jobs<'s, E: 's, R: Input + Log + Wait + Threads + Sync>(
     }
 }
 
-/// Serves the connections, which report their calls for what is written meanwhile, next to the thread of control, if there
-/// is one.
+/// Serves the connections, which report their calls for what is written meanwhile, next to the thread of control, if
+/// there is one.
 fn serve_with_jobs<R: Input + Log + Wait + Threads + Sync>(
     rt: &R,
     alloc: Global,
@@ -471,6 +476,23 @@ pub(crate) struct Ended {
     pub(crate) written: WrittenLines,
 }
 
+/// Returns the device of a server with its fault, if there is one, and what was written.
+fn ended_of(served: Served) -> Ended {
+    let Served { device, written } = served;
+    match device {
+        Ok(device) => Ended {
+            device,
+            fault: None,
+            written,
+        },
+        Err(unserved) => Ended {
+            device: unserved.device,
+            fault: Some(unserved.fault),
+            written,
+        },
+    }
+}
+
 /// Binds the socket of control, if there is to be one. Returns its listener, and its file.
 fn control_at<'a, R: Files + Net + Log>(
     rt: &'a R,
@@ -483,8 +505,8 @@ fn control_at<'a, R: Files + Net + Log>(
     Ok((Some(listener), Some(file)))
 }
 
-/// Serves a device on three sockets, whose files are removed at the end. The plan has the faults on purpose, if there is
-/// one.
+/// Serves a device on three sockets, whose files are removed at the end. The plan has the faults on purpose, if there
+/// is one.
 pub(crate) fn serve_device<R: Input + Files + Net + Log + Wait + Threads + Sync>(
     rt: &R,
     alloc: Global,
@@ -509,24 +531,7 @@ pub(crate) fn serve_device<R: Input + Files + Net + Log + Wait + Threads + Sync>
         listeners,
         accepts: serving.accepts,
     };
-    let Served { device, written } = serve_listeners(
-        rt,
-        alloc,
-        task,
-        serving.ends_with_input,
-        writers,
-        Planned { plan, control },
-    );
-    match device {
-        Ok(device) => Ok(Ended {
-            device,
-            fault: None,
-            written,
-        }),
-        Err(unserved) => Ok(Ended {
-            device: unserved.device,
-            fault: Some(unserved.fault),
-            written,
-        }),
-    }
+    let rules = Planned { plan, control };
+    let served = serve_listeners(rt, alloc, task, serving.ends_with_input, writers, rules);
+    Ok(ended_of(served))
 }
