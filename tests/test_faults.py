@@ -1,8 +1,8 @@
 #!/usr/bin/env python3
 """Tests of faults on purpose: memory that is refused, answers that are late and connections that break.
 
-They are planned by the command line, by the control socket, and by the servers of tests in each language. Each test has a folder of
-its own. The last line is `N passed, M failed`. Standard library only.
+They are planned by the command line, by the control socket, and by the servers of tests in each language. Each test has
+a folder of its own. The last line is `N passed, M failed`. Standard library only.
 """
 import asyncio
 import concurrent.futures
@@ -195,7 +195,7 @@ class FaultsTests(FolderCase):
     # memory that is refused
 
     def test_memory_is_refused_to_each_call_that_adds_a_row(self):
-        """It changes and records nothing. Denied calls, and calls that add no row, are not counted. The next call is carried out."""
+        """It changes and records nothing, and the next call is carried out. Calls that add no row are not counted."""
         for word, growth in GROWTHS.items():
             expect_refused_memory(self.folder, word, growth)
 
@@ -395,7 +395,7 @@ class FaultsTests(FolderCase):
     # connections that break
 
     def test_connection_breaks(self):
-        """The Nth request is carried out and not answered. The client's rows are gone then, and no other client is concerned."""
+        """The Nth request is carried out and not answered. The client's rows are removed, and others are answered."""
         folder = self.folder
         for way in WAYS:
             journal = folder / "journal"
