@@ -1,7 +1,7 @@
 //! The examples of `drm_device`, made by `tools/doc_examples` of its doc comments.
 
-use drm_device::{Device, Limits, NewFault, ReplayFault, Topology, replay};
-use drm_table::{Answer, AuditKind, Call, Event, Opening};
+use drm_device::{Device, Limits, NewFault, ReplayFault, Shortage, Topology, replay};
+use drm_table::{Answer, Apart, AuditKind, Call, Event, Opening};
 
 #[test]
 fn values(rt: HostRuntime) {
@@ -60,6 +60,63 @@ fn device(rt: HostRuntime) {
                 patch: 0
             })
     );
+}
+
+#[test]
+fn device_from_step_short_at(rt: HostRuntime) {
+    let alloc = rt.alloc();
+    let Some(topology) = Topology::new(2, &[1, 2], &[3, 2], &[5, 6]) else {
+        panic!(rt; "refused")
+    };
+    let Ok(mut device) = Device::new(alloc, topology, Limits::PROGRAM) else {
+        panic!(rt; "refused")
+    };
+    let opening = Opening::Primary {
+        root: false,
+        universal: true,
+    };
+    assert!(rt; device.step(Event::Open(opening)) == Ok(Answer::Opened { client: 1 }));
+    let shortage = Shortage::new(1);
+    let mut outcome = Ok(Answer::Done);
+    device.step_short_at(Event::Ask(1, Call::Version), Some(&shortage), &mut outcome);
+    assert!(rt; outcome.is_ok());
+    device.step_short_at(
+        Event::Ask(1, Call::BufCreate { size: 4096 }),
+        Some(&shortage),
+        &mut outcome,
+    );
+    assert!(rt; outcome == Err(Apart::NoMemory));
+    device.step_short_at(
+        Event::Ask(1, Call::BufCreate { size: 4096 }),
+        Some(&shortage),
+        &mut outcome,
+    );
+    assert!(rt;
+        outcome
+            == Ok(Answer::Buffer {
+                handle: 1,
+                size: 4096
+            })
+    );
+}
+
+#[test]
+fn device_from_journal(rt: HostRuntime) {
+    let alloc = rt.alloc();
+    let Some(topology) = Topology::new(2, &[1, 2], &[3, 2], &[5, 6]) else {
+        panic!(rt; "refused")
+    };
+    let Ok(mut device) = Device::new(alloc, topology, Limits::PROGRAM) else {
+        panic!(rt; "refused")
+    };
+    let opening = Opening::Primary {
+        root: false,
+        universal: true,
+    };
+    assert!(rt; device.step(Event::Open(opening)) == Ok(Answer::Opened { client: 1 }));
+    assert!(rt; device.step(Event::Ask(1, Call::SetMaster)) == Ok(Answer::Done));
+    let mut outcome = Ok(Answer::Done);
+    device.step_at(Event::Ask(1, Call::Version), &mut outcome);
     assert!(rt;
         device.journal()
             == [
@@ -71,4 +128,14 @@ fn device(rt: HostRuntime) {
     );
     assert!(rt; device.audit(AuditKind::Client, 0).rows().len() == 1);
     assert!(rt; device.journal_left() < Limits::PROGRAM.journal);
+}
+
+#[test]
+fn shortage(rt: HostRuntime) {
+    let shortage = Shortage::new(2);
+    assert!(rt; shortage.left() == 2);
+    let shortage = Shortage::new(7);
+    assert!(rt; shortage.left() == 7);
+    shortage.set(0);
+    assert!(rt; shortage.left() == 0);
 }

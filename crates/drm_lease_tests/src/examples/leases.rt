@@ -53,10 +53,45 @@ fn leases(rt: HostRuntime) {
         panic!(rt; "refused")
     };
     assert!(rt; Leases::new(alloc, 8).last_given().is_none());
+    let mut masters = Masters::new(alloc, 4, 4);
+    let Ok(_first) = masters.on_open(1, 1) else {
+        panic!(rt; "refused")
+    };
+    let mut leases = Leases::new(alloc, 8);
+    leases.refuse_memory(true);
+    let Err(fault) = leases.create(&mut masters, &modes, 1, true, &[1, 3, 7], 2) else {
+        panic!(rt; "refused")
+    };
+    assert!(rt; fault == LeaseFault::NoMemory);
+    let mut masters = Masters::new(alloc, 4, 4);
+    let Ok(_first) = masters.on_open(1, 1) else {
+        panic!(rt; "refused")
+    };
+    let mut leases = Leases::new(alloc, 8);
+    let Ok(leased) = leases.create(&mut masters, &modes, 1, true, &[1, 3, 7], 2) else {
+        panic!(rt; "refused")
+    };
     assert!(rt; leased.id == 1 && leased.token == 1);
     assert!(rt; leases.holds(leased.m, 1) && !leases.holds(leased.m, 2));
     let lessee = leases.view(&masters, 2, true);
     assert!(rt; leases.view(&masters, 1, true).sees(&modes, 2) && !lessee.sees(&modes, 2));
+}
+
+#[test]
+fn leases_from_leased_out(rt: HostRuntime) {
+    let alloc = rt.alloc();
+    let Some(topology) = Topology::new(2, &[1, 2], &[3, 2], &[5, 6]) else {
+        panic!(rt; "refused")
+    };
+    let modes = Modes::new(alloc, topology, 4);
+    let mut masters = Masters::new(alloc, 4, 4);
+    let Ok(_first) = masters.on_open(1, 1) else {
+        panic!(rt; "refused")
+    };
+    let mut leases = Leases::new(alloc, 8);
+    let Ok(leased) = leases.create(&mut masters, &modes, 1, true, &[1, 3, 7], 2) else {
+        panic!(rt; "refused")
+    };
     let Some(owner) = masters.master(1) else {
         panic!(rt; "refused")
     };

@@ -84,6 +84,24 @@ fn masters(rt: HostRuntime) {
         panic!(rt; "refused")
     };
     assert!(rt; Masters::new(alloc, 4, 4).device_master().is_none());
+    let mut masters = Masters::new(alloc, 4, 4);
+    let Ok(_first) = masters.on_open(1, 1) else {
+        panic!(rt; "refused")
+    };
+    let Ok(_second) = masters.on_open(2, 2) else {
+        panic!(rt; "refused")
+    };
+    let Ok(()) = masters.drop_master(1, false) else {
+        panic!(rt; "refused")
+    };
+    masters.refuse_memory(true);
+    if masters.member(2).is_some() {
+        assert!(rt; masters.set(2, true, 3) == Err(SetFault::NoMemory));
+    }
+    let mut masters = Masters::new(alloc, 4, 4);
+    let Ok(is_first) = masters.on_open(1, 1) else {
+        panic!(rt; "refused")
+    };
     assert!(rt; matches!(masters.member(1), Some(row) if row.is_master && row.master == 1));
     assert!(rt; masters.master_of(1).is_some() && masters.master_of(2).is_none());
     assert!(rt; matches!(masters.master(1), Some(row) if row.lessor.is_none() && !row.kept));
@@ -99,6 +117,15 @@ fn masters(rt: HostRuntime) {
         panic!(rt; "refused")
     };
     assert!(rt; masters.is_current_member(member));
+}
+
+#[test]
+fn masters_from_on_open(rt: HostRuntime) {
+    let alloc = rt.alloc();
+    let mut masters = Masters::new(alloc, 4, 4);
+    let Ok(is_first) = masters.on_open(1, 1) else {
+        panic!(rt; "refused")
+    };
     assert!(rt; is_first);
     let mut masters = Masters::new(alloc, 4, 4);
     let Ok(_first) = masters.on_open(1, 1) else {
@@ -117,27 +144,6 @@ fn masters(rt: HostRuntime) {
     if masters.member(1).is_some() {
         assert!(rt; masters.set(1, false, 9) == Ok(SetDone::Already));
     }
-}
-
-#[test]
-fn masters_from_drop_master(rt: HostRuntime) {
-    let alloc = rt.alloc();
-    let mut masters = Masters::new(alloc, 4, 4);
-    let Ok(_first) = masters.on_open(1, 1) else {
-        panic!(rt; "refused")
-    };
-    let Some(owner) = masters.master(1) else {
-        panic!(rt; "refused")
-    };
-    let Ok((lessee, _id)) = masters.make_lessee(owner.key, 2) else {
-        panic!(rt; "refused")
-    };
-    let Ok(()) = masters.on_redeem(3, lessee) else {
-        panic!(rt; "refused")
-    };
-    if masters.member(1).is_some() {
-        assert!(rt; masters.set(1, false, 9) == Ok(SetDone::Already));
-    }
     if masters.member(1).is_some() {
         assert!(rt; masters.drop_master(1, false) == Ok(()));
     }
@@ -149,21 +155,10 @@ fn masters_from_drop_master(rt: HostRuntime) {
     }
     assert!(rt; masters.on_close(1).is_some());
     assert!(rt; masters.member(1).is_none());
-    let mut masters = Masters::new(alloc, 4, 4);
-    let Ok(_first) = masters.on_open(1, 1) else {
-        panic!(rt; "refused")
-    };
-    let Some(owner) = masters.master(1) else {
-        panic!(rt; "refused")
-    };
-    let Ok((lessee, id)) = masters.make_lessee(owner.key, 2) else {
-        panic!(rt; "refused")
-    };
-    assert!(rt; id == 1);
 }
 
 #[test]
-fn masters_from_lessee(rt: HostRuntime) {
+fn masters_from_make_lessee(rt: HostRuntime) {
     let alloc = rt.alloc();
     let mut masters = Masters::new(alloc, 4, 4);
     let Ok(_first) = masters.on_open(1, 1) else {
@@ -175,6 +170,7 @@ fn masters_from_lessee(rt: HostRuntime) {
     let Ok((lessee, id)) = masters.make_lessee(owner.key, 2) else {
         panic!(rt; "refused")
     };
+    assert!(rt; id == 1);
     let Some(owner) = masters.master(1) else {
         panic!(rt; "refused")
     };

@@ -92,7 +92,7 @@ fn shared_device_shared(rt: HostRuntime) {
             })
     );
     let closing = Event::Close(1);
-    let place = shared.call_placed(&rt, &mut participant, closing, &mut outcome);
+    let place = shared.call_placed(&rt, &mut participant, closing, None, &mut outcome);
     assert!(rt; place == Some(2) && outcome == Ok(Answer::Closed));
 }
 
