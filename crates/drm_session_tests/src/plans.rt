@@ -6,7 +6,6 @@ use drm_table::{Call, CallKind, Event, Opening};
 use std::alloc::Global;
 use std::process::Abort;
 use std::sync::Wait;
-use std::sync::atomic::Ordering;
 use std::test::Fail;
 
 /// An opening, and requests of two clients.
@@ -198,7 +197,7 @@ const ANSWERED: [(Event, Option<u16>, bool); 11] = [
 ];
 
 /// Events, and the counts for them with `fail open:2=memory` and `fail buf_create:7=memory`.
-const COUNTS: [(Event, Option<u32>); 6] = [
+const COUNTS: [(Event, Option<u64>); 6] = [
     (OPEN, Some(2)),
     (MAKING, Some(7)),
     (OTHER, None),
@@ -304,11 +303,8 @@ fn counts_of_refusals(rt: HostRuntime) -> Result<(), Fail> {
         expect_answer(&rt, alloc, &plan, line, "ok\n")?;
     }
     for (event, wanted) in COUNTS {
-        let count = match plan.shortage(&event) {
-            Some(count) => Some(count.load(Ordering::SeqCst)),
-            None => None,
-        };
-        same(&rt, &count, &wanted, "count");
+        let left = plan.shortage(&event).map(|shortage| shortage.left());
+        same(&rt, &left, &wanted, "count");
         plan.due(&rt, &event);
     }
     expect_answer(
