@@ -166,7 +166,7 @@ class ProgramTests(FolderCase):
         for command in ("run", "check", "explain", "shrink", "serve"):
             _, _, examples = run_program(command, "--help").stdout.partition("\nExamples:\n")
             for example in filter(None, examples.splitlines()):
-                function = f"drm_server() {{ {shlex.quote(str(PROGRAM))} \"$@\"; }}"
+                function = f'drm_server() {{ {shlex.quote(str(PROGRAM))} "$@"; }}'
                 ran = run("sh", "-c", f"{function}; {example}", cwd=self.folder)
                 expect(f"status of {example.strip()}", (ran.returncode, "fault" in ran.stderr), (0, False))
 

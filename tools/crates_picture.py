@@ -36,6 +36,7 @@ Arrow = Tuple[Box, Box]
 
 class Node(NamedTuple):
     """A box in a row, or the place where an arrow (its two ends) passes that row."""
+
     row: int
     names: Tuple[Box, ...]
 
@@ -65,7 +66,9 @@ class Layer(NamedTuple):
 def read_layers(text: str) -> List[Layer]:
     """The layers, from the lowest on."""
     parts = re.split(r"^# (\w+): (.*)$", text, flags=re.M)
-    return [Layer(name, what, list(read_crates(lines))) for name, what, lines in zip(parts[1::3], parts[2::3], parts[3::3])]
+    return [
+        Layer(name, what, list(read_crates(lines))) for name, what, lines in zip(parts[1::3], parts[2::3], parts[3::3])
+    ]
 
 
 def reduced(crates: Dict[str, List[str]]) -> Dict[str, List[str]]:
@@ -77,8 +80,10 @@ def reduced(crates: Dict[str, List[str]]) -> Dict[str, List[str]]:
             below[name] = set(crates[name]).union(*map(all_below, crates[name]))
         return below[name]
 
-    return {name: [library for library in libraries if not any(library in all_below(other) for other in libraries)]
-            for name, libraries in crates.items()}
+    return {
+        name: [library for library in libraries if not any(library in all_below(other) for other in libraries)]
+        for name, libraries in crates.items()
+    }
 
 
 def boxes_of(crates: Dict[str, List[str]], layers: List[Layer]) -> Tuple[List[Box], List[Arrow]]:
@@ -121,8 +126,14 @@ def rows_of(boxes: List[Box], arrows: List[Arrow], layers: List[Layer]) -> Tuple
 
 def ways_of(arrows: List[Arrow], rows: Dict[Box, int]) -> List[List[Node]]:
     """The way of each arrow from row to row."""
-    return [[Node(rows[start], (start,)), *(Node(row, (start, end)) for row in range(rows[start] + 1, rows[end])),
-             Node(rows[end], (end,))] for start, end in arrows]
+    return [
+        [
+            Node(rows[start], (start,)),
+            *(Node(row, (start, end)) for row in range(rows[start] + 1, rows[end])),
+            Node(rows[end], (end,)),
+        ]
+        for start, end in arrows
+    ]
 
 
 def neighbours_of(ways: List[List[Node]]) -> Dict[Node, List[Node]]:
@@ -179,7 +190,9 @@ def end_x(way: List[Node], place: int, ways: List[List[Node]], middles: Dict[Nod
     if not node.is_box():
         return middles[node]
     step = 1 if place == 0 else -2
-    side = sorted((other[step] for other in ways if other[0 if place == 0 else -1] == node), key=lambda other: middles[other])
+    side = sorted(
+        (other[step] for other in ways if other[0 if place == 0 else -1] == node), key=lambda other: middles[other]
+    )
     part = (side.index(way[step]) + 1) / (len(side) + 1)
     return middles[node] + node.width() * (part - 0.5)
 
@@ -199,9 +212,13 @@ def drawn_arrow(way: List[Node], ways: List[List[Node]], middles: Dict[Node, flo
 
 def drawn_box(node: Node, middle: float, top: float) -> List[str]:
     left = middle - node.width() / 2
-    parts = [f'<rect class="box" x="{left:.1f}" y="{top:.1f}" width="{node.width():.1f}" height="{node.height():.1f}" rx="6"/>']
-    return parts + [f'<text class="line" x="{left + PAD:.1f}" y="{top + PAD + 9 + LINE * place:.1f}">{name}</text>'
-                    for place, name in enumerate(node.names[0])]
+    parts = [
+        f'<rect class="box" x="{left:.1f}" y="{top:.1f}" width="{node.width():.1f}" height="{node.height():.1f}" rx="6"/>'
+    ]
+    return parts + [
+        f'<text class="line" x="{left + PAD:.1f}" y="{top + PAD + 9 + LINE * place:.1f}">{name}</text>'
+        for place, name in enumerate(node.names[0])
+    ]
 
 
 STYLE = """<style>
@@ -234,8 +251,11 @@ def picture(text: str) -> str:
     tops = tops_of(list(middles))
     width = max(middle + node.width() / 2 for node, middle in middles.items()) + MARGIN
     height = tops[-1] - GAP_Y + MARGIN
-    lines = [f'<svg xmlns="http://www.w3.org/2000/svg" width="{width:.0f}" height="{height:.0f}">', STYLE,
-             f'<rect width="{width:.0f}" height="{height:.0f}" fill="#ffffff"/>']
+    lines = [
+        f'<svg xmlns="http://www.w3.org/2000/svg" width="{width:.0f}" height="{height:.0f}">',
+        STYLE,
+        f'<rect width="{width:.0f}" height="{height:.0f}" fill="#ffffff"/>',
+    ]
     lines += drawn_layers(layers, firsts, tops, width)
     lines += [drawn_arrow(way, ways, middles, tops) for way in ways]
     for node, middle in middles.items():
@@ -245,12 +265,16 @@ def picture(text: str) -> str:
 
 def table(text: str) -> str:
     """The layers as rows of a table, from the highest on."""
-    return "\n".join(f"| {layer.name} | {', '.join(f'`{crate}`' for crate in layer.crates)} | {layer.what} |"
-                     for layer in reversed(read_layers(text)))
+    return "\n".join(
+        f"| {layer.name} | {', '.join(f'`{crate}`' for crate in layer.crates)} | {layer.what} |"
+        for layer in reversed(read_layers(text))
+    )
 
 
 if __name__ == "__main__":
     parser = parser_of("crates_picture.py", __doc__)
-    parser.add_argument("--layers", action="store_true", help="print the layers as rows of a table of docs/ARCHITECTURE.md")
+    parser.add_argument(
+        "--layers", action="store_true", help="print the layers as rows of a table of docs/ARCHITECTURE.md"
+    )
     print((table if parser.parse_args().layers else picture)(CRATES.read_text()))
     sys.exit(0)

@@ -63,6 +63,7 @@ TOPOLOGY = "record { crtcs = 2; planes = 1 ∷ 2 ∷ []; kinds = PrimaryPlane 1 
 
 class Line(NamedTuple):
     """A line of a script, and the answer that it must get."""
+
     asked: str
     answer: str
 
@@ -72,6 +73,7 @@ class Line(NamedTuple):
 
 class Row(NamedTuple):
     """A script on a device of these limits, or of the program's where there are none."""
+
     name: str
     limits: List[str]
     lines: List[Line]
@@ -89,6 +91,7 @@ class Row(NamedTuple):
 
 class Group(NamedTuple):
     """Rows about one thing."""
+
     name: str
     about: str
     rows: List[Row]
@@ -96,6 +99,7 @@ class Group(NamedTuple):
 
 class Refusal(NamedTuple):
     """A rule, or what stands apart from the rules."""
+
     name: str
     number: int
     error: int
@@ -104,6 +108,7 @@ class Refusal(NamedTuple):
 class Definitions(NamedTuple):
     """What a row's lines stand for: each rule and each thing apart by its number, the variant and the number of each call by its
     word, and the definitions that a computation opens, by crate and file."""
+
     rules: Dict[int, Refusal]
     aparts: Dict[int, Refusal]
     calls: Dict[str, Tuple[str, int]]
@@ -118,10 +123,10 @@ def read_groups(text: str) -> List[Group]:
     groups: List[Group] = []
     for line in text.splitlines():
         if line.startswith("group "):
-            name, about = line[len("group "):].split(": ", 1)
+            name, about = line[len("group ") :].split(": ", 1)
             groups.append(Group(name, about, []))
         elif line.startswith("row "):
-            groups[-1].rows.append(Row(line[len("row "):], [], []))
+            groups[-1].rows.append(Row(line[len("row ") :], [], []))
         elif line.startswith("limits "):
             groups[-1].rows[-1].limits.extend(line.split()[1:])
         elif line and not line.startswith("#"):
@@ -154,7 +159,9 @@ def read_opened(crate: str, files: List[str]) -> Dict[Tuple[str, str], List[str]
     """The definitions of each file of a crate's specs/ that a computation has to open."""
     found = {}
     for path in sorted((CRATES / crate / "specs").glob("*.antt")):
-        names = [name for name in re.findall(r"^unfoldable pub ([a-z]\w*) :", path.read_text(), re.M) if name not in UNASKED]
+        names = [
+            name for name in re.findall(r"^unfoldable pub ([a-z]\w*) :", path.read_text(), re.M) if name not in UNASKED
+        ]
         if names and (not files or path.stem in files):
             found[crate, path.stem] = names
     return found
@@ -214,7 +221,9 @@ def opening_term(words: List[str], universal: str) -> str:
 
 def call_term(word: str, fields: List[str], known: Definitions) -> str:
     if word == "raw":
-        return term("BadLayout" if int(fields[0]) in {number for _, number in known.calls.values()} else "UnknownCall", *fields)
+        return term(
+            "BadLayout" if int(fields[0]) in {number for _, number in known.calls.values()} else "UnknownCall", *fields
+        )
     name, _ = known.calls[word]
     if name == "Audit":
         return term(name, "Of" + KINDS[int(fields[0]) - 1], fields[1])
@@ -254,8 +263,14 @@ List as ListIs, Audit as AuditIs, Closed, Denied"
         (f"{table}.answers.Answer.TheVariants", answers.split(", ")),
         (f"{table}.apart.Apart", ["Apart"]),
         (f"{table}.apart.Apart.TheVariants", [apart.name for apart in known.aparts.values()]),
-        (f"{table}.rules.Rule.TheVariants", sorted(f"{rule.name} as Denied{rule.name}" for rule in known.rules.values())),
-        (f"{table}.calls.Call.TheVariants", ["Unknown as UnknownCall", "BadLayout", *(kind for kind, _ in known.calls.values())]),
+        (
+            f"{table}.rules.Rule.TheVariants",
+            sorted(f"{rule.name} as Denied{rule.name}" for rule in known.rules.values()),
+        ),
+        (
+            f"{table}.calls.Call.TheVariants",
+            ["Unknown as UnknownCall", "BadLayout", *(kind for kind, _ in known.calls.values())],
+        ),
         (f"{table}.events.Event", ["Event"]),
         (f"{table}.events.Event.TheVariants", ["Open", "Ask", "Close"]),
         (f"{table}.events.Opening.TheVariants", ["Primary", "Render", "Lease"]),
@@ -264,7 +279,10 @@ List as ListIs, Audit as AuditIs, Closed, Denied"
         *((f"Rattle.{crate}.specs.{file}", names) for (crate, file), names in known.opened.items()),
         ("Rattle.drm_model.specs.Audit", ["audit_row"]),
         ("Rattle.drm_model.specs.Rows", ["empty_rows"]),
-        ("Rattle.drm_modes.specs.declared.kinds.PlaneKind.TheVariants", ["Overlay as OverlayPlane", "Primary as PrimaryPlane"]),
+        (
+            "Rattle.drm_modes.specs.declared.kinds.PlaneKind.TheVariants",
+            ["Overlay as OverlayPlane", "Primary as PrimaryPlane"],
+        ),
         ("Rattle.drm_modes.specs.Topology", ["Topology"]),
     ]
 
@@ -287,7 +305,10 @@ def limits_term(row: Row) -> str:
 
 def lemma(row: Row, known: Definitions) -> str:
     """The lemma that the definitions give a row's answers: each event with its answer."""
-    steps = (f"    ({event}, {bare(answer_term(line.answer, known))}) ∷\n" for event, line in zip(event_terms(row, known), row.lines))
+    steps = (
+        f"    ({event}, {bare(answer_term(line.answer, known))}) ∷\n"
+        for event, line in zip(event_terms(row, known), row.lines)
+    )
     opened = " ".join(name for names in known.opened.values() for name in names)
     return f"""
 abbrev {row.name}-steps : List (Event × Result Answer Apart)
