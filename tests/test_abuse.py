@@ -203,11 +203,11 @@ class DescriptorsTests(FolderCase):
         expect_journaled_fault(folder, ended, "accept card", "device 0 0 0 6\n")
 
     def test_a_thread_that_can_not_be_started_loses_no_journal(self):
-        """The threads for the log, the listeners and one client find room, with a stack of 1 GiB each, and none for another client."""
+        """The threads for the log, the journal, the listeners and one client have room, with a stack of 1 GiB each. Another has none."""
         folder = self.folder
         want_no_checks("it wants more address space than the test gives")
         gib = 1 << 30
-        limits = ((resource.RLIMIT_STACK, gib), (resource.RLIMIT_AS, 6 * gib))
+        limits = ((resource.RLIMIT_STACK, gib), (resource.RLIMIT_AS, 7 * gib))
         with journaling(folder, 1, 1, 1, limits=limits) as (started, sockets):
             root = connect(sockets / "root")
             # the connection is closed, with an answer or without

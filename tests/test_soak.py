@@ -158,9 +158,9 @@ def used_by(started):
 
 
 def plan(clients):
-    """The hostile clients of one round in a random order. Few flood, since a server's journal has a bound."""
+    """The hostile clients of one round in a random order. Few ask as often as they can, since a server's journal has a bound."""
     acts = 40 * [ask_and_close] + 24 * [break_off] + 4 * [flood] + 16 * [never_read] + 16 * [pass_itself]
-    acts += [stop_and_kill(clients[at % len(clients)]) for at in range(20 if clients else 0)]
+    acts += [stop_and_kill(clients[at % len(clients)]) for at in range(8 if clients else 0)]
     random.shuffle(acts)
     return acts
 
