@@ -5,10 +5,15 @@ use drm_commands::Fault;
 use drm_connections::{Batch, Watch, WatchedFault};
 use drm_device::Device;
 use drm_traces::{Palette, Tracer};
+use libc::net::poll;
 use std::alloc::{AllocError, Global};
 use std::io::Write;
 use std::sync::Wait;
 use std::time::Duration;
+
+/// How long the thread waits after a batch while the device is served, in milliseconds. So calls that follow each other fast
+/// do not wake it, and it takes little of the processors from them.
+const PAUSE: i32 = 2;
 
 /// The trace that a thread writes, and its file.
 #[derive(Drop)]
@@ -132,6 +137,9 @@ pub(crate) fn write_trace<R: Wait>(rt: &R, watch: &Watch, trace: Trace) -> u64 {
         place = place.saturating_add(steps);
         trace.left_out = trace.left_out.saturating_add(trace.batch.left_out);
         trace.put_batch(rt, watch, steps.saturating_add(faults) as u64);
+        if !watch.has_ended(rt) {
+            poll(&mut [], PAUSE);
+        }
     }
     if trace.left_out > 0 {
         trace.put_left_out();
