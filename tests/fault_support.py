@@ -12,7 +12,7 @@ from zirkoshe import AuditKind  # noqa: E402
 NO_MEMORY = "apart 51 NoMemory 12"
 # how faults are planned
 COMMAND_LINE, CONTROL = WAYS = ("by the command line", "by the control socket")
-# a delay that is told from a prompt answer, and one that no test waits for
+# a delay that differs from a prompt answer, and one that no test waits for
 LATE, LONG = 1.0, 60.0
 # what takes no delay takes less than this, also on a busy machine
 PROMPT = 15.0

@@ -201,12 +201,12 @@ impl Device {
         self.journal.push_reserved(event);
     }
 
-    /// Answers one event as [`step_at`](Device::step_at) does, and refuses memory to an event of a shortage, so that a program can be
-    /// tested where memory is short (own).
+    /// Answers one event as [`step_at`](Device::step_at) does, and refuses memory to an event of a shortage, so that a
+    /// program can be tested where memory is short (own).
     ///
-    /// Each event that adds a row, and needs memory for it, lowers the number of the shortage by one. Memory is refused to the event
-    /// with which it becomes 0: it is answered with the fault for refused memory, and nothing changes. Other events are answered as
-    /// usual, and all events where the shortage is over or there is none.
+    /// Each event that adds a row, and needs memory for it, lowers the number of the shortage by one. Memory is refused
+    /// to the event with which it becomes 0: it is answered with the fault for refused memory, and nothing changes. Other
+    /// events are answered as usual, and all events where the shortage is over or there is none.
     ///
     /// # Examples
     ///
@@ -251,7 +251,8 @@ impl Device {
         }
     }
 
-    /// Answers an event with memory refused. If it needed memory, it is answered again with memory, unless the shortage ends with it.
+    /// Answers an event with memory refused. If it needed memory, it is answered again with memory, unless the shortage
+    /// ends with it.
     fn step_in_shortage(
         &mut self,
         event: Event,

@@ -4,7 +4,8 @@ use std::sync::atomic::{AtomicU64, Ordering};
 
 /// How many events that add a row are left up to the one to which memory is refused (own). At 0 it is over.
 ///
-/// Threads may share it. It is for tests of programs that use a device: see [`step_short_at`](crate::Device::step_short_at).
+/// Threads may share it. It is for tests of programs that use a device: see
+/// [`step_short_at`](crate::Device::step_short_at).
 ///
 /// # Examples
 ///
@@ -20,7 +21,8 @@ pub struct Shortage {
 }
 
 impl Shortage {
-    /// Creates a shortage that ends with the event of this number among those that add a row, or one that is over for 0.
+    /// Creates a shortage that ends with the event of this number among those that add a row. With 0 it is over. Does
+    /// not allocate.
     ///
     /// # Examples
     ///
@@ -36,7 +38,8 @@ impl Shortage {
         }
     }
 
-    /// Returns the number of events that are left, with the one to which memory is refused. It is 0 if the shortage is over.
+    /// Returns the number of events that are left, with the one to which memory is refused. It is 0 if the shortage is
+    /// over.
     ///
     /// # Examples
     ///
@@ -50,7 +53,7 @@ impl Shortage {
         self.left.load(Ordering::SeqCst)
     }
 
-    /// Makes the shortage begin anew with this number of events, or end for 0.
+    /// Makes the shortage begin anew with this number of events. With 0 it is over.
     ///
     /// # Examples
     ///
@@ -65,7 +68,8 @@ impl Shortage {
         self.left.store(left, Ordering::SeqCst);
     }
 
-    /// Lowers the number by one, and returns whether the shortage ends so. If another thread set it meanwhile, that number stays.
+    /// Lowers the number by one, and returns whether the shortage ends so. If another thread set it meanwhile, that
+    /// number stays.
     pub(crate) fn ends_here(&self) -> bool {
         let left = self.left();
         if left == 0 {

@@ -20,8 +20,8 @@ pub trait Witness {
     /// Returns the shortage of memory for the call of an event, or `None` where there is none.
     fn shortage(&self, event: &Event) -> Option<&Shortage>;
 
-    /// Returns a copy of the event of a call, for [`tell`](Witness::tell) after the call. If there is none, the witness
-    /// does not receive the call.
+    /// Returns a copy of the event of a call, which [`tell`](Witness::tell) takes after the call. Returns `None` for a
+    /// call that the witness does not receive.
     fn copy_of(&self, event: &Event) -> Option<Event>;
 
     /// Receives a call with its answer, and the place of its entry in the history, counted from 0. A fault has no entry.
