@@ -1,5 +1,5 @@
 -- The table of calls: its rows are found by number and word, and a call is that of its row with its fields.
-use Rattle.std.proofs.Common.{◌≡◌, ◌∙◌, ℕ, ◌^◌, ◌<◌, List, [], ◌∷◌, Option, Some, None, is_some, true, refl, sym, ap, subst, lit<, lit≤}
+use Rattle.std.proofs.Common.{◌≡◌, ◌∙◌, ℕ, ◌^◌, ◌<◌, List, [], ◌∷◌, Option, Some, None, refl, sym, ap, subst, lit<, lit≤}
 use Rattle.std.specs.Prelude.{◌==◌}
 use Rattle.std.specs.Option.{option_and_then, option_map, option_map_or, option_or}
 use Rattle.std.specs.Str.{bytes_eq}
@@ -98,19 +98,6 @@ read-back (calls.BadLayout n) = tt
 read-back (calls.Audit kind from) = audit-back kind from
 read-back (calls.CreateLease ids) = ap (λ (o : Option (List ℕ)). option_map calls.CreateLease o) (ids-back ids)
 read-back _ = refl
-
--- The call made of a call's kind and fields is this call.
-pub read-again : (call : Call) (kind : CallKind) (fs : List Field) → call_row call ≡ Some (kind, fs)
-    → call_with kind fs ≡ Some call
-read-again call kind fs e = subst (IsReadBack call) e (read-back call)
-
--- A call that is neither unknown nor of a bad layout has a row.
-pub has-row : (call : Call) → ((n : ℕ) → call ≡ calls.Unknown n → ⊥) → ((n : ℕ) → call ≡ calls.BadLayout n → ⊥)
-    → is_some (call_row call) ≡ true
-unfolding call_row
-has-row (calls.Unknown n) known laid_out = absurd (known n refl)
-has-row (calls.BadLayout n) known laid_out = absurd (laid_out n refl)
-has-row _ known laid_out = refl
 
 -- What is made of a row and fields is a call with this row and these fields, or nothing.
 abbrev MadeOf : CallKind → List Field → Option Call → Type 0

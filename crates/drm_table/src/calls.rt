@@ -1,7 +1,7 @@
 //! The calls of a client, and their table. For a new call, add its variants and its line here, and its fields in the
 //! file of its family.
 
-ghost use Rattle.std.specs.Prelude.{◌≡◌, is_some, length, map, true};
+ghost use Rattle.std.specs.Prelude.{◌≡◌, length, map};
 ghost use Rattle.drm_table.specs.Table.{all_kinds, columns, kind_row};
 
 use crate::audits::AuditKind;
@@ -352,7 +352,69 @@ impl Clone for Call {
         Ok(match self {
             Call::Unknown(number) => Call::Unknown(*number),
             Call::BadLayout(number) => Call::BadLayout(*number),
-            _ => self.read_back(),
+            Call::Version => Call::Version,
+            Call::GetMagic => Call::GetMagic,
+            &Call::GemClose { handle } => Call::GemClose { handle },
+            &Call::GemFlink { handle } => Call::GemFlink { handle },
+            &Call::GemOpen { name } => Call::GemOpen { name },
+            &Call::GetCap { cap } => Call::GetCap { cap },
+            &Call::SetClientCap { cap, value } => Call::SetClientCap { cap, value },
+            &Call::AuthMagic { magic } => Call::AuthMagic { magic },
+            Call::SetMaster => Call::SetMaster,
+            Call::DropMaster => Call::DropMaster,
+            &Call::PrimeHandleToFd { handle } => Call::PrimeHandleToFd { handle },
+            &Call::PrimeFdToHandle { token } => Call::PrimeFdToHandle { token },
+            &Call::BufCreate { size } => Call::BufCreate { size },
+            &Call::StampWrite { handle, stamp } => Call::StampWrite { handle, stamp },
+            &Call::StampRead { handle } => Call::StampRead { handle },
+            &Call::TokenClose { token } => Call::TokenClose { token },
+            &Call::ListHandles { from } => Call::ListHandles { from },
+            &Call::Audit { kind, from } => Call::Audit { kind, from },
+            Call::GetResources => Call::GetResources,
+            &Call::GetCrtc { crtc } => Call::GetCrtc { crtc },
+            &Call::SetCrtc {
+                crtc,
+                framebuffer,
+                connector,
+            } => Call::SetCrtc {
+                crtc,
+                framebuffer,
+                connector,
+            },
+            &Call::GetEncoder { encoder } => Call::GetEncoder { encoder },
+            &Call::GetConnector { connector } => Call::GetConnector { connector },
+            &Call::GetFb { framebuffer } => Call::GetFb { framebuffer },
+            &Call::AddFb {
+                width,
+                height,
+                pitch,
+                bpp,
+                handle,
+            } => Call::AddFb {
+                width,
+                height,
+                pitch,
+                bpp,
+                handle,
+            },
+            &Call::RmFb { framebuffer } => Call::RmFb { framebuffer },
+            &Call::CreateDumb { width, height, bpp } => Call::CreateDumb { width, height, bpp },
+            &Call::DestroyDumb { handle } => Call::DestroyDumb { handle },
+            Call::GetPlaneResources => Call::GetPlaneResources,
+            &Call::GetPlane { plane } => Call::GetPlane { plane },
+            &Call::SetPlane {
+                plane,
+                crtc,
+                framebuffer,
+            } => Call::SetPlane {
+                plane,
+                crtc,
+                framebuffer,
+            },
+            Call::CreateLease { ids } => Call::CreateLease { ids: ids.clone()? },
+            Call::ListLessees => Call::ListLessees,
+            Call::GetLease => Call::GetLease,
+            &Call::RevokeLease { lessee } => Call::RevokeLease { lessee },
         })
     }
 }
@@ -383,20 +445,6 @@ impl Call {
             .or_else(|| self.framebuffer_row())
             .or_else(|| self.lease_row())
             .or_else(|| self.device_row())
-    }
-
-    /// Returns the call with the row and the fields of this call, which is the same call.
-    fn read_back(&self) -> Call
-        requires { is_some (call_row self.now) ≡ true }
-        ensures { result ≡ self.now }
-    {
-        let Some((kind, fields)) = self.row() else {
-            unreachable!()
-        };
-        let Some(call) = kind.call(fields.as_slice()) else {
-            unreachable!()
-        };
-        call
     }
 
     /// Returns the kind of the call's row, or `None` for a call without a row.

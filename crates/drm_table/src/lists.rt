@@ -1,11 +1,12 @@
 //! Lists of ids of bounded length.
 
-ghost use Rattle.std.specs.Prelude.{◌≡◌, ◌<◌, ◌≤◌, ◌∷◌, ◌++◌, [], length, map};
+ghost use Rattle.std.specs.Prelude.{◌≡◌, ◌<◌, ◌≤◌, ◌∷◌, ◌++◌, [], length, map, ⊤};
 ghost use Rattle.drm_table.specs.Fields.{ids_in};
 ghost use Rattle.drm_table.specs.declared.fields.Field.TheVariants as fields;
 
 use crate::fields::{Field, Fields};
 use arrayvec::ArrayVec;
+use std::alloc::AllocError;
 use std::marker::Model;
 
 /// A list of at most 64 ids or handles that a call returns. Contracts see the list of ids.
@@ -113,6 +114,20 @@ impl Model for IdList {
     ghost view = { λ list. list.named.items };
 
     ghost inverse = { λ ids. record { named = record { items = ids } } };
+}
+
+/// Copies the list. Does not allocate and never fails.
+impl Clone for IdList {
+    ghost is_clone = { λ list copy. copy ≡ list };
+
+    ghost is_infallible = { λ _. ⊤ };
+
+    fn clone(&self) -> Result<IdList, AllocError> {
+        match ArrayVec::try_from(self.ids()) {
+            Ok(named) => Ok(IdList { named }),
+            Err(_) => unreachable!(),
+        }
+    }
 }
 
 impl IdList {
