@@ -11,7 +11,7 @@ use std::os::fd::RawFd;
 use std::sync::Wait;
 
 /// Reports the calls of a connection of this class to the watch of all connections, if there is one. Where a plan is
-/// there, it counts them too: an answer may be delayed, or the connection closed. Without both no event is copied.
+/// there, it counts them too: an answer may be delayed, or the connection closed.
 #[derive(Drop)]
 pub struct Reporting<'a, R: Wait> {
     rt: &'a R,
@@ -66,15 +66,8 @@ impl<R: Wait> Witness for Reporting<'_, R> {
         }
     }
 
-    fn copy_of(&self, event: &Event) -> Option<Event> {
-        if self.watch.is_none() && self.plan.is_none() {
-            return None;
-        }
-        event.clone().ok()
-    }
-
-    fn tell(&self, event: Event, place: Option<u64>, outcome: &Result<Answer, Apart>) {
-        let due = self.due(&event);
+    fn tell(&self, event: &Event, place: Option<u64>, outcome: &Result<Answer, Apart>) {
+        let due = self.due(event);
         if let Some(watch) = self.watch {
             watch.report(self.rt, self.class, event, place, outcome);
         }

@@ -31,7 +31,7 @@ fn now() -> Duration {
 }
 
 /// A call of a connection, which is answered.
-#[derive(Drop)]
+#[derive(Clone, Drop)]
 pub struct WatchedCall {
     /// The time from the start of the watch to the answer.
     pub since: Duration,
@@ -39,20 +39,6 @@ pub struct WatchedCall {
     pub class: Class,
     /// What was asked.
     pub event: Event,
-}
-
-impl WatchedCall {
-    /// Returns the same. Does not allocate.
-    fn copy(&self) -> Option<WatchedCall> {
-        let Ok(event) = self.event.clone() else {
-            return None;
-        };
-        Some(WatchedCall {
-            since: self.since,
-            class: self.class,
-            event,
-        })
-    }
 }
 
 /// A call that was answered by a fault. The history has no entry of it.
@@ -91,30 +77,38 @@ impl Batch {
     fn is_empty(&self) -> bool {
         self.steps.is_empty() && self.faults.is_empty() && self.left_out == 0
     }
+
+    fn clear(&mut self) {
+        self.steps.clear();
+        self.faults.clear();
+        self.left_out = 0;
+    }
 }
 
-/// The reported calls.
+/// A step, with the place of its entry in the history.
 #[derive(Drop)]
-struct Calls {
-    /// The steps by their places in the history. Threads report them in any order.
-    steps: Vec<Option<WatchedCall>>,
+struct Placed {
+    place: u64,
+    call: WatchedCall,
+}
+
+/// The calls that no reader took yet, in the order of their reports.
+#[derive(Drop)]
+struct Inbox {
+    steps: Vec<Placed>,
     faults: Vec<WatchedFault>,
     left_out: u64,
+    /// The number of reports so far.
+    reports: u64,
     /// Whether some reader waits for more.
     is_awaited: bool,
     has_ended: bool,
 }
 
-impl Calls {
+impl Inbox {
     fn add_step(&mut self, place: u64, call: WatchedCall) {
-        let place = place as usize;
-        for _ in self.steps.len()..place.saturating_add(1) {
-            if self.steps.len() < self.steps.capacity() {
-                self.steps.push_reserved(None);
-            }
-        }
-        if let Some(step) = self.steps.get_mut(place) {
-            *step = Some(call);
+        if self.steps.len() < self.steps.capacity() {
+            self.steps.push_reserved(Placed { place, call });
         }
     }
 
@@ -126,29 +120,65 @@ impl Calls {
         }
     }
 
-    fn step_at(&self, place: usize) -> Option<&WatchedCall> {
-        match self.steps.get(place) {
-            Some(Some(told)) => Some(told),
-            _ => None,
-        }
+    /// Moves the faults to a batch that has none.
+    fn move_faults(&mut self, batch: &mut Batch) {
+        mem::swap(&mut self.faults, &mut batch.faults);
+        batch.left_out = mem::replace(&mut self.left_out, 0);
     }
 
-    /// Returns whether a reader of the steps from this place on has to wait, and notes that it does.
-    fn awaits(&mut self, place: usize, takes_faults: bool) -> bool {
-        let has_fault = takes_faults && (!self.faults.is_empty() || self.left_out > 0);
-        let waits = !self.has_ended && !has_fault && self.step_at(place).is_none();
+    /// Returns whether a reader that has seen this many reports has to wait, and notes that it does.
+    fn awaits(&mut self, seen: u64) -> bool {
+        let waits = !self.has_ended && self.reports == seen;
         // another reader may wait, too
         self.is_awaited = self.is_awaited || waits;
         waits
+    }
+}
+
+/// The steps that some reader took from the inbox, for all readers.
+#[derive(Drop)]
+struct Shelf {
+    /// The steps by their places in the history. Threads report them in any order.
+    steps: Vec<Option<WatchedCall>>,
+    /// Those that have no place here yet.
+    taken: Vec<Placed>,
+}
+
+impl Shelf {
+    fn put(&mut self, step: Placed) {
+        let place = step.place as usize;
+        for _ in self.steps.len()..place.saturating_add(1) {
+            if self.steps.len() < self.steps.capacity() {
+                self.steps.push_reserved(None);
+            }
+        }
+        if let Some(room) = self.steps.get_mut(place) {
+            *room = Some(step.call);
+        }
+    }
+
+    fn put_taken(&mut self) {
+        for _ in 0..self.taken.len() {
+            if let Some(step) = self.taken.pop() {
+                self.put(step);
+            }
+        }
+    }
+
+    fn step_at(&self, place: usize) -> Option<&WatchedCall> {
+        match self.steps.get(place) {
+            Some(Some(step)) => Some(step),
+            _ => None,
+        }
     }
 
     /// Copies the steps from this place on to a batch that has room for them.
     fn copy_steps(&self, place: usize, steps: &mut Vec<WatchedCall>) {
         for at in place..place.saturating_add(BATCH) {
-            let Some(told) = self.step_at(at) else {
+            let Some(step) = self.step_at(at) else {
                 return;
             };
-            let Some(copy) = told.copy() else {
+            let Ok(copy) = step.clone() else {
                 return;
             };
             if steps.len() == steps.capacity() {
@@ -157,64 +187,76 @@ impl Calls {
             steps.push_reserved(copy);
         }
     }
-
-    /// Moves the faults to a batch that has none.
-    fn move_faults(&mut self, batch: &mut Batch) {
-        mem::swap(&mut self.faults, &mut batch.faults);
-        batch.left_out = mem::replace(&mut self.left_out, 0);
-    }
 }
 
-/// The calls of all connections. A thread that reports one never waits for one that shows it. There is room for each
-/// step of the journal, so that no step is left out. There is also room for some faults. Those beyond are counted.
+/// The state of the inbox when a reader took its steps.
+#[derive(Clone, Copy, Debug)]
+struct Seen {
+    reports: u64,
+    has_ended: bool,
+}
+
+/// The calls of all connections. A thread that reports one waits for one that shows it only while that takes the list
+/// of all reports. There is room for each step of the journal, so that no step is left out. There is also room for
+/// some faults. Those beyond are counted.
 #[derive(Drop)]
 pub struct Watch {
     start: Duration,
-    calls: Mutex<Calls>,
+    inbox: Mutex<Inbox>,
     more: Condvar,
+    /// Locked before the inbox, and by readers only.
+    shelf: Mutex<Shelf>,
 }
 
 impl Watch {
-    /// Creates a watch for a device whose journal has room for this number of steps. Allocates room for all of them.
+    /// Creates a watch for a device whose journal has room for this number of steps. Allocates room for each of them
+    /// three times.
     pub fn new(alloc: Global, most_steps: usize) -> Result<Watch, AllocError> {
-        let steps = Vec::with_capacity(alloc, most_steps)?;
-        let faults = Vec::with_capacity(alloc, MOST_FAULTS)?;
         Ok(Watch {
             start: now(),
-            calls: Mutex::new(Calls {
-                steps,
-                faults,
+            inbox: Mutex::new(Inbox {
+                steps: Vec::with_capacity(alloc, most_steps)?,
+                faults: Vec::with_capacity(alloc, MOST_FAULTS)?,
                 left_out: 0,
+                reports: 0,
                 is_awaited: false,
                 has_ended: false,
             }),
             more: Condvar::new(),
+            shelf: Mutex::new(Shelf {
+                steps: Vec::with_capacity(alloc, most_steps)?,
+                taken: Vec::with_capacity(alloc, most_steps)?,
+            }),
         })
     }
 
-    /// Reports a call of a connection of this class, and its answer. `place` is that of its entry in the history, from 0;
-    /// none for a fault.
+    /// Reports a call of a connection of this class, and its answer. `place` is that of its entry in the history, from
+    /// 0; none for a fault.
     pub fn report<R: Wait>(
         &self,
         rt: &R,
         class: Class,
-        event: Event,
+        event: &Event,
         place: Option<u64>,
         outcome: &Result<Answer, Apart>,
     ) {
+        let Ok(event) = event.clone() else {
+            unreachable!()
+        };
         let call = WatchedCall {
             since: now().saturating_sub(self.start),
             class,
             event,
         };
-        let mut calls = self.calls.lock(rt);
+        let mut inbox = self.inbox.lock(rt);
         match (place, outcome) {
-            (Some(place), _) => calls.add_step(place, call),
-            (None, Err(fault)) => calls.add_fault(call, *fault),
+            (Some(place), _) => inbox.add_step(place, call),
+            (None, Err(fault)) => inbox.add_fault(call, *fault),
             (None, Ok(_)) => {}
         }
-        let is_awaited = mem::replace(&mut calls.is_awaited, false);
-        drop(calls);
+        inbox.reports = inbox.reports.saturating_add(1);
+        let is_awaited = mem::replace(&mut inbox.is_awaited, false);
+        drop(inbox);
         if is_awaited {
             self.more.notify_all();
         }
@@ -222,13 +264,31 @@ impl Watch {
 
     /// Announces that no more calls follow.
     pub fn end<R: Wait>(&self, rt: &R) {
-        self.calls.lock(rt).has_ended = true;
+        self.inbox.lock(rt).has_ended = true;
         self.more.notify_all();
     }
 
     /// Returns whether no more calls follow.
     pub fn has_ended<R: Wait>(&self, rt: &R) -> bool {
-        self.calls.lock(rt).has_ended
+        self.inbox.lock(rt).has_ended
+    }
+
+    /// Takes all that was reported, and fills a batch that is empty.
+    fn fill<R: Wait>(&self, rt: &R, place: usize, takes_faults: bool, batch: &mut Batch) -> Seen {
+        let mut shelf = self.shelf.lock(rt);
+        let mut inbox = self.inbox.lock(rt);
+        mem::swap(&mut inbox.steps, &mut shelf.taken);
+        if takes_faults {
+            inbox.move_faults(batch);
+        }
+        let seen = Seen {
+            reports: inbox.reports,
+            has_ended: inbox.has_ended,
+        };
+        drop(inbox);
+        shelf.put_taken();
+        shelf.copy_steps(place, &mut batch.steps);
+        seen
     }
 
     /// Waits until there is a step at this place, a fault if faults are taken, or the end, and fills the batch. Returns
@@ -240,18 +300,18 @@ impl Watch {
         takes_faults: bool,
         batch: &mut Batch,
     ) -> bool {
-        batch.steps.clear();
-        batch.faults.clear();
-        batch.left_out = 0;
-        let locked = self.calls.lock(rt);
-        let mut calls = self
-            .more
-            .wait_while(rt, locked, |calls| calls.awaits(place, takes_faults));
-        calls.copy_steps(place, &mut batch.steps);
-        if takes_faults {
-            calls.move_faults(batch);
+        batch.clear();
+        for _ in rt.forever() {
+            let seen = self.fill(rt, place, takes_faults, batch);
+            if seen.has_ended || !batch.is_empty() {
+                break;
+            }
+            let inbox = self.inbox.lock(rt);
+            drop(
+                self.more
+                    .wait_while(rt, inbox, |inbox| inbox.awaits(seen.reports)),
+            );
         }
-        drop(calls);
         !batch.is_empty()
     }
 }

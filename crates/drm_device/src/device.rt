@@ -156,7 +156,7 @@ impl Device {
         ensures bounded { self.new.limits.journal ≤ 100000 }
     {
         let mut outcome = Ok(Answer::Done);
-        self.step_at(event, &mut outcome);
+        self.step_at(&event, &mut outcome);
         outcome
     }
 
@@ -176,29 +176,29 @@ impl Device {
     /// assert!(rt; device.step(Event::Open(opening)) == Ok(Answer::Opened { client: 1 }));
     /// assert!(rt; device.step(Event::Ask(1, Call::SetMaster)) == Ok(Answer::Done));
     /// let mut outcome = Ok(Answer::Done);
-    /// device.step_at(Event::Ask(1, Call::Version), &mut outcome);
+    /// device.step_at(&Event::Ask(1, Call::Version), &mut outcome);
     /// assert!(rt; outcome == Ok(Answer::Version { major: 1, minor: 0, patch: 0 }));
     /// ```
-    pub fn step_at(&mut self, event: Event, outcome: &mut Result<Answer, Apart>)
-        ensures step { Step (rows_of self.old) event outcome.new (rows_of self.new) }
+    pub fn step_at(&mut self, event: &Event, outcome: &mut Result<Answer, Apart>)
+        ensures step { Step (rows_of self.old) event.now outcome.new (rows_of self.new) }
         ensures few { FitsOneFrame outcome.new }
-        ensures ok { OnOk outcome.new (self.new ≡ journaled_in self.old event) }
+        ensures ok { OnOk outcome.new (self.new ≡ journaled_in self.old event.now) }
         ensures err { OnErr outcome.new (self.new ≡ self.old) }
         ensures in_range { are_in_range self.new.limits ≡ true }
         ensures found_room { FoundRoom (start_of self.new) self.new.journal }
         ensures within { length self.new.journal ≤ self.new.limits.journal }
         ensures bounded { self.new.limits.journal ≤ 100000 }
     {
-        if !self.has_room(&event) {
+        if !self.has_room(event) {
             Apart::JournalFull.replace(outcome);
             return;
         }
         let step_number = self.journal.len() as u32 + 1;
-        let Ok(()) = advance_at(&mut self.state, step_number, &event, outcome) else {
+        let Ok(()) = advance_at(&mut self.state, step_number, event, outcome) else {
             Apart::NoMemory.replace(outcome);
             return;
         };
-        self.journal.push_reserved(event);
+        self.journal.push_reserved(copy_of(event));
     }
 
     /// Answers one event as [`step_at`](Device::step_at) does, and refuses memory to an event of a shortage, so that a
@@ -221,22 +221,22 @@ impl Device {
     /// assert!(rt; device.step(Event::Open(opening)) == Ok(Answer::Opened { client: 1 }));
     /// let shortage = Shortage::new(1);
     /// let mut outcome = Ok(Answer::Done);
-    /// device.step_short_at(Event::Ask(1, Call::Version), Some(&shortage), &mut outcome);
+    /// device.step_short_at(&Event::Ask(1, Call::Version), Some(&shortage), &mut outcome);
     /// assert!(rt; outcome.is_ok());
-    /// device.step_short_at(Event::Ask(1, Call::BufCreate { size: 4096 }), Some(&shortage), &mut outcome);
+    /// device.step_short_at(&Event::Ask(1, Call::BufCreate { size: 4096 }), Some(&shortage), &mut outcome);
     /// assert!(rt; outcome == Err(Apart::NoMemory));
-    /// device.step_short_at(Event::Ask(1, Call::BufCreate { size: 4096 }), Some(&shortage), &mut outcome);
+    /// device.step_short_at(&Event::Ask(1, Call::BufCreate { size: 4096 }), Some(&shortage), &mut outcome);
     /// assert!(rt; outcome == Ok(Answer::Buffer { handle: 1, size: 4096 }));
     /// ```
     pub fn step_short_at(
         &mut self,
-        event: Event,
+        event: &Event,
         shortage: Option<&Shortage>,
         outcome: &mut Result<Answer, Apart>,
     )
-        ensures step { Step (rows_of self.old) event outcome.new (rows_of self.new) }
+        ensures step { Step (rows_of self.old) event.now outcome.new (rows_of self.new) }
         ensures few { FitsOneFrame outcome.new }
-        ensures ok { OnOk outcome.new (self.new ≡ journaled_in self.old event) }
+        ensures ok { OnOk outcome.new (self.new ≡ journaled_in self.old event.now) }
         ensures err { OnErr outcome.new (self.new ≡ self.old) }
         ensures in_range { are_in_range self.new.limits ≡ true }
         ensures found_room { FoundRoom (start_of self.new) self.new.journal }
@@ -255,13 +255,13 @@ impl Device {
     /// ends with it.
     fn step_in_shortage(
         &mut self,
-        event: Event,
+        event: &Event,
         shortage: &Shortage,
         outcome: &mut Result<Answer, Apart>,
     )
-        ensures step { Step (rows_of self.old) event outcome.new (rows_of self.new) }
+        ensures step { Step (rows_of self.old) event.now outcome.new (rows_of self.new) }
         ensures few { FitsOneFrame outcome.new }
-        ensures ok { OnOk outcome.new (self.new ≡ journaled_in self.old event) }
+        ensures ok { OnOk outcome.new (self.new ≡ journaled_in self.old event.now) }
         ensures err { OnErr outcome.new (self.new ≡ self.old) }
         ensures in_range { are_in_range self.new.limits ≡ true }
         ensures found_room { FoundRoom (start_of self.new) self.new.journal }
@@ -269,10 +269,7 @@ impl Device {
         ensures bounded { self.new.limits.journal ≤ 100000 }
     {
         self.refuse_memory(true);
-        let Ok(copy) = event.clone() else {
-            unreachable!()
-        };
-        self.step_at(copy, outcome);
+        self.step_at(event, outcome);
         self.refuse_memory(false);
         if is_refused(outcome) && !shortage.ends_here() {
             self.step_at(event, outcome);
@@ -316,7 +313,7 @@ impl Device {
     /// assert!(rt; device.step(Event::Open(opening)) == Ok(Answer::Opened { client: 1 }));
     /// assert!(rt; device.step(Event::Ask(1, Call::SetMaster)) == Ok(Answer::Done));
     /// let mut outcome = Ok(Answer::Done);
-    /// device.step_at(Event::Ask(1, Call::Version), &mut outcome);
+    /// device.step_at(&Event::Ask(1, Call::Version), &mut outcome);
     /// assert!(rt; device.journal() == [Event::Open(opening), Event::Ask(1, Call::SetMaster), Event::Ask(1, Call::Version)].as_slice());
     /// ```
     pub fn journal(&self) -> &[Event]
@@ -343,7 +340,7 @@ impl Device {
     /// assert!(rt; device.step(Event::Open(opening)) == Ok(Answer::Opened { client: 1 }));
     /// assert!(rt; device.step(Event::Ask(1, Call::SetMaster)) == Ok(Answer::Done));
     /// let mut outcome = Ok(Answer::Done);
-    /// device.step_at(Event::Ask(1, Call::Version), &mut outcome);
+    /// device.step_at(&Event::Ask(1, Call::Version), &mut outcome);
     /// assert!(rt; device.audit(AuditKind::Client, 0).rows().len() == 1);
     /// ```
     pub fn audit(&self, kind: AuditKind, from: u32) -> AuditPage
@@ -369,13 +366,23 @@ impl Device {
     /// assert!(rt; device.step(Event::Open(opening)) == Ok(Answer::Opened { client: 1 }));
     /// assert!(rt; device.step(Event::Ask(1, Call::SetMaster)) == Ok(Answer::Done));
     /// let mut outcome = Ok(Answer::Done);
-    /// device.step_at(Event::Ask(1, Call::Version), &mut outcome);
+    /// device.step_at(&Event::Ask(1, Call::Version), &mut outcome);
     /// assert!(rt; device.journal_left() < Limits::PROGRAM.journal);
     /// ```
     pub fn journal_left(&self) -> u32
         ensures left { result + length self.now.journal + length (rows_of self.now).clients ≡ self.now.limits.journal }
     {
         self.limits.journal - self.journal.len() as u32 - self.state.files.len() as u32
+    }
+}
+
+/// Returns the same event.
+fn copy_of(event: &Event) -> Event
+    ensures { result ≡ event.now }
+{
+    match event.clone() {
+        Ok(copy) => copy,
+        Err(_) => unreachable!(),
     }
 }
 

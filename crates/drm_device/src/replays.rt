@@ -6,7 +6,7 @@ ghost use Rattle.drm_device.specs.Replay.{IsReplay, StopsAt};
 
 use crate::device::{Device, NewFault};
 use drm_modes::Topology;
-use drm_table::{Apart, Event, Limits};
+use drm_table::{Answer, Apart, Event, Limits};
 use std::alloc::Global;
 
 /// The reason a replay returns no device.
@@ -44,11 +44,13 @@ fn step_each(device: Device, events: &[Event]) -> Result<Device, Unnoted>
     ensures err { IfErr result (λ fault. StopsAt device events.now fault.at fault.apart) }
 {
     let mut device = device;
+    let mut outcome = Ok(Answer::Done);
     for (place, event) in events.iter().enumerate() {
-        if let Err(apart) = device.step(copy_of(event)) {
+        device.step_at(event, &mut outcome);
+        if let Err(apart) = &outcome {
             return Err(Unnoted {
                 at: place + 1,
-                apart,
+                apart: *apart,
             });
         }
     }
@@ -91,15 +93,5 @@ pub fn replay(
             at: first.at,
             apart: first.apart,
         }),
-    }
-}
-
-/// Returns the same event.
-fn copy_of(event: &Event) -> Event
-    ensures { result ≡ event.now }
-{
-    match event.clone() {
-        Ok(copy) => copy,
-        Err(_) => unreachable!(),
     }
 }

@@ -13,7 +13,7 @@ use crate::namings::Namings;
 use drm_checks::put_answered;
 use drm_device::Device;
 use drm_script::Label;
-use drm_table::{Call, Event, Limits};
+use drm_table::{Answer, Call, Event, Limits};
 use std::alloc::{AllocError, Global};
 use std::marker::Model;
 
@@ -23,16 +23,6 @@ const LONGEST: usize = 255;
 /// The comment before the first event without a label.
 const LABELS_USED: &[u8] =
     b"# more clients are open here than there are labels: each further step is a comment\n";
-
-/// Returns the same call.
-fn copy_of(call: &Call) -> Call
-    ensures { result ≡ call.now }
-{
-    match call.clone() {
-        Ok(copy) => copy,
-        Err(_) => unreachable!(),
-    }
-}
 
 /// Returns the call, or a call that a line of a script can hold. A call that is too long for it names ids of no mode
 /// object, so that it is denied. The same call with wrong fields is denied too. The call is written into `line` to
@@ -46,7 +36,7 @@ fn written_call(line: &mut Vec<u8>, call: &Call) -> Result<Call, AllocError>
     if line.len() >= LONGEST {
         return Ok(Call::BadLayout(call.number()));
     }
-    Ok(copy_of(call))
+    call.clone()
 }
 
 /// Returns the event, or an event that a line of a script can hold.
@@ -63,17 +53,6 @@ fn written_event(line: &mut Vec<u8>, event: &Event) -> Result<Event, AllocError>
     }
 }
 
-/// Returns the same event.
-fn copy_of_event(event: &Event) -> Event
-    ensures { result ≡ event.now }
-{
-    match event {
-        Event::Open(opening) => Event::Open(*opening),
-        Event::Close(client) => Event::Close(*client),
-        Event::Ask(client, call) => Event::Ask(*client, copy_of(call)),
-    }
-}
-
 /// Returns the call, or a call that a comment can hold. The call is written into `line` to measure it.
 fn brief_call(line: &mut Vec<u8>, client: u32, call: &Call) -> Result<Call, AllocError>
     ensures { IfOk result (λ brief. brief ≡ brief_call client call.now) }
@@ -84,7 +63,7 @@ fn brief_call(line: &mut Vec<u8>, client: u32, call: &Call) -> Result<Call, Allo
     if line.len() > LONGEST {
         return Ok(Call::BadLayout(call.number()));
     }
-    Ok(copy_of(call))
+    call.clone()
 }
 
 /// Returns the event, or an event that a comment can hold.
@@ -188,7 +167,8 @@ fn write_comment(
     let brief = brief_event(line, event)?;
     line.clear();
     put_comment(line, &brief)?;
-    let outcome = device.step(copy_of_event(event));
+    let mut outcome = Ok(Answer::Done);
+    device.step_at(event, &mut outcome);
     put_answered(text, line.as_slice(), &outcome)
 }
 
@@ -256,7 +236,7 @@ impl JournalWriter {
         device: Device,
         text: &mut Vec<u8>,
     ) -> Result<JournalWriter, AllocError>
-        ensures { IfOk result (λ writer. text.old.items ≡ [] → IsWritten limits device [] text.new.items writer) }
+        ensures { IfOk result (λ writer. (head : List ℕ) × (text.new.items ≡ text.old.items ++ head) × IsWritten limits device [] head writer) }
     {
         put_limits(text, limits)?;
         text.extend_from_slice(b"\n")?;

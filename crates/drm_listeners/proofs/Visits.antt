@@ -1,11 +1,11 @@
 -- A listener's participant while connections are served.
 use Rattle.std.proofs.Common.{◌≡◌, ℕ, ◌+◌, List, [], ◌∷◌, ◌++◌, All, length, refl, sym, ap, ◌∙◌, subst, append-nil, arith}
 use Rattle.std.proofs.lemmas.List.{map_push}
-use Rattle.std.proofs.lemmas.List.Elements.{All-nil, All-push, All-weaker}
+use Rattle.std.proofs.lemmas.List.Elements.{All-push, All-weaker}
 use Rattle.std.specs.Prelude.{IsSomeAnd, Option}
 use Rattle.drm_turns.specs.History.{AllDiffer, StartsWith, calls_by}
 use Rattle.drm_turns.specs.Participants.{HasTakenIn, IsChild, ParticipantView, Same}
-use Rattle.drm_turns.proofs.ParticipantsIn.{all-seen-more, none-taken-in, one-more-taken-in}
+use Rattle.drm_turns.proofs.ParticipantsIn.{all-seen-more, one-more-taken-in}
 use Rattle.drm_sessions.specs.declared.class.Class.{Class}
 use Rattle.drm_sessions.specs.declared.end.Session.{Session}
 use Rattle.drm_sessions.specs.Serving.{all_steps}
@@ -15,16 +15,6 @@ use Rattle.drm_listeners.specs.Connections.{IsSessionBy, SessionState, participa
 use Rattle.drm_listeners.specs.Serving.{IsBy}
 use Rattle.drm_listeners.specs.UntilEnded.{ArePromised, HasServed, IsPromised}
 use Rattle.drm_listeners.proofs.Matching.{some_and}
-
--- A participant that has taken in no other has served no session.
-pub served-none : (class : Class) (participant : ParticipantView) → participant.merged ≡ [] → participant.journaled ≡ 0
-    → HasServed class participant
-served-none class participant merged journaled = record {
-  sittings = [];
-  of_class = All-nil (IsBy class);
-  taken = none-taken-in participant merged;
-  journaled = journaled;
-}
 
 -- A participant of which more are out has served the same sessions.
 pub served-still : (class : Class) (old new : ParticipantView) → new.seen ≡ old.seen → new.merged ≡ old.merged

@@ -186,11 +186,11 @@ impl Interpreter {
     fn first_step(
         &mut self,
         alloc: Global,
-        event: Event,
+        event: &Event,
         outcome: &mut Result<Answer, Apart>,
     ) -> Option<()>
         requires unmade { device_made self.old.device ≡ None }
-        ensures some { IfSome result (λ _. (before : DeviceValue) × (after : DeviceValue) × IsAt self.old.device before × StepsOn before event outcome.new after × (self.new.device ≡ Made after)) }
+        ensures some { IfSome result (λ _. (before : DeviceValue) × (after : DeviceValue) × IsAt self.old.device before × StepsOn before event.now outcome.new after × (self.new.device ≡ Made after)) }
         ensures labels { self.new.labels ≡ self.old.labels }
         ensures none { IfNone result (IsNowhere self.old.device × IsNowhere self.new.device) }
     {
@@ -205,10 +205,10 @@ impl Interpreter {
     fn step(
         &mut self,
         alloc: Global,
-        event: Event,
+        event: &Event,
         outcome: &mut Result<Answer, Apart>,
     ) -> Option<()>
-        ensures some { IfSome result (λ _. (before : DeviceValue) × (after : DeviceValue) × IsAt self.old.device before × StepsOn before event outcome.new after × (self.new.device ≡ Made after)) }
+        ensures some { IfSome result (λ _. (before : DeviceValue) × (after : DeviceValue) × IsAt self.old.device before × StepsOn before event.now outcome.new after × (self.new.device ≡ Made after)) }
         ensures labels { self.new.labels ≡ self.old.labels }
         ensures none { IfNone result (IsNowhere self.old.device × IsNowhere self.new.device) }
     {
@@ -226,10 +226,10 @@ impl Interpreter {
         &mut self,
         alloc: Global,
         binds: Option<Label>,
-        event: Event,
+        event: &Event,
         outcome: &mut Result<Answer, Apart>,
     ) -> Option<()>
-        ensures { Asks self.old self.new binds event result outcome.new }
+        ensures { Asks self.old self.new binds event.now result outcome.new }
     {
         self.step(alloc, event, outcome)?;
         self.bind(binds, outcome);
@@ -247,15 +247,15 @@ impl Interpreter {
     {
         match command {
             Command::Open { label, opening } => {
-                self.ask(alloc, Some(label), Event::Open(opening), outcome)
+                self.ask(alloc, Some(label), &Event::Open(opening), outcome)
             }
             Command::Close { label } => {
                 let client = self.client(label);
-                self.ask(alloc, None, Event::Close(client), outcome)
+                self.ask(alloc, None, &Event::Close(client), outcome)
             }
             Command::Ask { label, call } => {
                 let client = self.client(label);
-                self.ask(alloc, None, Event::Ask(client, call), outcome)
+                self.ask(alloc, None, &Event::Ask(client, call), outcome)
             }
         }
     }

@@ -58,6 +58,12 @@ impl Trace {
         })
     }
 
+    /// Returns the time of the batch's step at this place.
+    fn time_of(&self, at: usize) -> Option<Duration> {
+        let call = self.batch.steps.get(at)?;
+        Some(call.since)
+    }
+
     /// Makes the lines of the batch's faults from this one on, of those up to a time. Returns the number of faults that
     /// have a line then.
     fn put_faults(&mut self, from: usize, until: Option<Duration>) -> Result<usize, AllocError> {
@@ -78,15 +84,12 @@ impl Trace {
     /// Makes the lines of the calls in the batch: those of steps, and those of faults by their times.
     fn make_lines(&mut self) -> Result<(), AllocError> {
         self.text.clear();
-        // the last is taken first
-        self.batch.steps.reverse();
         let mut faults: usize = 0;
-        for _ in 0..self.batch.steps.len() {
-            let Some(call) = self.batch.steps.pop() else {
-                return Ok(());
-            };
-            faults = self.put_faults(faults, Some(call.since))?;
-            self.tracer.put_step(&mut self.text, call)?;
+        for at in 0..self.batch.steps.len() {
+            faults = self.put_faults(faults, self.time_of(at))?;
+            if let Some(call) = self.batch.steps.get(at) {
+                self.tracer.put_step(&mut self.text, call)?;
+            }
         }
         self.put_faults(faults, None)?;
         if self.batch.left_out > 0 {

@@ -82,7 +82,7 @@ fn each_step_has_its_line(rt: HostRuntime) -> Result<(), Fail> {
     let mut text = Vec::new(alloc);
     for case in &STEPS {
         text.clear();
-        tracer.put_step(&mut text, call_of(case)?)?;
+        tracer.put_step(&mut text, &call_of(case)?)?;
         expect_text(&text, case.line)?;
     }
     Ok(())

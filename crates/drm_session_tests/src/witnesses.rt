@@ -28,8 +28,6 @@ const FAULT: u64 = 9;
 #[derive(Drop)]
 struct Told<'a> {
     digits: &'a Cell<u64>,
-    /// Whether closings are reported.
-    all: bool,
 }
 
 /// Returns the digit of an event.
@@ -46,21 +44,14 @@ impl Witness for Told<'_> {
         None
     }
 
-    fn copy_of(&self, event: &Event) -> Option<Event> {
-        match event {
-            Event::Close(_) if !self.all => None,
-            event => event.clone().ok(),
-        }
-    }
-
-    fn tell(&self, event: Event, place: Option<u64>, outcome: &Result<Answer, Apart>) {
+    fn tell(&self, event: &Event, place: Option<u64>, outcome: &Result<Answer, Apart>) {
         let place = match (place, outcome) {
             (Some(place), Ok(_)) => place,
             (None, Err(_)) => FAULT,
             (_, _) => 8,
         };
         let digits = self.digits.get().wrapping_mul(100);
-        let more = digit_of(&event).wrapping_mul(10).wrapping_add(place);
+        let more = digit_of(event).wrapping_mul(10).wrapping_add(place);
         self.digits.set(digits.wrapping_add(more));
     }
 }
@@ -97,21 +88,14 @@ fn serve_twice(
     rt: &impl Wait,
     alloc: Global,
     device: Device,
-    all: bool,
 ) -> Result<(u64, Result<Device, TurnOut>), Fail> {
     let digits = Cell::new(0);
     let Ok((shared, participant)) = shared(alloc, device) else {
         return Err("memory was refused".into());
     };
-    let told = Told {
-        digits: &digits,
-        all,
-    };
+    let told = Told { digits: &digits };
     let participant = serve_once(rt, alloc, &shared, participant, told);
-    let again = Told {
-        digits: &digits,
-        all,
-    };
+    let again = Told { digits: &digits };
     let participant = serve_once(rt, alloc, &shared, participant, again);
     Ok((digits.get(), shared.close(participant)))
 }
@@ -121,14 +105,13 @@ fn check_told(
     rt: &(impl Wait + Abort),
     alloc: Global,
     steps: u32,
-    all: bool,
     wanted: (u64, u64),
 ) -> Result<(), Fail> {
     let limits = Limits {
         journal: steps,
         ..Limits::PROGRAM
     };
-    let (told, device) = serve_twice(rt, alloc, new_device(alloc, limits)?, all)?;
+    let (told, device) = serve_twice(rt, alloc, new_device(alloc, limits)?)?;
     let Ok(device) = device else {
         return Err("the device is out".into());
     };
@@ -144,7 +127,6 @@ fn check_told(
 #[test]
 fn calls_are_told_by_their_places(rt: HostRuntime) -> Result<(), Fail> {
     let alloc = rt.alloc();
-    check_told(&rt, alloc, 100, true, (10_21_32_13_24_35, 123_123))?;
-    check_told(&rt, alloc, 100, false, (10_21_13_24, 123_123))?;
-    check_told(&rt, alloc, 2, true, (10_29_31_19, 13))
+    check_told(&rt, alloc, 100, (10_21_32_13_24_35, 123_123))?;
+    check_told(&rt, alloc, 2, (10_29_31_19, 13))
 }

@@ -36,11 +36,14 @@ pub trait Access {
 
     /// Answers one event as [`call`](Access::call) does, and writes what resulted from it to a place of the caller's. A
     /// session has one such place for all its requests, so that an answer is moved less.
-    fn call_at(&mut self, event: Event, outcome: &mut Result<Answer, Apart>)
-        ensures answers { answers self.old event outcome.new self.new }
-        ensures opening { AnswersOpening event outcome.new }
+    fn call_at(&mut self, event: &Event, outcome: &mut Result<Answer, Apart>)
+        ensures answers { answers self.old event.now outcome.new self.new }
+        ensures opening { AnswersOpening event.now outcome.new }
         ensures few { FitsOneFrame outcome.new }
     {
+        let Ok(event) = event.clone() else {
+            unreachable!()
+        };
         *outcome = self.call(event);
     }
 }

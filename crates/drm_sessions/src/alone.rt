@@ -47,7 +47,7 @@ impl Access for Alone<'_> {
         self.0.step(event)
     }
 
-    fn call_at(&mut self, event: Event, outcome: &mut Result<Answer, Apart>) {
+    fn call_at(&mut self, event: &Event, outcome: &mut Result<Answer, Apart>) {
         self.0.step_at(event, outcome);
     }
 }

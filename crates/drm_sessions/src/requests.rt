@@ -5,7 +5,6 @@ ghost use Rattle.drm_frames.specs.Answers.{CallResult, answer_text};
 ghost use Rattle.drm_sessions.specs.Gates.{Gated};
 ghost use Rattle.drm_sessions.specs.Reading.{Wrote};
 ghost use Rattle.drm_sessions.specs.Runs.{one_if_journaled};
-ghost use Rattle.drm_table.specs.declared.events.Event.TheVariants.{Ask};
 ghost use Rattle.drm_sessions.specs.Ends.{Ends, IoCost, Shows, Tells};
 
 use crate::access::{Access, Gate};
@@ -38,24 +37,23 @@ struct Desk {
     text: AnswerText,
 }
 
-// Makes a call, and writes its answer, which is made on the desk.
+// Makes the call of an event, and writes its answer, which is made on the desk.
 fn answer_call<A: Access, K: Sink>(
     access: &mut A,
     sink: &mut K,
     turns: &mut u64,
     desk: &mut Desk,
-    client: u32,
-    call: Call,
+    event: &Event,
 ) -> Answered
     requires { (K.trace sink.old).counts.calls + turns.old < 2 ^ 48 }
     ensures { (outcome : CallResult)
-        × A.answers access.old (Ask client call) outcome access.new
+        × A.answers access.old event.now outcome access.new
         × (result.steps ≡ one_if_journaled outcome)
         × Wrote result.wrote (K.trace sink.old) (K.trace sink.new) (answer_text outcome)
         turns.old turns.new
         × (0 < length (answer_text outcome)) }
 {
-    access.call_at(Event::Ask(client, call), &mut desk.outcome);
+    access.call_at(event, &mut desk.outcome);
     desk.text.write(&desk.outcome);
     let wrote = write_answer(sink, desk.text.as_slice(), turns);
     let steps = if desk.outcome.is_ok() { 1 } else { 0 };
@@ -96,7 +94,8 @@ pub(crate) fn answer_requests<A: Access, G: Gate, S: Source, K: Sink>(
             Err(end) => return Stopped { end, steps },
         };
         gate.before(client);
-        let answered = answer_call(access, sink, turns, &mut desk, client, call);
+        let event = Event::Ask(client, call);
+        let answered = answer_call(access, sink, turns, &mut desk, &event);
         steps += answered.steps;
         if let Err(end) = answered.wrote {
             return Stopped { end, steps };

@@ -148,19 +148,16 @@ impl<R: Wait, W: Witness + Drop> Access for Through<'_, R, W> {
 
     fn call(&mut self, event: Event) -> Result<Answer, Apart> {
         let mut outcome = Err(Apart::Worn);
-        self.call_at(event, &mut outcome);
+        self.call_at(&event, &mut outcome);
         outcome
     }
 
-    fn call_at(&mut self, event: Event, outcome: &mut Result<Answer, Apart>) {
-        let copy = self.witness.copy_of(&event);
-        let shortage = self.witness.shortage(&event);
+    fn call_at(&mut self, event: &Event, outcome: &mut Result<Answer, Apart>) {
+        let shortage = self.witness.shortage(event);
         let place = self
             .shared
             .call_placed(self.rt, &mut self.participant, event, shortage, outcome);
-        if let Some(event) = copy {
-            self.witness.tell(event, place, outcome);
-        }
+        self.witness.tell(event, place, outcome);
     }
 }
 

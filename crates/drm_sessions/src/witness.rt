@@ -13,19 +13,15 @@ use drm_table::{Answer, Apart, Event};
 /// use drm_table::{Answer, Event};
 ///
 /// let event = Event::Close(1);
-/// assert!(rt; NoWitness.copy_of(&event).is_none() && NoWitness.shortage(&event).is_none());
-/// NoWitness.tell(event, Some(0), &Ok(Answer::Closed));
+/// assert!(rt; NoWitness.shortage(&event).is_none());
+/// NoWitness.tell(&event, Some(0), &Ok(Answer::Closed));
 /// ```
 pub trait Witness {
     /// Returns the shortage of memory for the call of an event, or `None` where there is none.
     fn shortage(&self, event: &Event) -> Option<&Shortage>;
 
-    /// Returns a copy of the event of a call, which [`tell`](Witness::tell) takes after the call. Returns `None` for a
-    /// call that the witness does not receive.
-    fn copy_of(&self, event: &Event) -> Option<Event>;
-
     /// Receives a call with its answer, and the place of its entry in the history, counted from 0. A fault has no entry.
-    fn tell(&self, event: Event, place: Option<u64>, outcome: &Result<Answer, Apart>);
+    fn tell(&self, event: &Event, place: Option<u64>, outcome: &Result<Answer, Apart>);
 }
 
 /// A witness that receives no call.
@@ -36,7 +32,7 @@ pub trait Witness {
 /// use drm_sessions::{NoWitness, Witness};
 /// use drm_table::Event;
 ///
-/// assert!(rt; NoWitness.copy_of(&Event::Close(1)).is_none());
+/// assert!(rt; NoWitness.shortage(&Event::Close(1)).is_none());
 /// ```
 #[derive(Clone, Copy, Debug)]
 pub struct NoWitness;
@@ -46,9 +42,5 @@ impl Witness for NoWitness {
         None
     }
 
-    fn copy_of(&self, _event: &Event) -> Option<Event> {
-        None
-    }
-
-    fn tell(&self, _event: Event, _place: Option<u64>, _outcome: &Result<Answer, Apart>) {}
+    fn tell(&self, _event: &Event, _place: Option<u64>, _outcome: &Result<Answer, Apart>) {}
 }

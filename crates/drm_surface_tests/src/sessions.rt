@@ -74,15 +74,9 @@ pub fn witnessed<'a, R: Wait, W: Witness + Drop>(
 }
 
 /// The calls of a witness.
-pub fn witness<W: Witness>(
-    witness: &W,
-    event: Event,
-    outcome: &Result<Answer, Apart>,
-) -> Option<Event> {
-    let copy = witness.copy_of(&event);
+pub fn witness<W: Witness>(witness: &W, event: &Event, outcome: &Result<Answer, Apart>) {
     witness.tell(event, Some(0), outcome);
-    NoWitness.tell(Event::Close(1), None, outcome);
-    copy
+    NoWitness.tell(&Event::Close(1), None, outcome);
 }
 
 /// Sessions in threads.

@@ -30,7 +30,7 @@ pub fn placed<R: Wait>(
     rt: &R,
     shared: &SharedDevice,
     seat: &mut Seat,
-    event: Event,
+    event: &Event,
     shortage: Option<&Shortage>,
     outcome: &mut Result<Answer, Apart>,
 ) -> Option<u64>

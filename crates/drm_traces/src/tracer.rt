@@ -57,7 +57,7 @@ pub enum Palette {
 ///     class: Class::Card,
 ///     event: Event::Open(Opening::Render),
 /// };
-/// let Ok(()) = tracer.put_step(&mut text, call) else { return };
+/// let Ok(()) = tracer.put_step(&mut text, &call) else { return };
 /// assert!(rt; text.as_slice() == b"    1.500000      1 card   open ? render -> client 1\n".as_slice());
 /// ```
 #[derive(Drop)]
@@ -159,14 +159,15 @@ impl Tracer {
     ///     class: Class::Root,
     ///     event: Event::Open(Opening::Render),
     /// };
-    /// let Ok(()) = steps.put_step(&mut text, call) else { return };
+    /// let Ok(()) = steps.put_step(&mut text, &call) else { return };
     /// assert!(rt; text.starts_with(b"    0.020000      1 root "));
     /// ```
-    pub fn put_step(&mut self, text: &mut Vec<u8>, call: WatchedCall) -> Result<(), AllocError> {
+    pub fn put_step(&mut self, text: &mut Vec<u8>, call: &WatchedCall) -> Result<(), AllocError> {
         self.steps = self.steps.saturating_add(1);
-        put_head(text, &call, Some(self.steps))?;
+        put_head(text, call, Some(self.steps))?;
         put_words(text, &call.event)?;
-        let outcome = self.device.step(call.event);
+        let mut outcome = Ok(Answer::Done);
+        self.device.step_at(&call.event, &mut outcome);
         self.put_answer(text, &outcome)
     }
 

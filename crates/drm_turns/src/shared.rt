@@ -258,19 +258,14 @@ impl SharedDevice {
     }
 
     /// Adds the entry to the history, and returns its place there. The device answered it so in this turn.
-    fn count<E: Noted>(
-        &self,
-        place: &mut Place<Slot, View>,
-        event: &Snapshot<Event>,
-        answer: &Answer,
-    ) -> u64
+    fn count<E: Noted>(&self, place: &mut Place<Slot, View>, event: &Event, answer: &Answer) -> u64
         requires own { place.old.table_id ≡ self.now }
         requires serving { (place.old.me.0.stage ≡ Serving) × (place.old.me.0.number ≢ 0) × (length place.old.me.0.seen < 2 ^ 32) }
-        requires entry { E.entry ≡ entry place.old.me.0.number event.now.value answer.now }
-        requires legal { (no_room (rows_after place.old.me.0.origin place.old.me.0.seen) event.now.value ≡ false)
-            × (answer.now ≡ reply (rows_after place.old.me.0.origin place.old.me.0.seen) event.now.value) }
+        requires entry { E.entry ≡ entry place.old.me.0.number event.now answer.now }
+        requires legal { (no_room (rows_after place.old.me.0.origin place.old.me.0.seen) event.now ≡ false)
+            × (answer.now ≡ reply (rows_after place.old.me.0.origin place.old.me.0.seen) event.now) }
         ensures own { (place.new.table_id ≡ place.old.table_id) × (place.new.id ≡ place.old.id) }
-        ensures counted { place.new.me ≡ (counted place.old.me.0 (entry place.old.me.0.number event.now.value answer.now), place.old.me.1) }
+        ensures counted { place.new.me ≡ (counted place.old.me.0 (entry place.old.me.0.number event.now answer.now), place.old.me.1) }
         ensures next { result ≡ length place.old.me.0.seen }
     {
         let _ = event;
@@ -283,7 +278,7 @@ impl SharedDevice {
     fn step_in_turn(
         &self,
         place: &mut Place<Slot, View>,
-        event: Event,
+        event: &Event,
         shortage: Option<&Shortage>,
         outcome: &mut Result<Answer, Apart>,
     ) -> Option<u64>
@@ -293,20 +288,19 @@ impl SharedDevice {
         requires seen { IsOwn place.old.me.0 }
         ensures own { (place.new.table_id ≡ place.old.table_id) × (place.new.id ≡ place.old.id) }
         ensures grows { Grows place.old.me.0 place.new.me.0 }
-        ensures ok { IfOk outcome.new (λ answer. place.new.me.0 ≡ counted place.old.me.0 (entry place.old.me.0.number event answer)) }
+        ensures ok { IfOk outcome.new (λ answer. place.new.me.0 ≡ counted place.old.me.0 (entry place.old.me.0.number event.now answer)) }
         ensures err { IfErr outcome.new (λ apart. (place.new.me.0 ≡ place.old.me.0)
-            × Step (rows_after place.old.me.0.origin place.old.me.0.seen) event (Err apart) (rows_after place.old.me.0.origin place.old.me.0.seen)) }
+            × Step (rows_after place.old.me.0.origin place.old.me.0.seen) event.now (Err apart) (rows_after place.old.me.0.origin place.old.me.0.seen)) }
         ensures device { place.new.me.1 ≡ (0, Some (device_at place.new.me.0.origin place.new.me.0.seen)) ∷ [] }
-        ensures turn { Turn (device_at place.new.me.0.origin place.new.me.0.seen) event outcome.new }
+        ensures turn { Turn (device_at place.new.me.0.origin place.new.me.0.seen) event.now outcome.new }
         ensures few { FitsOneFrame outcome.new }
         ensures next { IsNext place.old.me.0.seen outcome.new result }
     {
         let shared = &self.table.shared;
         let mut device = shared.exchange(place, 0, None).unwrap().into_box();
-        let journaled = Snapshot::of(&event);
         device.step_short_at(event, shortage, outcome);
         let counted = match &*outcome {
-            Ok(answer) => Some(self.count::<Brand>(place, &journaled, answer)),
+            Ok(answer) => Some(self.count::<Brand>(place, event, answer)),
             Err(_) => None,
         };
         drop(shared.exchange(place, 0, Some(BoxedDevice { device })));
@@ -432,7 +426,7 @@ impl SharedDevice {
         ensures worn { result ≡ Err Worn → participant.old.number ≡ 1 → participant.old.outstanding ≡ 0 → participant.old.drawn ≡ 2 ^ 64 - 1 }
     {
         let mut outcome = Err(Apart::Worn);
-        self.call_at(rt, participant, event, &mut outcome);
+        self.call_at(rt, participant, &event, &mut outcome);
         outcome
     }
 
@@ -453,23 +447,23 @@ impl SharedDevice {
     /// let opening = Event::Open(Opening::Render);
     /// assert!(rt; shared.call(&rt, &mut participant, opening) == Ok(Answer::Opened { client: 1 }));
     /// let mut outcome = Err(Apart::Worn);
-    /// shared.call_at(&rt, &mut participant, Event::Ask(1, Call::Version), &mut outcome);
+    /// shared.call_at(&rt, &mut participant, &Event::Ask(1, Call::Version), &mut outcome);
     /// assert!(rt; outcome == Ok(Answer::Version { major: 1, minor: 0, patch: 0 }));
     /// ```
     pub fn call_at<R: Wait>(
         &self,
         rt: &R,
         participant: &mut Seat,
-        event: Event,
+        event: &Event,
         outcome: &mut Result<Answer, Apart>,
     )
         requires own { participant.old.table ≡ self.now }
         ensures extends { Extends participant.old participant.new }
         ensures merged { participant.new.merged ≡ participant.old.merged }
         ensures unchanged { Unchanged participant.old participant.new }
-        ensures ok { IfOk outcome.new (λ answer. Commits participant.old event answer participant.new) }
-        ensures err { IfErr outcome.new (λ apart. Aborts participant.old event apart participant.new) }
-        ensures turn { Answered (device_at participant.new.origin participant.new.seen) event outcome.new }
+        ensures ok { IfOk outcome.new (λ answer. Commits participant.old event.now answer participant.new) }
+        ensures err { IfErr outcome.new (λ apart. Aborts participant.old event.now apart participant.new) }
+        ensures turn { Answered (device_at participant.new.origin participant.new.seen) event.now outcome.new }
         ensures few { FitsOneFrame outcome.new }
         ensures counts { (participant.new.drawn ≡ participant.old.drawn + tickets_of outcome.new)
             × (participant.new.journaled ≡ participant.old.journaled + entries_of outcome.new) }
@@ -497,16 +491,16 @@ impl SharedDevice {
     /// let opening = Event::Open(Opening::Render);
     /// assert!(rt; shared.call(&rt, &mut participant, opening) == Ok(Answer::Opened { client: 1 }));
     /// let mut outcome = Err(Apart::Worn);
-    /// shared.call_at(&rt, &mut participant, Event::Ask(1, Call::Version), &mut outcome);
+    /// shared.call_at(&rt, &mut participant, &Event::Ask(1, Call::Version), &mut outcome);
     /// let closing = Event::Close(1);
-    /// let place = shared.call_placed(&rt, &mut participant, closing, None, &mut outcome);
+    /// let place = shared.call_placed(&rt, &mut participant, &closing, None, &mut outcome);
     /// assert!(rt; place == Some(2) && outcome == Ok(Answer::Closed));
     /// ```
     pub fn call_placed<R: Wait>(
         &self,
         rt: &R,
         participant: &mut Seat,
-        event: Event,
+        event: &Event,
         shortage: Option<&Shortage>,
         outcome: &mut Result<Answer, Apart>,
     ) -> Option<u64>
@@ -514,14 +508,14 @@ impl SharedDevice {
         ensures extends { Extends participant.old participant.new }
         ensures merged { participant.new.merged ≡ participant.old.merged }
         ensures unchanged { Unchanged participant.old participant.new }
-        ensures ok { IfOk outcome.new (λ answer. Commits participant.old event answer participant.new) }
-        ensures err { IfErr outcome.new (λ apart. Aborts participant.old event apart participant.new) }
-        ensures turn { Answered (device_at participant.new.origin participant.new.seen) event outcome.new }
+        ensures ok { IfOk outcome.new (λ answer. Commits participant.old event.now answer participant.new) }
+        ensures err { IfErr outcome.new (λ apart. Aborts participant.old event.now apart participant.new) }
+        ensures turn { Answered (device_at participant.new.origin participant.new.seen) event.now outcome.new }
         ensures few { FitsOneFrame outcome.new }
         ensures counts { (participant.new.drawn ≡ participant.old.drawn + tickets_of outcome.new)
             × (participant.new.journaled ≡ participant.old.journaled + entries_of outcome.new) }
         ensures worn { outcome.new ≡ Err Worn → participant.old.number ≡ 1 → participant.old.outstanding ≡ 0 → participant.old.drawn ≡ 2 ^ 64 - 1 }
-        ensures place { IsPlaced participant.old event outcome.new result participant.new }
+        ensures place { IsPlaced participant.old event.now outcome.new result participant.new }
     {
         let place = &mut participant.place;
         self.schedule_before_turn(rt);
@@ -552,7 +546,7 @@ impl SharedDevice {
     /// let opening = Event::Open(Opening::Render);
     /// assert!(rt; shared.call(&rt, &mut participant, opening) == Ok(Answer::Opened { client: 1 }));
     /// let mut outcome = Err(Apart::Worn);
-    /// shared.call_at(&rt, &mut participant, Event::Ask(1, Call::Version), &mut outcome);
+    /// shared.call_at(&rt, &mut participant, &Event::Ask(1, Call::Version), &mut outcome);
     /// let mut other = shared.split(&mut participant);
     /// let closing = Event::Close(1);
     /// assert!(rt; shared.call(&rt, &mut other, closing) == Ok(Answer::Closed));
@@ -593,7 +587,7 @@ impl SharedDevice {
     /// let opening = Event::Open(Opening::Render);
     /// assert!(rt; shared.call(&rt, &mut participant, opening) == Ok(Answer::Opened { client: 1 }));
     /// let mut outcome = Err(Apart::Worn);
-    /// shared.call_at(&rt, &mut participant, Event::Ask(1, Call::Version), &mut outcome);
+    /// shared.call_at(&rt, &mut participant, &Event::Ask(1, Call::Version), &mut outcome);
     /// let mut other = shared.split(&mut participant);
     /// let closing = Event::Close(1);
     /// assert!(rt; shared.call(&rt, &mut other, closing) == Ok(Answer::Closed));
@@ -635,7 +629,7 @@ impl SharedDevice {
     /// let opening = Event::Open(Opening::Render);
     /// assert!(rt; shared.call(&rt, &mut participant, opening) == Ok(Answer::Opened { client: 1 }));
     /// let mut outcome = Err(Apart::Worn);
-    /// shared.call_at(&rt, &mut participant, Event::Ask(1, Call::Version), &mut outcome);
+    /// shared.call_at(&rt, &mut participant, &Event::Ask(1, Call::Version), &mut outcome);
     /// let mut other = shared.split(&mut participant);
     /// let closing = Event::Close(1);
     /// assert!(rt; shared.call(&rt, &mut other, closing) == Ok(Answer::Closed));
@@ -672,7 +666,7 @@ impl SharedDevice {
     /// let opening = Event::Open(Opening::Render);
     /// assert!(rt; shared.call(&rt, &mut participant, opening) == Ok(Answer::Opened { client: 1 }));
     /// let mut outcome = Err(Apart::Worn);
-    /// shared.call_at(&rt, &mut participant, Event::Ask(1, Call::Version), &mut outcome);
+    /// shared.call_at(&rt, &mut participant, &Event::Ask(1, Call::Version), &mut outcome);
     /// let mut other = shared.split(&mut participant);
     /// let closing = Event::Close(1);
     /// assert!(rt; shared.call(&rt, &mut other, closing) == Ok(Answer::Closed));
@@ -719,7 +713,7 @@ impl SharedDevice {
     /// let opening = Event::Open(Opening::Render);
     /// assert!(rt; shared.call(&rt, &mut participant, opening) == Ok(Answer::Opened { client: 1 }));
     /// let mut outcome = Err(Apart::Worn);
-    /// shared.call_at(&rt, &mut participant, Event::Ask(1, Call::Version), &mut outcome);
+    /// shared.call_at(&rt, &mut participant, &Event::Ask(1, Call::Version), &mut outcome);
     /// let mut other = shared.split(&mut participant);
     /// let closing = Event::Close(1);
     /// assert!(rt; shared.call(&rt, &mut other, closing) == Ok(Answer::Closed));
@@ -769,7 +763,7 @@ impl SharedDevice {
     /// let opening = Event::Open(Opening::Render);
     /// assert!(rt; shared.call(&rt, &mut participant, opening) == Ok(Answer::Opened { client: 1 }));
     /// let mut outcome = Err(Apart::Worn);
-    /// shared.call_at(&rt, &mut participant, Event::Ask(1, Call::Version), &mut outcome);
+    /// shared.call_at(&rt, &mut participant, &Event::Ask(1, Call::Version), &mut outcome);
     /// let mut other = shared.split(&mut participant);
     /// let closing = Event::Close(1);
     /// assert!(rt; shared.call(&rt, &mut other, closing) == Ok(Answer::Closed));

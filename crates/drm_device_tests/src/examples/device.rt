@@ -51,7 +51,7 @@ fn device(rt: HostRuntime) {
     assert!(rt; device.step(Event::Open(opening)) == Ok(Answer::Opened { client: 1 }));
     assert!(rt; device.step(Event::Ask(1, Call::SetMaster)) == Ok(Answer::Done));
     let mut outcome = Ok(Answer::Done);
-    device.step_at(Event::Ask(1, Call::Version), &mut outcome);
+    device.step_at(&Event::Ask(1, Call::Version), &mut outcome);
     assert!(rt;
         outcome
             == Ok(Answer::Version {
@@ -78,16 +78,16 @@ fn device_from_step_short_at(rt: HostRuntime) {
     assert!(rt; device.step(Event::Open(opening)) == Ok(Answer::Opened { client: 1 }));
     let shortage = Shortage::new(1);
     let mut outcome = Ok(Answer::Done);
-    device.step_short_at(Event::Ask(1, Call::Version), Some(&shortage), &mut outcome);
+    device.step_short_at(&Event::Ask(1, Call::Version), Some(&shortage), &mut outcome);
     assert!(rt; outcome.is_ok());
     device.step_short_at(
-        Event::Ask(1, Call::BufCreate { size: 4096 }),
+        &Event::Ask(1, Call::BufCreate { size: 4096 }),
         Some(&shortage),
         &mut outcome,
     );
     assert!(rt; outcome == Err(Apart::NoMemory));
     device.step_short_at(
-        Event::Ask(1, Call::BufCreate { size: 4096 }),
+        &Event::Ask(1, Call::BufCreate { size: 4096 }),
         Some(&shortage),
         &mut outcome,
     );
@@ -116,7 +116,7 @@ fn device_from_journal(rt: HostRuntime) {
     assert!(rt; device.step(Event::Open(opening)) == Ok(Answer::Opened { client: 1 }));
     assert!(rt; device.step(Event::Ask(1, Call::SetMaster)) == Ok(Answer::Done));
     let mut outcome = Ok(Answer::Done);
-    device.step_at(Event::Ask(1, Call::Version), &mut outcome);
+    device.step_at(&Event::Ask(1, Call::Version), &mut outcome);
     assert!(rt;
         device.journal()
             == [

@@ -317,9 +317,9 @@ fn values_from_serve_witnessed(rt: HostRuntime) {
     );
     assert!(rt; served.session.end == SessionEnd::Ended);
     let event = Event::Close(1);
-    assert!(rt; NoWitness.copy_of(&event).is_none() && NoWitness.shortage(&event).is_none());
-    NoWitness.tell(event, Some(0), &Ok(Answer::Closed));
-    assert!(rt; NoWitness.copy_of(&Event::Close(1)).is_none());
+    assert!(rt; NoWitness.shortage(&event).is_none());
+    NoWitness.tell(&event, Some(0), &Ok(Answer::Closed));
+    assert!(rt; NoWitness.shortage(&Event::Close(1)).is_none());
 }
 
 #[test]

@@ -29,7 +29,7 @@ fn tracer(rt: HostRuntime) {
         class: Class::Card,
         event: Event::Open(Opening::Render),
     };
-    let Ok(()) = tracer.put_step(&mut text, call) else {
+    let Ok(()) = tracer.put_step(&mut text, &call) else {
         panic!(rt; "refused")
     };
     assert!(rt;
@@ -65,7 +65,7 @@ fn tracer_from_put_step(rt: HostRuntime) {
         class: Class::Root,
         event: Event::Open(Opening::Render),
     };
-    let Ok(()) = steps.put_step(&mut text, call) else {
+    let Ok(()) = steps.put_step(&mut text, &call) else {
         panic!(rt; "refused")
     };
     assert!(rt; text.starts_with(b"    0.020000      1 root "));

@@ -80,7 +80,7 @@ fn shared_device_shared(rt: HostRuntime) {
     shared.call_at(
         &rt,
         &mut participant,
-        Event::Ask(1, Call::Version),
+        &Event::Ask(1, Call::Version),
         &mut outcome,
     );
     assert!(rt;
@@ -92,7 +92,7 @@ fn shared_device_shared(rt: HostRuntime) {
             })
     );
     let closing = Event::Close(1);
-    let place = shared.call_placed(&rt, &mut participant, closing, None, &mut outcome);
+    let place = shared.call_placed(&rt, &mut participant, &closing, None, &mut outcome);
     assert!(rt; place == Some(2) && outcome == Ok(Answer::Closed));
 }
 
@@ -114,7 +114,7 @@ fn shared_device_shared_from_split(rt: HostRuntime) {
     shared.call_at(
         &rt,
         &mut participant,
-        Event::Ask(1, Call::Version),
+        &Event::Ask(1, Call::Version),
         &mut outcome,
     );
     let mut other = shared.split(&mut participant);

@@ -1,4 +1,4 @@
-use Rattle.std.proofs.Common.{Bool, List, [], ◌∷◌, ◌++◌, take, take_all, ◌∙◌, subst, sym}
+use Rattle.std.proofs.Common.{Bool, ℕ, List, [], ◌∷◌, ◌++◌, ap, take, take_all, ◌∙◌, subst, sym}
 use Rattle.std.proofs.lemmas.List.{take_more}
 use Rattle.drm_table.specs.declared.events.Event.{Event}
 use Rattle.drm_journals.specs.Journals.{IsScriptOf, IsWritten}
@@ -6,7 +6,10 @@ use Rattle.drm_journals.proofs.JournalLemmas.{is_script}
 use Rattle.drm_journals.proofs.journal.journal_of.Goals as goal
 
 pub loop-event-init : goal.loop-event-init
-loop-event-init c = c.in_ok-writer.ensures c.new-text.ensures.items
+loop-event-init c =
+    let begun = c.in_ok-writer.ensures in
+    subst (λ (text : List ℕ). IsWritten c.args.limits c.args.device [] text c.in_ok-writer.writer)
+    (sym (begun.1 ∙ ap (λ (l : List ℕ). l ++ begun.0) c.new-text.ensures.items)) begun.2
 
 pub loop-event-preserved : goal.loop-event-preserved
 loop-event-preserved c =

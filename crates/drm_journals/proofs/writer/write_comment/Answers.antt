@@ -1,6 +1,4 @@
-use Rattle.std.proofs.Common.{◌≡◌, ℕ, List, ◌++◌, OnOk, ap, ◌∙◌, subst}
-use Rattle.drm_table.specs.declared.events.Event.{Event}
-use Rattle.drm_model.specs.Run.{Step, journaled_in, rows_of}
+use Rattle.std.proofs.Common.{◌≡◌, ℕ, List, ◌++◌, ap, ◌∙◌}
 use Rattle.drm_journals.specs.Lines.{brief_event, comment_text}
 use Rattle.drm_journals.proofs.JournalLemmas.{adds_comment, on_ok}
 use Rattle.drm_journals.proofs.writer.write_comment.Goals as goal
@@ -11,7 +9,6 @@ returns c =
     let is : c.as_slice.result.now ≡ words =
     c.as_slice.ensures.value ∙ (c.in_ok-put_comment.ensures ∙ ap (λ (l : List ℕ). l ++ comment_text c.in_ok-brief.brief) c.clear.ensures.items ∙ ap comment_text c.in_ok-brief.ensures) in
     on_ok c.put_answered.result
-    (λ h. adds_comment c.args.event.now c.step-outcome.result c.args.text.now.items c.args.device.now c.put_answered.new.updated.items c.step-outcome.new.self c.as_slice.result.now is h
-    (subst (λ (e : Event). Step (rows_of c.args.device.now) e c.step-outcome.result (rows_of c.step-outcome.new.self)) c.copy_of_event.ensures c.step-outcome.ensures.step)
-    (subst (λ (e : Event). OnOk c.step-outcome.result (c.step-outcome.new.self ≡ journaled_in c.args.device.now e)) c.copy_of_event.ensures c.step-outcome.ensures.ok) c.step-outcome.ensures.err)
+    (λ h. adds_comment c.args.event.now c.step_at.new.outcome c.args.text.now.items c.args.device.now c.put_answered.new.updated.items c.step_at.new.self c.as_slice.result.now is h
+    c.step_at.ensures.step c.step_at.ensures.ok c.step_at.ensures.err)
     c.put_answered.ensures

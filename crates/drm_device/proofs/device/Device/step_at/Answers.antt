@@ -1,6 +1,7 @@
-use Rattle.std.proofs.Common.{refl, sym, ap, ◌∙◌, subst, Ok}
+use Rattle.std.proofs.Common.{[], ◌∷◌, ◌++◌, refl, sym, ap, ◌∙◌, subst, Ok}
 use Rattle.std.proofs.lemmas.Bool.{not-false, not-true}
 use Rattle.drm_table.specs.declared.answers.Answer.{Answer}
+use Rattle.drm_table.specs.declared.events.Event.{Event}
 use Rattle.drm_table.specs.Results.{FitsOneFrame}
 use Rattle.drm_model.specs.Run.{Step, rows_of, journaled_in}
 use Rattle.drm_device.specs.Device.{value_of}
@@ -20,7 +21,7 @@ advance_at-requires c = precondition c.self.inside c.len.result c.self.invariant
 pub push_reserved-requires : goal.push_reserved-requires
 push_reserved-requires c =
     let room = not-true _ (sym c.has_room.ensures ∙ c.if-not-has_room.false) in
-    has_room_for c.self.inside c.args.event c.self.invariant (rw (ap rows_of c.self.view_is) room)
+    has_room_for c.self.inside c.args.event.now c.self.invariant (rw (ap rows_of c.self.view_is) room)
 
 pub invariant_of-self-2 : goal.invariant_of-self-2
 unfolding Refines
@@ -29,9 +30,12 @@ invariant_of-self-2 c =
     let made = opened c.advance_at.new.outcome c.in-Ok.ensures.answered c.in-Ok.ensures.ok in
     let out =
     made.2 (rows_of (value_of c.self.inside)) (stands c.self.inside c.len.result c.self.invariant c.len.ensures) in
-    next_device c.self.inside c.args.event c.push_reserved.new.self c.advance_at.new.state c.self.invariant
+    let items =
+    c.push_reserved.ensures.items
+    ∙ ap (λ (e : Event). c.self.inside.journal.items ++ e ∷ []) c.copy_of.ensures in
+    next_device c.self.inside c.args.event.now c.push_reserved.new.self c.advance_at.new.state c.self.invariant
     (rw (ap rows_of c.self.view_is) room)
-    c.push_reserved.ensures.items c.push_reserved.ensures.len c.push_reserved.ensures.capacity
+    items c.push_reserved.ensures.len c.push_reserved.ensures.capacity
     c.in-Ok.ensures.invariants out.1
 
 pub invariant_of-self : goal.invariant_of-self
@@ -49,8 +53,11 @@ returns-clause-step c =
     let made = opened c.advance_at.new.outcome c.in-Ok.ensures.answered c.in-Ok.ensures.ok in
     let out =
     made.2 (rows_of (value_of c.self.inside)) (stands c.self.inside c.len.result c.self.invariant c.len.ensures) in
+    let items =
+    c.push_reserved.ensures.items
+    ∙ ap (λ (e : Event). c.self.inside.journal.items ++ e ∷ []) c.copy_of.ensures in
     rw made.1
-    (room, rw (← ap rows_of c.self.view_is) out.0, rw (← ap rows_of c.self.view_is) (next_rows c.self.inside c.args.event c.push_reserved.new.self c.advance_at.new.state c.push_reserved.ensures.items (topology_after c.self.inside c.args.event c.advance_at.new.state out.1)))
+    (room, rw (← ap rows_of c.self.view_is) out.0, rw (← ap rows_of c.self.view_is) (next_rows c.self.inside c.args.event.now c.push_reserved.new.self c.advance_at.new.state items (topology_after c.self.inside c.args.event.now c.advance_at.new.state out.1)))
 
 pub returns-in_default-clause-step : goal.returns-in_default-clause-step
 unfolding Step Refines
@@ -69,7 +76,7 @@ returns-clause-few c =
     let out =
     made.2 (rows_of (value_of c.self.inside)) (stands c.self.inside c.len.result c.self.invariant c.len.ensures) in
     rw made.1
-    (subst (λ (a : Answer). FitsOneFrame (Ok a)) (sym out.0) (few_answer c.self.inside c.args.event c.self.invariant))
+    (subst (λ (a : Answer). FitsOneFrame (Ok a)) (sym out.0) (few_answer c.self.inside c.args.event.now c.self.invariant))
 
 pub returns-clause-ok : goal.returns-clause-ok
 unfolding Refines
@@ -77,8 +84,11 @@ returns-clause-ok c =
     let made = opened c.advance_at.new.outcome c.in-Ok.ensures.answered c.in-Ok.ensures.ok in
     let out =
     made.2 (rows_of (value_of c.self.inside)) (stands c.self.inside c.len.result c.self.invariant c.len.ensures) in
+    let items =
+    c.push_reserved.ensures.items
+    ∙ ap (λ (e : Event). c.self.inside.journal.items ++ e ∷ []) c.copy_of.ensures in
     rw made.1
-    (next_history c.self.inside c.args.event c.push_reserved.new.self c.advance_at.new.state c.push_reserved.ensures.items (topology_after c.self.inside c.args.event c.advance_at.new.state out.1) ∙ ap (λ h. journaled_in h c.args.event) c.self.view_is)
+    (next_history c.self.inside c.args.event.now c.push_reserved.new.self c.advance_at.new.state items (topology_after c.self.inside c.args.event.now c.advance_at.new.state out.1) ∙ ap (λ h. journaled_in h c.args.event.now) c.self.view_is)
 
 pub returns-clause-err : goal.returns-clause-err
 returns-clause-err c = rw (opened c.advance_at.new.outcome c.in-Ok.ensures.answered c.in-Ok.ensures.ok).1 tt
@@ -97,7 +107,7 @@ returns-in_default-clause-found_room c = (invariant_of-self c).found_room
 pub returns-clause-within : goal.returns-clause-within
 returns-clause-within c =
     let room = not-true _ (sym c.has_room.ensures ∙ c.if-not-has_room.false) in
-    within_after c.self.inside c.args.event c.push_reserved.new.self c.self.invariant
+    within_after c.self.inside c.args.event.now c.push_reserved.new.self c.self.invariant
     (rw (ap rows_of c.self.view_is) room) c.push_reserved.ensures.len
 
 pub returns-clause-found_room : goal.returns-clause-found_room

@@ -13,7 +13,7 @@ invariant_of-self-2 c =
     let setup = c.in_ok-setup.setup in
     let device = c.in_ok-device.device in
     let kept =
-    step_limits device c.step_at.new.self c.args.event c.step_at.new.outcome c.step_at.ensures.ok
+    step_limits device c.step_at.new.self c.args.event.now c.step_at.new.outcome c.step_at.ensures.ok
     c.step_at.ensures.err in
     let planned : s.planned ≡ Some setup = let taken = c.take.ensures.value in let is = c.in_ok-setup.was in cc in
     (c.self.invariant.0, limits_begin s.device s.planned s.limits setup device c.step_at.new.self none planned c.self.invariant.1 c.in_ok-device.ensures kept)
@@ -30,6 +30,6 @@ returns-clause-some c =
     let planned : s.planned ≡ Some setup = let taken = c.take.ensures.value in let is = c.in_ok-setup.was in cc in
     let here = at_none s.device s.planned setup before none planned c.in_ok-device.ensures in
     let steps =
-    steps_on before after c.args.event c.step_at.new.outcome c.step_at.ensures.step c.step_at.ensures.ok
+    steps_on before after c.args.event.now c.step_at.new.outcome c.step_at.ensures.step c.step_at.ensures.ok
     c.step_at.ensures.err in
     (before, after, subst (λ (s : InterpreterState). IsAt s.device before) c.self.view_is here, steps, refl)

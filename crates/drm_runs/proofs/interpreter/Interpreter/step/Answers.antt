@@ -11,7 +11,7 @@ pub invariant_of-self : goal.invariant_of-self
 invariant_of-self c =
     let s = c.self.inside in
     let kept =
-    step_limits c.in-Some.device c.step_at.new.self c.args.event c.step_at.new.outcome c.step_at.ensures.ok
+    step_limits c.in-Some.device c.step_at.new.self c.args.event.now c.step_at.new.outcome c.step_at.ensures.ok
     c.step_at.ensures.err in
     (c.self.invariant.0, limits_stay s.device s.planned s.limits c.in-Some.device c.step_at.new.self c.in-Some.is c.self.invariant.1 kept)
 
@@ -21,6 +21,6 @@ returns-in-Some-clause-some c =
     let before = c.in-Some.device in
     let after = c.step_at.new.self in
     let steps =
-    steps_on before after c.args.event c.step_at.new.outcome c.step_at.ensures.step c.step_at.ensures.ok
+    steps_on before after c.args.event.now c.step_at.new.outcome c.step_at.ensures.step c.step_at.ensures.ok
     c.step_at.ensures.err in
     (before, after, subst (λ (s : InterpreterState). IsAt s.device before) c.self.view_is (at_some s.device s.planned before c.in-Some.is), steps, refl)

@@ -88,7 +88,7 @@ returns-clause-ok g c =
     let t = its_turn g c in
     let p = c.pass.ensures.passed in
     let between : List Entry = t.1.0.0 in
-    commits c.step_in_turn-counted.new.outcome c.args.event c.args.participant.now (after g c) c.wait_turn.new.place.me.0
+    commits c.step_in_turn-counted.new.outcome c.args.event.now c.args.participant.now (after g c) c.wait_turn.new.place.me.0
     c.step_in_turn-counted.new.place.me.0 between c.step_in_turn-counted.ensures.ok
     (ap (λ (m : Sat). m.0.seen) p)
     (ap (λ (m : Sat). m.0.mine) p)
@@ -101,7 +101,7 @@ pub returns-clause-err : goal.returns-clause-err
 returns-clause-err g c =
     let t = its_turn g c in
     let p = c.pass.ensures.passed in
-    aborts c.step_in_turn-counted.new.outcome c.args.event c.args.participant.now (after g c) c.wait_turn.new.place.me.0
+    aborts c.step_in_turn-counted.new.outcome c.args.event.now c.args.participant.now (after g c) c.wait_turn.new.place.me.0
     c.step_in_turn-counted.new.place.me.0 c.step_in_turn-counted.ensures.err
     (ap (λ (m : Sat). m.0.origin) p)
     (ap (λ (m : Sat). m.0.seen) p)
@@ -115,19 +115,19 @@ returns-clause-turn g c =
     let origin = ap (λ (m : Sat). m.0.origin) p in
     let seen = ap (λ (m : Sat). m.0.seen) p in
     let turn =
-    subst (λ (z : DeviceValue × List Entry). Turn (device_at z.0 z.1) c.args.event c.step_in_turn-counted.new.outcome) (λ i. (sym origin i, sym seen i)) c.step_in_turn-counted.ensures.turn in
-    answered (device_at (after g c).origin (after g c).seen) c.args.event c.step_in_turn-counted.new.outcome turn
+    subst (λ (z : DeviceValue × List Entry). Turn (device_at z.0 z.1) c.args.event.now c.step_in_turn-counted.new.outcome) (λ i. (sym origin i, sym seen i)) c.step_in_turn-counted.ensures.turn in
+    answered (device_at (after g c).origin (after g c).seen) c.args.event.now c.step_in_turn-counted.new.outcome turn
 
 pub returns-clause-counts : goal.returns-clause-counts
 returns-clause-counts g c =
     let v = c.participant.inside.place.me.0 in
     let t = whole g c in
     let p = c.pass.ensures.passed in
-    let one = turn_tickets _ c.args.event c.step_in_turn-counted.new.outcome c.step_in_turn-counted.ensures.turn in
+    let one = turn_tickets _ c.args.event.now c.step_in_turn-counted.new.outcome c.step_in_turn-counted.ensures.turn in
     let drew =
     ap (λ (m : Sat). m.0.drawn) p ∙ (t.9 ∙ ap (λ (s : ParticipantView). s.drawn + 1) c.participant.view_is) in
     let more =
-    turn_entries c.step_in_turn-counted.new.outcome c.args.event c.wait_turn.new.place.me.0 c.step_in_turn-counted.new.place.me.0
+    turn_entries c.step_in_turn-counted.new.outcome c.args.event.now c.wait_turn.new.place.me.0 c.step_in_turn-counted.new.place.me.0
     c.step_in_turn-counted.ensures.ok c.step_in_turn-counted.ensures.err in
     let had = ap (λ (u : View). u.journaled) (its_turn g c).2 ∙ ap (λ (s : ParticipantView). s.journaled) c.participant.view_is in (
       drew ∙ ap (λ (n : ℕ). c.args.participant.now.drawn + n) (sym one),
@@ -136,12 +136,12 @@ returns-clause-counts g c =
 
 pub returns-clause-worn : goal.returns-clause-worn
 returns-clause-worn g c worn =
-    absurd (not_worn _ c.args.event c.step_in_turn-counted.new.outcome c.step_in_turn-counted.ensures.turn worn)
+    absurd (not_worn _ c.args.event.now c.step_in_turn-counted.new.outcome c.step_in_turn-counted.ensures.turn worn)
 
 pub returns-clause-place : goal.returns-clause-place
 returns-clause-place g c =
     let t = its_turn g c in
-    placed_after c.step_in_turn-counted.new.outcome c.step_in_turn-counted.result c.args.event c.args.participant.now (after g c)
+    placed_after c.step_in_turn-counted.new.outcome c.step_in_turn-counted.result c.args.event.now c.args.participant.now (after g c)
     c.wait_turn.new.place.me.0 c.step_in_turn-counted.new.place.me.0 c.step_in_turn-counted.ensures.next c.step_in_turn-counted.ensures.ok
     (ap (λ (m : Sat). m.0.seen) c.pass.ensures.passed)
     (ap (λ (u : View). u.number) t.2 ∙ ap (λ (s : ParticipantView). s.number) c.participant.view_is)

@@ -2,7 +2,6 @@ use Rattle.std.proofs.Common.{◌≡◌, ℕ, ◌+◌, List, ap, sym, ◌∙◌,
 use Rattle.atomic_table.specs.Table.{rest}
 use Rattle.atomic_table.specs.declared.shared.Seat.{Seat}
 use Rattle.drm_turns.specs.declared.history.View.{View}
-use Rattle.drm_table.specs.declared.events.Event.{Event}
 use Rattle.drm_model.specs.Rows.{Rows}
 use Rattle.drm_model.specs.Reply.{reply}
 use Rattle.drm_model.specs.Run.{DeviceValue, no_room, journaled_in, rows_of}
@@ -36,7 +35,7 @@ count-requires-clause-serving c =
     let is = rw c.in-Ok.is at c.step_short_at.ensures.ok in
     let journaled : length c.step_short_at.new.self.journal ≡ length c.deref_mut.result.now.journal + 1 =
     ap (λ (d : DeviceValue). length d.journal) is
-    ∙ length-append c.deref_mut.result.now.journal (c.args.event ∷ []) in
+    ∙ length-append c.deref_mut.result.now.journal (c.args.event.now ∷ []) in
     let within = c.step_short_at.ensures.within in
     let bounded = c.step_short_at.ensures.bounded in
     let seen : length c.exchange.new.seat.me.0.seen ≡ length v.seen = ap (λ (m : Sat). length m.0.seen) e in (
@@ -59,8 +58,8 @@ count-requires-clause-legal c =
     let rows : rows_of c.deref_mut.result.now ≡ rows_after c.exchange.new.seat.me.0.origin c.exchange.new.seat.me.0.seen =
     ap rows_of device ∙ ap (λ (m : Sat). rows_after m.0.origin m.0.seen) (sym e) in
     let answer = step_ok _ _ _ _ (rw c.in-Ok.is at c.step_short_at.ensures.step) in (
-      subst (λ (z : Rows × Event). no_room z.0 z.1 ≡ false) (λ i. (rows i, sym c.of-journaled.ensures i)) answer.0,
-      answer.1 ∙ (λ i. reply (rows i) (sym c.of-journaled.ensures i)),
+      subst (λ (z : Rows). no_room z c.args.event.now ≡ false) rows answer.0,
+      answer.1 ∙ ap (λ (z : Rows). reply z c.args.event.now) rows,
     )
 
 placed : {p q : Seat Slot View} → p ≡ q → p.me ≡ q.me
@@ -104,11 +103,11 @@ returns-clause-device c =
       | in-Ok w ↦
           let is = rw w.in-Ok.is at c.step_short_at.ensures.ok in
           let counts = w.count.ensures.counted in
-          let me : c.match-outcome.place.me ≡ (counted v (entry v.number c.args.event w.in-Ok.answer), c.exchange.new.seat.me.1) =
-          placed w.place-is ∙ (counts ∙ (λ i. let u : View = (e i).0 in (counted u (entry u.number (c.of-journaled.ensures i) w.in-Ok.answer), c.exchange.new.seat.me.1))) in
+          let me : c.match-outcome.place.me ≡ (counted v (entry v.number c.args.event.now w.in-Ok.answer), c.exchange.new.seat.me.1) =
+          placed w.place-is ∙ (counts ∙ (λ i. let u : View = (e i).0 in (counted u (entry u.number c.args.event.now w.in-Ok.answer), c.exchange.new.seat.me.1))) in
           after_put c.match-outcome.place.me c.exchange-2.new.seat.me c.step_short_at.new.self c.exchange-2.ensures.3
           (ap (λ (m : Sat). rest m.1) me ∙ none_more)
-          (is ∙ (ap (λ d. journaled_in d c.args.event) device ∙ (noting_at v.origin v.seen (entry v.number c.args.event w.in-Ok.answer) ∙ ap (λ (m : Sat). device_at m.0.origin m.0.seen) (sym me))))
+          (is ∙ (ap (λ d. journaled_in d c.args.event.now) device ∙ (noting_at v.origin v.seen (entry v.number c.args.event.now w.in-Ok.answer) ∙ ap (λ (m : Sat). device_at m.0.origin m.0.seen) (sym me))))
       | in-Err w ↦
           let is = rw w.in-Err.is at c.step_short_at.ensures.err in
           let me : c.match-outcome.place.me ≡ c.exchange.new.seat.me = placed w.place-is in
@@ -133,12 +132,12 @@ returns-clause-grows c =
       | in-Ok w ↦
           let answer = step_ok _ _ _ _ (rw w.in-Ok.is at c.step_short_at.ensures.step) in
           let counts = w.count.ensures.counted in
-          let me : c.match-outcome.place.me ≡ (counted v (entry v.number c.args.event w.in-Ok.answer), c.exchange.new.seat.me.1) =
-          placed w.place-is ∙ (counts ∙ (λ i. let u : View = (e i).0 in (counted u (entry u.number (c.of-journaled.ensures i) w.in-Ok.answer), c.exchange.new.seat.me.1))) in
-          grows_by v (entry v.number c.args.event w.in-Ok.answer) c.exchange-2.new.seat.me.0
+          let me : c.match-outcome.place.me ≡ (counted v (entry v.number c.args.event.now w.in-Ok.answer), c.exchange.new.seat.me.1) =
+          placed w.place-is ∙ (counts ∙ (λ i. let u : View = (e i).0 in (counted u (entry u.number c.args.event.now w.in-Ok.answer), c.exchange.new.seat.me.1))) in
+          grows_by v (entry v.number c.args.event.now w.in-Ok.answer) c.exchange-2.new.seat.me.0
           (put ∙ ap (λ (m : Sat). m.0) me) c.requires.seen refl
-          (subst (λ (d : DeviceValue). no_room (rows_of d) c.args.event ≡ false) device answer.0)
-          (subst (λ (d : DeviceValue). w.in-Ok.answer ≡ reply (rows_of d) c.args.event) device answer.1)
+          (subst (λ (d : DeviceValue). no_room (rows_of d) c.args.event.now ≡ false) device answer.0)
+          (subst (λ (d : DeviceValue). w.in-Ok.answer ≡ reply (rows_of d) c.args.event.now) device answer.1)
       | in-Err w ↦
           grows_not v c.exchange-2.new.seat.me.0
           (put ∙ (ap (λ (m : Sat). m.0) (placed w.place-is) ∙ ap (λ (m : Sat). m.0) e)) c.requires.seen
@@ -161,19 +160,19 @@ returns-clause-turn c =
       | in-Ok w ↦
           let is = rw w.in-Ok.is at c.step_short_at.ensures.ok in
           let counts = w.count.ensures.counted in
-          let me : c.match-outcome.place.me ≡ (counted v (entry v.number c.args.event w.in-Ok.answer), c.exchange.new.seat.me.1) =
-          placed w.place-is ∙ (counts ∙ (λ i. let u : View = (e i).0 in (counted u (entry u.number (c.of-journaled.ensures i) w.in-Ok.answer), c.exchange.new.seat.me.1))) in
+          let me : c.match-outcome.place.me ≡ (counted v (entry v.number c.args.event.now w.in-Ok.answer), c.exchange.new.seat.me.1) =
+          placed w.place-is ∙ (counts ∙ (λ i. let u : View = (e i).0 in (counted u (entry u.number c.args.event.now w.in-Ok.answer), c.exchange.new.seat.me.1))) in
           is
           ∙
-          (ap (λ d. journaled_in d c.args.event) device ∙ (noting_at v.origin v.seen (entry v.number c.args.event w.in-Ok.answer) ∙ ap (λ (u : View). device_at u.origin u.seen) (sym (put ∙ ap (λ (m : Sat). m.0) me))))
+          (ap (λ d. journaled_in d c.args.event.now) device ∙ (noting_at v.origin v.seen (entry v.number c.args.event.now w.in-Ok.answer) ∙ ap (λ (u : View). device_at u.origin u.seen) (sym (put ∙ ap (λ (m : Sat). m.0) me))))
       | in-Err w ↦
           let is = rw w.in-Err.is at c.step_short_at.ensures.err in
           let me : c.match-outcome.place.me ≡ c.exchange.new.seat.me = placed w.place-is in
           is ∙ (device ∙ ap (λ (u : View). device_at u.origin u.seen) (sym (put ∙ ap (λ (m : Sat). m.0) (me ∙ e))))
     ] in
     let turn =
-    turn_of c.deref_mut.result.now c.step_short_at.new.self c.args.event c.step_short_at.new.outcome c.step_short_at.ensures.step c.step_short_at.ensures.ok c.step_short_at.ensures.err c.step_short_at.ensures.in_range c.step_short_at.ensures.found_room in
-    subst (λ (d : DeviceValue). Turn d c.args.event c.step_short_at.new.outcome) left turn
+    turn_of c.deref_mut.result.now c.step_short_at.new.self c.args.event.now c.step_short_at.new.outcome c.step_short_at.ensures.step c.step_short_at.ensures.ok c.step_short_at.ensures.err c.step_short_at.ensures.in_range c.step_short_at.ensures.found_room in
+    subst (λ (d : DeviceValue). Turn d c.args.event.now c.step_short_at.new.outcome) left turn
 
 pub returns-clause-err : goal.returns-clause-err
 returns-clause-err c =
@@ -190,7 +189,7 @@ returns-clause-err c =
     elim c.match-outcome.branch [
       | in-Ok w ↦ rw w.in-Ok.is tt
       | in-Err w ↦
-          refuses c.deref_mut.result.now c.step_short_at.new.self c.args.event c.step_short_at.new.outcome v
+          refuses c.deref_mut.result.now c.step_short_at.new.self c.args.event.now c.step_short_at.new.outcome v
           c.exchange-2.new.seat.me.0 device c.step_short_at.ensures.step c.step_short_at.ensures.err
           (rw w.in-Err.is (put ∙ (ap (λ (m : Sat). m.0) (placed w.place-is) ∙ ap (λ (m : Sat). m.0) e)))
     ]
