@@ -1,5 +1,8 @@
 //! The control lines, and their answers.
 
+ghost use Rattle.std.specs.Prelude.{IfOk};
+ghost use Rattle.drm_plans.specs.Rules.{HasRange};
+
 use crate::faults::{RuleCause, RuleFault, Wanted};
 use crate::rules::{Rule, RuleKind, read_rule};
 use drm_script::next_word;
@@ -45,7 +48,9 @@ fn end_of(text: &[u8]) -> Result<(), RuleFault> {
 }
 
 /// Returns the rule of this kind that a text spells, which is one word.
-fn rule_of(kind: RuleKind, text: &[u8], wanted: Wanted) -> Result<Control, RuleFault> {
+fn rule_of(kind: RuleKind, text: &[u8], wanted: Wanted) -> Result<Control, RuleFault>
+    ensures { IfOk result (λ control. HasRange control) }
+{
     let (word, rest) = word_of(text, wanted)?;
     end_of(rest)?;
     Ok(Control::Add(read_rule(kind, word)?))
@@ -65,7 +70,9 @@ fn rule_of(kind: RuleKind, text: &[u8], wanted: Wanted) -> Result<Control, RuleF
 /// let wanted = Control::Add(Rule::Break(Break { client: 2, nth: 1 }));
 /// assert!(rt; read_control(b"break 2") == Ok(wanted));
 /// ```
-pub fn read_control(line: &[u8]) -> Result<Control, RuleFault> {
+pub fn read_control(line: &[u8]) -> Result<Control, RuleFault>
+    ensures in_range { IfOk result (λ control. HasRange control) }
+{
     if line.len() > MOST_BYTES {
         return Err(RuleFault::too_long());
     }

@@ -1,8 +1,8 @@
 //! Faults on purpose: the rules by which a server refuses memory, delays answers and closes connections, so that
 //! clients can be tested.
 //!
-//! An example is the body of a function that has the runtime `rt`. If memory is refused, it returns. Nothing here is in
-//! a contract: no clause says when a rule is carried out.
+//! An example is the body of a function that has the runtime `rt`. If memory is refused, it returns. The numbers of a
+//! rule that was read are in their ranges. No clause says when a rule is carried out.
 #![tactic(auto)]
 
 mod commands;

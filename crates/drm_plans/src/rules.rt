@@ -1,5 +1,8 @@
 //! The rules of a plan, and their texts.
 
+ghost use Rattle.std.specs.Prelude.{◌≡◌, ◌≤◌, IfOk};
+ghost use Rattle.drm_plans.specs.Rules.{IsInRange, calls_of_event, calls_of_word, kind_of, word_of};
+
 use crate::faults::{RuleCause, RuleFault, Wanted};
 use drm_script::u32_of;
 use drm_table::{CallKind, Event};
@@ -60,7 +63,9 @@ impl Calls {
     /// assert!(rt; Calls::of_word(b"open") == Some(Calls::Openings));
     /// assert!(rt; Calls::of_word(b"close").is_none());
     /// ```
-    pub fn of_word(word: &[u8]) -> Option<Calls> {
+    pub fn of_word(word: &[u8]) -> Option<Calls>
+        ensures { result ≡ calls_of_word word.now }
+    {
         if word == OPEN {
             return Some(Calls::Openings);
         }
@@ -83,7 +88,9 @@ impl Calls {
     /// assert!(rt; Calls::of_event(&opening) == Some(Calls::Openings));
     /// assert!(rt; Calls::of_event(&Event::Close(1)).is_none());
     /// ```
-    pub fn of_event(event: &Event) -> Option<Calls> {
+    pub fn of_event(event: &Event) -> Option<Calls>
+        ensures { result ≡ calls_of_event event.now }
+    {
         match event {
             Event::Open(_) => Some(Calls::Openings),
             Event::Ask(_, call) => match call.row() {
@@ -104,7 +111,9 @@ impl Calls {
     /// let openings = Calls::Openings;
     /// assert!(rt; openings.word() == b"open".as_slice());
     /// ```
-    pub fn word(self) -> &'static [u8] {
+    pub fn word(self) -> &'static [u8]
+        ensures { result.now ≡ word_of self }
+    {
         match self {
             Calls::Openings => OPEN,
             Calls::OfKind(kind) => kind.word(),
@@ -244,7 +253,9 @@ fn parted(text: &[u8], byte: u8) -> (&[u8], Option<&[u8]>) {
 }
 
 /// Returns the number from 1 to the greatest that a word spells in decimal digits.
-fn number_of(word: &[u8], greatest: u32) -> Result<u32, RuleFault> {
+fn number_of(word: &[u8], greatest: u32) -> Result<u32, RuleFault>
+    ensures { IfOk result (λ number. (1 ≤ number) × (number ≤ greatest)) }
+{
     if word.is_empty() {
         return Err(RuleFault::lacks(Wanted::Number));
     }
@@ -259,7 +270,9 @@ fn number_of(word: &[u8], greatest: u32) -> Result<u32, RuleFault> {
 }
 
 /// Returns the number of 16 bits from 1 to the greatest that a word spells.
-fn short_of(word: &[u8], greatest: u16) -> Result<u16, RuleFault> {
+fn short_of(word: &[u8], greatest: u16) -> Result<u16, RuleFault>
+    ensures { IfOk result (λ number. (1 ≤ number) × (number ≤ greatest)) }
+{
     let number = number_of(word, u32::from(greatest))?;
     match u16::try_from(number) {
         Ok(short) => Ok(short),
@@ -268,7 +281,9 @@ fn short_of(word: &[u8], greatest: u16) -> Result<u16, RuleFault> {
 }
 
 /// Returns the count of a rule: 1 where it is left out.
-fn nth_of(word: Option<&[u8]>) -> Result<u16, RuleFault> {
+fn nth_of(word: Option<&[u8]>) -> Result<u16, RuleFault>
+    ensures { IfOk result (λ count. 1 ≤ count) }
+{
     match word {
         Some(word) => short_of(word, u16::MAX),
         None => Ok(1),
@@ -287,7 +302,9 @@ fn calls_of(word: &[u8]) -> Result<Calls, RuleFault> {
 }
 
 /// Returns the rule of `fail`.
-fn read_fail(text: &[u8]) -> Result<Fail, RuleFault> {
+fn read_fail(text: &[u8]) -> Result<Fail, RuleFault>
+    ensures { IfOk result (λ fail. 1 ≤ fail.nth) }
+{
     let (front, what) = parted(text, b'=');
     let (word, count) = parted(front, b':');
     let calls = calls_of(word)?;
@@ -303,7 +320,9 @@ fn read_fail(text: &[u8]) -> Result<Fail, RuleFault> {
 }
 
 /// Returns the rule of `stall`.
-fn read_stall(text: &[u8]) -> Result<Stall, RuleFault> {
+fn read_stall(text: &[u8]) -> Result<Stall, RuleFault>
+    ensures { IfOk result (λ stall. (1 ≤ stall.nth) × (1 ≤ stall.millis) × (stall.millis ≤ 60000)) }
+{
     let (front, what) = parted(text, b'=');
     let (word, count) = parted(front, b':');
     let calls = calls_of(word)?;
@@ -319,7 +338,9 @@ fn read_stall(text: &[u8]) -> Result<Stall, RuleFault> {
 }
 
 /// Returns the rule of `break`.
-fn read_break(text: &[u8]) -> Result<Break, RuleFault> {
+fn read_break(text: &[u8]) -> Result<Break, RuleFault>
+    ensures { IfOk result (λ end. (1 ≤ end.client) × (1 ≤ end.nth)) }
+{
     let (word, count) = parted(text, b':');
     if word.is_empty() {
         return Err(RuleFault::lacks(Wanted::Client));
@@ -330,7 +351,7 @@ fn read_break(text: &[u8]) -> Result<Break, RuleFault> {
 }
 
 /// Returns the rule of this kind that a text spells: `CALL[:N]=memory`, `CALL[:N]=MS` or `CLIENT[:N]`. Where N is left
-/// out, it is 1. Does not allocate.
+/// out, it is 1. N is from 1 to 65,535, MS from 1 to [`MOST_MILLIS`], and CLIENT from 1. Does not allocate.
 ///
 /// # Errors
 ///
@@ -346,7 +367,10 @@ fn read_break(text: &[u8]) -> Result<Break, RuleFault> {
 /// let calls = Calls::OfKind(CallKind::SetCrtc);
 /// assert!(rt; slow == Rule::Stall(Stall { calls, nth: 2, millis: 500 }));
 /// ```
-pub fn read_rule(kind: RuleKind, text: &[u8]) -> Result<Rule, RuleFault> {
+pub fn read_rule(kind: RuleKind, text: &[u8]) -> Result<Rule, RuleFault>
+    ensures kind { IfOk result (λ rule. kind_of rule ≡ kind) }
+    ensures in_range { IfOk result (λ rule. IsInRange rule) }
+{
     match kind {
         RuleKind::Fail => Ok(Rule::Fail(read_fail(text)?)),
         RuleKind::Stall => Ok(Rule::Stall(read_stall(text)?)),
