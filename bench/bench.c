@@ -1,9 +1,10 @@
-/* Two loads on drm_server.
+/* Three loads on drm_server.
  *
- *     bench SERVER [trips | handles] [REQUESTS [ROUNDS]]
+ *     bench SERVER [trips | handles | traces] [REQUESTS [ROUNDS]]
  *
  * SERVER is the program drm_server; REQUESTS is the number of requests of one measurement of the first load, over all
  * connections (90,000 by default: a device notes 100,000 steps at most), and ROUNDS how often it is measured (5 by default).
+ * Both are also those of the third.
  *
  * The first, trips: requests per second, round trips, context switches and futex calls, beside a plain echo of the same frames
  * over a Unix socket, in rounds that measure the echo and the server in turn; each figure is the median of the rounds. Each
@@ -13,6 +14,8 @@
  * The second, handles: what a step costs among many handles. One connection makes so many buffers, then reads a stamp, closes
  * and makes a handle in their middle, over and over; a root client asks the last page of an audit of the handles; then the
  * connection is closed, while another asks VERSION.
+ *
+ * The third, traces: the round trips of the first while the server writes no trace, and while it writes one, in turn.
  */
 #include <dirent.h>
 #include <errno.h>
@@ -256,14 +259,16 @@ static pid_t start_echo(const char *path, int connections, const char *trace) {
     return start((char *[]){self, "--echo", (char *)path, count, NULL}, trace);
 }
 
-static pid_t start_server(const char *server, const char *folder, const char *path, int connections, int roots, const char *trace) {
+/* Starts the server for this number of connections. With a file for it, it writes a trace. */
+static pid_t start_server(const char *server, const char *folder, const char *path, int connections, int roots, const char *written,
+                          const char *trace) {
     char render[160], root[160], count[16], root_count[16];
     snprintf(render, sizeof render, "%s/render", folder);
     snprintf(root, sizeof root, "%s/root", folder);
     snprintf(count, sizeof count, "%d", connections);
     snprintf(root_count, sizeof root_count, "%d", roots);
     char *words[] = {(char *)server, "serve", "--card", (char *)path, "--render", render, "--root", root,
-                     "--cards", count, "--renders", "0", "--roots", root_count, NULL};
+                     "--cards", count, "--renders", "0", "--roots", root_count, written ? "--trace" : NULL, (char *)written, NULL};
     return start(words, trace);
 }
 
@@ -393,7 +398,7 @@ static void load_of_handles(const char *server, const char *folder, const char *
            "closing us, a handle", "slowest other us");
     fflush(stdout);
     for (size_t i = 0; i < sizeof handles / sizeof *handles; i++) {
-        pid_t child = start_server(server, folder, path, 2, 1, NULL);
+        pid_t child = start_server(server, folder, path, 2, 1, NULL, NULL);
         struct costs costs = measure_among(path, root, handles[i]);
         finish(child);
         if (i == 0)
@@ -408,17 +413,23 @@ static void load_of_handles(const char *server, const char *folder, const char *
 /* What the programs are, and where their sockets and files lie. */
 struct place {
     const char *server, *folder;
-    char path[160], trace[160];
+    char path[160], trace[160], written[160];
 };
 
-/* One measurement of the echo, or of the server where it is named. */
-static struct measured measure_one(struct place *place, int is_server, int connections, long requests, const char *trace) {
-    snprintf(place->path, sizeof place->path, "%s/%s", place->folder, is_server ? "card" : "echo");
-    pid_t child = is_server ? start_server(place->server, place->folder, place->path, connections, 0, trace)
-                            : start_echo(place->path, connections, trace);
+/* What is measured: the echo, the server, or the server while it writes a trace. */
+enum measurable { ECHO, SERVER, TRACING };
+
+static struct measured measure_one(struct place *place, enum measurable what, int connections, long requests, const char *trace) {
+    snprintf(place->path, sizeof place->path, "%s/%s", place->folder, what == ECHO ? "echo" : "card");
+    snprintf(place->written, sizeof place->written, "%s/written", place->folder);
+    const char *written = what == TRACING ? place->written : NULL;
+    pid_t child = what == ECHO ? start_echo(place->path, connections, trace)
+                               : start_server(place->server, place->folder, place->path, connections, 0, written, trace);
     struct measured result = measure(child, place->path, connections, requests);
     finish(child);
     unlink(place->path);
+    if (written)
+        unlink(written);
     return result;
 }
 
@@ -441,13 +452,13 @@ static int has_strace(void) {
 }
 
 /* The futex calls for each request, or "-" where there is no strace. The calls that start and join threads are among them. */
-static const char *futexes_of(struct place *place, int is_server, int connections) {
+static const char *futexes_of(struct place *place, enum measurable what, int connections) {
     static char texts[2][16];
-    char *text = texts[is_server];
+    char *text = texts[what == SERVER];
     if (!has_strace())
         return "-";
     snprintf(place->trace, sizeof place->trace, "%s/trace", place->folder);
-    measure_one(place, is_server, connections, TRACED_REQUESTS, place->trace);
+    measure_one(place, what, connections, TRACED_REQUESTS, place->trace);
     snprintf(text, sizeof texts[0], "%.3f", calls_in(place->trace) / TRACED_REQUESTS);
     unlink(place->trace);
     return text;
@@ -467,34 +478,67 @@ static void print_trips(struct measured *rounds, int count) {
            middle(rounds, count, offsetof(struct measured, switches)));
 }
 
-/* Round trips beside those of an echo, for 1, 4, 16 and 64 connections. */
+static const int connections[] = {1, 4, 16, 64};
+#define COUNTS (sizeof connections / sizeof *connections)
+
+/* Round trips beside those of an echo, for each count of connections. */
 static void load_of_round_trips(struct place *place, long requests, int count) {
-    static const int connections[] = {1, 4, 16, 64};
     printf("%11s  %39s  %39s  %s\n", "", "drm_server", "echo", "server / echo");
     printf("connections  requests/s 50%% us  99%% us switch  futex  requests/s 50%% us  99%% us switch  futex  requests/s  least  most\n");
     fflush(stdout);
-    for (size_t i = 0; i < sizeof connections / sizeof *connections; i++) {
+    for (size_t i = 0; i < COUNTS; i++) {
         struct measured plain[MOST_TRIP_ROUNDS], served[MOST_TRIP_ROUNDS];
         double ratios[MOST_TRIP_ROUNDS];
         for (int round = 0; round < count; round++) {
-            plain[round] = measure_one(place, 0, connections[i], requests, NULL);
-            served[round] = measure_one(place, 1, connections[i], requests, NULL);
+            plain[round] = measure_one(place, ECHO, connections[i], requests, NULL);
+            served[round] = measure_one(place, SERVER, connections[i], requests, NULL);
             ratios[round] = served[round].per_second / plain[round].per_second;
         }
         double ratio = median_of(ratios, count);
         printf("%11d", connections[i]);
         print_trips(served, count);
-        printf(" %6s", futexes_of(place, 1, connections[i]));
+        printf(" %6s", futexes_of(place, SERVER, connections[i]));
         print_trips(plain, count);
-        printf(" %6s  %10.2f %6.2f %5.2f\n", futexes_of(place, 0, connections[i]), ratio, ratios[0], ratios[count - 1]);
+        printf(" %6s  %10.2f %6.2f %5.2f\n", futexes_of(place, ECHO, connections[i]), ratio, ratios[0], ratios[count - 1]);
+        fflush(stdout);
+    }
+}
+
+static void print_rate(struct measured *rounds, int count) {
+    printf("  %10.0f %6.1f %7.1f", middle(rounds, count, offsetof(struct measured, per_second)),
+           middle(rounds, count, offsetof(struct measured, median)), middle(rounds, count, offsetof(struct measured, slow)));
+}
+
+/* Round trips without a trace and with one, for each count of connections. */
+static void load_of_traces(struct place *place, long requests, int count) {
+    printf("\n%11s  %25s  %25s  %s\n", "", "without a trace", "with a trace", "with / without");
+    printf("connections  requests/s 50%% us  99%% us  requests/s 50%% us  99%% us  requests/s  least  most\n");
+    fflush(stdout);
+    for (size_t i = 0; i < COUNTS; i++) {
+        struct measured plain[MOST_TRIP_ROUNDS], traced[MOST_TRIP_ROUNDS];
+        double ratios[MOST_TRIP_ROUNDS];
+        for (int round = 0; round < count; round++) {
+            plain[round] = measure_one(place, SERVER, connections[i], requests, NULL);
+            traced[round] = measure_one(place, TRACING, connections[i], requests, NULL);
+            ratios[round] = traced[round].per_second / plain[round].per_second;
+        }
+        double ratio = median_of(ratios, count);
+        printf("%11d", connections[i]);
+        print_rate(plain, count);
+        print_rate(traced, count);
+        printf("  %10.2f %6.2f %5.2f\n", ratio, ratios[0], ratios[count - 1]);
         fflush(stdout);
     }
 }
 
 static int usage(void) {
-    fprintf(stderr, "usage: bench SERVER [trips | handles] [REQUESTS [ROUNDS]], with at least %d REQUESTS and 1 to %d ROUNDS\n", MOST_CONNECTIONS,
-            MOST_TRIP_ROUNDS);
+    fprintf(stderr, "usage: bench SERVER [trips | handles | traces] [REQUESTS [ROUNDS]], with at least %d REQUESTS and 1 to %d ROUNDS\n",
+            MOST_CONNECTIONS, MOST_TRIP_ROUNDS);
     return 2;
+}
+
+static int is_word(const char *word, const char *wanted) {
+    return strcmp(word, wanted) == 0;
 }
 
 int main(int count, char **words) {
@@ -503,9 +547,9 @@ int main(int count, char **words) {
     if (count < 2)
         return usage();
     char folder[] = "/tmp/drm_bench_XXXXXX";
-    struct place place = {words[1], folder, "", ""};
-    int has_trips = count < 3 || strcmp(words[2], "handles"), has_handles = count < 3 || strcmp(words[2], "trips");
-    char **numbers = words + 2 + (has_trips != has_handles);
+    struct place place = {words[1], folder, "", "", ""};
+    const char *only = count > 2 && (is_word(words[2], "trips") || is_word(words[2], "handles") || is_word(words[2], "traces")) ? words[2] : NULL;
+    char **numbers = words + 2 + (only != NULL);
     long requests = numbers < words + count ? atol(numbers[0]) : 90000;
     long rounds = numbers + 1 < words + count ? atol(numbers[1]) : 5;
     if (requests < MOST_CONNECTIONS || rounds < 1 || rounds > MOST_TRIP_ROUNDS)
@@ -513,11 +557,13 @@ int main(int count, char **words) {
     if (!mkdtemp(folder))
         fail("a folder for the sockets");
     signal(SIGPIPE, SIG_IGN);
-    if (has_trips)
+    if (!only || is_word(only, "trips"))
         load_of_round_trips(&place, requests, rounds);
     snprintf(place.path, sizeof place.path, "%s/card", folder);
-    if (has_handles)
+    if (!only || is_word(only, "handles"))
         load_of_handles(words[1], folder, place.path);
+    if (!only || is_word(only, "traces"))
+        load_of_traces(&place, requests, rounds);
     rmdir(folder);
     return 0;
 }
