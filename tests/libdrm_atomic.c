@@ -12,6 +12,9 @@
 #define SECOND 1000000000
 #define MILLISECOND 1000000
 
+/* How long a frame takes where calls are tried within one, and the exit status if they were not. */
+enum { SLOW_FRAME = 500, TOO_SLOW = 75 };
+
 /* What the server reports, and what the properties have. */
 static void say_what_is_shown(int fd)
 {
@@ -29,16 +32,18 @@ static void say_what_is_shown(int fd)
 static struct {
     int count;
     unsigned crtc, sequence;
+    int64_t time;
     void *data;
 } told;
 
 static void tell(int fd, unsigned sequence, unsigned seconds, unsigned microseconds, unsigned crtc,
                  void *data)
 {
-    (void)fd, (void)seconds, (void)microseconds;
+    (void)fd;
     told.count++;
     told.crtc = crtc;
     told.sequence = sequence;
+    told.time = (int64_t)seconds * SECOND + (int64_t)microseconds * 1000;
     told.data = data;
 }
 
@@ -60,6 +65,15 @@ static int64_t now(void)
 
     clock_gettime(CLOCK_MONOTONIC, &time);
     return (int64_t)time.tv_sec * SECOND + time.tv_nsec;
+}
+
+/* Ends the program if a slow frame that began then may be over, as on a busy machine. The test
+ * runs it again.
+ */
+static void stay_in_frame(int64_t begun)
+{
+    if (now() - begun > (SLOW_FRAME - 100) * (int64_t)MILLISECOND)
+        exit(TOO_SLOW);
 }
 
 /* The properties of an object, each with its kind */
@@ -151,7 +165,7 @@ static void show(void)
 static void try_flags(void)
 {
     int fd = open_card(false), other, data;
-    uint32_t fb = make_fb(fd, 64), next = make_fb(fd, 64), mode = mode_blob(fd, 500);
+    uint32_t fb = make_fb(fd, 64), next = make_fb(fd, 64), mode = mode_blob(fd, SLOW_FRAME);
     struct drm_mode_atomic empty = {.flags = 0}, reserved = {.reserved = 1};
     struct set flip = {PRIMARY, "FB_ID", next};
     int64_t begun;
@@ -173,13 +187,16 @@ static void try_flags(void)
     say("tests", COMMIT(fd, DRM_MODE_ATOMIC_TEST_ONLY | MODESET,
                         LIGHTS(CRTC, CONNECTOR, PRIMARY, mode, fb)));
     say_what_is_shown(fd);
+    begun = now();
     say("lights", COMMIT(fd, MODESET, LIGHTS(CRTC, CONNECTOR, PRIMARY, mode, fb)));
     say("flips with an event", commit(fd, DRM_MODE_ATOMIC_NONBLOCK | EVENT, &flip, 1, &data));
     say("flips too early", COMMIT(fd, DRM_MODE_ATOMIC_NONBLOCK, {PRIMARY, "FB_ID", fb}));
     say("tests early", COMMIT(fd, DRM_MODE_ATOMIC_TEST_ONLY, {PRIMARY, "FB_ID", fb}));
+    stay_in_frame(begun);
     await(fd);
     printf("events %d, of the CRTC %d, data %d\n", told.count, told.crtc == CRTC,
            told.data == &data);
+    stay_in_frame(told.time);
     begun = now();
     say("blocks", COMMIT(fd, 0, {PRIMARY, "FB_ID", fb}));
     printf("for a frame: %d\n", now() - begun > 100 * (int64_t)MILLISECOND);
@@ -388,8 +405,9 @@ static void mix(void)
     int fd = open_card(true);
     uint32_t fb = make_fb(fd, 128), next = make_fb(fd, 128), small = make_fb(fd, 64),
              connector = CONNECTOR;
-    drmModeModeInfo mode = mode_of(500);
+    drmModeModeInfo mode = mode_of(SLOW_FRAME);
     drmModeCrtc *found;
+    int64_t begun;
 
     say("sets a mode", drmModeSetCrtc(fd, CRTC, fb, 16, 0, &connector, 1, &mode));
     printf("active %d, mode %d, plane %d from %d, %d wide, connector %d\n",
@@ -397,11 +415,13 @@ static void mix(void)
            value_of(fd, PRIMARY, "FB_ID") == fb, (int)value_of(fd, PRIMARY, "SRC_X") >> 16,
            (int)value_of(fd, PRIMARY, "CRTC_W"), (int)value_of(fd, CONNECTOR, "CRTC_ID"));
     say("flips by a commit", COMMIT(fd, 0, {PRIMARY, "FB_ID", next}));
+    begun = now();
     say("to one that is too small", COMMIT(fd, 0, {PRIMARY, "FB_ID", small}));
     say("flips by a flip", drmModePageFlip(fd, CRTC, fb, 0, NULL));
     printf("plane %d\n", value_of(fd, PRIMARY, "FB_ID") == fb);
     say("flips too early by a commit",
         COMMIT(fd, DRM_MODE_ATOMIC_NONBLOCK, {PRIMARY, "FB_ID", next}));
+    stay_in_frame(begun);
     say("moves by a commit", COMMIT(fd, 0, {PRIMARY, "SRC_X", 0}));
     found = drmModeGetCrtc(fd, CRTC);
     printf("from %u, %u wide\n", found->x, found->mode.hdisplay);

@@ -24,6 +24,9 @@ LIBRARY = CLIENTS / "libdrm"
 LOGIND = LIBRARY / "logind"
 # the status of a supervisor, or a stand-in for logind, that the kernel does not allow
 NOT_STARTED = 125
+# the status of a program whose calls belong in one frame and took longer, and how often it is run then
+TOO_SLOW = 75
+TRIES = 10
 COMPILER = ["cc", "-std=gnu11", "-Wall", "-Wextra", "-Wpedantic", "-Werror", "-O2", "-pthread"]
 
 
@@ -88,11 +91,24 @@ def served(folder, cards=64, renders=8, roots=8, more=()):
         yield started
 
 
+def in_time(run_once):
+    """What a run of a program returns. The program is run again while it is too slow, as on a busy machine."""
+    for _ in range(TRIES - 1):
+        ran = run_once()
+        if ran.returncode != TOO_SLOW:
+            return ran
+    return run_once()
+
+
 def said(folder, *command, **options):
     """What a program prints that ends well, beside a server of its own."""
     given = environment(folder)
-    with served(folder):
-        ran = run(*command, env=given, **options)
+
+    def run_once():
+        with served(folder):
+            return run(*command, env=given, **options)
+
+    ran = in_time(run_once)
     expect("error output", ran.stderr, "")
     expect("status", ran.returncode, 0)
     return ran.stdout

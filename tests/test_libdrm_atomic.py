@@ -11,7 +11,7 @@ import sys
 sys.dont_write_bytecode = True
 from support import REPOSITORY, FolderCase, connect, ended_in_time, expect, run, run_tests  # noqa: E402
 
-from libdrm_support import compiled, environment, library, served  # noqa: E402
+from libdrm_support import compiled, environment, in_time, library, served  # noqa: E402
 
 TOPOLOGY = REPOSITORY / "examples/topologies/laptop.topology"
 PROGRAM = "tests/libdrm_atomic.c"
@@ -27,7 +27,7 @@ def commits(folder, *words, text, topology=("--topology", TOPOLOGY), program=PRO
     folder.mkdir(exist_ok=True)
     journal = folder / "journal"
     options = ["--libdrm", *topology, "--journal", journal]
-    ran = run(REPOSITORY / "tools/with-server", *options, compiled(program), *words)
+    ran = in_time(lambda: run(REPOSITORY / "tools/with-server", *options, compiled(program), *words))
     expect("error output and status", (ran.stderr, ran.returncode), ("", 0))
     expect("what it finds", ran.stdout.splitlines(), text.splitlines())
     return [line.split() for line in journal.read_text().splitlines() if not line.startswith(("limits", "#"))]

@@ -86,7 +86,7 @@ pub enum Answer {
 }
 
 /// Functions that write a common answer to its final place. A caller with several possible answers then needs no place
-/// for each of them.
+/// for each of them. Where the place has an answer of the same kind, only its fields are written.
 impl Answer {
     ghost use Rattle.std.specs.Prelude.{◌≡◌};
     ghost use Rattle.drm_table.specs.declared.answers.Answer.TheVariants as answers;
@@ -105,7 +105,9 @@ impl Answer {
     pub fn set_done(&mut self)
         ensures done { self.new ≡ answers.Done }
     {
-        *self = Answer::Done;
+        if !matches!(self, Answer::Done) {
+            *self = Answer::Done;
+        }
     }
 
     /// Replaces the answer by [`Answer::Number`] with this value. Does not allocate.
@@ -122,7 +124,92 @@ impl Answer {
     pub fn set_number(&mut self, value: u64)
         ensures number { self.new ≡ answers.Number value }
     {
-        *self = Answer::Number { value };
+        match self {
+            Answer::Number { value: place } => *place = value,
+            _ => *self = Answer::Number { value },
+        }
+    }
+
+    /// Replaces the answer by [`Answer::Version`] with these numbers. Does not allocate.
+    ///
+    /// # Examples
+    ///
+    /// ```rust
+    /// use drm_table::Answer;
+    ///
+    /// let mut answer = Answer::Closed;
+    /// answer.set_version(1, 2, 3);
+    /// assert!(rt; answer == Answer::Version { major: 1, minor: 2, patch: 3 });
+    /// ```
+    pub fn set_version(&mut self, major: u32, minor: u32, patch: u32)
+        ensures version { self.new ≡ answers.Version major minor patch }
+    {
+        match self {
+            Answer::Version {
+                major: first,
+                minor: second,
+                patch: third,
+            } => {
+                *first = major;
+                *second = minor;
+                *third = patch;
+            }
+            _ => {
+                *self = Answer::Version {
+                    major,
+                    minor,
+                    patch,
+                }
+            }
+        }
+    }
+
+    /// Replaces the answer by [`Answer::Buffer`] with this handle and this size in bytes. Does not allocate.
+    ///
+    /// # Examples
+    ///
+    /// ```rust
+    /// use drm_table::Answer;
+    ///
+    /// let mut answer = Answer::Closed;
+    /// answer.set_buffer(3, 4096);
+    /// assert!(rt; answer == Answer::Buffer { handle: 3, size: 4096 });
+    /// ```
+    pub fn set_buffer(&mut self, handle: u32, size: u64)
+        ensures buffer { self.new ≡ answers.Buffer handle size }
+    {
+        match self {
+            Answer::Buffer {
+                handle: first,
+                size: second,
+            } => {
+                *first = handle;
+                *second = size;
+            }
+            _ => *self = Answer::Buffer { handle, size },
+        }
+    }
+
+    /// Replaces the answer by [`Answer::List`] with these ids. Does not allocate.
+    ///
+    /// # Examples
+    ///
+    /// ```rust
+    /// use drm_table::{Answer, ShownList};
+    ///
+    /// let mut list = ShownList::new();
+    /// list.push(3);
+    /// let mut answer = Answer::Closed;
+    /// answer.set_list(list);
+    /// assert!(rt; matches!(answer, Answer::List { list } if list.ids() == [3].as_slice()));
+    /// ```
+    pub fn set_list(&mut self, list: ShownList)
+        ensures list { self.new ≡ answers.List list }
+    {
+        match self {
+            Answer::List { list: place } => *place = list,
+            _ => *self = Answer::List { list },
+        }
     }
 
     /// Replaces the answer by [`Answer::Denied`] with this rule. Does not allocate.
@@ -139,6 +226,9 @@ impl Answer {
     pub fn set_denied(&mut self, rule: Rule)
         ensures denied { self.new ≡ answers.Denied rule }
     {
-        *self = Answer::Denied(rule);
+        match self {
+            Answer::Denied(place) => *place = rule,
+            _ => *self = Answer::Denied(rule),
+        }
     }
 }
