@@ -78,7 +78,7 @@ pub fn buf_create(
         answer.set_denied(Rule::Full);
         return Ok(());
     };
-    *answer = Answer::Buffer { handle, size };
+    answer.set_buffer(handle, size);
     Ok(())
 }
 
@@ -154,11 +154,10 @@ pub fn gem_close(state: &mut State, client: u32, handle: u32, answer: &mut Answe
     ensures close { RefinesReply state.old client (GemClose handle) answer.new state.new }
     ensures invariants { MeetsInvariants state.new }
 {
-    let Some(object) = state.files.object_of(client, handle) else {
+    let Some(object) = state.files.drop_handle(client, handle) else {
         answer.set_denied(Rule::NoHandleToClose);
         return;
     };
-    let _object = state.files.drop_handle(client, handle);
     release(&mut state.names, &mut state.objects, object);
     answer.set_done();
 }

@@ -16,7 +16,5 @@ pub fn list_handles(state: &State, client: u32, from: u32, answer: &mut Answer)
     requires open_client { is_open_client state.now.files client ≡ true }
     ensures { RefinesReply state.now client (ListHandles from) answer.new state.now }
 {
-    *answer = Answer::List {
-        list: state.files.handles_of(client, from),
-    };
+    answer.set_list(state.files.handles_of(client, from));
 }

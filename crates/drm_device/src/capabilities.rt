@@ -19,11 +19,7 @@ const PRIME: u64 = 0x5;
 pub fn version(answer: &mut Answer)
     ensures { answer.new ≡ version_answer }
 {
-    *answer = Answer::Version {
-        major: 1,
-        minor: 0,
-        patch: 0,
-    };
+    answer.set_version(1, 0, 0);
 }
 
 /// Returns a capability (GET_CAP; drm-uapi). There are dumb buffers, and PRIME in both directions. Does not allocate

@@ -21,9 +21,7 @@ pub fn list_lessees(state: &State, caller: PrimaryCaller, answer: &mut Answer)
     let Some(master) = state.masters.master(caller.member.master) else {
         unreachable!()
     };
-    *answer = Answer::List {
-        list: state.leases.list(&state.masters, master.key),
-    };
+    answer.set_list(state.leases.list(&state.masters, master.key));
 }
 
 /// Returns the mode objects in the lease of the caller's master, in rising order (MODE_GET_LEASE; drm-uapi, leases). If
@@ -41,7 +39,7 @@ pub fn get_lease(state: &State, caller: PrimaryCaller, answer: &mut Answer)
     } else {
         leasable(&state.modes)
     };
-    *answer = Answer::List { list };
+    answer.set_list(list);
 }
 
 /// Returns the CRTCs, planes and connectors, in this order. Does not allocate.

@@ -32,7 +32,5 @@ pub fn get_plane_resources(state: &State, caller: PrimaryCaller, answer: &mut An
     requires caller { IsPrimaryCaller state.now caller }
     ensures { RefinesReply state.now caller.client GetPlaneResources answer.new state.now }
 {
-    *answer = Answer::List {
-        list: visible(state, caller, Kind::Plane),
-    };
+    answer.set_list(visible(state, caller, Kind::Plane));
 }

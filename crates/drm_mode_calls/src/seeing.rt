@@ -38,15 +38,35 @@ pub(crate) fn sees_object(state: &State, caller: PrimaryCaller, kind: Kind, id: 
 pub(crate) fn visible(state: &State, caller: PrimaryCaller, kind: Kind) -> ShownList
     ensures { result ≡ views.visible state.now caller kind }
 {
-    let ids = state.modes.ids(kind);
-    let view = view(state, caller);
+    ids_in(&state.modes, view(state, caller), kind)
+}
+
+/// Returns the objects of a kind that are in a view, rising. Does not allocate.
+fn ids_in(modes: &Modes, view: View, kind: Kind) -> ShownList
+    ensures { result ≡ filter (is_in_view modes.now.topology view) (ids_of_kind modes.now.topology kind) }
+{
+    let ids = modes.ids(kind);
+    if has_all(view, kind) {
+        return ids;
+    }
     let mut seen = ShownList::new();
     for id in ids.ids() {
-        if view.sees(&state.modes, *id) {
+        if view.sees(modes, *id) {
             seen.push(*id);
         }
     }
     seen
+}
+
+/// Returns whether a view has all objects of a kind, whatever the topology. May return `false` even so. Does not allocate.
+fn has_all(view: View, kind: Kind) -> bool
+    ensures { IsTrue result → (t : Topology) (x : ℕ) → is_of_kind t kind x ≡ true → is_in_view t view x ≡ true }
+{
+    match kind {
+        Kind::Encoder => true,
+        Kind::Plane => view.controlled == Controlled::All && view.universal,
+        Kind::Crtc | Kind::Connector => view.controlled == Controlled::All,
+    }
 }
 
 /// Returns the possible CRTCs of a plane or an encoder among those that the caller sees, as a mask. Bit i is the i-th

@@ -19,6 +19,9 @@ pub fn rules(rule: Rule) -> (u32, u32, &'static str) {
 pub fn replacements() {
     let _done: fn(&mut Answer) = Answer::set_done;
     let _number: fn(&mut Answer, u64) = Answer::set_number;
+    let _version: fn(&mut Answer, u32, u32, u32) = Answer::set_version;
+    let _buffer: fn(&mut Answer, u32, u64) = Answer::set_buffer;
+    let _list: fn(&mut Answer, ShownList) = Answer::set_list;
     let _denied: fn(&mut Answer, Rule) = Answer::set_denied;
     let _fault: fn(Apart, &mut Result<Answer, Apart>) = Apart::replace;
 }

@@ -68,6 +68,6 @@ pub fn gem_open(
         answer.set_denied(Rule::Full);
         return Ok(());
     };
-    *answer = Answer::Buffer { handle, size };
+    answer.set_buffer(handle, size);
     Ok(())
 }

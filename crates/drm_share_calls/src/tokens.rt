@@ -64,17 +64,14 @@ pub fn prime_import(
     };
     let size = state.objects.size(object);
     if let Some(handle) = state.files.prime_handle(client, object) {
-        *answer = Answer::Buffer { handle, size };
+        answer.set_buffer(handle, size);
         return Ok(());
     }
     let Some(fresh) = new_handle(state, step_number, client, object, Some(step_number))? else {
         answer.set_denied(Rule::Full);
         return Ok(());
     };
-    *answer = Answer::Buffer {
-        handle: fresh,
-        size,
-    };
+    answer.set_buffer(fresh, size);
     Ok(())
 }
 

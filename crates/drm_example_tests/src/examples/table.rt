@@ -94,6 +94,30 @@ fn answer(rt: HostRuntime) {
     answer.set_number(7);
     assert!(rt; answer == Answer::Number { value: 7 });
     let mut answer = Answer::Closed;
+    answer.set_version(1, 2, 3);
+    assert!(rt;
+        answer
+            == Answer::Version {
+                major: 1,
+                minor: 2,
+                patch: 3
+            }
+    );
+    let mut answer = Answer::Closed;
+    answer.set_buffer(3, 4096);
+    assert!(rt;
+        answer
+            == Answer::Buffer {
+                handle: 3,
+                size: 4096
+            }
+    );
+    let mut list = ShownList::new();
+    list.push(3);
+    let mut answer = Answer::Closed;
+    answer.set_list(list);
+    assert!(rt; matches!(answer, Answer::List { list } if list.ids() == [3].as_slice()));
+    let mut answer = Answer::Closed;
     answer.set_denied(Rule::Full);
     assert!(rt; answer == Answer::Denied(Rule::Full));
 }

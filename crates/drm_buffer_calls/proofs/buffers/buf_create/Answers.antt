@@ -52,11 +52,11 @@ returns-in_default-clause-refines c = rw c.set_denied-in_default.ensures.denied 
 
 pub returns-clause-refines : goal.returns-clause-refines
 unfolding RefinesCall MakesBuffer changed meaning answer_of
-returns-clause-refines c = λ w s a.
+returns-clause-refines c = rw c.set_buffer.ensures.buffer (λ w s a.
     let made =
     made_some w c.args.client c.buffer_size-size.result c.new_buffer.new.state c.in_ok-handle.field-0
     c.in-Some.handle c.in-Some.is (c.in_ok-handle.ensures.makes w s) in
     carried c.new_buffer.new.state w (Ask c.args.client (BufCreate c.args.size)) _
     (accepted w c.args.client c.args.size a (sym c.is_buffer_size.ensures ∙ c.if-not-is_buffer_size.false) made.0)
     (rw (made.1, c.buffer_size-size.ensures) refl)
-    (rw c.buffer_size-size.ensures at made.2)
+    (rw c.buffer_size-size.ensures at made.2))

@@ -20,15 +20,22 @@ pub returns-in_default-clause-destroy : goal.returns-in_default-clause-destroy
 unfolding RefinesReply meaning
 returns-in_default-clause-destroy c = rw c.set_denied.ensures.denied (λ w h a.
     let none =
-    holds_it c.args.state.now w h c.args.client c.args.handle _ None c.object_of.ensures.object c.in_default.is in
-    denied c.args.state.now w (Ask c.args.client (DestroyDumb c.args.handle)) NoHandleToClose (call_verdict w c.args.client (DestroyDumb c.args.handle) a ∙ rw none refl) h)
+    holds_it c.args.state.now w h c.args.client c.args.handle _ None c.drop_handle.ensures.object c.in_default.is in
+    denied (record c.args.state.now { files = c.drop_handle.new.self }) w (Ask c.args.client (DestroyDumb c.args.handle)) NoHandleToClose (call_verdict w c.args.client (DestroyDumb c.args.handle) a ∙ rw none refl)
+    (subst (λ fs. Represents (record c.args.state.now { files = fs }) w) (sym c.in_default.ensures.none) h))
 
 pub returns-in_default-clause-close : goal.returns-in_default-clause-close
 unfolding RefinesReply meaning
 returns-in_default-clause-close c = rw c.set_denied.ensures.denied (λ w h a.
     let none =
-    holds_it c.args.state.now w h c.args.client c.args.handle _ None c.object_of.ensures.object c.in_default.is in
-    denied c.args.state.now w (Ask c.args.client (GemClose c.args.handle)) NoHandleToClose (call_verdict w c.args.client (GemClose c.args.handle) a ∙ rw none refl) h)
+    holds_it c.args.state.now w h c.args.client c.args.handle _ None c.drop_handle.ensures.object c.in_default.is in
+    denied (record c.args.state.now { files = c.drop_handle.new.self }) w (Ask c.args.client (GemClose c.args.handle)) NoHandleToClose (call_verdict w c.args.client (GemClose c.args.handle) a ∙ rw none refl)
+    (subst (λ fs. Represents (record c.args.state.now { files = fs }) w) (sym c.in_default.ensures.none) h))
+
+pub returns-in_default-clause-invariants : goal.returns-in_default-clause-invariants
+returns-in_default-clause-invariants c =
+    subst (λ fs. MeetsInvariants (record c.args.state.now { files = fs })) (sym c.in_default.ensures.none)
+    c.requires.invariants
 
 pub release-requires : goal.release-requires
 release-requires c = record {
@@ -36,7 +43,7 @@ release-requires c = record {
     keys_of (without_handle_row c.args.state.now.files c.args.client c.args.handle).holds,
     referring_keys c.args.state.now,
     first_invariants c.args.state.now c.args.client c.args.handle c.in-Some.object _ c.requires.invariants
-        c.object_of.ensures.object c.in-Some.is,
+        c.drop_handle.ensures.object c.in-Some.is,
   );
 }
 
@@ -45,39 +52,39 @@ left : (c : goal.After-set_done)
 left c =
     c.release.ensures.leaves (keys_of (without_handle_row c.args.state.now.files c.args.client c.args.handle).holds)
     (referring_keys c.args.state.now)
-    (first_invariants c.args.state.now c.args.client c.args.handle c.in-Some.object _ c.requires.invariants c.object_of.ensures.object c.in-Some.is)
-    (first_named c.args.state.now c.args.client c.args.handle c.in-Some.object _ c.requires.invariants c.object_of.ensures.object c.in-Some.is)
+    (first_invariants c.args.state.now c.args.client c.args.handle c.in-Some.object _ c.requires.invariants c.drop_handle.ensures.object c.in-Some.is)
+    (first_named c.args.state.now c.args.client c.args.handle c.in-Some.object _ c.requires.invariants c.drop_handle.ensures.object c.in-Some.is)
 
 -- the rows without the handle, and what it alone named
 gone : (c : goal.After-set_done) (w : Rows) → Represents c.args.state.now w →
     Represents
-    (record c.args.state.now { files = c.drop_handle-object.new.self; names = c.release.new.names; objects = c.release.new.objects })
+    (record c.args.state.now { files = c.drop_handle.new.self; names = c.release.new.names; objects = c.release.new.objects })
     (swept (record w { holds = without (is_handle c.args.client c.args.handle) w.holds }))
 gone c w h =
     subst
     (λ fs. Represents (record c.args.state.now { files = fs; names = c.release.new.names; objects = c.release.new.objects }) (swept (record w { holds = without (is_handle c.args.client c.args.handle) w.holds })))
-    (sym c.drop_handle-object.ensures.dropped)
+    (sym c.drop_handle.ensures.dropped)
     (handle_gone c.args.state.now w c.args.client c.args.handle c.release.new.names c.release.new.objects c.requires.invariants (left c) h)
 
 pub returns-clause-destroy : goal.returns-clause-destroy
 unfolding RefinesReply meaning changed answer_of
 returns-clause-destroy c = rw c.set_done.ensures.done (λ w h a.
     let some =
-    holds_it c.args.state.now w h c.args.client c.args.handle _ (Some c.in-Some.object) c.object_of.ensures.object
+    holds_it c.args.state.now w h c.args.client c.args.handle _ (Some c.in-Some.object) c.drop_handle.ensures.object
     c.in-Some.is in
-    carried (record c.args.state.now { files = c.drop_handle-object.new.self; names = c.release.new.names; objects = c.release.new.objects }) w (Ask c.args.client (DestroyDumb c.args.handle)) Done (call_verdict w c.args.client (DestroyDumb c.args.handle) a ∙ rw some refl) refl (gone c w h))
+    carried (record c.args.state.now { files = c.drop_handle.new.self; names = c.release.new.names; objects = c.release.new.objects }) w (Ask c.args.client (DestroyDumb c.args.handle)) Done (call_verdict w c.args.client (DestroyDumb c.args.handle) a ∙ rw some refl) refl (gone c w h))
 
 pub returns-clause-close : goal.returns-clause-close
 unfolding RefinesReply meaning changed answer_of
 returns-clause-close c = rw c.set_done.ensures.done (λ w h a.
     let some =
-    holds_it c.args.state.now w h c.args.client c.args.handle _ (Some c.in-Some.object) c.object_of.ensures.object
+    holds_it c.args.state.now w h c.args.client c.args.handle _ (Some c.in-Some.object) c.drop_handle.ensures.object
     c.in-Some.is in
-    carried (record c.args.state.now { files = c.drop_handle-object.new.self; names = c.release.new.names; objects = c.release.new.objects }) w (Ask c.args.client (GemClose c.args.handle)) Done (call_verdict w c.args.client (GemClose c.args.handle) a ∙ rw some refl) refl (gone c w h))
+    carried (record c.args.state.now { files = c.drop_handle.new.self; names = c.release.new.names; objects = c.release.new.objects }) w (Ask c.args.client (GemClose c.args.handle)) Done (call_verdict w c.args.client (GemClose c.args.handle) a ∙ rw some refl) refl (gone c w h))
 
 pub returns-clause-invariants : goal.returns-clause-invariants
 returns-clause-invariants c =
     subst
     (λ fs. MeetsInvariants (record c.args.state.now { files = fs; names = c.release.new.names; objects = c.release.new.objects }))
-    (sym c.drop_handle-object.ensures.dropped)
+    (sym c.drop_handle.ensures.dropped)
     (handle_gone_invariants c.args.state.now c.args.client c.args.handle c.release.new.names c.release.new.objects c.requires.invariants (left c))

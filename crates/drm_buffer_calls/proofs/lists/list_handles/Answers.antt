@@ -12,8 +12,8 @@ use Rattle.drm_buffer_calls.proofs.lists.list_handles.Goals as goal
 
 pub returns : goal.returns
 unfolding RefinesReply meaning changed answer_of
-returns c = λ w h a.
+returns c = rw c.set_list.ensures.list (λ w h a.
     carried_on c.args.state.now w (Ask c.args.client (ListHandles c.args.from)) _ c.requires.invariants
     (call_verdict w c.args.client (ListHandles c.args.from) a)
     (ap ListIs (c.handles_of.ensures ∙ handles_listed c.args.state.now w c.requires.invariants h c.args.client c.args.from))
-    h
+    h)

@@ -30,7 +30,7 @@ unreachable-requires c =
 
 pub returns : goal.returns
 unfolding RefinesReply meaning changed answer_of
-returns c = λ w h admitted.
+returns c = rw c.set_list.ensures.list (λ w h admitted.
     let s = c.args.state.now in
     let client = c.args.caller.client in
     let x = c.args.caller.member in
@@ -48,4 +48,4 @@ returns c = λ w h admitted.
       | else-is_some b ↦ b.list-is ∙ b.leasable-list.ensures ∙ sym (ap told (is ∙ b.if-is_some.false) ∙ ap leasable_ids (topology_is s w h))
     ] in
     carried_on s w (Ask client GetLease) (ListIs c.if-is_some.list) c.requires.invariants
-    (call_verdict w client GetLease admitted) (ap ListIs list) h
+    (call_verdict w client GetLease admitted) (ap ListIs list) h)

@@ -29,7 +29,7 @@ list-requires c =
 
 pub returns : goal.returns
 unfolding RefinesReply meaning changed answer_of
-returns c = λ w h admitted.
+returns c = rw c.set_list.ensures.list (λ w h admitted.
     let s = c.args.state.now in
     let client = c.args.caller.client in
     let x = c.args.caller.member in
@@ -38,4 +38,4 @@ returns c = λ w h admitted.
     carried_on s w (Ask client ListLessees) (ListIs c.list.result) c.requires.invariants
     (call_verdict w client ListLessees admitted)
     (ap ListIs (c.list.ensures ∙ ap (lessee_ids s.leases.grants s.masters.masters s.masters.last_lessee) (keyed_step_number s.masters.masters x.master c.in-Some.master.key c.in-Some.ensures.keyed) ∙ sym ((λ i. filter (model.has_lessee w (own i)) (numbers_from 1 w.limits.lessees)) ∙ lessees_listed s w h x.master)))
-    h
+    h)

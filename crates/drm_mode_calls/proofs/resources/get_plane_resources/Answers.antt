@@ -12,10 +12,10 @@ use Rattle.drm_mode_calls.proofs.resources.get_plane_resources.Goals as goal
 
 pub returns : goal.returns
 unfolding RefinesReply meaning changed answer_of
-returns c = λ w h a.
+returns c = rw c.set_list.ensures.list (λ w h a.
     let s = c.args.state.now in
     let client = c.args.caller.client in
     let caller = c.args.caller in
     carried_on s w (Ask client GetPlaneResources) (ListIs c.visible.result) c.requires.invariants
     (call_verdict w client GetPlaneResources a)
-    (ap ListIs (c.visible.ensures ∙ sym (planes_visible s w caller c.requires.caller h))) h
+    (ap ListIs (c.visible.ensures ∙ sym (planes_visible s w caller c.requires.caller h))) h)

@@ -57,7 +57,7 @@ returns-in_default-2-clause-refines c = rw c.set_denied-in_default-2.ensures.den
 
 pub returns-clause-refines : goal.returns-clause-refines
 unfolding RefinesCall AddsHandle changed meaning answer_of
-returns-clause-refines c = λ w r a.
+returns-clause-refines c = rw c.set_buffer.ensures.buffer (λ w r a.
     let s = c.args.state.now in
     let found = sym c.in-Some.is ∙ c.lookup.ensures.object in
     let there = name_there s w r.rows c.args.name c.in-Some.object c.lookup.ensures.names found in
@@ -70,4 +70,4 @@ returns-clause-refines c = λ w r a.
     in
     carried c.new_handle.new.state w (Ask c.args.client (GemOpen c.args.name)) _
     (call_verdict w c.args.client (GemOpen c.args.name) a ∙ rw (there, came.0) refl) (rw (there, came.0, size) refl)
-    (rw there came.1)
+    (rw there came.1))

@@ -35,7 +35,7 @@ size-size-requires c =
 
 pub returns-in-Some-prime_handle-clause-refines : goal.returns-in-Some-prime_handle-clause-refines
 unfolding RefinesCall changed meaning answer_of
-returns-in-Some-prime_handle-clause-refines c = λ w r a.
+returns-in-Some-prime_handle-clause-refines c = rw c.set_buffer.ensures.buffer (λ w r a.
     let s = c.args.state.now in
     let found = sym c.in-Some.is ∙ c.lookup.ensures.object in
     let known = token_known s c.args.token c.in-Some.object found in
@@ -48,7 +48,7 @@ returns-in-Some-prime_handle-clause-refines c = λ w r a.
     c.size-size.ensures in
     carried_on s w (Ask c.args.client (PrimeFdToHandle c.args.token)) _ c.requires.precondition.invariants
     (call_verdict w c.args.client (PrimeFdToHandle c.args.token) a ∙ rw (there, had) refl) (rw (there, had, size) refl)
-    (rw (there, had) r.rows)
+    (rw (there, had) r.rows))
 
 pub returns-in_err-fresh-clause-refines : goal.returns-in_err-fresh-clause-refines
 unfolding RefinesCall AddsHandle changed meaning
@@ -82,7 +82,7 @@ returns-in_default-2-clause-refines c = rw c.set_denied-in_default-2.ensures.den
 
 pub returns-clause-refines : goal.returns-clause-refines
 unfolding RefinesCall AddsHandle changed meaning answer_of
-returns-clause-refines c = λ w r a.
+returns-clause-refines c = rw c.set_buffer-2.ensures.buffer (λ w r a.
     let s = c.args.state.now in
     let found = sym c.in-Some.is ∙ c.lookup.ensures.object in
     let known = token_known s c.args.token c.in-Some.object found in
@@ -100,4 +100,4 @@ returns-clause-refines c = λ w r a.
     carried c.new_handle.new.state w (Ask c.args.client (PrimeFdToHandle c.args.token)) _
     (call_verdict w c.args.client (PrimeFdToHandle c.args.token) a ∙ rw (there, had, came.0) refl)
     (rw (there, had, came.0, size) refl)
-    (rw (there, had, r.step_number_is) came.1)
+    (rw (there, had, r.step_number_is) came.1))
