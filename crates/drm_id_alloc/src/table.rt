@@ -385,7 +385,8 @@ impl<T: Drop> IdTable<T> {
     pub fn is_full(&self) -> bool
         ensures { IsTrue result ↔ (least_free self.now ≡ None) }
     {
-        self.free_from(self.first).is_none()
+        // Each number in use is in the range, so the table is full if it has one for each number of the range.
+        self.entries.len() > (self.last - self.first) as usize
     }
 
     /// Returns the last number that [`IdTable::add_cyclic`] returned, or `None` before the first.
