@@ -386,7 +386,7 @@ impl<T: Drop> IdTable<T> {
         ensures { IsTrue result ↔ (least_free self.now ≡ None) }
     {
         // Each number in use is in the range, so the table is full if it has one for each number of the range.
-        self.entries.len() > (self.last - self.first) as usize
+        self.len() > (self.last - self.first) as usize
     }
 
     /// Returns the last number that [`IdTable::add_cyclic`] returned, or `None` before the first.

@@ -8,5 +8,5 @@ pub returns : goal.returns
 returns g c =
     let t = c.self.inside in
     let full = full_by_len t.entries.items t.first t.last t.last_given c.self.invariant in
-    rw (← c.self.view_is)
-    (rw c.len.ensures.len ((λ (more : IsTrue (nat_lt (t.last - t.first) (map.len t.entries.items))). full.0 (grind (arith, nat_tests, more)), λ none. grind (arith, nat_tests, full.1 none))))
+    rw c.len.ensures.len
+    (rw (← c.self.view_is) ((λ (more : IsTrue (nat_lt (t.last - t.first) (map.len t.entries.items))). full.0 (grind (arith, nat_tests, more)), λ none. grind (arith, nat_tests, full.1 none))))
