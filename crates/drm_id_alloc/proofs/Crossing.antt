@@ -19,7 +19,7 @@ inside_send T s =
     _
     _
     (inside.the_type T).to_one
-    (struct_send (shape (inside.the_type T)) (search (array_send, s, sendable) depth 20, (search sendable depth 20, (search sendable depth 20, (search sendable depth 20, tt)))))
+    (struct_send (shape (inside.the_type T)) (search (array_send, s, sendable) depth 20, (search sendable depth 20, (search sendable depth 20, (search sendable depth 20, (search sendable depth 20, tt))))))
 
 -- A number table may cross threads if its values may.
 pub table_send : (T : RattleType) → IsSend T → IsSend (table.the_row T)

@@ -1,6 +1,6 @@
 -- A table of values under numbers from `first` to `last`, and the number that was allocated last (own; the kernel's
 -- IDR).
-use Rattle.std.specs.Prelude.{◌≡◌, ℕ, ◌+◌, ◌≤◌, Bool, not, IsTrue, IfSome, Option, Some, None, refl}
+use Rattle.std.specs.Prelude.{◌≡◌, ℕ, ◌+◌, ◌≤◌, ◌<◌, Bool, not, IsTrue, IfSome, Option, Some, None, refl}
 use Rattle.std.specs.Ordering.{nat_cmp}
 use Rattle.std.specs.FinMap as map
 use Rattle.std.specs.Coded.{Coded, code_by, coded×, coded_ℕ, coded_option}
@@ -31,6 +31,16 @@ pub record IsWithin {T : Type 0} (slots : map.FinMap nat_cmp T) (first last : �
   pub high : (id : ℕ) → IsTrue (map.contains_key slots id) → id ≤ last
   pub given_low : IfSome last_given (λ id. first ≤ id)
   pub given_high : IfSome last_given (λ id. id ≤ last)
+
+-- each number of the range below the end is in use
+abbrev pub AreUsedBelow : {T : Type 0} → map.FinMap nat_cmp T → ℕ → ℕ → Type 0
+AreUsedBelow slots first end = (id : ℕ) → first ≤ id → id < end → IsTrue (map.contains_key slots id)
+
+-- the numbers are within the range, and no free one is below the start of a search
+pub record IsSearchable {T : Type 0} (slots : map.FinMap nat_cmp T) (first last : ℕ) (last_given : Option ℕ) (start : ℕ) : Type 0 where
+  pub within : IsWithin slots first last last_given
+  pub start_low : first ≤ start
+  pub used : AreUsedBelow slots first start
 
 -- a table of the numbers from 1 on, which keeps to its range
 pub record IsNumbered {T : Type 0} (table : Table T) : Type 0 where

@@ -29,10 +29,12 @@ pub struct IdTable<T> {
     first: u32,
     last: u32,
     last_given: Option<u32>,
+    // Each number of the range below it has an entry. The search for the lowest free number starts here.
+    start: u32,
 }
 
 impl<T> Model for IdTable<T> {
-    ghost use Rattle.drm_id_alloc.specs.Table.{Table, table_code, IsWithin};
+    ghost use Rattle.drm_id_alloc.specs.Table.{Table, table_code, IsSearchable};
 
     ghost Value = { Table T };
 
@@ -45,7 +47,7 @@ impl<T> Model for IdTable<T> {
       last_given = t.last_given;
     } };
 
-    ghost invariant = { λ t. IsWithin (t.entries.items) t.first t.last t.last_given };
+    ghost invariant = { λ t. IsSearchable (t.entries.items) t.first t.last t.last_given t.start };
 }
 
 impl<T: Drop> IdTable<T> {
@@ -71,6 +73,7 @@ impl<T: Drop> IdTable<T> {
             first,
             last,
             last_given: None,
+            start: first,
         }
     }
 
@@ -102,10 +105,11 @@ impl<T: Drop> IdTable<T> {
         // It is refused as full exactly if no number is free.
         ensures full { IfErr result (λ fault. IsFull fault ↔ (least_free self.old ≡ None)) }
     {
-        let Some(id) = self.free_from(self.first) else {
+        let Some(id) = self.lowest_free() else {
             return Err(AddFault::Full(value));
         };
         self.put(id, value)?;
+        self.start = id.saturating_add(1);
         Ok(id)
     }
 
@@ -148,6 +152,16 @@ impl<T: Drop> IdTable<T> {
         Ok(id)
     }
 
+    /// Returns the lowest free number.
+    fn lowest_free(&self) -> Option<u32>
+        ensures least { result ≡ least_free self.now }
+        ensures fresh { IfSome result (λ id. map.get self.now.slots id ≡ None) }
+        ensures low { IfSome result (λ id. self.now.first ≤ id) }
+        ensures high { IfSome result (λ id. id ≤ self.now.last) }
+    {
+        self.free_from(self.start)
+    }
+
     /// Returns the lowest free number not below `from`.
     fn free_from(&self, from: u32) -> Option<u32>
         ensures least { result ≡ least (is_free self.now) from self.now.last }
@@ -155,6 +169,9 @@ impl<T: Drop> IdTable<T> {
         ensures low { IfSome result (λ id. from ≤ id) }
         ensures high { IfSome result (λ id. id ≤ self.now.last) }
     {
+        if from <= self.last && self.entries.get(from).is_none() {
+            return Some(from);
+        }
         let Some(id) = self.entries.next_vacant(from) else {
             return None;
         };
@@ -286,7 +303,11 @@ impl<T: Drop> IdTable<T> {
         ensures after { self.new ≡ without_entry self.old id }
         ensures absent { IfNone result (self.new ≡ self.old) }
     {
-        self.entries.remove(id)
+        let value = self.entries.remove(id)?;
+        if id < self.start {
+            self.start = id;
+        }
+        Some(value)
     }
 
     /// Returns the lowest number not below `from` that is in use.
