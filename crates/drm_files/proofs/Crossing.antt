@@ -1,6 +1,7 @@
 -- That files may cross threads.
 use denote.Struct.Declared.{shape}
 use denote.Param.Send.{IsSend, sendable, view_send, recorded_send, struct_send}
+use Rattle.std.proofs.Crossing.{Vec-send}
 use Rattle.drm_index_array.proofs.Crossing.{array_send}
 use Rattle.drm_id_alloc.proofs.Crossing.{table_send}
 use Rattle.drm_files.specs.contracts.files.Held as held
@@ -23,7 +24,7 @@ neighbours_send =
 orders_send : IsSend orders.the_field.row
 orders_send =
     struct_send (shape orders.the_type)
-    (search (array_send, neighbours_send, sendable) depth 20, (search (array_send, neighbours_send, sendable) depth 20, tt))
+    (search (Vec-send, neighbours_send, sendable) depth 20, (search (array_send, neighbours_send, sendable) depth 20, tt))
 
 record_send : IsSend record_of.the_row
 record_send =

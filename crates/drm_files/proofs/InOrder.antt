@@ -1,5 +1,5 @@
 -- How the export orders of a client's handles stay in order.
-use Rattle.std.proofs.Common.{◌≡◌, ℕ, ◌≤◌, ◌==◌, ◌&&◌, Bool, true, false, cond, if◌then◌else◌, eqb, Option, Some, None, is_some, option_map, option_and_then, option_copied, Bor, refl, sym, ap, subst, ◌∙◌, arith, nat_cmp, eq-eqb}
+use Rattle.std.proofs.Common.{◌≡◌, ℕ, ◌≤◌, ◌==◌, ◌&&◌, Bool, true, false, cond, if◌then◌else◌, eqb, slice_get, Option, Some, None, is_some, option_map, option_and_then, option_copied, Bor, Result, Ok, Err, OnErr, refl, sym, ap, subst, ◌∙◌, arith, nat_cmp, eq-eqb}
 use Rattle.std.specs.FinMap as fin
 use Rattle.std.proofs.lemmas.Bool.{false≢true, eqb-true, ne_eqb, and_from}
 use Rattle.std.proofs.lemmas.Bool.Decides.{nat_tests}
@@ -11,8 +11,8 @@ use Rattle.drm_files.specs.declared.orders.ExportOrders.{ExportOrders}
 use Rattle.drm_files.specs.declared.orders.Neighbours.{Neighbours}
 use Rattle.drm_files.specs.declared.primes.Prime.{Prime}
 use Rattle.drm_files.specs.Primes.{prime_of, prime_at, is_before}
-use Rattle.drm_files.specs.ExportOrders.{Primes, is_after, IsPlace, IsNext, AreNext, AreInOrder, AreJoined, next_of, previous_of, side_of, has_room, is_same_place, choose, with_handle}
-use Rattle.drm_files.proofs.Chains.{IsOrder, by_bool, both, next_to, come_between, leave}
+use Rattle.drm_files.specs.ExportOrders.{Primes, is_after, IsPlace, IsNext, AreNext, AreInOrder, AreJoined, AreKept, next_of, previous_of, side_of, has_room, is_same_place, choose, with_handle}
+use Rattle.drm_files.proofs.Chains.{by_bool, both, next_to, come_between, leave}
 use Rattle.drm_files.proofs.OrderFacts.{first_order, last_order, named, for_object, unplaced_is, primes_kept, primes_more, primes_of_others, primes_fewer}
 
 -- the next ones of the same primes
@@ -30,7 +30,7 @@ module _ (slots : fin.FinMap nat_cmp Held) (orders : ExportOrders) (order : AreI
   room_there x there for None None here = ap (fin.contains_key orders.ends.items) (sym for) ∙ order.ended h x there
   room_there x there for None (Some v) here = absurd here
   room_there x there for (Some k) None here = absurd here
-  room_there x there for (Some k) (Some v) here = order.linked k ∙ ap is_some (for_object slots object k v here).1
+  room_there x there for (Some k) (Some v) here = order.linked k (ap is_some (for_object slots object k v here).1)
 
   same_test : (n : ℕ) → (n == n) ≡ true
   same_test n = grind (arith, nat_tests)
@@ -130,7 +130,7 @@ module _ (slots : fin.FinMap nat_cmp Held) (old : ExportOrders) (order : AreInOr
   has_places = room_there slots old order object h (record { object = object; export_order = None }) unplaced refl
 
   h_has_room : has_room old object (Some h) ≡ true
-  h_has_room = order.linked h ∙ ap is_some unplaced
+  h_has_room = order.linked h (ap is_some unplaced)
 
   module _ (last : IsNext is_after primes (Some x) q) where
     abbrev left : (p : Option Prime) × IsPlace primes q p
@@ -210,7 +210,7 @@ module _ (slots : fin.FinMap nat_cmp Held) (old : ExportOrders) (order : AreInOr
     pub placed_in_order : AreInOrder slots_after new
     placed_in_order = record {
       fit = λ k there. order.fit k (sym (there_after k) ∙ there);
-      linked = λ k. room object (Some k) ∙ order.linked k ∙ sym (there_after k);
+      linked = λ k there. room object (Some k) ∙ order.linked k (sym (there_after k) ∙ there);
       ended = λ k y there. room y.object None ∙ ended k y there;
       next =
           λ d. by_object object d (λ e. AreNext is_before (prime_at slots_after e) (next_of new e)) next_ones
@@ -226,7 +226,7 @@ module _ (slots : fin.FinMap nat_cmp Held) (old : ExportOrders) (order : AreInOr
             (λ same. ap (fin.contains_key old.ends.items) (ap (λ (z : Held). z.object) (same_Some y (record { object = object; export_order = Some export_order }) (sym there ∙ get_after k ∙ ap (λ b. cond b (Some (record { object = object; export_order = Some export_order })) (fin.get slots k)) same))) ∙ order.ended h (record { object = object; export_order = None }) unplaced)
             (λ isnt. order.ended k y (sym (ap (λ b. cond b (Some (record { object = object; export_order = Some export_order })) (fin.get slots k)) isnt) ∙ sym (get_after k) ∙ there))
 
-module _ (slots : fin.FinMap nat_cmp Held) (old : ExportOrders) (order : AreInOrder slots old) (object h : ℕ) (held : Held) (there : fin.get slots h ≡ Some held) (for : held.object ≡ object) (new : ExportOrders) where
+module _ (slots : fin.FinMap nat_cmp Held) (old : ExportOrders) (order : AreInOrder slots old) (object h : ℕ) (held : Held) (there : fin.get slots h ≡ Some held) where
   abbrev fewer : fin.FinMap nat_cmp Held
   fewer = fin.remove slots h
 
@@ -239,37 +239,25 @@ module _ (slots : fin.FinMap nat_cmp Held) (old : ExportOrders) (order : AreInOr
       (λ same. absurd (none-some y (sym (ap (λ b. cond b None (fin.get slots k)) same) ∙ sym (get_fewer k) ∙ left)))
       (λ isnt. sym (ap (λ b. cond b None (fin.get slots k)) isnt) ∙ sym (get_fewer k) ∙ left)
 
-  -- what is left of the rooms is what is left of the handles
-  rooms_fewer : (mid : ExportOrders)
-      → ((k : ℕ) → fin.contains_key mid.links.items k ≡ fin.contains_key old.links.items k)
-      → ((k : ℕ) → fin.get new.links.items k ≡ cond (eqb k h) None (fin.get mid.links.items k)) → (k : ℕ)
-      → fin.contains_key new.links.items k ≡ fin.contains_key fewer k
-  rooms_fewer mid rooms links k =
-      ap is_some (links k)
-      ∙ by_bool (eqb k h)
-      (λ same. ap (λ b. is_some (cond b None (fin.get mid.links.items k))) same ∙ sym (ap is_some (get_fewer k) ∙ ap (λ b. is_some (cond b None (fin.get slots k))) same))
-      (λ isnt. ap (λ b. is_some (cond b None (fin.get mid.links.items k))) isnt ∙ rooms k ∙ order.linked k ∙ sym (ap is_some (get_fewer k) ∙ ap (λ b. is_some (cond b None (fin.get slots k))) isnt))
-
-  fit_fewer : (k : ℕ) → fin.contains_key fewer k ≡ true → k ≤ 4294967295
-  fit_fewer k left =
-      by_bool (eqb k h)
-      (λ same. both (is_some (fin.get fewer k)) left (ap is_some (get_fewer k) ∙ ap (λ b. is_some (cond b None (fin.get slots k))) same))
-      (λ isnt. order.fit k (sym (ap is_some (get_fewer k) ∙ ap (λ b. is_some (cond b None (fin.get slots k))) isnt) ∙ left))
+  was_held : (k : ℕ) → fin.contains_key fewer k ≡ true → fin.contains_key slots k ≡ true
+  was_held k left = by (fin.get fewer k) refl left
+    where
+      by : (y : Option Held) → fin.get fewer k ≡ y → is_some y ≡ true → fin.contains_key slots k ≡ true
+      by None is some = absurd (false≢true some)
+      by (Some y) is some = ap is_some (was_there k y is)
 
   -- After a handle without an export order is removed, the orders are still in order.
-  pub forgotten_unplaced : held.export_order ≡ None
-      → ((k : ℕ) → fin.get new.links.items k ≡ cond (eqb k h) None (fin.get old.links.items k)) → new.ends ≡ old.ends
-      → AreInOrder fewer new
-  forgotten_unplaced none links ends = record {
-    fit = fit_fewer;
-    linked = rooms_fewer old (λ k. refl) links;
-    ended = λ k y left. ap (λ e. fin.contains_key e.items y.object) ends ∙ order.ended k y (was_there k y left);
+  pub forgotten_unplaced : held.export_order ≡ None → AreInOrder fewer old
+  forgotten_unplaced none = record {
+    fit = λ k left. order.fit k (was_held k left);
+    linked = λ k left. order.linked k (was_held k left);
+    ended = λ k y left. order.ended k y (was_there k y left);
     next =
-        λ d. next_same is_before (prime_at slots d) (prime_at fewer d) (next_of old d) (next_of new d) (order.next d)
-        (kept d) (side_kept (λ (x : Neighbours). x.next) d);
+        λ d. next_same is_before (prime_at slots d) (prime_at fewer d) (next_of old d) (next_of old d) (order.next d)
+        (kept d) (λ r s here. refl);
     previous =
-        λ d. next_same is_after (prime_at slots d) (prime_at fewer d) (previous_of old d) (previous_of new d)
-        (order.previous d) (kept d) (side_kept (λ (x : Neighbours). x.previous) d);
+        λ d. next_same is_after (prime_at slots d) (prime_at fewer d) (previous_of old d) (previous_of old d)
+        (order.previous d) (kept d) (λ r s here. refl);
   }
     where
       no_prime_here : (d : ℕ) → prime_at slots d h ≡ None
@@ -282,15 +270,8 @@ module _ (slots : fin.FinMap nat_cmp Held) (old : ExportOrders) (order : AreInOr
           (λ same. ap (λ b. cond b None (prime_at slots d k)) same ∙ sym (ap (prime_at slots d) (eqb-true k h same) ∙ no_prime_here d))
           (λ isnt. ap (λ b. cond b None (prime_at slots d k)) isnt)
 
-      side_kept : (side : Neighbours → Option ℕ) (d : ℕ) (r : Option ℕ) (s : Option Prime)
-          → IsPlace (prime_at slots d) r s → side_of side new d r ≡ side_of side old d r
-      side_kept side d None s here = ap (λ e. option_and_then side (fin.get e.items d)) ends
-      side_kept side d (Some k) s here =
-          ap (option_and_then side)
-          (links k ∙ by_bool (eqb k h) (λ same. absurd (not_absent (prime_at slots d) h (no_prime_here d) (Some k) s here (ap Some (eqb-true k h same)))) (λ isnt. ap (λ b. cond b None (fin.get old.links.items k)) isnt))
-
   -- one that has leaves its place
-  module _ (export_order : ℕ) (placed : held.export_order ≡ Some export_order) (q n : Option ℕ) (q_is : q ≡ previous_of old object (Some h)) (n_is : n ≡ next_of old object (Some h)) (mid : ExportOrders) (joined : AreJoined old object q n mid) (links : (k : ℕ) → fin.get new.links.items k ≡ cond (eqb k h) None (fin.get mid.links.items k)) (ends : new.ends ≡ mid.ends) where
+  module _ (for : held.object ≡ object) (export_order : ℕ) (placed : held.export_order ≡ Some export_order) (q n : Option ℕ) (q_is : q ≡ previous_of old object (Some h)) (n_is : n ≡ next_of old object (Some h)) (new : ExportOrders) (joined : AreJoined old object q n new) where
     abbrev it : Prime
     it = record { export_order = export_order; handle = h }
 
@@ -321,51 +302,30 @@ module _ (slots : fin.FinMap nat_cmp Held) (old : ExportOrders) (order : AreInOr
     has_place : (r : Option ℕ) (s : Option Prime) → IsPlace (prime_at slots object) r s → has_room old object r ≡ true
     has_place = room_there slots old order object h held there for
 
-    -- away from the handle, the new neighbours are those after the joining
-    side_new : (side : Neighbours → Option ℕ) (d : ℕ) (r : Option ℕ) → (r ≡ Some h → ⊥)
-        → side_of side new d r ≡ side_of side mid d r
-    side_new side d None apart = ap (λ e. option_and_then side (fin.get e.items d)) ends
-    side_new side d (Some k) apart =
-        ap (option_and_then side)
-        (links k ∙ by_bool (eqb k h) (λ same. absurd (apart (ap Some (eqb-true k h same)))) (λ isnt. ap (λ b. cond b None (fin.get mid.links.items k)) isnt))
-
-    -- the neighbours are others than the handle
-    not_itself : (before : Prime → Prime → Bool) → IsOrder before → (m : Option ℕ)
-        → IsNext before (prime_at slots object) (Some it) m → m ≡ Some h → ⊥
-    not_itself before is None next same = none-some h same
-    not_itself before is (Some k) next same =
-        both (before it it)
-        (ap (before it) (same_Some it next.prime (sym it_is_there ∙ ap (prime_at slots object) (sym (same_Some k h same)) ∙ next.there)) ∙ next.past)
-        (is.irreflexive it)
-
     next_ones_left : AreNext is_before (prime_at fewer object) (next_of new object)
     next_ones_left =
         leave is_before first_order (prime_at slots object) (named slots object) it h refl q before_it.0 before_it.1
         last_before n next_after (next_of old object) (next_of new object) (order.next object) it_is_there
         (prime_at fewer object) (primes_fewer slots object h object)
-        (side_new (λ (x : Neighbours). x.next) object q (not_itself is_after last_order q last_before)
-        ∙ joined.next_is object q
+        (joined.next_is object q
         ∙ choose_true slots old order object h (has_room old object q && is_same_place object q object q) n (next_of old object q) (and_from (has_room old object q) _ (has_place q before_it.0 before_it.1) (itself slots old order object h q)))
-        (λ r s here apart not_h. side_new (λ (x : Neighbours). x.next) object r not_h ∙ joined.next_is object r ∙ choose_false slots old order object h (has_room old object r) (is_same_place object q object r) n (next_of old object r) (another slots old order object h r q apart))
+        (λ r s here apart not_h. joined.next_is object r ∙ choose_false slots old order object h (has_room old object r) (is_same_place object q object r) n (next_of old object r) (another slots old order object h r q apart))
 
     previous_ones_left : AreNext is_after (prime_at fewer object) (previous_of new object)
     previous_ones_left =
         leave is_after last_order (prime_at slots object) (named slots object) it h refl n after_it.0 after_it.1
         next_after q last_before (previous_of old object) (previous_of new object) (order.previous object) it_is_there
         (prime_at fewer object) (primes_fewer slots object h object)
-        (side_new (λ (x : Neighbours). x.previous) object n (not_itself is_before first_order n next_after)
-        ∙ joined.previous_is object n
+        (joined.previous_is object n
         ∙ choose_true slots old order object h (has_room old object n && is_same_place object n object n) q (previous_of old object n) (and_from (has_room old object n) _ (has_place n after_it.0 after_it.1) (itself slots old order object h n)))
-        (λ r s here apart not_h. side_new (λ (x : Neighbours). x.previous) object r not_h ∙ joined.previous_is object r ∙ choose_false slots old order object h (has_room old object r) (is_same_place object n object r) q (previous_of old object r) (another slots old order object h r n apart))
+        (λ r s here apart not_h. joined.previous_is object r ∙ choose_false slots old order object h (has_room old object r) (is_same_place object n object r) q (previous_of old object r) (another slots old order object h r n apart))
 
     module _ (d : ℕ) (other : d ≡ object → ⊥) where
-      not_for : (r : Option ℕ) (s : Option Prime) → IsPlace (prime_at slots d) r s → r ≡ Some h → ⊥
-      not_for None s here same = none-some h same
-      not_for (Some k) None here same = elim here [ ]
-      not_for (Some k) (Some v) here same =
+      not_for : (k : ℕ) (v : Prime) → prime_at slots d k ≡ Some v → k ≡ h → ⊥
+      not_for k v here same =
           let its = for_object slots d k v here in
           other
-          (sym its.2 ∙ ap (λ (x : Held). x.object) (same_Some its.0 held (sym its.1 ∙ ap (fin.get slots) (same_Some k h same) ∙ there)) ∙ for)
+          (sym its.2 ∙ ap (λ (x : Held). x.object) (same_Some its.0 held (sym its.1 ∙ ap (fin.get slots) same ∙ there)) ∙ for)
 
       kept_others : (k : ℕ) → prime_at fewer d k ≡ prime_at slots d k
       kept_others k =
@@ -376,28 +336,26 @@ module _ (slots : fin.FinMap nat_cmp Held) (old : ExportOrders) (order : AreInOr
         where
           none_at : (k : ℕ) → k ≡ h → (o : Option Prime) → prime_at slots d k ≡ o → None ≡ o
           none_at k same None is = refl
-          none_at k same (Some v) is = absurd (not_for (Some k) (Some v) is (ap Some same))
+          none_at k same (Some v) is = absurd (not_for k v is same)
 
       next_others_left : AreNext is_before (prime_at fewer d) (next_of new d)
       next_others_left =
           next_same is_before (prime_at slots d) (prime_at fewer d) (next_of old d) (next_of new d) (order.next d)
           kept_others
-          (λ r s here. side_new (λ (x : Neighbours). x.next) d r (not_for r s here) ∙ joined.next_is d r ∙ choose_false slots old order object h (has_room old d r) (is_same_place object q d r) n (next_of old d r) (of_another slots old order object h q before_it.0 before_it.1 d other r s here))
+          (λ r s here. joined.next_is d r ∙ choose_false slots old order object h (has_room old d r) (is_same_place object q d r) n (next_of old d r) (of_another slots old order object h q before_it.0 before_it.1 d other r s here))
 
       previous_others_left : AreNext is_after (prime_at fewer d) (previous_of new d)
       previous_others_left =
           next_same is_after (prime_at slots d) (prime_at fewer d) (previous_of old d) (previous_of new d)
           (order.previous d) kept_others
-          (λ r s here. side_new (λ (x : Neighbours). x.previous) d r (not_for r s here) ∙ joined.previous_is d r ∙ choose_false slots old order object h (has_room old d r) (is_same_place object n d r) q (previous_of old d r) (of_another slots old order object h n after_it.0 after_it.1 d other r s here))
+          (λ r s here. joined.previous_is d r ∙ choose_false slots old order object h (has_room old d r) (is_same_place object n d r) q (previous_of old d r) (of_another slots old order object h n after_it.0 after_it.1 d other r s here))
 
     -- After a handle with an export order is removed and its neighbours are joined, the orders are still in order.
     pub forgotten_placed : AreInOrder fewer new
     forgotten_placed = record {
-      fit = fit_fewer;
-      linked = rooms_fewer mid (λ k. joined.room object (Some k)) links;
-      ended =
-          λ k y left_there. ap (λ e. fin.contains_key e.items y.object) ends ∙ joined.room y.object None
-          ∙ order.ended k y (was_there k y left_there);
+      fit = λ k left. order.fit k (was_held k left);
+      linked = λ k left. joined.room object (Some k) ∙ order.linked k (was_held k left);
+      ended = λ k y left. joined.room y.object None ∙ order.ended k y (was_there k y left);
       next =
           λ d. by_object object d (λ e. AreNext is_before (prime_at fewer e) (next_of new e)) next_ones_left
           (next_others_left d);
@@ -443,6 +401,11 @@ with_room m object absent d = (
 pub copied_there : {X : Type 0} → (o : Option (Bor X)) → is_some (option_copied o) ≡ is_some o
 copied_there None = refl
 copied_there (Some x) = refl
+
+-- What holds at all holds of an error.
+pub on_err : {X E P : Type 0} (r : Result X E) → P → OnErr r P
+on_err (Ok x) p = tt
+on_err (Err e) p = p
 
 -- the object has room now, and all else is kept
 pub record HasRoomNow (old new : ExportOrders) (object : ℕ) : Type 0 where
@@ -498,79 +461,83 @@ module _ (slots : fin.FinMap nat_cmp Held) (old new : ExportOrders) (order : Are
       by None was there = absurd (false≢true there)
       by (Some x) was there = ap is_some ((ends d).1 x was)
 
-  -- With more room and the same links, the orders are still in order.
-  pub roomier : new.links ≡ old.links → AreInOrder slots new
-  roomier links = record {
-    fit = order.fit;
-    linked = λ k. ap (λ l. fin.contains_key l.items k) links ∙ order.linked k;
-    ended = λ k y there. still_ended y.object (order.ended k y there);
-    next =
-        λ d. next_same is_before (prime_at slots d) (prime_at slots d) (next_of old d) (next_of new d) (order.next d)
-        (λ k. refl) (side_kept (λ (x : Neighbours). x.next) refl d);
-    previous =
-        λ d. next_same is_after (prime_at slots d) (prime_at slots d) (previous_of old d) (previous_of new d)
-        (order.previous d) (λ k. refl) (side_kept (λ (x : Neighbours). x.previous) refl d);
-  }
-    where
-      side_kept : (side : Neighbours → Option ℕ) → side alone ≡ None → (d : ℕ) (r : Option ℕ) (s : Option Prime)
-          → IsPlace (prime_at slots d) r s → side_of side new d r ≡ side_of side old d r
-      side_kept side empty d None s here = side_end side empty d
-      side_kept side empty d (Some k) s here = ap (λ l. option_and_then side (fin.get l.items k)) links
-
-  -- a new handle of the object has room, too
-  module _ (object h : ℕ) (absent : fin.get slots h ≡ None) (few : h ≤ 4294967295) (links : (k : ℕ) → fin.get new.links.items k ≡ cond (eqb k h) (Some alone) (fin.get old.links.items k)) (mine : fin.contains_key new.ends.items object ≡ true) where
-    abbrev more_slots : fin.FinMap nat_cmp Held
-    more_slots = with_handle slots object h None
-
-    get_more : (k : ℕ)
-        → fin.get more_slots k ≡ cond (eqb k h) (Some (record { object = object; export_order = None })) (fin.get slots k)
-    get_more k = get-insert slots h (record { object = object; export_order = None }) k
-
-    no_prime_yet : (d : ℕ) → prime_at slots d h ≡ None
-    no_prime_yet d = ap (option_and_then (λ x. prime_of d (h, x))) absent
-
-    link_kept : (d k : ℕ) (s : Option Prime) → IsPlace (prime_at slots d) (Some k) s
-        → fin.get new.links.items k ≡ fin.get old.links.items k
-    link_kept d k s here =
-        links k
-        ∙ by_bool (eqb k h)
-        (λ same. absurd (not_absent (prime_at slots d) h (no_prime_yet d) (Some k) s here (ap Some (eqb-true k h same))))
-        (λ isnt. ap (λ b. cond b (Some alone) (fin.get old.links.items k)) isnt)
-
-    side_room : (side : Neighbours → Option ℕ) → side alone ≡ None → (d : ℕ) (r : Option ℕ) (s : Option Prime)
-        → IsPlace (prime_at slots d) r s → side_of side new d r ≡ side_of side old d r
-    side_room side empty d None s here = side_end side empty d
-    side_room side empty d (Some k) s here = ap (option_and_then side) (link_kept d k s here)
-
-    -- With room for it, a new handle without an export order leaves the orders in order.
-    pub room_made : AreInOrder more_slots new
-    room_made = record {
-      fit =
-          λ k there. by_bool (eqb k h) (λ same. subst (λ j. j ≤ 4294967295) (sym (eqb-true k h same)) few)
-          (λ isnt. order.fit k (sym (ap is_some (get_more k) ∙ ap (λ b. is_some (cond b (Some (record { object = object; export_order = None })) (fin.get slots k))) isnt) ∙ there));
-      linked = λ k. ap is_some (links k) ∙ same_rooms k ∙ sym (ap is_some (get_more k));
-      ended = λ k y there. by_bool (eqb k h)
-          (λ same. ap (fin.contains_key new.ends.items) (ap (λ (z : Held). z.object) (same_Some y (record { object = object; export_order = None }) (sym there ∙ get_more k ∙ ap (λ b. cond b (Some (record { object = object; export_order = None })) (fin.get slots k)) same))) ∙ mine)
-          (λ isnt. still_ended y.object (order.ended k y (sym (ap (λ b. cond b (Some (record { object = object; export_order = None })) (fin.get slots k)) isnt) ∙ sym (get_more k) ∙ there)));
-      next =
-          λ d. next_same is_before (prime_at slots d) (prime_at more_slots d) (next_of old d) (next_of new d)
-          (order.next d) (primes_kept slots object h no_prime_yet d) (side_room (λ (x : Neighbours). x.next) refl d);
-      previous =
-          λ d. next_same is_after (prime_at slots d) (prime_at more_slots d) (previous_of old d) (previous_of new d)
-          (order.previous d) (primes_kept slots object h no_prime_yet d)
-          (side_room (λ (x : Neighbours). x.previous) refl d);
-    }
+  module _ (links : AreKept old.links.items new.links.items) where
+    link_kept : (k : ℕ) → fin.contains_key slots k ≡ true
+        → (x : Neighbours) × (slice_get old.links.items k ≡ Some x) × (slice_get new.links.items k ≡ Some x)
+    link_kept k there = by (slice_get old.links.items k) refl (order.linked k there)
       where
-        same_rooms : (k : ℕ)
-            → is_some (cond (eqb k h) (Some alone) (fin.get old.links.items k)) ≡ is_some (cond (eqb k h) (Some (record { object = object; export_order = None })) (fin.get slots k))
-        same_rooms k = elim (eqb k h) as (λ b. is_some (cond b (Some alone) (fin.get old.links.items k)) ≡ is_some (cond b (Some (record { object = object; export_order = None })) (fin.get slots k))) [ true ↦ refl | false ↦ order.linked k ]
+        by : (o : Option Neighbours) → slice_get old.links.items k ≡ o → is_some o ≡ true
+            → (x : Neighbours) × (slice_get old.links.items k ≡ Some x) × (slice_get new.links.items k ≡ Some x)
+        by None is some = absurd (false≢true some)
+        by (Some x) is some = (x, is, links k x is)
+
+    still_linked : (k : ℕ) → fin.contains_key slots k ≡ true → is_some (slice_get new.links.items k) ≡ true
+    still_linked k there = ap is_some (link_kept k there).2
+
+    side_kept : (side : Neighbours → Option ℕ) → side alone ≡ None → (d : ℕ) (r : Option ℕ) (s : Option Prime)
+        → IsPlace (prime_at slots d) r s → side_of side new d r ≡ side_of side old d r
+    side_kept side empty d None s here = side_end side empty d
+    side_kept side empty d (Some k) None here = absurd here
+    side_kept side empty d (Some k) (Some v) here =
+        let its = link_kept k (ap is_some (for_object slots d k v here).1) in
+        ap (option_and_then side) (its.2 ∙ sym its.1)
+
+    -- With more room and the old links kept, the orders are still in order.
+    pub roomier : AreInOrder slots new
+    roomier = record {
+      fit = order.fit;
+      linked = still_linked;
+      ended = λ k y there. still_ended y.object (order.ended k y there);
+      next =
+          λ d. next_same is_before (prime_at slots d) (prime_at slots d) (next_of old d) (next_of new d) (order.next d)
+          (λ k. refl) (side_kept (λ (x : Neighbours). x.next) refl d);
+      previous =
+          λ d. next_same is_after (prime_at slots d) (prime_at slots d) (previous_of old d) (previous_of new d)
+          (order.previous d) (λ k. refl) (side_kept (λ (x : Neighbours). x.previous) refl d);
+    }
+
+    -- a new handle of the object has room, too
+    module _ (object h : ℕ) (absent : fin.get slots h ≡ None) (few : h ≤ 4294967295) (mine_linked : is_some (slice_get new.links.items h) ≡ true) (mine : fin.contains_key new.ends.items object ≡ true) where
+      abbrev more_slots : fin.FinMap nat_cmp Held
+      more_slots = with_handle slots object h None
+
+      get_more : (k : ℕ)
+          → fin.get more_slots k ≡ cond (eqb k h) (Some (record { object = object; export_order = None })) (fin.get slots k)
+      get_more k = get-insert slots h (record { object = object; export_order = None }) k
+
+      no_prime_yet : (d : ℕ) → prime_at slots d h ≡ None
+      no_prime_yet d = ap (option_and_then (λ x. prime_of d (h, x))) absent
+
+      -- a fact of the new handle and of those that were there is one of all
+      each_handle : (P : ℕ → Type 0) → P h → ((k : ℕ) → fin.contains_key slots k ≡ true → P k) → (k : ℕ)
+          → fin.contains_key more_slots k ≡ true → P k
+      each_handle P new_one others k there =
+          by_bool (eqb k h) (λ same. subst P (sym (eqb-true k h same)) new_one)
+          (λ isnt. others k (sym (ap is_some (get_more k) ∙ ap (λ b. is_some (cond b (Some (record { object = object; export_order = None })) (fin.get slots k))) isnt) ∙ there))
+
+      -- With room for it, a new handle without an export order leaves the orders in order.
+      pub room_made : AreInOrder more_slots new
+      room_made = record {
+        fit = each_handle (λ k. k ≤ 4294967295) few order.fit;
+        linked = each_handle (λ k. is_some (slice_get new.links.items k) ≡ true) mine_linked still_linked;
+        ended = λ k y there. by_bool (eqb k h)
+            (λ same. ap (fin.contains_key new.ends.items) (ap (λ (z : Held). z.object) (same_Some y (record { object = object; export_order = None }) (sym there ∙ get_more k ∙ ap (λ b. cond b (Some (record { object = object; export_order = None })) (fin.get slots k)) same))) ∙ mine)
+            (λ isnt. still_ended y.object (order.ended k y (sym (ap (λ b. cond b (Some (record { object = object; export_order = None })) (fin.get slots k)) isnt) ∙ sym (get_more k) ∙ there)));
+        next =
+            λ d. next_same is_before (prime_at slots d) (prime_at more_slots d) (next_of old d) (next_of new d)
+            (order.next d) (primes_kept slots object h no_prime_yet d) (side_kept (λ (x : Neighbours). x.next) refl d);
+        previous =
+            λ d. next_same is_after (prime_at slots d) (prime_at more_slots d) (previous_of old d) (previous_of new d)
+            (order.previous d) (primes_kept slots object h no_prime_yet d)
+            (side_kept (λ (x : Neighbours). x.previous) refl d);
+      }
 
 -- Without handles the orders are in order.
-pub none_in_order : (orders : ExportOrders) → orders.links ≡ empty_array → orders.ends ≡ empty_array
-    → (slots : fin.FinMap nat_cmp Held) → slots ≡ fin.empty → AreInOrder slots orders
-none_in_order orders links ends slots none = record {
+pub none_in_order : (orders : ExportOrders) → orders.ends ≡ empty_array → (slots : fin.FinMap nat_cmp Held)
+    → slots ≡ fin.empty → AreInOrder slots orders
+none_in_order orders ends slots none = record {
   fit = λ k there. absurd (false≢true (sym (ap is_some (absent k)) ∙ there));
-  linked = λ k. ap is_some (ap (λ l. fin.get l.items k) links ∙ fin.get-empty nat_cmp k) ∙ sym (ap is_some (absent k));
+  linked = λ k there. absurd (false≢true (sym (ap is_some (absent k)) ∙ there));
   ended = λ k y there. absurd (none-some y (sym (absent k) ∙ there));
   next =
       λ d r s here. nowhere is_before d (next_of orders d)

@@ -1,5 +1,5 @@
 -- How the export orders stay in order.
-use Rattle.std.proofs.Common.{◌≡◌, ℕ, ◌≤◌, ◌<◌, ◌+◌, ◌*◌, ◌==◌, Bool, true, false, cond, if◌then◌else◌, eqb, nat_lt, Option, Some, None, is_some, option_map, option_and_then, refl, sym, ap, subst, ◌∙◌, arith, nat_cmp}
+use Rattle.std.proofs.Common.{◌≡◌, ℕ, zero, suc, List, [], ◌∷◌, set, slice_get, eq-eqb, ◌≤◌, ◌<◌, ◌+◌, ◌*◌, ◌==◌, Bool, true, false, cond, if◌then◌else◌, eqb, nat_lt, Option, Some, None, is_some, option_map, option_and_then, refl, sym, ap, subst, ◌∙◌, arith, nat_cmp}
 use Rattle.std.specs.FinMap as fin
 use Rattle.std.specs.Option.{option_map_or}
 use Rattle.std.proofs.lemmas.Bool.{false≢true, eqb-true}
@@ -140,6 +140,33 @@ written m index x change there k =
     ∙ by_bool (eqb k index)
     (λ same. ap (λ b. cond b (Some (change x)) (fin.get m k)) same ∙ ap (option_map change) (there ∙ ap (fin.get m) (sym (eqb-true k index same))) ∙ sym (ap (λ b. choose b (option_map change (fin.get m k)) (fin.get m k)) same))
     (λ apart. ap (λ b. cond b (Some (change x)) (fin.get m k)) apart ∙ sym (ap (λ b. choose b (option_map change (fin.get m k)) (fin.get m k)) apart))
+
+-- a place of a list that is written, and the others
+set_same : (xs : List Neighbours) (i : ℕ) (y x : Neighbours) → slice_get xs i ≡ Some x → slice_get (set xs i y) i ≡ Some y
+set_same [] i y x there = absurd (none-some x there)
+set_same (z ∷ xs) zero y x there = refl
+set_same (z ∷ xs) (suc i) y x there = set_same xs i y x there
+
+set_other : (xs : List Neighbours) (i k : ℕ) (y : Neighbours) → (k ≡ i → ⊥) → slice_get (set xs i y) k ≡ slice_get xs k
+set_other [] i k y apart = refl
+set_other (z ∷ xs) zero zero y apart = absurd (apart refl)
+set_other (z ∷ xs) zero (suc k) y apart = refl
+set_other (z ∷ xs) (suc i) zero y apart = refl
+set_other (z ∷ xs) (suc i) (suc k) y apart = set_other xs i k y (λ same. apart (ap suc same))
+
+-- Changing one place of a list changes no other.
+pub written_in : (xs : List Neighbours) (index : ℕ) (x : Neighbours) (change : Neighbours → Neighbours)
+    → slice_get xs index ≡ Some x → (k : ℕ)
+    → slice_get (set xs index (change x)) k ≡ choose (k == index) (option_map change (slice_get xs k)) (slice_get xs k)
+written_in xs index x change there k =
+    by_bool (eqb k index)
+    (λ same.
+    let here : k ≡ index = eqb-true k index same in
+    ap (slice_get (set xs index (change x))) here ∙ set_same xs index (change x) x there
+    ∙ sym (ap (λ b. choose b (option_map change (slice_get xs k)) (slice_get xs k)) same ∙ ap (option_map change) (ap (slice_get xs) here ∙ there)))
+    (λ isnt.
+    set_other xs index k (change x) (λ same. both (eqb k index) (eq-eqb k index same) isnt)
+    ∙ sym (ap (λ b. choose b (option_map change (slice_get xs k)) (slice_get xs k)) isnt))
 
 -- the walk from the last back to the one before a new prime
 

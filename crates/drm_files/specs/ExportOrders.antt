@@ -1,6 +1,6 @@
 -- The handles of each object in the order of their exports: after each the next, and before each the previous one
 -- (drm-mm, PRIME; the order is own).
-use Rattle.std.specs.Prelude.{◌≡◌, ℕ, ◌==◌, ◌≤◌, ◌&&◌, Bool, true, false, Option, Some, None}
+use Rattle.std.specs.Prelude.{◌≡◌, ℕ, ◌==◌, ◌≤◌, ◌&&◌, Bool, true, false, List, slice_get, Option, Some, None, is_some}
 use Rattle.std.specs.Option.{option_and_then}
 use Rattle.std.specs.Ordering.{nat_cmp}
 use Rattle.std.specs.FinMap as map
@@ -50,7 +50,7 @@ AreNext before primes next =
 -- what is on one side of a place
 abbrev pub side_of : (Neighbours → Option ℕ) → ExportOrders → ℕ → Option ℕ → Option ℕ
 side_of side orders object None = option_and_then side (map.get orders.ends.items object)
-side_of side orders object (Some h) = option_and_then side (map.get orders.links.items h)
+side_of side orders object (Some h) = option_and_then side (slice_get orders.links.items h)
 
 -- the next handle after one, or the first
 abbrev pub next_of : ExportOrders → ℕ → Option ℕ → Option ℕ
@@ -63,15 +63,19 @@ previous_of = side_of (λ (x : Neighbours). x.previous)
 -- there is room for the neighbours of a place
 abbrev pub has_room : ExportOrders → ℕ → Option ℕ → Bool
 has_room orders object None = map.contains_key orders.ends.items object
-has_room orders object (Some h) = map.contains_key orders.links.items h
+has_room orders object (Some h) = is_some (slice_get orders.links.items h)
 
 -- handles are of 32 bits; each has room, and so has its object; and the neighbours of each object's primes are those in the order of exports
 pub record AreInOrder (slots : map.FinMap nat_cmp Held) (orders : ExportOrders) : Type 0 where
   pub fit : (h : ℕ) → map.contains_key slots h ≡ true → h ≤ 4294967295
-  pub linked : (h : ℕ) → map.contains_key orders.links.items h ≡ map.contains_key slots h
+  pub linked : (h : ℕ) → map.contains_key slots h ≡ true → is_some (slice_get orders.links.items h) ≡ true
   pub ended : (h : ℕ) (x : Held) → map.get slots h ≡ Some x → map.contains_key orders.ends.items x.object ≡ true
   pub next : (object : ℕ) → AreNext is_before (prime_at slots object) (next_of orders object)
   pub previous : (object : ℕ) → AreNext is_after (prime_at slots object) (previous_of orders object)
+
+-- each place that was there is still there, with what it has
+abbrev pub AreKept : List Neighbours → List Neighbours → Type 0
+AreKept old new = (k : ℕ) (x : Neighbours) → slice_get old k ≡ Some x → slice_get new k ≡ Some x
 
 -- whether two places are one; the starts are one where the objects are
 abbrev pub is_same_place : ℕ → Option ℕ → ℕ → Option ℕ → Bool

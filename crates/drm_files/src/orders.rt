@@ -1,12 +1,12 @@
 //! The handles of each object in the order of their exports (own; drm-mm, PRIME).
 
-ghost use Rattle.std.specs.Prelude.{◌≡◌, ◌==◌, ℕ, None, Some, is_some, OnOk, OnErr, option_map};
+ghost use Rattle.std.specs.Prelude.{◌≡◌, ◌==◌, ℕ, None, Some, is_some, OnOk, OnErr, option_map, slice_get, true};
 ghost use Rattle.std.specs.FinMap as map;
 ghost use Rattle.std.specs.Ordering.{nat_cmp};
 ghost use Rattle.drm_files.specs.declared.files.Held.{Held};
 ghost use Rattle.drm_files.specs.declared.orders.Neighbours.{Neighbours};
 ghost use Rattle.drm_files.specs.Primes.{prime_at};
-ghost use Rattle.drm_files.specs.ExportOrders.{AreInOrder, AreJoined, HasNext, HasPrevious, IsNext, choose, is_after, next_of, previous_of, with_handle};
+ghost use Rattle.drm_files.specs.ExportOrders.{AreInOrder, AreJoined, AreKept, HasNext, HasPrevious, IsNext, choose, is_after, next_of, previous_of, with_handle};
 
 use crate::files::Held;
 use crate::primes::{Prime, is_before, prime_at};
@@ -22,12 +22,21 @@ pub(crate) struct Neighbours {
     pub(crate) previous: Option<u32>,
 }
 
+// A new place has no neighbours.
+const ALONE: Neighbours = Neighbours {
+    next: None,
+    previous: None,
+};
+
 // The handles of each object that have an export order, in that order. A handle has room for its neighbours before it has an
-// export order, and its object has room for the first and the last. So giving an export order does not allocate.
+// export order, and its object has room for the first and the last. So giving an export order does not allocate. The room of a
+// closed handle stays until the client closes, and the next handle with that number takes it over. A new handle is the lowest
+// free number, so this is room for the most handles that the client had at once.
 #[derive(Drop)]
 pub(crate) struct ExportOrders {
-    links: IndexArray<Neighbours>,
-    // the room of an object stays until the client closes
+    // by handle; only those of handles that have an export order count
+    links: Vec<Neighbours>,
+    // by object; the room of an object stays until the client closes
     ends: IndexArray<Neighbours>,
 }
 
@@ -36,7 +45,7 @@ impl ExportOrders {
         ensures { (slots : map.FinMap nat_cmp Held) → slots ≡ map.empty → AreInOrder slots result }
     {
         ExportOrders {
-            links: IndexArray::new(alloc),
+            links: Vec::new(alloc),
             ends: IndexArray::new(alloc),
         }
     }
@@ -46,20 +55,13 @@ impl ExportOrders {
         ensures ok { OnOk result ((slots : map.FinMap nat_cmp Held) → AreInOrder slots self.old → map.get slots handle ≡ None → AreInOrder (with_handle slots object handle None) self.new) }
         ensures err { OnErr result ((slots : map.FinMap nat_cmp Held) → AreInOrder slots self.old → AreInOrder slots self.new) }
     {
-        let alone = Neighbours {
-            next: None,
-            previous: None,
-        };
         let number = object.number();
         if self.ends.get(number).is_none() {
-            if let Err(_fault) = self.ends.insert(number, alone) {
+            if let Err(_fault) = self.ends.insert(number, ALONE) {
                 return Err(AllocError);
             }
         }
-        if let Err(_fault) = self.links.insert(handle, alone) {
-            return Err(AllocError);
-        }
-        Ok(())
+        make_place(&mut self.links, handle)
     }
 
     // The first of an object's handles.
@@ -82,7 +84,7 @@ impl ExportOrders {
         self.join(number, Some(prime.handle), next);
     }
 
-    // Removes a dropped handle.
+    // Takes a dropped handle out of the order. Its room stays.
     pub(crate) fn forget(&mut self, object: ObjectKey, handle: u32, was_placed: bool)
         ensures { (slots : map.FinMap nat_cmp Held) (x : Held) → AreInOrder slots self.old → map.get slots handle ≡ Some x → x.object ≡ object → is_some x.export_order ≡ was_placed → AreInOrder (map.remove slots handle) self.new }
     {
@@ -92,7 +94,6 @@ impl ExportOrders {
             let next = self.next(number, Some(handle));
             self.join(number, previous, next);
         }
-        let _link = self.links.remove(handle);
     }
 
     // The last of an object's handles that is before a new one. It starts at the last, so that a handle whose export order is
@@ -120,7 +121,7 @@ impl ExportOrders {
         ensures { result ≡ next_of self.now object at }
     {
         match at {
-            Some(handle) => self.links.get(handle)?.next,
+            Some(handle) => self.links.get(handle as usize)?.next,
             None => self.ends.get(object)?.next,
         }
     }
@@ -130,7 +131,7 @@ impl ExportOrders {
         ensures { result ≡ previous_of self.now object at }
     {
         match at {
-            Some(handle) => self.links.get(handle)?.previous,
+            Some(handle) => self.links.get(handle as usize)?.previous,
             None => self.ends.get(object)?.previous,
         }
     }
@@ -148,7 +149,7 @@ impl ExportOrders {
     {
         match at {
             Some(handle) => write_next(&mut self.links, handle, next),
-            None => write_next(&mut self.ends, object, next),
+            None => write_first(&mut self.ends, object, next),
         }
     }
 
@@ -157,23 +158,52 @@ impl ExportOrders {
     {
         match at {
             Some(handle) => write_previous(&mut self.links, handle, previous),
-            None => write_previous(&mut self.ends, object, previous),
+            None => write_last(&mut self.ends, object, previous),
         }
     }
 }
 
-fn write_next(places: &mut IndexArray<Neighbours>, index: u32, next: Option<u32>)
-    ensures { (k : ℕ) → map.get places.new.items k ≡ choose (k == index) (option_map (λ (x : Neighbours). record x { next = next }) (map.get places.old.items k)) (map.get places.old.items k) }
+// Makes a place for a handle, unless there is one. The places that are there stay as they are.
+fn make_place(links: &mut Vec<Neighbours>, handle: u32) -> Result<(), AllocError>
+    ensures kept { AreKept links.old.items links.new.items }
+    ensures ok { OnOk result (is_some (slice_get links.new.items handle) ≡ true) }
 {
-    if let Some(neighbours) = places.get_mut(index) {
+    while links.len() <= handle as usize {
+        if let Err(_fault) = links.push(ALONE) {
+            return Err(AllocError);
+        }
+    }
+    Ok(())
+}
+
+fn write_next(links: &mut Vec<Neighbours>, handle: u32, next: Option<u32>)
+    ensures { (k : ℕ) → slice_get links.new.items k ≡ choose (k == handle) (option_map (λ (x : Neighbours). record x { next = next }) (slice_get links.old.items k)) (slice_get links.old.items k) }
+{
+    if let Some(neighbours) = links.get_mut(handle as usize) {
         neighbours.next = next;
     }
 }
 
-fn write_previous(places: &mut IndexArray<Neighbours>, index: u32, previous: Option<u32>)
-    ensures { (k : ℕ) → map.get places.new.items k ≡ choose (k == index) (option_map (λ (x : Neighbours). record x { previous = previous }) (map.get places.old.items k)) (map.get places.old.items k) }
+fn write_previous(links: &mut Vec<Neighbours>, handle: u32, previous: Option<u32>)
+    ensures { (k : ℕ) → slice_get links.new.items k ≡ choose (k == handle) (option_map (λ (x : Neighbours). record x { previous = previous }) (slice_get links.old.items k)) (slice_get links.old.items k) }
 {
-    if let Some(neighbours) = places.get_mut(index) {
+    if let Some(neighbours) = links.get_mut(handle as usize) {
         neighbours.previous = previous;
+    }
+}
+
+fn write_first(ends: &mut IndexArray<Neighbours>, object: u32, first: Option<u32>)
+    ensures { (k : ℕ) → map.get ends.new.items k ≡ choose (k == object) (option_map (λ (x : Neighbours). record x { next = first }) (map.get ends.old.items k)) (map.get ends.old.items k) }
+{
+    if let Some(neighbours) = ends.get_mut(object) {
+        neighbours.next = first;
+    }
+}
+
+fn write_last(ends: &mut IndexArray<Neighbours>, object: u32, last: Option<u32>)
+    ensures { (k : ℕ) → map.get ends.new.items k ≡ choose (k == object) (option_map (λ (x : Neighbours). record x { previous = last }) (map.get ends.old.items k)) (map.get ends.old.items k) }
+{
+    if let Some(neighbours) = ends.get_mut(object) {
+        neighbours.previous = last;
     }
 }
