@@ -9,6 +9,7 @@ use Rattle.drm_index_array.specs.contracts.array.IndexArray as array
 use Rattle.drm_index_array.specs.contracts.array.IndexArray.TheInside as inside
 use Rattle.drm_index_array.specs.contracts.tree.Entry as entry
 use Rattle.drm_index_array.specs.contracts.tree.Node as node
+use Rattle.drm_index_array.specs.contracts.spares.Spares as spares
 
 entry_send : (T : RattleType) → IsSend T → IsSend (entry.the_row T)
 entry_send T s =
@@ -25,6 +26,12 @@ node_send T s =
     (search (entry_send T s, sendable) depth 20)
     (λ h k. Box-send h k)
 
+spares_send : (T : RattleType) → IsSend T → IsSend (spares.the_field T).row
+spares_send T s =
+    struct_send
+    (shape (spares.the_type T))
+    (search (Box-send (node.the_row T) (node_send T s), sendable) depth 20, (search (Box-send (node.the_row T) (node_send T s), sendable) depth 20, tt))
+
 inside_send : (T : RattleType) → IsSend T → IsSend (inside.the_row T)
 inside_send T s =
     recorded_send
@@ -32,7 +39,7 @@ inside_send T s =
     _
     _
     (inside.the_type T).to_one
-    (struct_send (shape (inside.the_type T)) (search sendable depth 20, (search (Box-send (node.the_row T) (node_send T s), sendable) depth 20, (search sendable depth 20, tt))))
+    (struct_send (shape (inside.the_type T)) (search sendable depth 20, (search (Box-send (node.the_row T) (node_send T s), sendable) depth 20, (search sendable depth 20, (spares_send T s, tt)))))
 
 -- An index array may cross threads if its values may.
 pub array_send : (T : RattleType) → IsSend T → IsSend (array.the_row T)

@@ -12,6 +12,7 @@ ghost use Rattle.drm_index_array.specs.InsertFault.{value_of, IsTaken};
 use crate::faults::InsertFault;
 use crate::growth::{insert_below, remove_below};
 use crate::marks::Mark;
+use crate::spares::Spares;
 use crate::tree::Node;
 use crate::words::Sought;
 use std::alloc::Global;
@@ -32,9 +33,10 @@ use std::marker::Model;
 #[derive(Drop)]
 pub struct IndexArray<T> {
     alloc: Global,
-    // None where there is no entry.
+    // None before the first entry.
     root: Option<Box<Node<T>>>,
     count: usize,
+    spares: Spares<T>,
 }
 
 impl<T> Model for IndexArray<T> {
@@ -76,6 +78,7 @@ impl<T: Drop> IndexArray<T> {
             alloc,
             root: None,
             count: 0,
+            spares: Spares::none(),
         }
     }
 
@@ -124,7 +127,8 @@ impl<T: Drop> IndexArray<T> {
         ensures absent { OnOk result (map.get self.old.items index ≡ None) }
         ensures taken { IfErr result (λ fault. IsTaken fault ↔ IsSome (map.get self.old.items index)) }
     {
-        if let Err(fault) = insert_below(&mut self.root, self.alloc, index as u64, value) {
+        let root = &mut self.root;
+        if let Err(fault) = insert_below(root, self.alloc, &mut self.spares, index as u64, value) {
             return Err(fault);
         }
         self.count += 1;
@@ -206,7 +210,7 @@ impl<T: Drop> IndexArray<T> {
         ensures after { self.new ≡ without_item self.old index }
         ensures absent { IfNone result (self.new ≡ self.old) }
     {
-        let Some(value) = remove_below(&mut self.root, index as u64) else {
+        let Some(value) = remove_below(&mut self.root, &mut self.spares, index as u64) else {
             return None;
         };
         self.count -= 1;

@@ -8,6 +8,7 @@ ghost use Rattle.drm_index_array.specs.Tree.{width, span};
 ghost use Rattle.drm_index_array.specs.Root.{items_of, IsPast};
 
 use crate::faults::InsertFault;
+use crate::spares::Spares;
 use crate::tree::Node;
 use std::alloc::Global;
 
@@ -37,7 +38,12 @@ fn height_for(index: u64) -> u32
 }
 
 /// Returns the lowest tree with this one entry. If memory is refused, it returns the value.
-fn sole<T: Drop>(alloc: Global, index: u64, value: T) -> Result<Box<Node<T>>, T>
+fn sole<T: Drop>(
+    alloc: Global,
+    spares: &mut Spares<T>,
+    index: u64,
+    value: T,
+) -> Result<Box<Node<T>>, T>
     requires { index < 2 ^ 36 }
     ensures height { IfOk result (λ root. root.value.height ≤ 5) }
     ensures within { IfOk result (λ root. index < span root.value.height) }
@@ -45,13 +51,10 @@ fn sole<T: Drop>(alloc: Global, index: u64, value: T) -> Result<Box<Node<T>>, T>
     ensures items { IfOk result (λ root. root.value.items ≡ map.insert map.empty index (unmarked value)) }
     ensures returned { IfErr result (λ v. v ≡ value) }
 {
-    let Ok(root) = Node::new(alloc, height_for(index)) else {
+    let Ok(mut root) = spares.blank(alloc, height_for(index)) else {
         return Err(value);
     };
-    let Ok(mut root) = Box::new(alloc, root) else {
-        return Err(value);
-    };
-    if let Err(fault) = root.insert(alloc, index, value) {
+    if let Err(fault) = root.insert(alloc, spares, index, value) {
         return Err(fault.into_value());
     }
     Ok(root)
@@ -90,6 +93,7 @@ fn raised<T: Drop>(
 /// unchanged tree and the value.
 fn grown<T: Drop>(
     alloc: Global,
+    spares: &mut Spares<T>,
     root: Box<Node<T>>,
     index: u64,
     value: T,
@@ -102,7 +106,7 @@ fn grown<T: Drop>(
     ensures kept { IfErr result (λ failed. failed.0 ≡ root) }
     ensures returned { IfErr result (λ failed. failed.1 ≡ value) }
 {
-    let mut top = match sole(alloc, index, value) {
+    let mut top = match sole(alloc, spares, index, value) {
         Ok(top) => top,
         Err(value) => return Err((root, value)),
     };
@@ -111,7 +115,7 @@ fn grown<T: Drop>(
             top.hang(child);
             Ok(top)
         }
-        Err(root) => match top.remove(index) {
+        Err(root) => match top.remove(spares, index) {
             Some(value) => Err((root, value)),
             None => unreachable!(),
         },
@@ -135,6 +139,7 @@ fn covers<T>(root: &Option<Box<Node<T>>>, index: u64) -> bool
 /// refused, the tree is unchanged, and the result has the value.
 fn widened<T: Drop>(
     alloc: Global,
+    spares: &mut Spares<T>,
     root: Option<Box<Node<T>>>,
     index: u64,
     value: T,
@@ -146,18 +151,18 @@ fn widened<T: Drop>(
     ensures returned { IfErr result.1 (λ v. v ≡ value) }
 {
     let Some(root) = root else {
-        return match sole(alloc, index, value) {
+        return match sole(alloc, spares, index, value) {
             Ok(root) => (Some(root), Ok(())),
             Err(value) => (None, Err(value)),
         };
     };
     if root.is_empty() {
-        return match sole(alloc, index, value) {
+        return match sole(alloc, spares, index, value) {
             Ok(root) => (Some(root), Ok(())),
             Err(value) => (Some(root), Err(value)),
         };
     }
-    match grown(alloc, root, index, value) {
+    match grown(alloc, spares, root, index, value) {
         Ok(root) => (Some(root), Ok(())),
         Err((root, value)) => (Some(root), Err(value)),
     }
@@ -168,6 +173,7 @@ fn widened<T: Drop>(
 pub fn insert_below<T: Drop>(
     root: &mut Option<Box<Node<T>>>,
     alloc: Global,
+    spares: &mut Spares<T>,
     index: u64,
     value: T,
 ) -> Result<(), InsertFault<T>>
@@ -180,7 +186,7 @@ pub fn insert_below<T: Drop>(
     ensures few { map.len (items_of root.old) ≤ 2 ^ 36 }
 {
     if !covers(root, index) {
-        let (tree, done) = widened(alloc, root.take(), index, value);
+        let (tree, done) = widened(alloc, spares, root.take(), index, value);
         *root = tree;
         return match done {
             Ok(()) => Ok(()),
@@ -188,7 +194,7 @@ pub fn insert_below<T: Drop>(
         };
     }
     match root {
-        Some(root) => match root.insert(alloc, index, value) {
+        Some(root) => match root.insert(alloc, spares, index, value) {
             Ok(_is_full) => Ok(()),
             Err(fault) => Err(fault),
         },
@@ -196,40 +202,22 @@ pub fn insert_below<T: Drop>(
     }
 }
 
-/// Removes the entry at the index from a tree, which stays even if it is empty then, and returns its value.
-fn take_below<T: Drop>(root: &mut Option<Box<Node<T>>>, index: u64) -> Option<T>
+/// Removes the entry at the index from a tree, and returns its value. Does not allocate. The root stays even if it is
+/// empty then.
+pub fn remove_below<T: Drop>(
+    root: &mut Option<Box<Node<T>>>,
+    spares: &mut Spares<T>,
+    index: u64,
+) -> Option<T>
     ensures items { items_of root.new ≡ map.remove (items_of root.old) index }
     ensures value { result ≡ get (items_of root.old) index }
+    ensures kept { IfNone result (map.remove (items_of root.old) index ≡ items_of root.old) }
 {
     if !covers(root, index) {
         return None;
     }
     match root {
-        Some(root) => root.remove(index),
+        Some(root) => root.remove(spares, index),
         None => None,
     }
-}
-
-/// Returns whether there is a tree with more than one level and no entry.
-fn is_spare<T>(root: &Option<Box<Node<T>>>) -> bool
-    ensures { result ≡ true → items_of root.now ≡ map.empty }
-{
-    match root {
-        Some(root) => root.height() > 0 && root.is_empty(),
-        None => false,
-    }
-}
-
-/// Removes the entry at the index from a tree, and returns its value. Does not allocate. A tree that became empty is
-/// dropped if it has more than one level; a lone node is kept for the next entry.
-pub fn remove_below<T: Drop>(root: &mut Option<Box<Node<T>>>, index: u64) -> Option<T>
-    ensures items { items_of root.new ≡ map.remove (items_of root.old) index }
-    ensures value { result ≡ get (items_of root.old) index }
-    ensures kept { IfNone result (map.remove (items_of root.old) index ≡ items_of root.old) }
-{
-    let value = take_below(root, index);
-    if is_spare(root) {
-        *root = None;
-    }
-    value
 }

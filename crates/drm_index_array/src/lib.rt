@@ -7,6 +7,7 @@ mod array;
 mod faults;
 mod growth;
 mod marks;
+mod spares;
 mod tree;
 mod words;
 

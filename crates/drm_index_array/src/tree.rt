@@ -11,10 +11,12 @@ ghost use Rattle.drm_index_array.specs.Tree.{width, span, is_sought};
 ghost use Rattle.drm_index_array.specs.Slots.{marked, option_marked, Fits, IsUsed, InSlot, below, entries_below, has_below};
 ghost use Rattle.drm_index_array.specs.declared.marks.Mark.{Mark};
 ghost use Rattle.drm_index_array.specs.declared.words.Sought.TheVariants.{Vacant as Free, Marked as WithMark};
+ghost use Rattle.drm_index_array.specs.declared.tree.Slot.TheVariants as slots;
 ghost use Rattle.std.specs.Option.{option_copied_mut};
 
 use crate::faults::InsertFault;
 use crate::marks::Mark;
+use crate::spares::Spares;
 use crate::words::{Sought, Words, first_one, with_bit};
 use std::alloc::{AllocError, Global};
 use std::marker::Model;
@@ -447,7 +449,13 @@ impl<T: Drop> Node<T> {
 
     /// Adds an entry with no mark at an index that has none, and returns whether each index below the node has an entry
     /// now; or returns the value.
-    pub fn insert(&mut self, alloc: Global, index: u64, value: T) -> Result<bool, InsertFault<T>>
+    pub fn insert(
+        &mut self,
+        alloc: Global,
+        spares: &mut Spares<T>,
+        index: u64,
+        value: T,
+    ) -> Result<bool, InsertFault<T>>
         requires { index < span self.old.height }
         ensures height { self.new.height ≡ self.old.height }
         ensures ok { OnOk result (self.new.items ≡ map.insert self.old.items index (unmarked value)) }
@@ -458,12 +466,14 @@ impl<T: Drop> Node<T> {
         ensures taken { IfErr result (λ fault. IsTaken fault ↔ IsSome (map.get self.old.items index)) }
     {
         match self.height {
-            0 => self.fill::<Lowest>(alloc, 0, index, value),
-            1 => self.fill::<Above<Lowest>>(alloc, 1, index, value),
-            2 => self.fill::<Above<Above<Lowest>>>(alloc, 2, index, value),
-            3 => self.fill::<Above<Above<Above<Lowest>>>>(alloc, 3, index, value),
-            4 => self.fill::<Above<Above<Above<Above<Lowest>>>>>(alloc, 4, index, value),
-            5 => self.fill::<Above<Above<Above<Above<Above<Lowest>>>>>>(alloc, 5, index, value),
+            0 => self.fill::<Lowest>(alloc, spares, 0, index, value),
+            1 => self.fill::<Above<Lowest>>(alloc, spares, 1, index, value),
+            2 => self.fill::<Above<Above<Lowest>>>(alloc, spares, 2, index, value),
+            3 => self.fill::<Above<Above<Above<Lowest>>>>(alloc, spares, 3, index, value),
+            4 => self.fill::<Above<Above<Above<Above<Lowest>>>>>(alloc, spares, 4, index, value),
+            5 => self.fill::<Above<Above<Above<Above<Above<Lowest>>>>>>(
+                alloc, spares, 5, index, value,
+            ),
             _ => unreachable!(),
         }
     }
@@ -472,6 +482,7 @@ impl<T: Drop> Node<T> {
     fn fill<L: Level>(
         &mut self,
         alloc: Global,
+        spares: &mut Spares<T>,
         level: u32,
         index: u64,
         value: T,
@@ -489,7 +500,7 @@ impl<T: Drop> Node<T> {
         ensures taken { IfErr result (λ fault. IsTaken fault ↔ IsSome (map.get self.old.items index)) }
     {
         let (at, rest) = parts(level, index);
-        let is_full = match L::fill(alloc, &mut self.slots[at], level, rest, value) {
+        let is_full = match L::fill(alloc, spares, &mut self.slots[at], level, rest, value) {
             Ok(is_full) => is_full,
             Err(fault) => return Err(fault),
         };
@@ -499,27 +510,27 @@ impl<T: Drop> Node<T> {
         Ok(!has_vacant)
     }
 
-    /// Removes the entry at the index, if there is one. Does not allocate, and each node below that became empty is
+    /// Removes the entry at the index, if there is one. Does not allocate. Each node below that became empty is kept or
     /// dropped.
-    pub fn remove(&mut self, index: u64) -> Option<T>
+    pub fn remove(&mut self, spares: &mut Spares<T>, index: u64) -> Option<T>
         requires { index < span self.old.height }
         ensures height { self.new.height ≡ self.old.height }
         ensures items { self.new.items ≡ map.remove self.old.items index }
         ensures value { result ≡ get self.old.items index }
     {
         match self.height {
-            0 => self.cut::<Lowest>(0, index),
-            1 => self.cut::<Above<Lowest>>(1, index),
-            2 => self.cut::<Above<Above<Lowest>>>(2, index),
-            3 => self.cut::<Above<Above<Above<Lowest>>>>(3, index),
-            4 => self.cut::<Above<Above<Above<Above<Lowest>>>>>(4, index),
-            5 => self.cut::<Above<Above<Above<Above<Above<Lowest>>>>>>(5, index),
+            0 => self.cut::<Lowest>(spares, 0, index),
+            1 => self.cut::<Above<Lowest>>(spares, 1, index),
+            2 => self.cut::<Above<Above<Lowest>>>(spares, 2, index),
+            3 => self.cut::<Above<Above<Above<Lowest>>>>(spares, 3, index),
+            4 => self.cut::<Above<Above<Above<Above<Lowest>>>>>(spares, 4, index),
+            5 => self.cut::<Above<Above<Above<Above<Above<Lowest>>>>>>(spares, 5, index),
             _ => unreachable!(),
         }
     }
 
     /// Removes an entry as `remove` does, in a node of this level.
-    fn cut<L: Level>(&mut self, level: u32, index: u64) -> Option<T>
+    fn cut<L: Level>(&mut self, spares: &mut Spares<T>, level: u32, index: u64) -> Option<T>
         requires level { level ≡ L.height }
         requires low { level ≤ 5 }
         requires height { self.old.height ≡ L.height }
@@ -529,7 +540,7 @@ impl<T: Drop> Node<T> {
         ensures value { result ≡ get self.old.items index }
     {
         let (at, rest) = parts(level, index);
-        let Some(value) = L::cut(&mut self.slots[at], level, rest) else {
+        let Some(value) = L::cut(spares, &mut self.slots[at], level, rest) else {
             return None;
         };
         self.count -= 1;
@@ -568,6 +579,7 @@ impl<T: Drop> Node<T> {
 /// Returns a node of this level with one entry, with no mark. If memory is refused, it returns the value.
 fn planted<L: Level, T: Drop>(
     alloc: Global,
+    spares: &mut Spares<T>,
     level: u32,
     index: u64,
     value: T,
@@ -579,20 +591,22 @@ fn planted<L: Level, T: Drop>(
     ensures items { IfOk result (λ node. node.value.items ≡ map.insert map.empty index (unmarked value)) }
     ensures returned { IfErr result (λ v. v ≡ value) }
 {
-    let Ok(node) = Node::new(alloc, level) else {
+    let Ok(mut node) = spares.blank(alloc, level) else {
         return Err(value);
     };
-    let Ok(mut node) = Box::new(alloc, node) else {
-        return Err(value);
-    };
-    if let Err(fault) = node.fill::<L>(alloc, level, index, value) {
+    if let Err(fault) = node.fill::<L>(alloc, spares, level, index, value) {
         return Err(fault.into_value());
     }
     Ok(node)
 }
 
 /// Removes the entry at an index below a slot above this level, if there is one.
-fn cut_child<L: Level, T: Drop>(slot: &mut Slot<T>, level: u32, rest: u64) -> Option<T>
+fn cut_child<L: Level, T: Drop>(
+    spares: &mut Spares<T>,
+    slot: &mut Slot<T>,
+    level: u32,
+    rest: u64,
+) -> Option<T>
     requires level { level ≡ L.height }
     requires low { level ≤ 5 }
     requires fits { Fits (L.height + 1) slot.old }
@@ -602,7 +616,7 @@ fn cut_child<L: Level, T: Drop>(slot: &mut Slot<T>, level: u32, rest: u64) -> Op
     ensures value { result ≡ option_map (λ s. s.value) (below slot.old rest) }
 {
     match slot {
-        Slot::Child(child) => child.cut::<L>(level, rest),
+        Slot::Child(child) => child.cut::<L>(spares, level, rest),
         Slot::Value(_) => unreachable!(),
         Slot::Vacant => None,
     }
@@ -616,6 +630,15 @@ fn is_hollow<T>(slot: &Slot<T>) -> bool
     match slot {
         Slot::Child(child) => child.is_empty(),
         _ => false,
+    }
+}
+
+/// Makes a slot vacant, and keeps the node that lies in it.
+fn set_aside<T: Drop>(spares: &mut Spares<T>, slot: &mut Slot<T>)
+    ensures { slot.new ≡ slots.Vacant }
+{
+    if let Slot::Child(child) = mem::replace(slot, Slot::Vacant) {
+        spares.keep(child);
     }
 }
 
@@ -662,7 +685,7 @@ trait Level {
         ensures value { option_copied_mut result ≡ option_map (λ s. s.value) (below slot.old rest) };
 
     /// Removes the entry at an index below the slot, if there is one, and a subtree that became empty.
-    fn cut<T: Drop>(slot: &mut Slot<T>, level: u32, rest: u64) -> Option<T>
+    fn cut<T: Drop>(spares: &mut Spares<T>, slot: &mut Slot<T>, level: u32, rest: u64) -> Option<T>
         requires level { level ≡ height }
         requires low { level ≤ 5 }
         requires fits { Fits height slot.old }
@@ -677,6 +700,7 @@ trait Level {
     /// is vacant; or returns the value. All nodes that the entry needs are created before the first is linked.
     fn fill<T: Drop>(
         alloc: Global,
+        spares: &mut Spares<T>,
         slot: &mut Slot<T>,
         level: u32,
         rest: u64,
@@ -714,7 +738,12 @@ impl Level for Lowest {
         }
     }
 
-    fn cut<T: Drop>(slot: &mut Slot<T>, _level: u32, _rest: u64) -> Option<T> {
+    fn cut<T: Drop>(
+        _spares: &mut Spares<T>,
+        slot: &mut Slot<T>,
+        _level: u32,
+        _rest: u64,
+    ) -> Option<T> {
         match mem::replace(slot, Slot::Vacant) {
             Slot::Vacant => None,
             Slot::Value(entry) => Some(entry.value),
@@ -724,6 +753,7 @@ impl Level for Lowest {
 
     fn fill<T: Drop>(
         _alloc: Global,
+        _spares: &mut Spares<T>,
         slot: &mut Slot<T>,
         _level: u32,
         _rest: u64,
@@ -755,25 +785,31 @@ impl<L: Level> Level for Above<L> {
         }
     }
 
-    fn cut<T: Drop>(slot: &mut Slot<T>, level: u32, rest: u64) -> Option<T> {
-        let value = cut_child::<L, T>(slot, level - 1, rest);
+    fn cut<T: Drop>(
+        spares: &mut Spares<T>,
+        slot: &mut Slot<T>,
+        level: u32,
+        rest: u64,
+    ) -> Option<T> {
+        let value = cut_child::<L, T>(spares, slot, level - 1, rest);
         if is_hollow(slot) {
-            *slot = Slot::Vacant;
+            set_aside(spares, slot);
         }
         value
     }
 
     fn fill<T: Drop>(
         alloc: Global,
+        spares: &mut Spares<T>,
         slot: &mut Slot<T>,
         level: u32,
         rest: u64,
         value: T,
     ) -> Result<bool, InsertFault<T>> {
         match slot {
-            Slot::Child(child) => child.fill::<L>(alloc, level - 1, rest, value),
+            Slot::Child(child) => child.fill::<L>(alloc, spares, level - 1, rest, value),
             Slot::Value(_) => unreachable!(),
-            Slot::Vacant => match planted::<L, T>(alloc, level - 1, rest, value) {
+            Slot::Vacant => match planted::<L, T>(alloc, spares, level - 1, rest, value) {
                 Ok(child) => {
                     let is_full = child.is_full();
                     *slot = Slot::Child(child);
