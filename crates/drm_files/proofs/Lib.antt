@@ -6,6 +6,7 @@ mod ChangedLists
 mod RecordFacts
 mod ListsAfterCalls
 mod Walks
+mod After
 mod Rests
 mod Removal
 mod PrimeFacts

@@ -86,6 +86,12 @@ module _ (limit last : ℕ) (m : fin.FinMap nat_cmp FileRecord) where
       any_of k (x ∷ xs) =
           ap (λ b. b || list_any (λ x. x == k) xs) (same_test x k) ∙ ap (λ b. eq_by_cmp nat_cmp k x || b) (any_of k xs)
 
+  -- The handles of all clients are in the order of clients, and then of handles.
+  pub holds_in_order : InOrder handle_before (holds_in (fin.entries m))
+  holds_in_order =
+      subst (λ l. InOrder handle_before l) (sym (rows_flat (fin.entries m)))
+      (rows_in_order key_pair_cmp export_order_total row_of handle_before hold_order (flat (fin.entries m)) (sorted_flat (fin.entries m) (fin.entries_sorted m)))
+
   -- The facts of files hold for the lists of sound records.
   pub files_are : AreRecords limit last m → ((c : ℕ) → IsTrue (fin.contains_key m c) → c ≤ 4294967295)
       → AreFiles (lists_of limit last m)
@@ -99,9 +105,7 @@ module _ (limit last : ℕ) (m : fin.FinMap nat_cmp FileRecord) where
     clients_fit =
         all_rows nat_cmp nat_cmp_total client_of (λ row. row.client ≤ 4294967295) (fin.entries m) (fin.entries_sorted m)
         (λ k v found. fit k (ap is_some (fin.get-entries m k ∙ found)));
-    holds_rise =
-        subst (λ l. InOrder handle_before l) (sym (rows_flat (fin.entries m)))
-        (rows_in_order key_pair_cmp export_order_total row_of handle_before hold_order (flat (fin.entries m)) sorted);
+    holds_rise = holds_in_order;
     holds_are =
         subst (λ l. AllByRecursion (IsHandleOf (lists_of limit last m)) l) (sym (rows_flat (fin.entries m)))
         (all_rows key_pair_cmp export_order_total row_of (IsHandleOf (lists_of limit last m)) (flat (fin.entries m)) sorted (λ p v found. each p.0 p.1 v (sym (find_held m p.0 p.1) ∙ found)));

@@ -1,5 +1,5 @@
 -- How the entries of a map are met one after another.
-use Rattle.std.proofs.Common.{◌≡◌, ℕ, zero, suc, ◌+◌, ◌-◌, ◌<◌, ◌≤◌, Bool, true, false, cond, eqb, nat_le, T, List, [], ◌∷◌, ◌++◌, map, slice_get, length, is_some, IsTrue, IfNone, Option, Some, None, refl, sym, ap, ◌∙◌, inl, inr, arith, nat_cmp, is_lt}
+use Rattle.std.proofs.Common.{◌≡◌, ℕ, zero, suc, ◌+◌, ◌-◌, ◌<◌, ◌≤◌, Bool, true, false, cond, eqb, nat_le, T, List, [], ◌∷◌, ◌++◌, slice_get, length, is_some, IsTrue, Option, Some, None, refl, sym, ap, ◌∙◌, inl, inr, arith, nat_cmp, is_lt}
 use Rattle.std.specs.Cmp.{nat_cmp_total}
 use Rattle.std.specs.FinMap as fin
 use Rattle.std.specs.FinMap.{nat_cmp-IsAntisymmetric}
@@ -7,8 +7,7 @@ use Rattle.std.specs.FinMap.Entries.{find, where_key, is_sorted, below_all, is_s
 use Rattle.std.proofs.lemmas.Bool.{cases_lt, cases_eq, false≢true}
 use Rattle.std.proofs.lemmas.Bool.Decides.{nat_tests}
 use Rattle.drm_lists.proofs.FoundInLists.{is_some-false}
-use Rattle.drm_index_array.specs.Least.{least, IsLeast}
-use Rattle.drm_index_array.proofs.Least.{least_some}
+use Rattle.drm_index_array.specs.Least.{IsLeast}
 use Rattle.drm_index_array.proofs.MarkedLemmas.{get-remove, eq_by_cmp-nat_cmp}
 use Rattle.drm_index_array.proofs.RowsByKey.{both}
 use Rattle.drm_files.proofs.Flat.{eqb_same, eqb_other}

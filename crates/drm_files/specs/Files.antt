@@ -55,6 +55,10 @@ client_before x y = nat_lt x.client y.client
 abbrev pub handle_before : FileHandle → FileHandle → Bool
 handle_before x y = nat_lt x.client y.client || ((x.client == y.client) && nat_lt x.handle y.handle)
 
+-- whether the row comes after the client's handle, in the same order
+abbrev pub comes_after : ℕ → ℕ → FileHandle → Bool
+comes_after c h row = nat_lt c row.client || ((row.client == c) && nat_lt h row.handle)
+
 -- a row with a client and its flags
 abbrev pub client : ℕ → FileFlags → FileClient
 client c flags = record { client = c; flags = flags }

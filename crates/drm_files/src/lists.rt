@@ -1,10 +1,10 @@
 //! Lists of the clients and of their handles.
 
-ghost use Rattle.std.specs.Prelude.{◌≡◌, ◌≤◌, ◌++◌, ℕ, List, IsTrue, true, false, filter, nat_le, take, slice_get, IfOk, IfErr, IfNone, Some};
+ghost use Rattle.std.specs.Prelude.{◌≡◌, ◌==◌, ◌≤◌, ◌+◌, ◌++◌, ◌&&◌, ℕ, List, [], IsTrue, true, false, filter, find, nat_le, nat_lt, take, slice_get, IfOk, IfErr, IfNone, Some};
 ghost use Rattle.std.specs.FinMap as map;
 ghost use Rattle.drm_index_array.specs.Keys.{keys_from};
 ghost use Rattle.drm_index_array.specs.Least.{least};
-ghost use Rattle.drm_files.specs.Files.{is_open_client, handles_of, nth_row};
+ghost use Rattle.drm_files.specs.Files.{is_open_client, handles_of, nth_row, handle_before, comes_after, InOrder};
 ghost use Rattle.drm_files.specs.Records.{rows_in};
 ghost use Rattle.drm_files.specs.declared.rows.FileHandle.{FileHandle};
 
@@ -116,8 +116,55 @@ impl Files {
     pub fn nth_handle(&self, position: usize) -> Option<FileHandle>
         ensures { result ≡ slice_get self.now.holds position }
     {
+        self.nth_handle_from(0, position)
+    }
+
+    /// Returns the first handle after this one, in the order of clients and then of handles. It looks in the client's
+    /// own table first, and then goes on with the next clients. Does not allocate.
+    ///
+    /// # Examples
+    ///
+    /// ```rust
+    /// use drm_files::Files;
+    /// use drm_gem::ObjectKey;
+    ///
+    /// let alloc = rt.alloc();
+    /// let mut files = Files::new(alloc, 4, 100);
+    /// let Ok(()) = files.open(1, false, false, true) else { return };
+    /// let Ok(()) = files.open(2, false, false, true) else { return };
+    /// let object = ObjectKey::from_number(7);
+    /// let Ok(first) = files.add_handle(1, object, None) else { return };
+    /// let Ok(second) = files.add_handle(2, object, None) else { return };
+    /// assert!(rt; matches!(files.handle_after(1, first), Some(row) if row.client == 2));
+    /// assert!(rt; files.handle_after(2, second).is_none());
+    /// ```
+    pub fn handle_after(&self, client: u32, handle: u32) -> Option<FileHandle>
+        ensures { result ≡ find (comes_after client handle) self.now.holds }
+    {
+        if let Some(hold) = self.next_of_client(client, handle) {
+            return Some(hold);
+        }
+        let above = client.checked_add(1)?;
+        self.nth_handle_from(above, 0)
+    }
+
+    // The first handle of a client after this one.
+    fn next_of_client(&self, client: u32, handle: u32) -> Option<FileHandle>
+        ensures rise { InOrder handle_before self.now.holds }
+        ensures fit { filter (λ row. nat_le (u32.MAX + 1) row.client) self.now.holds ≡ [] }
+        ensures next { result ≡ find (λ row. (row.client == client) && nat_lt handle row.handle) self.now.holds }
+    {
+        let record = self.clients.get(client)?;
+        let above = handle.checked_add(1)?;
+        first_held(client, &record.handles, above)
+    }
+
+    // The handle at a position of the list of the handles of the clients from a number on.
+    fn nth_handle_from(&self, from: u32, position: usize) -> Option<FileHandle>
+        ensures { result ≡ slice_get (filter (λ row. nat_le from row.client) self.now.holds) position }
+    {
         let mut left = position;
-        let mut at = 0;
+        let mut at = from;
         for _turn in 0..self.clients.len() {
             let client = self.clients.next(at)?;
             let Some(record) = self.clients.get(client) else {
@@ -164,6 +211,22 @@ fn handle_from(table: &IdTable<Held>, from: u32) -> Option<u32>
         return Some(from);
     }
     table.next(from)
+}
+
+// The first handle of one client from a number on.
+fn first_held(client: u32, table: &IdTable<Held>, from: u32) -> Option<FileHandle>
+    ensures { result ≡ find (λ row. nat_le from row.handle) (rows_in client (map.entries table.now.slots)) }
+{
+    let handle = handle_from(table, from)?;
+    let Some(held) = table.get(handle) else {
+        unreachable!();
+    };
+    Some(FileHandle {
+        client,
+        handle,
+        object: held.object,
+        export_order: held.export_order,
+    })
 }
 
 // The handle at a position among those of one client, or how far after the last of them the position is.
