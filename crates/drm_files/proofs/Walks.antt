@@ -7,8 +7,14 @@ use Rattle.std.specs.FinMap.Entries.{find, where_key, is_sorted, below_all, is_s
 use Rattle.std.proofs.lemmas.Bool.{cases_lt, cases_eq, false≢true}
 use Rattle.std.proofs.lemmas.Bool.Decides.{nat_tests}
 use Rattle.drm_lists.proofs.FoundInLists.{is_some-false}
+<<<<<<< HEAD
 use Rattle.drm_index_array.specs.Least.{IsLeast}
 use Rattle.drm_index_array.proofs.MarkedLemmas.{get-remove, eq_by_cmp-nat_cmp}
+=======
+use Rattle.drm_index_array.specs.Least.{least, IsLeast}
+use Rattle.drm_index_array.proofs.Least.{least_some}
+use Rattle.drm_index_array.proofs.MarkedLemmas.{eq_by_cmp-nat_cmp}
+>>>>>>> ecba2a6c (Files: what is left of a client is walked, not removed)
 use Rattle.drm_index_array.proofs.RowsByKey.{both}
 use Rattle.drm_files.proofs.Flat.{eqb_same, eqb_other}
 use Rattle.std.proofs.lemmas.Option.{none-some}
@@ -113,30 +119,6 @@ module _ {X : Type 0} where
         outside : (k : ℕ) → from ≤ k → (b : Bool) → fin.contains_key m k ≡ b → b ≡ false
         outside k le true there = absurd (omega (arith, bound k there, past, le))
         outside k le false there = refl
-
-    -- A map without its lowest key has the entries after it.
-    pub first_removed : (to h : ℕ) → IsLeast (fin.contains_key m) 0 to h
-        → fin.entries (fin.remove m h) ≡ entries_from m (h + 1)
-    first_removed to h is =
-        same_entries nat_cmp nat_cmp_total nat_cmp-IsAntisymmetric _ _ (fin.entries_sorted (fin.remove m h)) (sorted_from (h + 1)) (λ q.
-        sym (fin.get-entries (fin.remove m h) q) ∙ get-remove m h q ∙ at q ∙ sym (find_from (h + 1) q))
-      where
-        at : (q : ℕ) → cond (eqb q h) None (fin.get m q) ≡ cond (nat_le (h + 1) q) (fin.get m q) None
-        at q =
-            elim (cases_lt h q) [
-              | inl above ↦
-                  (λ i. cond (eqb_other q h (λ same. omega (arith, above, same)) i) None (fin.get m q))
-                  ∙ (λ i. cond (sym (le_yes (h + 1) q (omega (arith, above))) i) (fin.get m q) None)
-              | inr le ↦ elim (cases_eq q h) [
-                | inl same ↦
-                    (λ i. cond (eqb_same q h same i) None (fin.get m q))
-                    ∙ (λ i. cond (sym (le_no (h + 1) q (omega (arith, same))) i) (fin.get m q) None)
-                | inr apart ↦
-                    (λ i. cond (eqb_other q h apart i) None (fin.get m q))
-                    ∙ is_some-false (fin.get m q) (is.none_below q (omega arith) (omega (arith, le, apart)))
-                    ∙ (λ i. cond (sym (le_no (h + 1) q (omega (arith, le, apart))) i) (fin.get m q) None)
-              ]
-            ]
 
     -- The lowest key has a value.
     pub least_there : (from to h : ℕ) → IsLeast (fin.contains_key m) from to h → None ≡ fin.get m h → ⊥

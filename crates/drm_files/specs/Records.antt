@@ -1,7 +1,8 @@
 -- The flat lists that the clients' records represent (own).
-use Rattle.std.specs.Prelude.{◌≡◌, ℕ, ◌≤◌, List, map as list_map, flat_map, Some, IsTrue}
+use Rattle.std.specs.Prelude.{◌≡◌, ℕ, ◌≤◌, nat_le, List, [], map as list_map, flat_map, Option, Some, None, IsTrue}
 use Rattle.std.specs.Ordering.{nat_cmp}
 use Rattle.std.specs.FinMap as map
+use Rattle.std.specs.FinMap.Entries.{where_key}
 use Rattle.drm_id_alloc.specs.Table.{Table}
 use Rattle.drm_files.specs.Files.{FileLists, client, hold}
 use Rattle.drm_files.specs.ExportOrders.{AreInOrder}
@@ -34,6 +35,12 @@ lists_of limit last_handle records = record {
 -- the handles of a table with their objects
 abbrev pub pairs_of : Table Held → List (ℕ × ℕ)
 pairs_of table = list_map (λ entry. (entry.0, entry.1.object)) (map.entries table.slots)
+
+-- the handles of a table from a number on, with their objects; without a number there are none
+abbrev pub pairs_from : Table Held → Option ℕ → List (ℕ × ℕ)
+pairs_from table None = []
+pairs_from table (Some from) =
+    list_map (λ entry. (entry.0, entry.1.object)) (where_key nat_cmp (λ handle. nat_le from handle) (map.entries table.slots))
 
 -- a table of the handles from 1 to the last
 pub record IsTable (last_handle : ℕ) (table : Table Held) : Type 0 where

@@ -201,7 +201,7 @@ fn shown_handles(table: &IdTable<Held>, from: u32) -> ShownList
 
 // The lowest handle of a table from a number on. The number itself is tried first: handles are given from the lowest on,
 // so in a list the next handle mostly is the next number.
-fn handle_from(table: &IdTable<Held>, from: u32) -> Option<u32>
+pub(crate) fn handle_from(table: &IdTable<Held>, from: u32) -> Option<u32>
     ensures least { result ≡ least (map.contains_key table.now.slots) from u32.MAX }
     ensures none_above { IfNone result ((k : ℕ) → from ≤ k → map.contains_key table.now.slots k ≡ false) }
     ensures bound { (k : ℕ) → IsTrue (map.contains_key table.now.slots k) → k ≤ u32.MAX }

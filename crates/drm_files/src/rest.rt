@@ -4,6 +4,7 @@ ghost use Rattle.std.specs.Prelude.{◌≡◌, slice_get, drop, IfNone};
 ghost use Rattle.drm_files.specs.Records.{pairs_of};
 
 use crate::files::Held;
+use crate::lists::handle_from;
 use drm_gem::ObjectKey;
 use drm_id_alloc::IdTable;
 use std::marker::Model;
@@ -26,23 +27,25 @@ use std::marker::Model;
 /// ```
 pub struct FileRest {
     handles: IdTable<Held>,
+    // The handles from this number on are left. Without a number none is left.
+    next: Option<u32>,
 }
 
 // Written out, so that it is proved once: a derived one is proved again in each crate that drops such a value.
 impl Drop for FileRest {
     fn drop(self) {
-        let FileRest { handles } = self;
+        let FileRest { handles, next: _ } = self;
         drop(handles);
     }
 }
 
 impl Model for FileRest {
     ghost use Rattle.std.specs.Prelude.{ℕ, List};
-    ghost use Rattle.drm_files.specs.Records.{pairs_of};
+    ghost use Rattle.drm_files.specs.Records.{pairs_from};
 
     ghost Value = { List (ℕ × ℕ) };
 
-    ghost view = { λ rest. pairs_of rest.handles };
+    ghost view = { λ rest. pairs_from rest.handles rest.next };
 }
 
 impl FileRest {
@@ -50,7 +53,10 @@ impl FileRest {
     pub(crate) fn new(handles: IdTable<Held>) -> FileRest
         ensures { result ≡ pairs_of handles }
     {
-        FileRest { handles }
+        FileRest {
+            handles,
+            next: Some(0),
+        }
     }
 
     /// Removes the first handle and returns it with its object, or returns `None` if none is left. Does not allocate.
@@ -75,10 +81,13 @@ impl FileRest {
         ensures rest { self.new ≡ drop 1 self.old }
         ensures none { IfNone result (self.new ≡ self.old) }
     {
-        let handle = self.handles.next(0)?;
-        let Some(held) = self.handles.remove(handle) else {
+        let from = self.next?;
+        let handle = handle_from(&self.handles, from)?;
+        let Some(held) = self.handles.get(handle) else {
             unreachable!();
         };
-        Some((handle, held.object))
+        let object = held.object;
+        self.next = handle.checked_add(1);
+        Some((handle, object))
     }
 }
