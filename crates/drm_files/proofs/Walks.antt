@@ -7,14 +7,8 @@ use Rattle.std.specs.FinMap.Entries.{find, where_key, is_sorted, below_all, is_s
 use Rattle.std.proofs.lemmas.Bool.{cases_lt, cases_eq, false≢true}
 use Rattle.std.proofs.lemmas.Bool.Decides.{nat_tests}
 use Rattle.drm_lists.proofs.FoundInLists.{is_some-false}
-<<<<<<< HEAD
 use Rattle.drm_index_array.specs.Least.{IsLeast}
-use Rattle.drm_index_array.proofs.MarkedLemmas.{get-remove, eq_by_cmp-nat_cmp}
-=======
-use Rattle.drm_index_array.specs.Least.{least, IsLeast}
-use Rattle.drm_index_array.proofs.Least.{least_some}
 use Rattle.drm_index_array.proofs.MarkedLemmas.{eq_by_cmp-nat_cmp}
->>>>>>> ecba2a6c (Files: what is left of a client is walked, not removed)
 use Rattle.drm_index_array.proofs.RowsByKey.{both}
 use Rattle.drm_files.proofs.Flat.{eqb_same, eqb_other}
 use Rattle.std.proofs.lemmas.Option.{none-some}
