@@ -55,7 +55,7 @@ client_before x y = nat_lt x.client y.client
 abbrev pub handle_before : FileHandle → FileHandle → Bool
 handle_before x y = nat_lt x.client y.client || ((x.client == y.client) && nat_lt x.handle y.handle)
 
--- whether the row comes after the client's handle, in the same order
+-- whether the row follows the client's handle, in the same order
 abbrev pub comes_after : ℕ → ℕ → FileHandle → Bool
 comes_after c h row = nat_lt c row.client || ((row.client == c) && nat_lt h row.handle)
 

@@ -120,7 +120,7 @@ impl Files {
     }
 
     /// Returns the first handle after this one, in the order of clients and then of handles. It looks in the client's
-    /// own table first, and then goes on with the next clients. Does not allocate.
+    /// own table first, and then in those of the next clients. Does not allocate.
     ///
     /// # Examples
     ///

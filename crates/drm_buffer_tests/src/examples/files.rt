@@ -123,6 +123,22 @@ fn files_lists(rt: HostRuntime) {
     assert!(rt; matches!(files.nth_client(0), Some(row) if row.client == 1));
     assert!(rt; files.nth(6, 0).is_some() && files.nth(2, 0).is_none());
     assert!(rt; matches!(files.nth_handle(0), Some(row) if row.handle == handle));
+    let mut files = Files::new(alloc, 4, 100);
+    let Ok(()) = files.open(1, false, false, true) else {
+        panic!(rt; "refused")
+    };
+    let Ok(()) = files.open(2, false, false, true) else {
+        panic!(rt; "refused")
+    };
+    let object = ObjectKey::from_number(7);
+    let Ok(first) = files.add_handle(1, object, None) else {
+        panic!(rt; "refused")
+    };
+    let Ok(second) = files.add_handle(2, object, None) else {
+        panic!(rt; "refused")
+    };
+    assert!(rt; matches!(files.handle_after(1, first), Some(row) if row.client == 2));
+    assert!(rt; files.handle_after(2, second).is_none());
 }
 
 #[test]
