@@ -25,7 +25,7 @@ use Rattle.drm_table.specs.declared.audits.AuditKind.TheVariants as kinds
 use Rattle.drm_gem.specs.declared.object.Object.{Object}
 use Rattle.drm_gem.specs.Objects.{is_key}
 use Rattle.drm_files.specs.declared.rows.FileHandle.{FileHandle}
-use Rattle.drm_files.specs.Files.{handle_before}
+use Rattle.drm_files.specs.Files.{handle_before, comes_after}
 use Rattle.drm_model.specs.Rows.{Rows, TokenRow, FramebufferRow}
 use Rattle.drm_model.specs.StepNumbers.{MadeInTurn}
 use Rattle.drm_model.specs.Audit.{audit_row, or_zero, is_before, client_audit, master_audit, object_audit, handle_audit, name_audit, token_audit, framebuffer_audit, grant_audit, shown_audit, handle_count, reference_count, audit_rows, rising_rows}
@@ -250,16 +250,67 @@ step_number_of : (o : Option Object) (n : ℕ) → option_map (λ (x : Object). 
 step_number_of None n h = absurd (let e : None ≡ Some n = h in cc)
 step_number_of (Some x) n h = let e : Some x.step_number ≡ Some n = h in cc
 
+-- The numbers of a handle, with the step of its object, are its row of an audit.
+pub hold_row : (objects : List Object) (x : FileHandle) (n position : ℕ)
+    → option_map (λ (x : Object). x.step_number) (find (is_key x.object) objects) ≡ Some n
+    → position ≡ or_zero x.export_order
+    → audit_row x.client x.handle n position ≡ handle_audit (handle_row_of objects x)
+hold_row objects x n position k p =
+    ap (λ m. audit_row x.client x.handle m position) (sym (step_number_of (find (is_key x.object) objects) n k))
+    ∙ ap (audit_row x.client x.handle (step_number_at objects x.object)) p
+
+hold_at : (objects : List Object) (hs : List FileHandle) (i : ℕ) (x : Option FileHandle) → slice_get hs i ≡ x
+    → slice_get (map handle_audit (map (handle_row_of objects) hs)) i ≡ option_map handle_audit (option_map (handle_row_of objects) x)
+hold_at objects hs i x e =
+    slice_get-map handle_audit (map (handle_row_of objects) hs) i
+    ∙ ap (option_map handle_audit) (slice_get-map (handle_row_of objects) hs i ∙ ap (option_map (handle_row_of objects)) e)
+
 -- The row of an audit at a handle's place is that of the handle.
-pub hold_there : (objects : List Object) (hs : List FileHandle) (i : ℕ) (x : FileHandle) (n position : ℕ)
-    → slice_get hs i ≡ Some x → option_map (λ (x : Object). x.step_number) (find (is_key x.object) objects) ≡ Some n
-    → position ≡ or_zero x.export_order →
-    Some (audit_row x.client x.handle n position) ≡ slice_get (map handle_audit (map (handle_row_of objects) hs)) i
-hold_there objects hs i x n position e k p =
-    ap (λ m. Some (audit_row x.client x.handle m position)) (sym (step_number_of (find (is_key x.object) objects) n k))
-    ∙ ap (λ d. Some (audit_row x.client x.handle (step_number_at objects x.object) d)) p
-    ∙ sym
-    (slice_get-map handle_audit (map (handle_row_of objects) hs) i ∙ ap (option_map handle_audit) (slice_get-map (handle_row_of objects) hs i ∙ ap (option_map (handle_row_of objects)) e))
+pub hold_there : (objects : List Object) (hs : List FileHandle) (i : ℕ) (x : FileHandle) → slice_get hs i ≡ Some x
+    → Some (handle_audit (handle_row_of objects x)) ≡ slice_get (map handle_audit (map (handle_row_of objects) hs)) i
+hold_there objects hs i x e = sym (hold_at objects hs i (Some x) e)
+
+-- Where no handle is left, no row of an audit is left.
+pub hold_at_end : (objects : List Object) (hs : List FileHandle) (i : ℕ) → None ≡ slice_get hs i
+    → None ≡ slice_get (map handle_audit (map (handle_row_of objects) hs)) i
+hold_at_end objects hs i e = sym (hold_at objects hs i None (sym e))
+
+-- handles that follow one come after it, and no other handle does
+
+first_later : (x : FileHandle) → (ys : List FileHandle) → AllByRecursion (λ (y : FileHandle). handle_before x y ≡ true) ys
+    → find (comes_after x.client x.handle) ys ≡ slice_get ys 0
+first_later x [] later = refl
+first_later x (y ∷ ys) later =
+    ap (λ b. cond b (Some y) (find (comes_after x.client x.handle) ys)) (is_later later.0)
+  where
+    is_later : handle_before x y ≡ true → comes_after x.client x.handle y ≡ true
+    is_later before = grind (arith, nat_tests)
+
+not_itself : (x : FileHandle) → comes_after x.client x.handle x ≡ false
+not_itself x = grind (arith, nat_tests)
+
+not_earlier : (x y : FileHandle) → handle_before y x ≡ true → comes_after x.client x.handle y ≡ false
+not_earlier x y before = grind (arith, nat_tests)
+
+after_next : (hs : List FileHandle) → InOrder (λ (x y : FileHandle). handle_before x y ≡ true) hs → (i : ℕ) (x : FileHandle)
+    → slice_get hs i ≡ Some x → find (comes_after x.client x.handle) hs ≡ slice_get hs (suc i)
+after_next [] order i x e = absurd (let n : None ≡ Some x = e in cc)
+after_next (y ∷ ys) order zero x e =
+    let same : y ≡ x = let s : Some y ≡ Some x = e in cc in
+    ap (λ (z : FileHandle). find (comes_after z.client z.handle) (y ∷ ys)) (sym same)
+    ∙ ap (λ b. cond b (Some y) (find (comes_after y.client y.handle) ys)) (not_itself y) ∙ first_later y ys order.0
+after_next (y ∷ ys) order (suc i) x e =
+    ap (λ b. cond b (Some y) (find (comes_after x.client x.handle) ys))
+    (not_earlier x y (all_at (λ (z : FileHandle). handle_before y z ≡ true) ys i x order.0 e))
+    ∙ after_next ys order.1 i x e
+
+-- The first handle that comes after the one at a place is at the next place.
+pub after_place : (hs : List FileHandle) → InOrder (λ (x y : FileHandle). handle_before x y ≡ true) hs
+    → (i : ℕ) (x : FileHandle) → slice_get hs i ≡ Some x
+    → find (comes_after x.client x.handle) hs ≡ slice_get hs (i + 1)
+after_place hs order i x e =
+    let next : suc i ≡ i + 1 = omega arith in
+    after_next hs order i x e ∙ ap (slice_get hs) next
 
 -- ---- the same for names, tokens, framebuffers, shown rows and grants: the audit's row at a place is that of the item
 

@@ -1,23 +1,24 @@
 //! AUDIT: the rows of a kind, in pages.
 
-ghost use Rattle.std.specs.Prelude.{◌≡◌, ◌≤◌, ℕ, List, false, Ok, [], map, slice_get, if◌then◌else◌};
+ghost use Rattle.std.specs.Prelude.{◌≡◌, ◌≤◌, ℕ, List, false, true, Ok, [], map, take, drop, slice_get, if◌then◌else◌};
 ghost use Rattle.drm_table.specs.declared.calls.Call.TheVariants.{Audit};
 ghost use Rattle.drm_model.specs.Rows.{Rows};
 ghost use Rattle.drm_model.specs.Audit as model;
 ghost use Rattle.std.specs.Option.{option_map, option_map_or, option_and_then};
 ghost use Rattle.drm_model.specs.Rows.{magic_row};
 ghost use Rattle.drm_model.specs.Audit.{audit_row, client_audit, framebuffer_audit, grant_audit, handle_audit, master_audit, name_audit, shown_audit, token_audit};
+ghost use Rattle.drm_lists.specs.Numbers.{is_among};
 ghost use Rattle.drm_share.specs.Names.{AreNames};
 ghost use Rattle.drm_share.specs.Tokens.{AreTokens};
 ghost use Rattle.drm_modes.specs.Modes.{shown_rows};
 ghost use Rattle.drm_leases.specs.Tokens.{LeaseToken};
 ghost use Rattle.drm_leases.specs.Leases.{token_of};
-ghost use Rattle.drm_state.specs.Parts.{client_row_by, grant_row_of, magic_row_of, master_row_of, framebuffers_of, holds_of, names_of, shown_row_of, tokens_of};
+ghost use Rattle.drm_state.specs.Parts.{client_row_by, grant_row_of, magic_row_of, master_row_of, framebuffers_of, handle_row_of, holds_of, keys_of, names_of, shown_row_of, tokens_of};
 ghost use Rattle.drm_state.specs.Invariants.{MeetsInvariants};
 ghost use Rattle.drm_state.specs.Refinement.{RefinesCall};
 ghost use Rattle.drm_device.specs.Audits.{IsPage, IsRowAt};
 
-use drm_files::FileClient;
+use drm_files::{FileClient, FileHandle};
 use drm_gem::Object;
 use drm_leases::Leases;
 use drm_masters::{Magic, Master, Member};
@@ -42,6 +43,34 @@ pub fn audit(state: &State, step_number: u32, kind: AuditKind, from: u32, answer
 
 /// Returns the page of a kind after the first rows, where this many steps were recorded.
 pub fn page_of(state: &State, steps: u32, kind: AuditKind, from: u32) -> AuditPage
+    requires { MeetsInvariants state.now }
+    ensures { IsPage state.now steps kind from result }
+{
+    match kind {
+        AuditKind::Hold => handles_page(state, from),
+        _ => rows_page(state, steps, kind, from),
+    }
+}
+
+/// Returns the page of handles after the first ones. It finds each handle after the first one from the handle before.
+fn handles_page(state: &State, from: u32) -> AuditPage
+    requires { MeetsInvariants state.now }
+    ensures { result ≡ take 16 (drop from (map handle_audit (holds_of state.now))) }
+{
+    let mut page = AuditPage::new();
+    let mut next = state.files.nth_handle(from as usize);
+    for _turn in 0..PAGE {
+        let Some(hold) = next else {
+            return page;
+        };
+        next = state.files.handle_after(hold.client, hold.handle);
+        page.push(handle_row(state, hold));
+    }
+    page
+}
+
+/// Returns the page of a kind after the first rows. It finds each row by its place.
+fn rows_page(state: &State, steps: u32, kind: AuditKind, from: u32) -> AuditPage
     requires { MeetsInvariants state.now }
     ensures { IsPage state.now steps kind from result }
 {
@@ -199,12 +228,21 @@ fn handle_at(state: &State, position: usize) -> Option<AuditRow>
     ensures { result ≡ slice_get (map handle_audit (holds_of state.now)) position }
 {
     let hold = state.files.nth_handle(position)?;
-    Some(AuditRow {
+    Some(handle_row(state, hold))
+}
+
+/// Returns the row of a handle that a client holds.
+fn handle_row(state: &State, hold: FileHandle) -> AuditRow
+    requires invariants { MeetsInvariants state.now }
+    requires held { is_among (keys_of state.now.files.holds) hold.object ≡ true }
+    ensures { result ≡ handle_audit (handle_row_of state.now.objects.objects hold) }
+{
+    AuditRow {
         a: hold.client as u64,
         b: hold.handle as u64,
         c: state.objects.birth(hold.object) as u64,
         d: or_zero(hold.export_order),
-    })
+    }
 }
 
 /// Returns the row of the name at a place, from 0, in the order of names, or none past the last.
