@@ -8,10 +8,18 @@ use std::alloc::{AllocError, Global};
 
 /// The nodes that became empty last: one of the lowest level, and one of the levels above. They take the place of new
 /// nodes. So an entry that is added and removed again and again does not allocate each time.
-#[derive(Drop)]
 pub struct Spares<T> {
     lowest: Option<Box<Node<T>>>,
     above: Option<Box<Node<T>>>,
+}
+
+// Written out, so that it is proved once: a derived one is proved again wherever such a value is dropped.
+impl<T: Drop> Drop for Spares<T> {
+    fn drop(self) {
+        let Spares { lowest, above } = self;
+        drop(lowest);
+        drop(above);
+    }
 }
 
 impl<T: Drop> Spares<T> {

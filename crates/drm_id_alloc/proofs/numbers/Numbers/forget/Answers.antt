@@ -3,7 +3,7 @@ use Rattle.drm_index_array.specs.Indexed.{empty_array}
 use Rattle.drm_id_alloc.specs.Kept.{array_of}
 use Rattle.drm_id_alloc.proofs.NumberLemmas.{single, single_gone, single_stays, one_left, one_less, forgotten_as}
 use Rattle.drm_id_alloc.proofs.numbers.Numbers.forget.Goals as goal
-use Rattle.drm_id_alloc.proofs.numbers.Numbers.forget.Goals.{in-Many+in-Some-1, in-Many+in-None-1, in-One-1, in-Many+in-Some-2, in-Many+in-None-2, in-One-2}
+use Rattle.drm_id_alloc.proofs.numbers.Numbers.forget.Goals.{in-Many-1, in-One-1, in-Many-2, in-One-2}
 
 pub returns-then-number-only : goal.returns-then-number-only
 returns-then-number-only c =
@@ -12,8 +12,7 @@ returns-then-number-only c =
     λ (e : c.match-self-2.self ≡ empty_array). forgotten_as (single c.in-One.only) c.args.self.now empty_array
     c.match-self-2.self c.args.number is e (single_gone c.in-One.only c.args.number (sym c.if-number-only.true)) in
     elim c.match-self-2.branch [
-      | in-Many+in-Some-1 w ↦ as_new (w.self-is ∙ c.new.ensures)
-      | in-Many+in-None-1 w ↦ as_new (w.self-is ∙ c.new.ensures)
+      | in-Many-1 w ↦ as_new (w.self-is ∙ c.new.ensures)
       | in-One-1 w ↦ as_new (w.self-is ∙ c.new.ensures)
     ]
 
@@ -32,8 +31,7 @@ returns-in-Some c =
     λ (e : c.match-self-4.self ≡ single c.in-Some.only). forgotten_as c.in-Many.numbers c.args.self.now
     (single c.in-Some.only) c.match-self-4.self c.args.number is e left in
     elim c.match-self-4.branch [
-      | in-Many+in-Some-2 w ↦ as_new w.self-is
-      | in-Many+in-None-2 w ↦ as_new w.self-is
+      | in-Many-2 w ↦ as_new w.self-is
       | in-One-2 w ↦ as_new w.self-is
     ]
 
