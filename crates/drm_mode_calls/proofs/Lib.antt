@@ -1,1 +1,2 @@
 mod Routes
+mod WholeViews

@@ -5,7 +5,7 @@ ghost use Rattle.drm_state.specs.Callers.{IsPrimaryCaller};
 ghost use Rattle.drm_state.specs.Invariants.{MeetsInvariants};
 ghost use Rattle.drm_state.specs.Refinement.{RefinesReply};
 
-use crate::seeing::visible;
+use crate::seeing::{ids_in, view, visible};
 use drm_modes::Kind;
 use drm_state::{PrimaryCaller, State};
 use drm_table::Answer;
@@ -17,9 +17,10 @@ pub fn get_resources(state: &State, caller: PrimaryCaller, answer: &mut Answer)
     requires caller { IsPrimaryCaller state.now caller }
     ensures { RefinesReply state.now caller.client GetResources answer.new state.now }
 {
+    let seen = view(state, caller);
     *answer = Answer::Resources {
-        crtcs: visible(state, caller, Kind::Crtc),
-        connectors: visible(state, caller, Kind::Connector),
+        crtcs: ids_in(&state.modes, seen, Kind::Crtc),
+        connectors: ids_in(&state.modes, seen, Kind::Connector),
         encoders: state.modes.ids(Kind::Encoder),
         framebuffers: state.modes.framebuffers_of(caller.client),
     };

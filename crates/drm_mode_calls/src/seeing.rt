@@ -1,18 +1,19 @@
 //! What a caller sees of the fixed mode objects.
 
-ghost use Rattle.std.specs.Prelude.{◌≡◌, ℕ};
+ghost use Rattle.std.specs.Prelude.{◌≡◌, ℕ, IsTrue, filter, true};
 ghost use Rattle.drm_leases.specs.Views.{is_in_view};
-ghost use Rattle.drm_modes.specs.Topology.{mask_over};
+ghost use Rattle.drm_leases.specs.declared.views.Controlled.TheVariants.{All};
+ghost use Rattle.drm_modes.specs.Topology.{Topology, ids_of_kind, is_of_kind, mask_over};
 ghost use Rattle.drm_modes.specs.declared.kinds.Kind.TheVariants.{Crtc};
 ghost use Rattle.drm_state.specs.Seeing as views;
 
-use drm_leases::View;
-use drm_modes::Kind;
+use drm_leases::{Controlled, View};
+use drm_modes::{Kind, Modes};
 use drm_state::{PrimaryCaller, State};
 use drm_table::ShownList;
 
 /// Returns what a caller sees of the fixed mode objects. Does not allocate.
-fn view(state: &State, caller: PrimaryCaller) -> View
+pub(crate) fn view(state: &State, caller: PrimaryCaller) -> View
     ensures { (x : ℕ) → is_in_view state.now.modes.topology result x ≡ views.sees state.now caller x }
 {
     state.leases.view(&state.masters, caller.member.master, caller.flags.universal)
@@ -42,7 +43,7 @@ pub(crate) fn visible(state: &State, caller: PrimaryCaller, kind: Kind) -> Shown
 }
 
 /// Returns the objects of a kind that are in a view, rising. Does not allocate.
-fn ids_in(modes: &Modes, view: View, kind: Kind) -> ShownList
+pub(crate) fn ids_in(modes: &Modes, view: View, kind: Kind) -> ShownList
     ensures { result ≡ filter (is_in_view modes.now.topology view) (ids_of_kind modes.now.topology kind) }
 {
     let ids = modes.ids(kind);
@@ -64,8 +65,18 @@ fn has_all(view: View, kind: Kind) -> bool
 {
     match kind {
         Kind::Encoder => true,
-        Kind::Plane => view.controlled == Controlled::All && view.universal,
-        Kind::Crtc | Kind::Connector => view.controlled == Controlled::All,
+        Kind::Plane => is_unlimited(view) && view.universal,
+        Kind::Crtc | Kind::Connector => is_unlimited(view),
+    }
+}
+
+/// Returns whether a view is that of a master that controls every mode object. Does not allocate.
+fn is_unlimited(view: View) -> bool
+    ensures { IsTrue result → view.controlled ≡ All }
+{
+    match view.controlled {
+        Controlled::All => true,
+        Controlled::Lease(_) => false,
     }
 }
 

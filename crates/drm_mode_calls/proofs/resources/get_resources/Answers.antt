@@ -1,4 +1,8 @@
 use Rattle.std.proofs.Common.{sym, ◌∙◌}
+use Rattle.std.proofs.lemmas.List.Elements.{filter_agree}
+use Rattle.drm_modes.specs.Topology.{crtc_ids, connector_ids}
+use Rattle.drm_leases.specs.Views.{is_in_view}
+use Rattle.drm_state.specs.Seeing.{sees}
 use Rattle.drm_table.specs.declared.answers.Answer.TheVariants.{Resources}
 use Rattle.drm_table.specs.declared.calls.Call.TheVariants.{GetResources}
 use Rattle.drm_table.specs.declared.events.Event.TheVariants.{Ask}
@@ -16,11 +20,15 @@ returns c = λ w h a.
     let s = c.args.state.now in
     let client = c.args.caller.client in
     let caller = c.args.caller in
-    let crtcs = c.visible.ensures ∙ sym (crtcs_visible s w caller c.requires.caller h) in
-    let connectors = c.visible-2.ensures ∙ sym (connectors_visible s w caller c.requires.caller h) in
+    let all = filter_agree (is_in_view s.modes.topology c.view-seen.result) (sees s caller) c.view-seen.ensures in
+    let crtcs = c.ids_in.ensures ∙ all (crtc_ids s.modes.topology) ∙ sym (crtcs_visible s w caller c.requires.caller h)
+    in
+    let connectors =
+    c.ids_in-2.ensures ∙ all (connector_ids s.modes.topology)
+    ∙ sym (connectors_visible s w caller c.requires.caller h) in
     let encoders = c.ids.ensures ∙ sym (encoders_listed s w h) in
     let framebuffers = c.framebuffers_of.ensures ∙ sym (framebuffers_listed s w c.requires.invariants h client) in
     carried_on s w (Ask client GetResources)
-    (Resources c.visible.result c.visible-2.result c.ids.result c.framebuffers_of.result) c.requires.invariants
+    (Resources c.ids_in.result c.ids_in-2.result c.ids.result c.framebuffers_of.result) c.requires.invariants
     (call_verdict w client GetResources a)
     (λ i. Resources (crtcs i) (connectors i) (encoders i) (framebuffers i)) h
