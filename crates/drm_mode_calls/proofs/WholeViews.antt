@@ -39,11 +39,6 @@ pub sees_connectors : (t : Topology) (universal : Bool) (x : ℕ) → is_connect
     → rules.sees t true universal x ≡ true
 sees_connectors t universal x h = shown t universal x (connector_apart t x h)
 
--- A client whose master controls everything sees each plane with universal planes.
-pub sees_planes : (t : Topology) (x : ℕ) → rules.sees t true true x ≡ true
-sees_planes t x =
-    or_right (is_encoder t x) (true && rules.is_shown t true x) (or_right (not (rules.is_primary_or_cursor t x)) true refl)
-
 -- each id of a kind is one of that kind
 each_of_kind : (t : Topology) (kind : Kind) → AllByRecursion (λ x. is_of_kind t kind x ≡ true) (ids_of_kind t kind)
 each_of_kind t Crtc = each_is_there (λ x. x) (ids_of_kind t Crtc)

@@ -66,7 +66,8 @@ fn has_all(view: View, kind: Kind) -> bool
     match kind {
         Kind::Encoder => true,
         Kind::Plane => is_unlimited(view) && view.universal,
-        Kind::Crtc | Kind::Connector => is_unlimited(view),
+        Kind::Crtc => is_unlimited(view),
+        Kind::Connector => is_unlimited(view),
     }
 }
 
