@@ -187,8 +187,8 @@ static void try_flags(void)
     say("tests", COMMIT(fd, DRM_MODE_ATOMIC_TEST_ONLY | MODESET,
                         LIGHTS(CRTC, CONNECTOR, PRIMARY, mode, fb)));
     say_what_is_shown(fd);
-    begun = now();
     say("lights", COMMIT(fd, MODESET, LIGHTS(CRTC, CONNECTOR, PRIMARY, mode, fb)));
+    begun = now();
     say("flips with an event", commit(fd, DRM_MODE_ATOMIC_NONBLOCK | EVENT, &flip, 1, &data));
     say("flips too early", COMMIT(fd, DRM_MODE_ATOMIC_NONBLOCK, {PRIMARY, "FB_ID", fb}));
     say("tests early", COMMIT(fd, DRM_MODE_ATOMIC_TEST_ONLY, {PRIMARY, "FB_ID", fb}));

@@ -73,7 +73,7 @@ pub record AreInOrder (slots : map.FinMap nat_cmp Held) (orders : ExportOrders) 
   pub next : (object : ℕ) → AreNext is_before (prime_at slots object) (next_of orders object)
   pub previous : (object : ℕ) → AreNext is_after (prime_at slots object) (previous_of orders object)
 
--- each place that was there is still there, with what it has
+-- each place is kept, with its neighbours
 abbrev pub AreKept : List Neighbours → List Neighbours → Type 0
 AreKept old new = (k : ℕ) (x : Neighbours) → slice_get old k ≡ Some x → slice_get new k ≡ Some x
 
