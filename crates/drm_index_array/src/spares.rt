@@ -41,6 +41,10 @@ impl<T: Drop> Spares<T> {
     }
 
     /// Returns a node of this height with no entry. It is one that was kept, or else a new one.
+    ///
+    /// # Errors
+    ///
+    /// `AllocError` if a new node is needed and memory is refused.
     pub fn blank(&mut self, alloc: Global, height: u32) -> Result<Box<Node<T>>, AllocError>
         requires { height ≤ 5 }
         ensures { IfOk result (λ node. node.value ≡ record { height = height; items = map.empty }) }
