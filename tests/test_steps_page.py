@@ -7,6 +7,8 @@ import contextlib
 import json
 import os
 import re
+import socket
+import struct
 import subprocess
 import sys
 import time
@@ -198,6 +200,17 @@ class StepsPageTests(FolderCase):
             expect(
                 "an explanation", text.startswith("line 7 is step 6, create_lease by a: denied 34 LeasedOut 16\n"), True
             )
+
+    def test_connections_that_are_reset(self):
+        """A browser that ends resets its connections, also between requests. The watch says nothing of it."""
+        with watching("--journal", journal_of(self.folder)) as url:
+            place = urllib.parse.urlsplit(url)
+            for path in ("", "live", "rows?generation=1&rows=11&start=0&count=1", "nothing"):
+                with socket.create_connection((place.hostname, place.port), SECONDS) as connection:
+                    connection.sendall(f"GET /{path} HTTP/1.1\r\nHost: {place.netloc}\r\n\r\n".encode())
+                    expect("the answer's begin", connection.recv(4), b"HTTP")
+                    connection.setsockopt(socket.SOL_SOCKET, socket.SO_LINGER, struct.pack("ii", 1, 0))
+                expect("a later request", status_of(url), 200)
 
     def test_what_the_server_refuses(self):
         with watching("--journal", journal_of(self.folder)) as url:

@@ -93,14 +93,19 @@ class Handler(http.server.BaseHTTPRequestHandler):
     server_version = "drm_page"
     sys_version = ""
 
+    def handle(self) -> None:
+        """Answers the requests of a connection until the browser ends it."""
+        try:
+            super().handle()
+        except OSError:  # the browser has closed the page, or reset the connection
+            self.close_connection = True
+
     def do_GET(self) -> None:  # the name that http.server calls
         """Answers a request."""
         try:
             self.answer()
         except Refused as refused:
             self.refuse(refused.status)
-        except OSError:  # the browser has closed the page
-            self.close_connection = True
 
     def answer(self) -> None:
         """Answers a request, or raises `Refused`."""
