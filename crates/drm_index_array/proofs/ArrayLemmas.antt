@@ -15,7 +15,7 @@ use Rattle.drm_index_array.specs.Indexed.{Indexed, marked_with, with_item, witho
 use Rattle.drm_index_array.specs.Marked.{Marked, MarkedMap, mark_of, with_mark, unmarked, get, write_mark, set_value, array_of}
 use Rattle.drm_index_array.specs.Root.{IsRooted}
 use Rattle.drm_index_array.specs.Slots.{option_marked}
-use Rattle.drm_index_array.specs.declared.tree.Entry.{Entry}
+use Rattle.drm_index_array.specs.declared.entry.Entry.{Entry}
 use Rattle.drm_index_array.specs.declared.marks.Mark.{Mark}
 use Rattle.drm_index_array.specs.declared.marks.Mark.TheVariants.{M0, M1, M2}
 use Rattle.drm_index_array.proofs.Least.{least_some, least_none, least_is, least_is_none}

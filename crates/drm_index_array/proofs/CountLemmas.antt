@@ -8,7 +8,7 @@ use Rattle.drm_index_array.specs.Position.{passing, IsAtPosition}
 use Rattle.drm_index_array.specs.Tree.{Tree, width, span, is_sought}
 use Rattle.drm_index_array.specs.Slots.{Fits as SlotFits, slot, look, below, entries_below, view_of, IsSound, IsNode}
 use Rattle.drm_index_array.specs.declared.words.Words.{Words}
-use Rattle.drm_index_array.specs.declared.tree.Entry.{Entry}
+use Rattle.drm_index_array.specs.declared.entry.Entry.{Entry}
 use Rattle.drm_index_array.specs.declared.tree.Node.{Node}
 use Rattle.drm_index_array.specs.declared.tree.Slot.{Slot}
 use Rattle.drm_index_array.specs.declared.tree.Slot.TheVariants.{Vacant, Value, Child}

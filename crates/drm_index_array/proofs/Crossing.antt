@@ -7,7 +7,7 @@ use Rattle.std.proofs.Crossing.{Vec-send, Box-send}
 use Rattle.drm_index_array.proofs.tree.Node.TheLaws.TheKnot.{send-Node}
 use Rattle.drm_index_array.specs.contracts.array.IndexArray as array
 use Rattle.drm_index_array.specs.contracts.array.IndexArray.TheInside as inside
-use Rattle.drm_index_array.specs.contracts.tree.Entry as entry
+use Rattle.drm_index_array.specs.contracts.entry.Entry as entry
 use Rattle.drm_index_array.specs.contracts.tree.Node as node
 use Rattle.drm_index_array.specs.contracts.spares.Spares as spares
 

@@ -5,11 +5,11 @@ use Rattle.std.specs.Box.{with_value}
 use Rattle.drm_index_array.specs.Indexed.{Indexed, with_item}
 use Rattle.drm_index_array.specs.Marked.{set_value}
 use Rattle.drm_index_array.specs.Tree.{Tree}
-use Rattle.drm_index_array.specs.declared.tree.Entry.{Entry}
+use Rattle.drm_index_array.specs.declared.entry.Entry.{Entry}
 use Rattle.drm_index_array.specs.declared.tree.Slot.{Slot}
 use Rattle.drm_index_array.specs.declared.tree.Slot.TheVariants.{Vacant, Value, Child}
 use Rattle.drm_index_array.specs.contracts.array.IndexArray as array
-use Rattle.drm_index_array.specs.contracts.tree.Entry as entry
+use Rattle.drm_index_array.specs.contracts.entry.Entry as entry
 use Rattle.drm_index_array.specs.contracts.tree.Node as node
 use Rattle.drm_index_array.specs.contracts.tree.Slot as slot
 

@@ -7,7 +7,7 @@ use Rattle.drm_index_array.specs.Position.{passing}
 use Rattle.drm_index_array.specs.Word.{tells_of, AreWords}
 use Rattle.drm_index_array.specs.Tree.{Tree, width, span, table, is_sought}
 use Rattle.drm_index_array.specs.declared.words.Sought.{Sought}
-use Rattle.drm_index_array.specs.declared.tree.Entry.{Entry}
+use Rattle.drm_index_array.specs.declared.entry.Entry.{Entry}
 use Rattle.drm_index_array.specs.declared.words.Words.{Words}
 use Rattle.drm_index_array.specs.declared.tree.Slot.{Slot}
 use Rattle.drm_index_array.specs.declared.tree.Slot.TheVariants.{Vacant, Value, Child}

@@ -4,9 +4,11 @@
 #![tactic(auto)]
 
 mod array;
+mod entry;
 mod faults;
 mod growth;
 mod marks;
+mod places;
 mod spares;
 mod tree;
 mod words;

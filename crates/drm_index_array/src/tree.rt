@@ -4,31 +4,25 @@ ghost use Rattle.std.specs.Prelude.{◌≡◌, ℕ, ◌+◌, ◌-◌, ◌*◌, �
 ghost use Rattle.std.specs.FinMap as map;
 ghost use Rattle.drm_index_array.specs.Least.{least, IsLeastFrom};
 ghost use Rattle.drm_index_array.specs.Position.{passing, IsPlaced};
-ghost use Rattle.drm_index_array.specs.Word.{has_bit, tells_of, AreWords};
-ghost use Rattle.drm_index_array.specs.Marked.{mark_of, with_mark, unmarked, write_mark};
+ghost use Rattle.drm_index_array.specs.Word.{tells_of, AreWords};
+ghost use Rattle.drm_index_array.specs.Marked.{with_mark, unmarked, write_mark};
 ghost use Rattle.drm_index_array.specs.InsertFault.{value_of, IsTaken};
 ghost use Rattle.drm_index_array.specs.Tree.{width, span, is_sought};
-ghost use Rattle.drm_index_array.specs.Slots.{marked, option_marked, Fits, IsUsed, InSlot, below, entries_below, has_below};
+ghost use Rattle.drm_index_array.specs.Slots.{option_marked, Fits, IsUsed, below, entries_below, has_below};
 ghost use Rattle.drm_index_array.specs.declared.marks.Mark.{Mark};
 ghost use Rattle.drm_index_array.specs.declared.words.Sought.TheVariants.{Vacant as Free, Marked as WithMark};
 ghost use Rattle.drm_index_array.specs.declared.tree.Slot.TheVariants as slots;
 ghost use Rattle.std.specs.Option.{option_copied_mut};
 
+use crate::entry::Entry;
 use crate::faults::InsertFault;
 use crate::marks::Mark;
+use crate::places::{first_past, parts, place, start};
 use crate::spares::Spares;
 use crate::words::{Sought, Words, first_one, with_bit};
 use std::alloc::{AllocError, Global};
 use std::marker::Model;
 use std::mem;
-
-#[derive(Drop)]
-pub struct Entry<T> {
-    pub value: T,
-    m0: bool,
-    m1: bool,
-    m2: bool,
-}
 
 #[derive(Drop)]
 #[cycle(tree)]
@@ -67,87 +61,6 @@ impl<T> Model for Node<T> {
     ghost use Rattle.drm_index_array.specs.SlotsFall.{height_falls};
 
     ghost size_decreases = { λ a h. height_falls a h };
-}
-
-impl<T> Entry<T> {
-    ghost use Rattle.std.specs.Borrow.{sem};
-    ghost use Rattle.drm_index_array.specs.Lends.{lends_entry};
-
-    pub fn has(&self, mark: Mark) -> bool
-        ensures { result ≡ mark_of (marked self.now) mark }
-    {
-        match mark {
-            Mark::M0 => self.m0,
-            Mark::M1 => self.m1,
-            Mark::M2 => self.m2,
-        }
-    }
-
-    fn is_sought(&self, sought: Sought) -> bool
-        ensures { result ≡ is_sought sought (Some (marked self.now)) }
-    {
-        match sought {
-            Sought::Taken => true,
-            Sought::Vacant => false,
-            Sought::Marked(mark) => self.has(mark),
-        }
-    }
-
-    /// Sets or clears the mark.
-    fn write_mark(&mut self, mark: Mark, on: bool)
-        ensures { marked self.new ≡ with_mark (marked self.old) mark on }
-    {
-        match mark {
-            Mark::M0 => self.m0 = on,
-            Mark::M1 => self.m1 = on,
-            Mark::M2 => self.m2 = on,
-        }
-    }
-
-    /// Returns the value for writing.
-    fn value_mut(&mut self) -> &mut T
-        ensures* lends { sem 𝓛 (lends_entry T.row self.entry result) }
-        ensures value { self.old.value ≡ result.now }
-    {
-        &mut self.value
-    }
-}
-
-/// Returns the slot of a node of this height where an index lies, and where it lies below that slot.
-fn parts(height: u32, index: u64) -> (usize, u64)
-    requires { height ≤ 5 }
-    ensures slot { result.0 ≡ index / width height }
-    ensures rest { result.1 ≡ index % width height }
-{
-    let shift = 6 * height;
-    ((index >> shift) as usize, index & ((1 << shift) - 1))
-}
-
-/// Returns the slot of a node of this height where an index lies, whatever lies above the node.
-fn place(height: u32, index: u64) -> usize
-    requires { height ≤ 5 }
-    ensures { result ≡ index % span height / width height }
-{
-    (index >> (6 * height) & 63) as usize
-}
-
-/// Returns the first index past those that a node of this height covers.
-fn first_past(height: u32) -> u64
-    requires { height ≤ 5 }
-    ensures { result ≡ span height }
-{
-    1 << (6 * height + 6)
-}
-
-/// Returns the first index of a slot of a node of this height.
-fn start(height: u32, at: usize) -> u64
-    requires low { height ≤ 5 }
-    requires slot { at < 64 }
-    ensures value { result ≡ at * width height }
-    ensures bound { result ≤ 63 * 2 ^ 30 }
-    ensures width { width height ≤ 2 ^ 30 }
-{
-    (at as u64) << (6 * height)
 }
 
 /// Returns whether some index below a slot is sought.

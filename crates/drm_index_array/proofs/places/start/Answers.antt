@@ -2,7 +2,7 @@ use Rattle.std.proofs.Common.{◌≤◌, ◌*◌, ◌^◌, arith}
 use Rattle.std.proofs.Math.Nat.{mod-eq_of_lt, mul-le-mul}
 use Rattle.drm_index_array.specs.Tree.{width}
 use Rattle.drm_index_array.proofs.SlotLemmas.{width_low}
-use Rattle.drm_index_array.proofs.tree.start.Goals as goal
+use Rattle.drm_index_array.proofs.places.start.Goals as goal
 
 pub returns : goal.returns
 returns c =
