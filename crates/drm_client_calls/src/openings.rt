@@ -6,6 +6,7 @@ ghost use Rattle.drm_files.specs.Files.{client, new_flags};
 ghost use Rattle.drm_table.specs.declared.events.Event.TheVariants.{Open};
 ghost use Rattle.drm_table.specs.declared.events.Opening.TheVariants.{Primary, Render, Lease};
 ghost use Rattle.drm_state.specs.Invariants.{MeetsInvariants, StepPrecondition};
+ghost use Rattle.drm_state.specs.Places.{outcome};
 ghost use Rattle.drm_state.specs.Refinement.{Refines};
 
 use drm_files::Files;
@@ -14,20 +15,27 @@ use drm_state::State;
 use drm_table::{Answer, Opening, Rule};
 use std::alloc::AllocError;
 
-/// Opens a client, by the kind of its opening.
-pub fn open(state: &mut State, step_number: u32, opening: Opening) -> Result<Answer, AllocError>
+/// Opens a client, by the kind of its opening. If memory is refused, nothing changes.
+pub fn open(
+    state: &mut State,
+    step_number: u32,
+    opening: Opening,
+    answer: &mut Answer,
+) -> Result<(), AllocError>
     requires { StepPrecondition state.old step_number }
-    ensures refines { Refines state.old step_number (Open opening) result state.new }
+    ensures refines { Refines state.old step_number (Open opening) (outcome result answer.new) state.new }
     ensures invariants { MeetsInvariants state.new }
 {
     match opening {
-        Opening::Primary { root, universal } => open_primary(state, step_number, root, universal),
-        Opening::Render => open_render(state, step_number),
+        Opening::Primary { root, universal } => {
+            open_primary(state, step_number, root, universal, answer)
+        }
+        Opening::Render => open_render(state, step_number, answer),
         Opening::Lease {
             token,
             root,
             universal,
-        } => open_lease(state, step_number, token, root, universal),
+        } => open_lease(state, step_number, token, root, universal, answer),
     }
 }
 
@@ -37,13 +45,15 @@ fn open_primary(
     step_number: u32,
     root: bool,
     universal: bool,
-) -> Result<Answer, AllocError>
+    answer: &mut Answer,
+) -> Result<(), AllocError>
     requires { StepPrecondition state.old step_number }
-    ensures refines { Refines state.old step_number (Open (Primary root universal)) result state.new }
+    ensures refines { Refines state.old step_number (Open (Primary root universal)) (outcome result answer.new) state.new }
     ensures invariants { MeetsInvariants state.new }
 {
     if state.files.is_full() {
-        return Ok(Answer::Denied(Rule::Full));
+        answer.set_denied(Rule::Full);
+        return Ok(());
     }
     let opener = state.masters.device_master().is_none();
     open_file(
@@ -59,24 +69,27 @@ fn open_primary(
         return Err(AllocError);
     }
     state.masters.laws();
-    Ok(Answer::Opened {
+    *answer = Answer::Opened {
         client: step_number,
-    })
+    };
+    Ok(())
 }
 
 /// Returns a render client, which has no master, and universal planes on (own).
-fn open_render(state: &mut State, step_number: u32) -> Result<Answer, AllocError>
+fn open_render(state: &mut State, step_number: u32, answer: &mut Answer) -> Result<(), AllocError>
     requires { StepPrecondition state.old step_number }
-    ensures refines { Refines state.old step_number (Open Render) result state.new }
+    ensures refines { Refines state.old step_number (Open Render) (outcome result answer.new) state.new }
     ensures invariants { MeetsInvariants state.new }
 {
     if state.files.is_full() {
-        return Ok(Answer::Denied(Rule::Full));
+        answer.set_denied(Rule::Full);
+        return Ok(());
     }
     open_file(&mut state.files, step_number, true, false, true, false)?;
-    Ok(Answer::Opened {
+    *answer = Answer::Opened {
         client: step_number,
-    })
+    };
+    Ok(())
 }
 
 /// The client of a lessee that no client redeemed, by the lessee's open token, which is spent (drm-uapi, leases; the
@@ -87,16 +100,19 @@ fn open_lease(
     token: u32,
     root: bool,
     universal: bool,
-) -> Result<Answer, AllocError>
+    answer: &mut Answer,
+) -> Result<(), AllocError>
     requires { StepPrecondition state.old step_number }
-    ensures refines { Refines state.old step_number (Open (Lease token root universal)) result state.new }
+    ensures refines { Refines state.old step_number (Open (Lease token root universal)) (outcome result answer.new) state.new }
     ensures invariants { MeetsInvariants state.new }
 {
     let Some(lessee) = state.leases.token_master(token) else {
-        return Ok(Answer::Denied(Rule::NoLeaseToken));
+        answer.set_denied(Rule::NoLeaseToken);
+        return Ok(());
     };
     if state.files.is_full() {
-        return Ok(Answer::Denied(Rule::Full));
+        answer.set_denied(Rule::Full);
+        return Ok(());
     }
     open_file(&mut state.files, step_number, false, root, universal, true)?;
     if let Err(NoMemory) = state.masters.on_redeem(step_number, lessee) {
@@ -106,9 +122,10 @@ fn open_lease(
     let _spent = state.leases.redeem(token);
     state.masters.laws();
     state.leases.laws();
-    Ok(Answer::Opened {
+    *answer = Answer::Opened {
         client: step_number,
-    })
+    };
+    Ok(())
 }
 
 /// Opens the file of a client that is newer than all; a master's opener is authenticated whether it is root or not. If

@@ -43,18 +43,37 @@ impl Attending {
     /// Returns whether it is a connection that was closed at the other end, as a process that exits closes all of its
     /// own.
     fn is_closed(&self) -> bool {
-        let mut asked = [pollfd {
-            fd: self.socket,
-            events: 0,
-            revents: 0,
-        }];
-        self.role != Role::Listener && poll(&mut asked, 0) == 1 && asked[0].revents & POLLHUP != 0
+        let mut asked = [asking_of(self.socket)];
+        self.role != Role::Listener && poll(&mut asked, 0) == 1 && is_hung_up(&asked[0])
     }
 
     /// Returns whether its client may be open still, though the connection was closed at the other end.
     fn has_gone(&self) -> bool {
         self.role == Role::Admitted && self.is_closed()
     }
+}
+
+/// Returns the question for a place without one: poll(2) passes over a negative descriptor.
+fn asking_nothing() -> pollfd {
+    pollfd {
+        fd: -1,
+        events: 0,
+        revents: 0,
+    }
+}
+
+/// Returns the question to poll(2) whether a socket was closed at the other end. That is reported without an event.
+fn asking_of(socket: RawFd) -> pollfd {
+    pollfd {
+        fd: socket,
+        events: 0,
+        revents: 0,
+    }
+}
+
+/// Returns whether poll(2) reported that a socket was closed at the other end.
+fn is_hung_up(asked: &pollfd) -> bool {
+    asked.revents & POLLHUP != 0
 }
 
 /// What a place is used for.
@@ -79,10 +98,11 @@ impl Place {
         }
     }
 
-    fn is_free(&self) -> bool {
-        match self {
-            Place::Free => true,
-            Place::Reserved | Place::Taken(_) | Place::Left => false,
+    /// Returns the question to poll(2) whether a connection whose client may be open was closed at the other end.
+    fn asked(&self) -> pollfd {
+        match self.attending() {
+            Some(attending) if attending.role == Role::Admitted => asking_of(attending.socket),
+            _ => asking_nothing(),
         }
     }
 
@@ -99,12 +119,25 @@ impl Place {
 struct Places {
     has_ended: bool,
     places: Vec<Place>,
-    alloc: Global,
+    /// The question to poll(2) for each place, so that one call answers all.
+    asked: Vec<pollfd>,
+    /// No place before this one is free.
+    free_from: usize,
 }
 
 impl Places {
     /// Returns whether there is a connection that no client is at the other end of, and whose client may be open still.
-    fn has_gone(&self) -> bool {
+    fn has_gone(&mut self) -> bool {
+        match poll(&mut self.asked, 0) {
+            0 => false,
+            // the system refuses more places than the process may have descriptors
+            -1 => self.has_gone_by_place(),
+            _ => self.asked.iter().any(|asked| is_hung_up(asked)),
+        }
+    }
+
+    /// Returns the same by a call for each connection.
+    fn has_gone_by_place(&self) -> bool {
         for place in self.places.iter() {
             if let Some(attending) = place.attending() {
                 if attending.has_gone() {
@@ -148,15 +181,27 @@ impl Places {
         }
     }
 
+    /// Returns the first place that is free, or the one after the last.
+    fn first_free(&self) -> usize {
+        for place in self.free_from..self.places.len() {
+            if let Some(Place::Free) = self.places.get(place) {
+                return place;
+            }
+        }
+        self.places.len()
+    }
+
     /// Reserves a place and returns it. If there is no room, it returns one that does not exist. Does not allocate.
     fn reserve(&mut self) -> usize {
-        if let Some(place) = self.places.iter().position(|place| place.is_free()) {
+        let place = self.first_free();
+        self.free_from = place.saturating_add(1);
+        if place < self.places.len() {
             self.put(place, Place::Reserved);
             return place;
         }
-        let place = self.places.len();
-        if place < self.places.capacity() {
+        if place < self.places.capacity() && self.asked.len() < self.asked.capacity() {
             self.places.push_reserved(Place::Reserved);
+            self.asked.push_reserved(asking_nothing());
         }
         place
     }
@@ -165,6 +210,9 @@ impl Places {
         if let Some(slot) = self.places.get_mut(place) {
             *slot = used;
         }
+        if let Some(slot) = self.asked.get_mut(place) {
+            *slot = used.asked();
+        }
     }
 
     /// Frees a place that its thread has left, and returns whether it has.
@@ -172,6 +220,7 @@ impl Places {
         match self.places.get_mut(place) {
             Some(slot) if slot.has_left() => {
                 *slot = Place::Free;
+                self.free_from = self.free_from.min(place);
                 true
             }
             _ => false,
@@ -188,6 +237,7 @@ impl Places {
 /// later one.
 #[derive(Drop)]
 pub struct OpenConnections {
+    alloc: Global,
     places: Mutex<Places>,
     left: Condvar,
     ended: Option<UnixStream>,
@@ -226,13 +276,17 @@ impl OpenConnections {
     ) -> Result<OpenConnections, AllocError>
         requires { connections ≤ 1000 }
     {
-        let places = Vec::with_capacity(alloc, connections + LISTENERS + CONTROLS)?;
+        let room = connections + LISTENERS + CONTROLS;
+        let places = Vec::with_capacity(alloc, room)?;
+        let asked = Vec::with_capacity(alloc, room)?;
         let notes = Notes::new(alloc)?;
         Ok(OpenConnections {
+            alloc,
             places: Mutex::new(Places {
                 has_ended: false,
                 places,
-                alloc,
+                asked,
+                free_from: 0,
             }),
             left: Condvar::new(),
             ended,
@@ -245,6 +299,7 @@ impl OpenConnections {
     /// Returns the same table, whose connections report their calls to this watch.
     pub fn watched_by(self, watch: Watch) -> OpenConnections {
         let OpenConnections {
+            alloc,
             places,
             left,
             ended,
@@ -253,6 +308,7 @@ impl OpenConnections {
             plan,
         } = self;
         OpenConnections {
+            alloc,
             places,
             left,
             ended,
@@ -265,6 +321,7 @@ impl OpenConnections {
     /// Returns the same table, whose connections are subject to the rules of this plan.
     pub fn planned_by(self, plan: Plan) -> OpenConnections {
         let OpenConnections {
+            alloc,
             places,
             left,
             ended,
@@ -273,6 +330,7 @@ impl OpenConnections {
             plan: _unused,
         } = self;
         OpenConnections {
+            alloc,
             places,
             left,
             ended,
@@ -324,8 +382,8 @@ impl OpenConnections {
     }
 
     /// Returns the allocator that the connections were assigned.
-    pub fn alloc<R: Wait>(&self, rt: &R) -> Global {
-        self.places.lock(rt).alloc
+    pub fn alloc(&self) -> Global {
+        self.alloc
     }
 
     /// Reserves a place for a socket on which a thread will wait.

@@ -36,9 +36,7 @@ pub fn audit(state: &State, step_number: u32, kind: AuditKind, from: u32, answer
     requires invariants { MeetsInvariants state.now }
     ensures { (client : ℕ) → RefinesCall state.now step_number client (Audit kind from) (Ok answer.new) state.now }
 {
-    *answer = Answer::Audit {
-        page: page_of(state, step_number - 1, kind, from),
-    };
+    answer.set_audit(page_of(state, step_number - 1, kind, from));
 }
 
 /// Returns the page of a kind after the first rows, where this many steps were recorded.

@@ -5,29 +5,12 @@ ghost use Rattle.std.specs.Prelude.{◌≡◌, Ok, Err, OnOk, IfOk, IfErr, IsOk}
 ghost use Rattle.drm_state.specs.Places.{outcome};
 ghost use Rattle.drm_state.specs.Refinement.{Refines};
 ghost use Rattle.drm_table.specs.declared.answers.Answer.TheVariants.{Done};
-ghost use Rattle.drm_table.specs.declared.events.Event.TheVariants.{Open};
 
 use crate::calls::ask;
 use drm_client_calls::{close, open};
 use drm_state::State;
-use drm_table::{Answer, Apart, Event, Opening};
+use drm_table::{Answer, Apart, Event};
 use std::alloc::AllocError;
-
-/// Answers an opening. If memory is refused, nothing changes. It is a separate function, so that calls need not clear
-/// its place.
-fn opened(
-    state: &mut State,
-    step_number: u32,
-    opening: Opening,
-    answer: &mut Answer,
-) -> Result<(), AllocError>
-    requires { StepPrecondition state.old step_number }
-    ensures invariants { MeetsInvariants state.new }
-    ensures refines { Refines state.old step_number (Open opening) (outcome result answer.new) state.new }
-{
-    *answer = open(state, step_number, opening)?;
-    Ok(())
-}
 
 /// Answers an event for which the journal has room. If memory is refused, nothing changes.
 #[tactic(auto, using(drm_state::proofs::Refinements::is_done))]
@@ -42,7 +25,7 @@ pub fn advance(
     ensures refines { Refines state.old step_number event.now (outcome result answer.new) state.new }
 {
     match event {
-        Event::Open(opening) => opened(state, step_number, *opening, answer),
+        Event::Open(opening) => open(state, step_number, *opening, answer),
         Event::Ask(client, call) => ask(state, step_number, *client, call, answer),
         Event::Close(client) => {
             close(state, *client, answer);

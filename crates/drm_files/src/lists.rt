@@ -1,10 +1,10 @@
 //! Lists of the clients and of their handles.
 
-ghost use Rattle.std.specs.Prelude.{◌≡◌, ◌==◌, ◌≤◌, ◌+◌, ◌++◌, ◌&&◌, ℕ, List, [], IsTrue, true, false, filter, find, nat_le, nat_lt, take, slice_get, IfOk, IfErr, IfNone, Some};
+ghost use Rattle.std.specs.Prelude.{◌≡◌, ◌==◌, ◌≤◌, ◌+◌, ◌++◌, ◌&&◌, ℕ, List, [], IsTrue, true, false, filter, find, nat_le, nat_lt, take, slice_get, IfOk, IfErr, IfNone, IfSome, Some};
 ghost use Rattle.std.specs.FinMap as map;
 ghost use Rattle.drm_index_array.specs.Keys.{keys_from};
 ghost use Rattle.drm_index_array.specs.Least.{least};
-ghost use Rattle.drm_files.specs.Files.{is_open_client, handles_of, nth_row, handle_before, comes_after, InOrder};
+ghost use Rattle.drm_files.specs.Files.{hold, is_open_client, handles_of, nth_row, handle_before, comes_after, InOrder};
 ghost use Rattle.drm_files.specs.Records.{rows_in};
 ghost use Rattle.drm_files.specs.declared.rows.FileHandle.{FileHandle};
 
@@ -201,7 +201,7 @@ fn shown_handles(table: &IdTable<Held>, from: u32) -> ShownList
 
 // The lowest handle of a table from a number on. The number itself is tried first: handles are given from the lowest on,
 // so in a list the next handle mostly is the next number.
-pub(crate) fn handle_from(table: &IdTable<Held>, from: u32) -> Option<u32>
+fn handle_from(table: &IdTable<Held>, from: u32) -> Option<u32>
     ensures least { result ≡ least (map.contains_key table.now.slots) from u32.MAX }
     ensures none_above { IfNone result ((k : ℕ) → from ≤ k → map.contains_key table.now.slots k ≡ false) }
     ensures bound { (k : ℕ) → IsTrue (map.contains_key table.now.slots k) → k ≤ u32.MAX }
@@ -213,20 +213,42 @@ pub(crate) fn handle_from(table: &IdTable<Held>, from: u32) -> Option<u32>
     table.next(from)
 }
 
-// The first handle of one client from a number on.
-fn first_held(client: u32, table: &IdTable<Held>, from: u32) -> Option<FileHandle>
-    ensures { result ≡ find (λ row. nat_le from row.handle) (rows_in client (map.entries table.now.slots)) }
+// The lowest handle of a table from a number on, and what it holds. The number itself is tried first here, too.
+pub(crate) fn entry_from(table: &IdTable<Held>, from: u32) -> Option<(u32, &Held)>
+    ensures least { IfSome result (λ entry. least (map.contains_key table.now.slots) from u32.MAX ≡ Some entry.0) }
+    ensures held { IfSome result (λ entry. map.get table.now.slots entry.0 ≡ Some entry.1.now) }
+    ensures none_above { IfNone result ((k : ℕ) → from ≤ k → map.contains_key table.now.slots k ≡ false) }
+    ensures bound { (k : ℕ) → IsTrue (map.contains_key table.now.slots k) → k ≤ u32.MAX }
 {
-    let handle = handle_from(table, from)?;
+    let _handles = table.len();
+    if let Some(held) = table.get(from) {
+        return Some((from, held));
+    }
+    let handle = table.next(from)?;
     let Some(held) = table.get(handle) else {
         unreachable!();
     };
-    Some(FileHandle {
+    Some((handle, held))
+}
+
+// The row of a client's handle.
+fn hold_of(client: u32, handle: u32, held: &Held) -> FileHandle
+    ensures { result ≡ hold client handle held.now.object held.now.export_order }
+{
+    FileHandle {
         client,
         handle,
         object: held.object,
         export_order: held.export_order,
-    })
+    }
+}
+
+// The first handle of one client from a number on.
+fn first_held(client: u32, table: &IdTable<Held>, from: u32) -> Option<FileHandle>
+    ensures { result ≡ find (λ row. nat_le from row.handle) (rows_in client (map.entries table.now.slots)) }
+{
+    let (handle, held) = entry_from(table, from)?;
+    Some(hold_of(client, handle, held))
 }
 
 // The handle at a position among those of one client, or how far after the last of them the position is.
@@ -240,10 +262,5 @@ fn nth_held(client: u32, table: &IdTable<Held>, position: usize) -> Result<FileH
     let Some(held) = table.get(handle) else {
         unreachable!();
     };
-    Ok(FileHandle {
-        client,
-        handle,
-        object: held.object,
-        export_order: held.export_order,
-    })
+    Ok(hold_of(client, handle, held))
 }

@@ -4,7 +4,7 @@ ghost use Rattle.std.specs.Prelude.{◌≡◌, slice_get, drop, IfNone};
 ghost use Rattle.drm_files.specs.Records.{pairs_of};
 
 use crate::files::Held;
-use crate::lists::handle_from;
+use crate::lists::entry_from;
 use drm_gem::ObjectKey;
 use drm_id_alloc::IdTable;
 use std::marker::Model;
@@ -82,10 +82,7 @@ impl FileRest {
         ensures none { IfNone result (self.new ≡ self.old) }
     {
         let from = self.next?;
-        let handle = handle_from(&self.handles, from)?;
-        let Some(held) = self.handles.get(handle) else {
-            unreachable!();
-        };
+        let (handle, held) = entry_from(&self.handles, from)?;
         let object = held.object;
         self.next = handle.checked_add(1);
         Some((handle, object))

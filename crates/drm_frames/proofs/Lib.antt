@@ -1,6 +1,7 @@
 pub mod PageLaws
 pub mod NumberBytes
 pub mod Sizes
+pub mod BehindHead
 pub mod FieldLaws
 pub mod FrontFrame
 pub mod FrameLaws

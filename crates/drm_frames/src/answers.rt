@@ -1,5 +1,5 @@
 //! The frame of a result.
-ghost use Rattle.std.specs.Prelude.{◌≡◌, ◌<◌, ◌≤◌, [], ◌++◌, length, Ok};
+ghost use Rattle.std.specs.Prelude.{◌≡◌, ◌+◌, ◌<◌, ◌≤◌, [], ◌++◌, drop, length, Ok};
 ghost use Rattle.drm_frames.specs.Answers.{FitsFields, FitsTold, answer_frame, answer_text, told_frame};
 ghost use Rattle.drm_frames.specs.Grammar.{frame_value};
 ghost use Rattle.drm_frames.specs.Number.{u32};
@@ -9,27 +9,28 @@ ghost use Rattle.drm_table.specs.Results.{FitsOneFrame};
 use crate::fields::push_numbers;
 use crate::lists::{push_list, push_resources};
 use crate::pages::push_page;
-use crate::text::{FrameBytes, framed, push_frame};
+use crate::text::FrameBytes;
 use drm_table::{Answer, Apart, Told};
 use std::marker::Model;
 
 // Writes the number and the errno of a refusal.
+#[tactic(auto, using(std::proofs::lemmas::List::append_assoc))]
 fn push_refusal(text: &mut FrameBytes, number: u32, errno: u32)
-    requires { text.old ≡ [] }
-    ensures text { text.new ≡ u32 number ++ u32 errno }
-    ensures length { length text.new ≡ 8 }
+    requires { length text.old + 8 ≤ 1028 }
+    ensures text { text.new ≡ text.old ++ (u32 number ++ u32 errno) }
+    ensures length { length text.new ≡ length text.old + 8 }
 {
     text.push_u32(number);
     text.push_u32(errno);
 }
 
-// Writes the fields of an answer, and returns the number of its frame.
+// Writes the fields of an answer after the room for the head, and returns the number of its frame.
 fn push_answer(text: &mut FrameBytes, answer: &Answer) -> u16
-    requires empty { text.old ≡ [] }
+    requires empty { length text.old ≡ 6 }
     requires few { FitsOneFrame (Ok answer.now) }
-    ensures text { frame_value result text.new ≡ told_frame (told answer.now) }
+    ensures text { frame_value result (drop 6 text.new) ≡ told_frame (told answer.now) }
     ensures fits { FitsTold (told answer.now) }
-    ensures length { length text.new ≤ 1022 }
+    ensures long { 6 ≤ length text.new }
 {
     match answer.told() {
         Told::Fields(kind, fields) => {
@@ -60,13 +61,13 @@ fn push_answer(text: &mut FrameBytes, answer: &Answer) -> u16
     }
 }
 
-// Writes the fields of a result, and returns the number of its frame.
+// Writes the fields of a result after the room for the head, and returns the number of its frame.
 fn push_outcome(text: &mut FrameBytes, outcome: &Result<Answer, Apart>) -> u16
-    requires empty { text.old ≡ [] }
+    requires empty { length text.old ≡ 6 }
     requires few { FitsOneFrame outcome.now }
-    ensures text { frame_value result text.new ≡ answer_frame outcome.now }
+    ensures text { frame_value result (drop 6 text.new) ≡ answer_frame outcome.now }
     ensures fits { FitsFields outcome.now }
-    ensures length { length text.new ≤ 1022 }
+    ensures long { 6 ≤ length text.new }
 {
     match outcome {
         Ok(answer) => push_answer(text, answer),
@@ -98,9 +99,11 @@ pub fn encode_answer(outcome: &Result<Answer, Apart>) -> FrameBytes
     ensures some { 0 < length result }
     ensures short { length result ≤ 1028 }
 {
-    let mut fields = FrameBytes::new();
-    let number = push_outcome(&mut fields, outcome);
-    framed(number, fields.as_slice())
+    let mut frame = FrameBytes::new();
+    frame.begin();
+    let number = push_outcome(&mut frame, outcome);
+    frame.finish(number);
+    frame
 }
 
 /// A buffer for the frames of results, which holds one at a time (own). Contracts see the bytes of the last one.
@@ -117,7 +120,6 @@ pub fn encode_answer(outcome: &Result<Answer, Apart>) -> FrameBytes
 /// ```
 #[derive(Drop)]
 pub struct AnswerText {
-    fields: FrameBytes,
     frame: FrameBytes,
 }
 
@@ -143,7 +145,6 @@ impl AnswerText {
         ensures { result ≡ [] }
     {
         AnswerText {
-            fields: FrameBytes::new(),
             frame: FrameBytes::new(),
         }
     }
@@ -169,10 +170,9 @@ impl AnswerText {
         ensures fits { FitsFields outcome.now }
         ensures some { 0 < length self.new }
     {
-        self.fields.clear();
-        self.frame.clear();
-        let number = push_outcome(&mut self.fields, outcome);
-        push_frame(&mut self.frame, number, self.fields.as_slice());
+        self.frame.begin();
+        let number = push_outcome(&mut self.frame, outcome);
+        self.frame.finish(number);
     }
 
     /// Returns the bytes of the last frame.

@@ -99,11 +99,11 @@ pub(crate) fn push_numbers(text: &mut FrameBytes, fields: &[Field])
 /// Writes the fields of a layout.
 #[tactic(auto, unfolding(crate::specs::Fields::fields_text))]
 pub(crate) fn push_fields(text: &mut FrameBytes, layout: Layout, fields: &[Field])
-    requires empty { text.old ≡ [] }
+    requires empty { length text.old ≡ 6 }
     requires few { length fields.now ≤ 32 }
-    ensures text { text.new ≡ fields_text (layout_of layout) fields.now }
+    ensures text { text.new ≡ text.old ++ fields_text (layout_of layout) fields.now }
     ensures fits { All FitsField fields.now }
-    ensures length { length text.new ≤ 1022 }
+    ensures long { 6 ≤ length text.new }
 {
     match layout {
         Layout::Numbers(_) => {}

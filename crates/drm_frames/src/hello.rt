@@ -1,10 +1,10 @@
 //! The first frame of a session.
-ghost use Rattle.std.specs.Prelude.{◌≡◌, ◌<◌, ◌≤◌, true, length};
-ghost use Rattle.drm_frames.specs.Hellos.{IsToken, is_version, hello_in, hello_text};
+ghost use Rattle.std.specs.Prelude.{◌≡◌, ◌+◌, ◌<◌, ◌≤◌, ◌++◌, true, length};
+ghost use Rattle.drm_frames.specs.Hellos.{IsToken, is_version, hello_fields, hello_in, hello_text};
 
 use crate::frame::Frame;
 use crate::number::u32_in;
-use crate::text::{FrameBytes, framed};
+use crate::text::FrameBytes;
 
 /// The first frame of a client (own).
 ///
@@ -64,6 +64,26 @@ pub fn hello_of(frame: &Frame<'_>) -> Option<Hello>
     }
 }
 
+// Writes the fields of a hello.
+fn push_hello(text: &mut FrameBytes, hello: Hello)
+    requires { length text.old + 12 ≤ 1028 }
+    ensures text { text.new ≡ text.old ++ hello_fields hello.version hello.lease }
+    ensures fits { IsToken hello.lease }
+    ensures length { length text.new ≡ length text.old + 12 }
+{
+    text.push_u32(hello.version);
+    match hello.lease {
+        None => {
+            text.push_u32(0);
+            text.push_u32(0);
+        }
+        Some(token) => {
+            text.push_u32(1);
+            text.push_u32(token);
+        }
+    }
+}
+
 /// Returns the bytes of a hello's frame, of version 1 or 2 (own). Does not allocate.
 ///
 /// # Examples
@@ -76,7 +96,6 @@ pub fn hello_of(frame: &Frame<'_>) -> Option<Hello>
 /// let Decoded::Whole(frame, _) = decode(bytes.as_slice()) else { return };
 /// assert!(rt; hello_of(&frame) == Some(hello));
 /// ```
-#[tactic(auto, unfolding(crate::specs::Hellos::hello_text))]
 pub fn encode_hello(hello: Hello) -> FrameBytes
     requires { is_version hello.version ≡ true }
     ensures text { result ≡ hello_text hello }
@@ -84,17 +103,9 @@ pub fn encode_hello(hello: Hello) -> FrameBytes
     ensures some { 0 < length result }
     ensures short { length result ≤ 1028 }
 {
-    let mut fields = FrameBytes::new();
-    fields.push_u32(hello.version);
-    match hello.lease {
-        None => {
-            fields.push_u32(0);
-            fields.push_u32(0);
-        }
-        Some(token) => {
-            fields.push_u32(1);
-            fields.push_u32(token);
-        }
-    }
-    framed(0x0100, fields.as_slice())
+    let mut frame = FrameBytes::new();
+    frame.begin();
+    push_hello(&mut frame, hello);
+    frame.finish(0x0100);
+    frame
 }

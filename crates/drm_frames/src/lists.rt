@@ -1,5 +1,5 @@
 //! Ids and handles as bytes, and bytes as ids.
-ghost use Rattle.std.specs.Prelude.{◌≡◌, ◌+◌, ◌*◌, ◌≤◌, ◌++◌, [], All, is_some, length, true};
+ghost use Rattle.std.specs.Prelude.{◌≡◌, ◌+◌, ◌*◌, ◌≤◌, ◌++◌, All, is_some, length, true};
 ghost use Rattle.std.specs.List.{flat_map};
 ghost use Rattle.std.specs.Option.{option_map};
 ghost use Rattle.drm_frames.specs.Lists.{FitsId, FitsList, FitsResources, behind_list, front_list, ids_in, list_text};
@@ -38,15 +38,16 @@ fn push_counted(fields: &mut FrameBytes, ids: &[u32])
 
 /// Writes a list.
 pub(crate) fn push_list(fields: &mut FrameBytes, list: &ShownList)
-    requires { fields.old ≡ [] }
-    ensures text { fields.new ≡ list_text list.now }
+    requires { length fields.old + 260 ≤ 1028 }
+    ensures text { fields.new ≡ fields.old ++ list_text list.now }
     ensures fits { FitsList list.now }
-    ensures length { length fields.new ≤ 1022 }
+    ensures length { length fields.old ≤ length fields.new }
 {
     push_counted(fields, list.ids());
 }
 
 /// Writes the four lists of resources.
+#[tactic(auto, using(std::proofs::lemmas::List::append_assoc))]
 pub(crate) fn push_resources(
     fields: &mut FrameBytes,
     crtcs: &ShownList,
@@ -54,12 +55,12 @@ pub(crate) fn push_resources(
     encoders: &ShownList,
     framebuffers: &ShownList,
 )
-    requires empty { fields.old ≡ [] }
+    requires empty { length fields.old ≡ 6 }
     requires few { length crtcs.now + length connectors.now + length encoders.now + length framebuffers.now ≤ 251 }
-    ensures text { fields.new ≡ list_text crtcs.now ++ list_text connectors.now
-        ++ list_text encoders.now ++ list_text framebuffers.now }
+    ensures text { fields.new ≡ fields.old ++ (list_text crtcs.now ++ list_text connectors.now
+        ++ list_text encoders.now ++ list_text framebuffers.now) }
     ensures fits { FitsResources crtcs.now connectors.now encoders.now framebuffers.now }
-    ensures length { length fields.new ≤ 1022 }
+    ensures length { length fields.old ≤ length fields.new }
 {
     push_counted(fields, crtcs.ids());
     push_counted(fields, connectors.ids());

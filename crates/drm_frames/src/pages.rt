@@ -1,5 +1,5 @@
 //! The rows of an audit as bytes, and bytes as rows.
-ghost use Rattle.std.specs.Prelude.{◌≡◌, ◌+◌, ◌*◌, ◌≤◌, ◌++◌, [], All, length};
+ghost use Rattle.std.specs.Prelude.{◌≡◌, ◌+◌, ◌*◌, ◌≤◌, ◌++◌, All, length};
 ghost use Rattle.std.specs.List.{flat_map};
 ghost use Rattle.drm_frames.specs.Pages.{FitsPage, FitsRow, page_text, row_in, row_text, rows_in};
 
@@ -32,10 +32,10 @@ fn push_rows(fields: &mut FrameBytes, rows: &[AuditRow])
 
 /// Writes the number of rows of a page, and each of them.
 pub(crate) fn push_page(fields: &mut FrameBytes, page: &AuditPage)
-    requires { fields.old ≡ [] }
-    ensures text { fields.new ≡ page_text page.now }
+    requires { length fields.old + 516 ≤ 1028 }
+    ensures text { fields.new ≡ fields.old ++ page_text page.now }
     ensures fits { FitsPage page.now }
-    ensures length { length fields.new ≤ 1022 }
+    ensures length { length fields.old ≤ length fields.new }
 {
     let rows = page.rows();
     fields.push_u32(rows.len() as u32);

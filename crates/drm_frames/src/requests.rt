@@ -8,7 +8,7 @@ ghost use Rattle.drm_frames.specs.Requests.{IsOfRow, WritesCall, request_of};
 
 use crate::fields::{push_fields, read_ids, read_numbers};
 use crate::frame::Frame;
-use crate::text::{FrameBytes, framed};
+use crate::text::FrameBytes;
 use drm_table::{Call, CallKind, Fields, Layout, Width};
 
 /// Returns the call of a kind, if the bytes are exactly numbers of these widths.
@@ -90,7 +90,9 @@ pub fn encode_call(call: &Call) -> FrameBytes
     let Some((kind, fields)) = call.row() else {
         unreachable!()
     };
-    let mut text = FrameBytes::new();
-    push_fields(&mut text, kind.layout(), fields.as_slice());
-    framed(kind.number(), text.as_slice())
+    let mut frame = FrameBytes::new();
+    frame.begin();
+    push_fields(&mut frame, kind.layout(), fields.as_slice());
+    frame.finish(kind.number());
+    frame
 }

@@ -1,7 +1,7 @@
 //! The bytes of a frame as they are built up.
-ghost use Rattle.std.specs.Prelude.{◌≡◌, ◌+◌, ◌≤◌, List, [], ◌++◌, length, ℕ};
+ghost use Rattle.std.specs.Prelude.{◌≡◌, ◌+◌, ◌≤◌, List, [], ◌++◌, drop, length, ℕ};
 ghost use Rattle.drm_frames.specs.Grammar.{frame_text, frame_value};
-ghost use Rattle.drm_frames.specs.Number.{u16, u32, u64};
+ghost use Rattle.drm_frames.specs.Number.{u32, u64};
 
 use arrayvec::ArrayVec;
 use byteorder::{ByteOrder, LittleEndian};
@@ -56,10 +56,22 @@ impl FrameBytes {
         self.bytes.as_slice()
     }
 
-    pub(crate) fn clear(&mut self)
-        ensures { self.new ≡ [] }
+    /// Clears the buffer and leaves room for the head of a frame, 6 bytes. The fields are written after it.
+    pub(crate) fn begin(&mut self)
+        ensures { length self.new ≡ 6 }
     {
         self.bytes.clear();
+        self.push_bytes(&[0; 6]);
+    }
+
+    /// Writes the head of the frame with this number over the room that `begin` left.
+    pub(crate) fn finish(&mut self, number: u16)
+        requires { 6 ≤ length self.old }
+        ensures text { self.new ≡ frame_text (frame_value number (drop 6 self.old)) }
+        ensures length { length self.new ≡ length self.old }
+        ensures short { length self.new ≤ 1028 }
+    {
+        write_head(self.bytes.as_mut_slice(), number);
     }
 
     pub(crate) fn push_bytes(&mut self, bytes: &[u8])
@@ -68,17 +80,6 @@ impl FrameBytes {
         ensures length { length self.new ≡ length self.old + length bytes.now }
     {
         let _ = self.bytes.try_extend_from_slice(bytes);
-    }
-
-    #[tactic(auto, using(crate::proofs::NumberBytes::lengths), unfolding(crate::specs::Number::u16))]
-    pub(crate) fn push_u16(&mut self, number: u16)
-        requires { length self.old + 2 ≤ 1028 }
-        ensures text { self.new ≡ self.old ++ u16 number }
-        ensures length { length self.new ≡ length self.old + 2 }
-    {
-        let mut text = [0; 2];
-        LittleEndian::write_u16(&mut text, number);
-        self.push_bytes(&text);
     }
 
     #[tactic(auto, using(crate::proofs::NumberBytes::lengths), unfolding(crate::specs::Number::u32))]
@@ -104,25 +105,15 @@ impl FrameBytes {
     }
 }
 
-/// Returns the bytes of the frame with a number and fields.
-pub(crate) fn framed(number: u16, fields: &[u8]) -> FrameBytes
-    requires { length fields.now ≤ 1022 }
-    ensures text { result ≡ frame_text (frame_value number fields.now) }
-    ensures length { length result ≡ 6 + length fields.now }
+/// Writes the head of a frame over its first 6 bytes: the length of the number and the fields, and the number.
+#[tactic(auto, unfolding(crate::specs::Number::u16, crate::specs::Number::u32))]
+fn write_head(frame: &mut [u8], number: u16)
+    requires long { 6 ≤ length frame.old }
+    requires short { length frame.old ≤ 1028 }
+    ensures text { frame.new ≡ frame_text (frame_value number (drop 6 frame.old)) }
+    ensures length { length frame.new ≡ length frame.old }
 {
-    let mut text = FrameBytes::new();
-    push_frame(&mut text, number, fields);
-    text
-}
-
-/// Writes the frame with a number and fields.
-pub(crate) fn push_frame(text: &mut FrameBytes, number: u16, fields: &[u8])
-    requires empty { text.old ≡ [] }
-    requires short { length fields.now ≤ 1022 }
-    ensures text { text.new ≡ frame_text (frame_value number fields.now) }
-    ensures length { length text.new ≡ 6 + length fields.now }
-{
-    text.push_u32(2 + fields.len() as u32);
-    text.push_u16(number);
-    text.push_bytes(fields);
+    let length = frame.len() as u32 - 4;
+    LittleEndian::write_u32(frame, length);
+    LittleEndian::write_u16(&mut frame[4..], number);
 }

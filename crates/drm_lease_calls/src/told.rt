@@ -47,20 +47,9 @@ fn leasable(modes: &Modes) -> ShownList
     ensures { result ≡ leasable_ids modes.now.topology }
 {
     modes.laws();
-    let mut list = modes.ids(Kind::Crtc);
-    let planes = modes.ids(Kind::Plane);
-    add_all(&mut list, planes.ids());
-    let connectors = modes.ids(Kind::Connector);
-    add_all(&mut list, connectors.ids());
+    let mut list = ShownList::new();
+    modes.append_ids(Kind::Crtc, &mut list);
+    modes.append_ids(Kind::Plane, &mut list);
+    modes.append_ids(Kind::Connector, &mut list);
     list
-}
-
-/// Adds ids after the others, for which there is room. Does not allocate.
-fn add_all(list: &mut ShownList, ids: &[u32])
-    requires { length list.old + length ids.now ≤ 64 }
-    ensures { list.new ≡ list.old ++ ids.now }
-{
-    for id in ids {
-        list.push(*id);
-    }
 }

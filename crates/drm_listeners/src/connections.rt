@@ -138,7 +138,7 @@ fn serve_attended<R: Wait, D: Gathering>(
     } = visitor;
     let open = shared.open();
     let attendance = open.attend(rt, place, stream.as_raw_fd(), Role::Connection);
-    let ahead = Ahead::new(open.alloc(rt));
+    let ahead = Ahead::new(open.alloc());
     let mut source = FromRead::new(Greeting::new(&stream, &ahead, &attendance));
     let mut sink = ToWrite::new(Answering::new(rt, &stream, &ahead, open.notes()));
     let witness = Reporting::new(rt, open.watch(), open.plan(), class, stream.as_raw_fd());

@@ -5,10 +5,10 @@ ghost use Rattle.drm_state.specs.Callers.{IsPrimaryCaller};
 ghost use Rattle.drm_state.specs.Invariants.{MeetsInvariants};
 ghost use Rattle.drm_state.specs.Refinement.{RefinesReply};
 
-use crate::seeing::{ids_in, view, visible};
+use crate::seeing::{put_ids_in, view, visible};
 use drm_modes::Kind;
 use drm_state::{PrimaryCaller, State};
-use drm_table::Answer;
+use drm_table::{Answer, ShownList};
 
 /// Returns the CRTCs and connectors that the caller sees, all encoders, and its own framebuffers, each list in rising
 /// order (MODE_GETRESOURCES; drm-uapi, mode setting). Does not allocate.
@@ -17,13 +17,16 @@ pub fn get_resources(state: &State, caller: PrimaryCaller, answer: &mut Answer)
     requires caller { IsPrimaryCaller state.now caller }
     ensures { RefinesReply state.now caller.client GetResources answer.new state.now }
 {
+    state.modes.laws();
     let seen = view(state, caller);
-    *answer = Answer::Resources {
-        crtcs: ids_in(&state.modes, seen, Kind::Crtc),
-        connectors: ids_in(&state.modes, seen, Kind::Connector),
-        encoders: state.modes.ids(Kind::Encoder),
-        framebuffers: state.modes.framebuffers_of(caller.client),
-    };
+    let mut crtcs = ShownList::new();
+    let mut connectors = ShownList::new();
+    let mut encoders = ShownList::new();
+    put_ids_in(&state.modes, seen, Kind::Crtc, &mut crtcs);
+    put_ids_in(&state.modes, seen, Kind::Connector, &mut connectors);
+    state.modes.append_ids(Kind::Encoder, &mut encoders);
+    let framebuffers = state.modes.framebuffers_of(caller.client);
+    answer.set_resources(crtcs, connectors, encoders, framebuffers);
 }
 
 /// Returns the planes that the caller sees, in rising order (MODE_GETPLANERESOURCES; drm-uapi, mode setting). Does not

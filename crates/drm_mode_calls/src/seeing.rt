@@ -1,6 +1,6 @@
 //! What a caller sees of the fixed mode objects.
 
-ghost use Rattle.std.specs.Prelude.{◌≡◌, ℕ, IsTrue, filter, true};
+ghost use Rattle.std.specs.Prelude.{◌≡◌, ℕ, [], IsTrue, filter, true};
 ghost use Rattle.drm_leases.specs.Views.{is_in_view};
 ghost use Rattle.drm_leases.specs.declared.views.Controlled.TheVariants.{All};
 ghost use Rattle.drm_modes.specs.Topology.{Topology, ids_of_kind, is_of_kind, mask_over};
@@ -39,24 +39,27 @@ pub(crate) fn sees_object(state: &State, caller: PrimaryCaller, kind: Kind, id: 
 pub(crate) fn visible(state: &State, caller: PrimaryCaller, kind: Kind) -> ShownList
     ensures { result ≡ views.visible state.now caller kind }
 {
-    ids_in(&state.modes, view(state, caller), kind)
+    let mut seen = ShownList::new();
+    put_ids_in(&state.modes, view(state, caller), kind, &mut seen);
+    seen
 }
 
-/// Returns the objects of a kind that are in a view, rising. Does not allocate.
-pub(crate) fn ids_in(modes: &Modes, view: View, kind: Kind) -> ShownList
-    ensures { result ≡ filter (is_in_view modes.now.topology view) (ids_of_kind modes.now.topology kind) }
+/// Puts the objects of a kind that are in a view, rising, into an empty list. Does not allocate.
+pub(crate) fn put_ids_in(modes: &Modes, view: View, kind: Kind, seen: &mut ShownList)
+    requires empty { seen.old ≡ [] }
+    ensures { seen.new ≡ filter (is_in_view modes.now.topology view) (ids_of_kind modes.now.topology kind) }
 {
-    let ids = modes.ids(kind);
     if has_all(view, kind) {
-        return ids;
+        modes.laws();
+        modes.append_ids(kind, seen);
+        return;
     }
-    let mut seen = ShownList::new();
+    let ids = modes.ids(kind);
     for id in ids.ids() {
         if view.sees(modes, *id) {
             seen.push(*id);
         }
     }
-    seen
 }
 
 /// Returns whether a view has all objects of a kind, whatever the topology. May return `false` even so. Does not allocate.

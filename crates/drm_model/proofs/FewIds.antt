@@ -11,17 +11,13 @@ use Rattle.drm_table.specs.declared.events.Event.TheVariants.{Open, Ask, Close}
 use Rattle.drm_table.specs.declared.rules.Rule.{Rule}
 use Rattle.drm_modes.specs.Numbers.{numbers_from}
 use Rattle.drm_modes.specs.Topology.{IsTopology, first_encoder, first_connector, encoder_ids}
+use Rattle.drm_modes.proofs.Ids.{length-numbers_from}
 use Rattle.drm_model.specs.Rows.{Rows, FramebufferRow, framebuffer_row}
 use Rattle.drm_model.specs.Sees.{sees, visible_crtcs, visible_connectors, own_framebuffers}
 use Rattle.drm_model.specs.Modes.{framebuffer_answer}
 use Rattle.drm_model.specs.Calls.{meaning}
 use Rattle.drm_model.specs.Verdict.{verdict}
 use Rattle.drm_model.specs.Reply.{reply, reply_by, answer_of}
-
-length-numbers_from : (first count : ℕ) → length (numbers_from first count) ≡ count
-unfolding numbers_from
-length-numbers_from first zero = refl
-length-numbers_from first (suc count) = ap suc (length-numbers_from (first + 1) count)
 
 seen-few : (w : Rows) (c first count : ℕ) → length (filter (sees w c) (numbers_from first count)) ≤ count
 seen-few w c first count =

@@ -9,9 +9,11 @@ use Rattle.drm_lists.proofs.Rising.{each_is_there}
 use Rattle.drm_index_array.specs.Rows.{InOrder}
 use Rattle.drm_lists.specs.Numbers.{is_among}
 use Rattle.drm_modes.specs.Numbers.{numbers_from}
-use Rattle.drm_modes.specs.Topology.{Topology, are_objects, is_topology, IsTopology, object_count, is_mask, is_encoder, is_crtc, crtc_ids, AreCrtcs}
+use Rattle.drm_modes.specs.declared.kinds.Kind.{Kind}
+use Rattle.drm_modes.specs.declared.kinds.Kind.TheVariants.{Crtc, Plane, Encoder, Connector}
+use Rattle.drm_modes.specs.Topology.{Topology, are_objects, is_topology, IsTopology, object_count, ids_of_kind, first_plane, first_encoder, first_connector, is_mask, is_encoder, is_crtc, crtc_ids, AreCrtcs}
 use Rattle.drm_modes.specs.PlaneKinds.{fits, stands_once, are_kinds}
-use Rattle.drm_modes.proofs.Ids.{is_among-numbers_from}
+use Rattle.drm_modes.proofs.Ids.{is_among-numbers_from, length-numbers_from}
 
 at_most : (a b : ℕ) → nat_le a b ≡ true → a ≤ b
 at_most a b h = grind (arith, nat_tests)
@@ -37,6 +39,13 @@ topology_is t h =
     let fits = and_parts counts (nat_le (object_count t) 64) are.0 in
     let ends = and_parts (nat_le 1 t.crtcs) (nat_le t.crtcs 8) fits.0 in
     record { is = h; one_kind_each = eqb-true (length t.kinds) (length t.planes) one_each.0; some = at_most _ _ ends.0; few_crtcs = at_most _ _ ends.1; few = at_most _ _ fits.1 }
+
+-- The objects of a kind are at most as many as all.
+pub few_of_kind : (t : Topology) → IsTopology t → (kind : Kind) → length (ids_of_kind t kind) ≤ 64
+few_of_kind t is Crtc = omega (arith, is.few, length-numbers_from 1 t.crtcs)
+few_of_kind t is Plane = omega (arith, is.few, length-numbers_from (first_plane t) (length t.planes))
+few_of_kind t is Encoder = omega (arith, is.few, length-numbers_from (first_encoder t) (length t.encoders))
+few_of_kind t is Connector = omega (arith, is.few, length-numbers_from (first_connector t) (length t.connectors))
 
 -- Each number of a run lies between its first number and its end.
 pub within : (first count x : ℕ) → is_among (numbers_from first count) x ≡ true → (first ≤ x) × (x < first + count)

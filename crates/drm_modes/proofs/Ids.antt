@@ -1,10 +1,16 @@
 -- Ids that follow one another.
-use Rattle.std.proofs.Common.{◌≡◌, ℕ, zero, suc, ◌+◌, ◌==◌, nat_lt, false, ◌&&◌, ◌||◌, List, [], ◌∷◌, refl, ap, ◌∙◌, arith}
+use Rattle.std.proofs.Common.{◌≡◌, ℕ, zero, suc, ◌+◌, ◌==◌, nat_lt, false, ◌&&◌, ◌||◌, List, [], ◌∷◌, length, refl, ap, ◌∙◌, arith}
 use Rattle.std.specs.Prelude.{nat_le}
 use Rattle.std.specs.List.{list_all}
 use Rattle.std.proofs.lemmas.Bool.Decides.{nat_tests}
 use Rattle.drm_lists.specs.Numbers.{is_among}
 use Rattle.drm_modes.specs.Numbers.{numbers_from}
+
+-- A run has as many numbers as it is long.
+pub length-numbers_from : (first count : ℕ) → length (numbers_from first count) ≡ count
+unfolding numbers_from
+length-numbers_from first zero = refl
+length-numbers_from first (suc count) = ap suc (length-numbers_from (first + 1) count)
 
 none_between : (first x : ℕ) → false ≡ (nat_le first x && nat_lt x (first + 0))
 none_between first x = grind (arith, nat_tests)

@@ -1,6 +1,6 @@
 //! Framebuffers, and what is shown.
 
-ghost use Rattle.std.specs.Prelude.{◌≡◌, ℕ, ◌==◌, false, ◌≤◌, ◌+◌, ◌↔◌, Some, None, find, slice_get, is_some, true, IsTrue, OnSome, OnErr, IfOk, IfErr, IfSome, IfNone, option_map};
+ghost use Rattle.std.specs.Prelude.{◌≡◌, [], ℕ, ◌==◌, false, ◌≤◌, ◌+◌, ◌++◌, ◌↔◌, Some, None, find, length, slice_get, is_some, true, IsTrue, OnSome, OnErr, IfOk, IfErr, IfSome, IfNone, option_map};
 ghost use Rattle.std.specs.Int.{bit_at};
 ghost use Rattle.std.specs.Option.{option_map_or};
 ghost use Rattle.drm_modes.specs.Topology.{kind_of, ids_of_kind, is_of_kind, encoder_of, reaches, drives, possible_crtcs, plane_kind, crtc_of_plane, planes_of, mask_over, is_crtc, is_plane, is_encoder, object_count, AreCrtcs};
@@ -220,6 +220,29 @@ impl Modes {
         ensures { result ≡ ids_of_kind self.now.topology kind }
     {
         self.topology.ids(kind)
+    }
+
+    /// Appends the ids of the fixed mode objects of a kind (drm-uapi, mode setting), in rising order (own). The list must
+    /// have room for them. Does not allocate.
+    ///
+    /// # Examples
+    ///
+    /// ```rust
+    /// use drm_modes::{Kind, Modes, Topology};
+    /// use drm_table::ShownList;
+    ///
+    /// let alloc = rt.alloc();
+    /// let Some(topology) = Topology::new(2, &[1, 2], &[3, 2], &[5, 6]) else { return };
+    /// let modes = Modes::new(alloc, topology, 4);
+    /// let mut list = ShownList::new();
+    /// modes.append_ids(Kind::Crtc, &mut list);
+    /// assert!(rt; list.ids() == [1, 2].as_slice());
+    /// ```
+    pub fn append_ids(&self, kind: Kind, list: &mut ShownList)
+        requires room { length list.old + length (ids_of_kind self.now.topology kind) ≤ 64 }
+        ensures { list.new ≡ list.old ++ ids_of_kind self.now.topology kind }
+    {
+        self.topology.append_ids(kind, list);
     }
 
     /// Returns the encoder of a connector, or `None` if the id is not that of a connector (drm-uapi, mode setting).

@@ -1,6 +1,6 @@
 //! The fixed mode objects.
 
-ghost use Rattle.std.specs.Prelude.{◌≡◌, ℕ, ◌==◌, true, false, slice_get, ◌<◌, ◌≤◌, ◌+◌, ◌^◌, ◌↔◌, ◌&&◌, nat_le, nat_lt, length, IsTrue, IsSome, IfSome};
+ghost use Rattle.std.specs.Prelude.{◌≡◌, ℕ, [], ◌==◌, true, false, slice_get, ◌<◌, ◌≤◌, ◌+◌, ◌++◌, ◌^◌, ◌↔◌, ◌&&◌, nat_le, nat_lt, length, IsTrue, IsSome, IfSome};
 ghost use Rattle.std.specs.Bool.{OnTrue};
 ghost use Rattle.std.specs.Int.{bit_at};
 ghost use Rattle.std.specs.Option.{option_map_or};
@@ -215,11 +215,36 @@ impl Topology {
         ensures { result ≡ fixed.ids_of_kind self.now kind }
     {
         self.laws();
+        let mut ids = ShownList::new();
+        self.append_ids(kind, &mut ids);
+        ids
+    }
+
+    /// Appends the ids of the objects of a kind, in rising order. The list must have room for them. Does not allocate.
+    ///
+    /// # Examples
+    ///
+    /// ```rust
+    /// use drm_modes::{Kind, Topology};
+    /// use drm_table::ShownList;
+    ///
+    /// let Some(topology) = Topology::new(2, &[1, 2], &[3, 2], &[5, 6]) else { return };
+    /// let mut list = ShownList::new();
+    /// topology.append_ids(Kind::Encoder, &mut list);
+    /// assert!(rt; list.ids() == [5, 6].as_slice());
+    /// ```
+    pub fn append_ids(&self, kind: Kind, list: &mut ShownList)
+        requires room { length list.old + length (fixed.ids_of_kind self.now kind) ≤ 64 }
+        ensures { list.new ≡ list.old ++ fixed.ids_of_kind self.now kind }
+    {
+        self.laws();
         match kind {
-            Kind::Crtc => ids_from(1, self.crtcs),
-            Kind::Plane => ids_from(self.first_plane(), self.planes.len() as u32),
-            Kind::Encoder => ids_from(self.first_encoder(), self.encoders.len() as u32),
-            Kind::Connector => ids_from(self.first_connector(), self.connectors.len() as u32),
+            Kind::Crtc => append_numbers(1, self.crtcs, list),
+            Kind::Plane => append_numbers(self.first_plane(), self.planes.len() as u32, list),
+            Kind::Encoder => append_numbers(self.first_encoder(), self.encoders.len() as u32, list),
+            Kind::Connector => {
+                append_numbers(self.first_connector(), self.connectors.len() as u32, list)
+            }
         }
     }
 
@@ -482,17 +507,15 @@ impl Topology {
     }
 }
 
-/// Returns `count` ids, from the first on.
-fn ids_from(first: u32, count: u32) -> ShownList
-    requires low { 1 ≤ first }
+/// Appends `count` ids, from the first on, for which there is room.
+fn append_numbers(first: u32, count: u32, ids: &mut ShownList)
     requires high { first + count ≤ 65 }
-    ensures { result ≡ numbers_from first count }
+    requires room { length ids.old + length (numbers_from first count) ≤ 64 }
+    ensures { ids.new ≡ ids.old ++ numbers_from first count }
 {
-    let mut ids = ShownList::new();
     for id in first..first + count {
         ids.push(id);
     }
-    ids
 }
 
 /// Returns whether an id is one of `count` ids, from the first on.

@@ -25,6 +25,8 @@ pub fn reads() {
     let _plane_kind: fn(&Modes, u32) -> Option<PlaneKind> = Modes::plane_kind;
     let _fb: fn(&Modes, u32) -> Option<Fb> = Modes::fb;
     let _shown: fn(&Modes, u32) -> u32 = Modes::shown;
+    let _append_ids: fn(&Modes, Kind, &mut ShownList) = Modes::append_ids;
+    let _append_ids_of: fn(&Topology, Kind, &mut ShownList) = Topology::append_ids;
     let _encoder_of: fn(&Modes, u32) -> Option<u32> = Modes::encoder_of;
     let _reaches: fn(&Modes, u32, u32) -> bool = Modes::reaches;
     let _mask: fn(&Modes, u32, &ShownList) -> u32 = Modes::mask;

@@ -22,6 +22,9 @@ pub fn replacements() {
     let _version: fn(&mut Answer, u32, u32, u32) = Answer::set_version;
     let _buffer: fn(&mut Answer, u32, u64) = Answer::set_buffer;
     let _list: fn(&mut Answer, ShownList) = Answer::set_list;
+    let _audit: fn(&mut Answer, AuditPage) = Answer::set_audit;
+    let _resources: fn(&mut Answer, ShownList, ShownList, ShownList, ShownList) =
+        Answer::set_resources;
     let _denied: fn(&mut Answer, Rule) = Answer::set_denied;
     let _fault: fn(Apart, &mut Result<Answer, Apart>) = Apart::replace;
 }

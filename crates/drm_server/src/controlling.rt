@@ -94,7 +94,7 @@ fn drain<R: Wait>(rt: &R, stream: &UnixStream) {
 /// Answers the control lines of a connection until it ends, or all connections were asked to end.
 fn answer<R: Wait>(rt: &R, open: &OpenConnections, plan: &Plan, place: usize, stream: UnixStream) {
     let _attendance = open.attend(rt, place, stream.as_raw_fd(), Role::Listener);
-    let Ok(mut lines) = Lines::new(open.alloc(rt), plan) else {
+    let Ok(mut lines) = Lines::new(open.alloc(), plan) else {
         return;
     };
     for _ in rt.forever() {

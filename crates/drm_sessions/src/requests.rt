@@ -30,37 +30,30 @@ struct Answered {
     wrote: Result<(), SessionEnd>,
 }
 
-/// The place in which the answers of a session are made, one after the other.
-#[derive(Drop)]
-struct Desk {
-    outcome: Result<Answer, Apart>,
-    text: AnswerText,
-}
-
-// Makes the call of an event, and writes its answer, which is made on the desk.
+// Makes the call of an event, and writes its answer. Both are made in places that serve for all requests.
 fn answer_call<A: Access, K: Sink>(
     access: &mut A,
     sink: &mut K,
     turns: &mut u64,
-    desk: &mut Desk,
+    outcome: &mut Result<Answer, Apart>,
+    text: &mut AnswerText,
     event: &Event,
 ) -> Answered
     requires { (K.trace sink.old).counts.calls + turns.old < 2 ^ 48 }
-    ensures { (outcome : CallResult)
-        × A.answers access.old event.now outcome access.new
-        × (result.steps ≡ one_if_journaled outcome)
-        × Wrote result.wrote (K.trace sink.old) (K.trace sink.new) (answer_text outcome)
-        turns.old turns.new
-        × (0 < length (answer_text outcome)) }
+    ensures answers { A.answers access.old event.now outcome.new access.new }
+    ensures steps { result.steps ≡ one_if_journaled outcome.new }
+    ensures wrote { Wrote result.wrote (K.trace sink.old) (K.trace sink.new) (answer_text outcome.new) turns.old turns.new }
+    ensures some { 0 < length (answer_text outcome.new) }
 {
-    access.call_at(event, &mut desk.outcome);
-    desk.text.write(&desk.outcome);
-    let wrote = write_answer(sink, desk.text.as_slice(), turns);
-    let steps = if desk.outcome.is_ok() { 1 } else { 0 };
+    access.call_at(event, outcome);
+    text.write(outcome);
+    let wrote = write_answer(sink, text.as_slice(), turns);
+    let steps = if outcome.is_ok() { 1 } else { 0 };
     Answered { steps, wrote }
 }
 
-/// Answers a client's requests until the input ends or something fails.
+/// Answers a client's requests until the input ends or something fails. What results from each replaces the outcome, and
+/// its frame replaces the text.
 pub(crate) fn answer_requests<A: Access, G: Gate, S: Source, K: Sink>(
     access: &mut A,
     gate: &mut G,
@@ -69,6 +62,8 @@ pub(crate) fn answer_requests<A: Access, G: Gate, S: Source, K: Sink>(
     inbox: &mut Inbox,
     turns: &mut u64,
     client: u32,
+    outcome: &mut Result<Answer, Apart>,
+    text: &mut AnswerText,
 ) -> Stopped
     requires source { (S.trace source.old).counts.calls + turns.old < 2 ^ 48 }
     requires sink { (K.trace sink.old).counts.calls + turns.old < 2 ^ 48 }
@@ -83,10 +78,6 @@ pub(crate) fn answer_requests<A: Access, G: Gate, S: Source, K: Sink>(
         (K.trace sink.old).counts (K.trace sink.new).counts }
     ensures few { result.steps ≤ turns.old + 1 }
 {
-    let mut desk = Desk {
-        outcome: Ok(Answer::Done),
-        text: AnswerText::new(),
-    };
     let mut steps = 0;
     'asking: loop {
         let call = match next_message::<Call, S>(source, inbox, turns) {
@@ -95,7 +86,7 @@ pub(crate) fn answer_requests<A: Access, G: Gate, S: Source, K: Sink>(
         };
         gate.before(client);
         let event = Event::Ask(client, call);
-        let answered = answer_call(access, sink, turns, &mut desk, &event);
+        let answered = answer_call(access, sink, turns, outcome, text, &event);
         steps += answered.steps;
         if let Err(end) = answered.wrote {
             return Stopped { end, steps };

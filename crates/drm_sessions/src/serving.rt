@@ -3,7 +3,7 @@
 ghost use Rattle.std.specs.Prelude.{◌≡◌, ◌^◌, ◌+◌, ◌<◌, ◌≤◌, ◌∷◌, [], Ok};
 ghost use Rattle.drm_table.specs.declared.events.Event.TheVariants.{Close};
 ghost use Rattle.drm_table.specs.declared.answers.Answer.TheVariants.{Opened};
-ghost use Rattle.drm_frames.specs.Answers.{CallResult, answer_text};
+ghost use Rattle.drm_frames.specs.Answers.{answer_text};
 ghost use Rattle.drm_sessions.specs.Gates.{Gated, LetsAllPass};
 ghost use Rattle.drm_sessions.specs.Runs.{one_if_journaled};
 ghost use Rattle.drm_sessions.specs.Ends.{Ends, EndsClosed, IoCost, Refuses, Shows, Tells, TellsStop};
@@ -18,9 +18,9 @@ use crate::opening::opening_of;
 use crate::reading::next_message;
 use crate::requests::{Stopped, answer_requests};
 use crate::writing::write_answer;
-use drm_frames::{Hello, encode_answer};
+use drm_frames::{AnswerText, Hello};
 use drm_streams::{Sink, Source};
-use drm_table::{Apart, Event, Opening};
+use drm_table::{Answer, Apart, Event, Opening};
 
 // Writes the answer to an opening that was accepted, and answers the client's requests.
 fn serve_client<A: Access, G: Gate, S: Source, K: Sink>(
@@ -31,11 +31,12 @@ fn serve_client<A: Access, G: Gate, S: Source, K: Sink>(
     inbox: &mut Inbox,
     turns: &mut u64,
     client: u32,
-    said: &[u8],
+    outcome: &mut Result<Answer, Apart>,
+    text: &mut AnswerText,
 ) -> Stopped
     requires source { (S.trace source.old).counts.calls + turns.old < 2 ^ 48 }
     requires sink { (K.trace sink.old).counts.calls + turns.old < 2 ^ 48 }
-    requires said { said.now ≡ answer_text (Ok (Opened client)) }
+    requires said { text.old ≡ answer_text (Ok (Opened client)) }
     ensures ends { Ends (Gated A.answers G.passes) client (access.old, gate.old) (access.new, gate.new)
         (S.trace source.old) (S.trace source.new) (K.trace sink.old) (K.trace sink.new)
         (Ok (Opened client) ∷ []) inbox.old result.steps result.end }
@@ -47,20 +48,28 @@ fn serve_client<A: Access, G: Gate, S: Source, K: Sink>(
         (K.trace sink.old).counts (K.trace sink.new).counts }
     ensures few { result.steps ≤ turns.old + 1 }
 {
-    match write_answer(sink, said, turns) {
-        Ok(()) => answer_requests(access, gate, source, sink, inbox, turns, client),
+    match write_answer(sink, text.as_slice(), turns) {
+        Ok(()) => answer_requests(
+            access, gate, source, sink, inbox, turns, client, outcome, text,
+        ),
         Err(end) => Stopped { end, steps: 0 },
     }
 }
 
-// Makes the one closing of a client, whose opening was one step.
-fn close_client<A: Access>(access: &mut A, client: u32, stopped: Stopped) -> Session
+// Makes the one closing of a client, whose opening was one step. What results from it replaces the outcome.
+fn close_client<A: Access>(
+    access: &mut A,
+    client: u32,
+    stopped: Stopped,
+    outcome: &mut Result<Answer, Apart>,
+) -> Session
     requires { stopped.steps < 2 ^ 63 }
-    ensures { (outcome : CallResult) × A.answers access.old (Close client) outcome access.new
-        × (result.client ≡ client) × (result.steps ≡ 1 + (stopped.steps + one_if_journaled outcome))
-        × EndsClosed stopped.end outcome result.end }
+    ensures answers { A.answers access.old (Close client) outcome.new access.new }
+    ensures client { result.client ≡ client }
+    ensures steps { result.steps ≡ 1 + (stopped.steps + one_if_journaled outcome.new) }
+    ensures closed { EndsClosed stopped.end outcome.new result.end }
 {
-    let outcome = access.call(Event::Close(client));
+    access.call_at(&Event::Close(client), outcome);
     let steps = if outcome.is_ok() { 1 } else { 0 };
     let end = match outcome {
         Err(Apart::Worn) => SessionEnd::Apart(Apart::Worn),
@@ -122,16 +131,33 @@ fn run_session<A: Access, G: Gate, S: Source, K: Sink>(
     ensures tells { TellsStop result.end (S.trace source.old).counts (S.trace source.new).counts
         (K.trace sink.old).counts (K.trace sink.new).counts }
 {
-    let outcome = access.call(Event::Open(opening));
-    let text = encode_answer(&outcome);
-    let said = text.as_slice();
+    let mut outcome = Ok(Answer::Done);
+    access.call_at(&Event::Open(opening), &mut outcome);
+    let mut text = AnswerText::new();
+    text.write(&outcome);
     match read_opening(&outcome) {
         Accepted::Client(client) => {
-            let stopped = serve_client(access, gate, source, sink, inbox, turns, client, said);
-            close_client(access, client, stopped)
+            let stopped = serve_client(
+                access,
+                gate,
+                source,
+                sink,
+                inbox,
+                turns,
+                client,
+                &mut outcome,
+                &mut text,
+            );
+            close_client(access, client, stopped, &mut outcome)
         }
-        Accepted::Denied(rule) => refuse(sink, turns, said, SessionEnd::OpenRefused(rule), 1),
-        Accepted::Apart(apart) => refuse(sink, turns, said, SessionEnd::Apart(apart), 0),
+        Accepted::Denied(rule) => {
+            let end = SessionEnd::OpenRefused(rule);
+            refuse(sink, turns, text.as_slice(), end, 1)
+        }
+        Accepted::Apart(apart) => {
+            let end = SessionEnd::Apart(apart);
+            refuse(sink, turns, text.as_slice(), end, 0)
+        }
     }
 }
 

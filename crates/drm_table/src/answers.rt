@@ -212,6 +212,73 @@ impl Answer {
         }
     }
 
+    /// Replaces the answer by [`Answer::Audit`] with this page. Does not allocate.
+    ///
+    /// # Examples
+    ///
+    /// ```rust
+    /// use drm_table::{Answer, AuditPage, AuditRow};
+    ///
+    /// let mut page = AuditPage::new();
+    /// page.push(AuditRow { a: 1, b: 2, c: 3, d: 4 });
+    /// let mut answer = Answer::Closed;
+    /// answer.set_audit(page);
+    /// assert!(rt; matches!(answer, Answer::Audit { page } if page.rows().len() == 1));
+    /// ```
+    pub fn set_audit(&mut self, page: AuditPage)
+        ensures audit { self.new ≡ answers.Audit page }
+    {
+        match self {
+            Answer::Audit { page: place } => *place = page,
+            _ => *self = Answer::Audit { page },
+        }
+    }
+
+    /// Replaces the answer by [`Answer::Resources`] with these ids. Does not allocate.
+    ///
+    /// # Examples
+    ///
+    /// ```rust
+    /// use drm_table::{Answer, ShownList};
+    ///
+    /// let mut crtcs = ShownList::new();
+    /// crtcs.push(1);
+    /// let mut answer = Answer::Closed;
+    /// answer.set_resources(crtcs, ShownList::new(), ShownList::new(), ShownList::new());
+    /// assert!(rt; matches!(answer, Answer::Resources { crtcs, .. } if crtcs.ids() == [1].as_slice()));
+    /// ```
+    pub fn set_resources(
+        &mut self,
+        crtcs: ShownList,
+        connectors: ShownList,
+        encoders: ShownList,
+        framebuffers: ShownList,
+    )
+        ensures resources { self.new ≡ answers.Resources crtcs connectors encoders framebuffers }
+    {
+        match self {
+            Answer::Resources {
+                crtcs: first,
+                connectors: second,
+                encoders: third,
+                framebuffers: fourth,
+            } => {
+                *first = crtcs;
+                *second = connectors;
+                *third = encoders;
+                *fourth = framebuffers;
+            }
+            _ => {
+                *self = Answer::Resources {
+                    crtcs,
+                    connectors,
+                    encoders,
+                    framebuffers,
+                }
+            }
+        }
+    }
+
     /// Replaces the answer by [`Answer::Denied`] with this rule. Does not allocate.
     ///
     /// # Examples

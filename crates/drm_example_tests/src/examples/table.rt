@@ -117,6 +117,25 @@ fn answer(rt: HostRuntime) {
     let mut answer = Answer::Closed;
     answer.set_list(list);
     assert!(rt; matches!(answer, Answer::List { list } if list.ids() == [3].as_slice()));
+}
+
+#[test]
+fn answer_from_set_audit(rt: HostRuntime) {
+    let mut page = AuditPage::new();
+    page.push(AuditRow {
+        a: 1,
+        b: 2,
+        c: 3,
+        d: 4,
+    });
+    let mut answer = Answer::Closed;
+    answer.set_audit(page);
+    assert!(rt; matches!(answer, Answer::Audit { page } if page.rows().len() == 1));
+    let mut crtcs = ShownList::new();
+    crtcs.push(1);
+    let mut answer = Answer::Closed;
+    answer.set_resources(crtcs, ShownList::new(), ShownList::new(), ShownList::new());
+    assert!(rt; matches!(answer, Answer::Resources { crtcs, .. } if crtcs.ids() == [1].as_slice()));
     let mut answer = Answer::Closed;
     answer.set_denied(Rule::Full);
     assert!(rt; answer == Answer::Denied(Rule::Full));

@@ -166,6 +166,32 @@ fn modes_from_kind(rt: HostRuntime) {
     assert!(rt; framebuffer > modes.object_count());
     assert!(rt; modes.is_of_kind(Kind::Crtc, 2));
     assert!(rt; modes.ids(Kind::Connector).ids() == [7, 8].as_slice());
+    let Some(topology) = Topology::new(2, &[1, 2], &[3, 2], &[5, 6]) else {
+        panic!(rt; "refused")
+    };
+    let modes = Modes::new(alloc, topology, 4);
+    let mut list = ShownList::new();
+    modes.append_ids(Kind::Crtc, &mut list);
+    assert!(rt; list.ids() == [1, 2].as_slice());
+}
+
+#[test]
+fn modes_from_encoder_of(rt: HostRuntime) {
+    let alloc = rt.alloc();
+    let Some(topology) = Topology::new(2, &[1, 2], &[3, 2], &[5, 6]) else {
+        panic!(rt; "refused")
+    };
+    let mut modes = Modes::new(alloc, topology, 4);
+    let shape = Shape {
+        width: 640,
+        height: 480,
+        pitch: 2560,
+        bpp: 32,
+    };
+    let object = ObjectKey::from_number(7);
+    let Ok(framebuffer) = modes.addfb(1, shape, object) else {
+        panic!(rt; "refused")
+    };
     assert!(rt; modes.encoder_of(8) == Some(6));
     assert!(rt; modes.plane_kind(4) == Some(PlaneKind::Overlay));
     assert!(rt; modes.crtc_of_plane(4).is_none());
@@ -238,6 +264,9 @@ fn topology_topologies(rt: HostRuntime) {
     assert!(rt; topology.kind(3) == Some(Kind::Plane) && topology.kind(9).is_none());
     assert!(rt; topology.is_of_kind(Kind::Connector, 7));
     assert!(rt; topology.ids(Kind::Encoder).ids() == [5, 6].as_slice());
+    let mut list = ShownList::new();
+    topology.append_ids(Kind::Encoder, &mut list);
+    assert!(rt; list.ids() == [5, 6].as_slice());
     assert!(rt; topology.object_count() == 8);
     assert!(rt; topology.scanout_count() == 4);
     assert!(rt; topology.possible_crtcs(5) == 3);

@@ -121,25 +121,25 @@ opens_none s t h e = by_token (token_master s.leases.tokens t) refl e
 
 pub returns-in_default-clause-refines : goal.returns-in_default-clause-refines
 unfolding Refines opening_checks
-returns-in_default-clause-refines c = λ w s.
+returns-in_default-clause-refines c = rw c.set_denied.ensures.denied (λ w s.
     let old = c.args.state.now in
     let none : is_some (lease_master w c.args.token) ≡ false =
     ap is_some
     (not_leased w old.leases.tokens old.masters.masters c.args.token (masters_are old w s.rows) (no_token old.leases.tokens c.args.token (opens_none old c.args.token c.requires.invariants (sym c.in_default.is ∙ c.token_master.ensures))))
     in
     denied old w (Open (Lease c.args.token c.args.root c.args.universal)) NoLeaseToken
-    (opening_verdict w (Lease c.args.token c.args.root c.args.universal) ∙ rw none refl) s.rows
+    (opening_verdict w (Lease c.args.token c.args.root c.args.universal) ∙ rw none refl) s.rows)
 
 pub returns-then-is_full-clause-refines : goal.returns-then-is_full-clause-refines
 unfolding Refines opening_checks
-returns-then-is_full-clause-refines c = λ w s.
+returns-then-is_full-clause-refines c = rw c.set_denied-then-is_full.ensures.denied (λ w s.
     let old = c.args.state.now in
     let full = client_room old w s.rows ∙ ap not (sym c.is_full.ensures.full ∙ c.if-is_full.true) in
     let there =
     (let o = opens_by old c.args.token c.in-Some.lessee c.requires.invariants (sym c.in-Some.is ∙ c.token_master.ensures) in leased_yet old w c.args.token o.0 c.requires.invariants o.1 s.rows)
     in
     denied old w (Open (Lease c.args.token c.args.root c.args.universal)) Full
-    (opening_verdict w (Lease c.args.token c.args.root c.args.universal) ∙ rw there (rw full refl)) s.rows
+    (opening_verdict w (Lease c.args.token c.args.root c.args.universal) ∙ rw there (rw full refl)) s.rows)
 
 pub returns-in_err-open_file-clause-refines : goal.returns-in_err-open_file-clause-refines
 unfolding Refines changed opened

@@ -48,10 +48,10 @@ flags root universal opener = record (new_flags false root universal) { authenti
 
 pub returns-then-is_full-clause-refines : goal.returns-then-is_full-clause-refines
 unfolding Refines opening_checks
-returns-then-is_full-clause-refines c = λ w s.
+returns-then-is_full-clause-refines c = rw c.set_denied.ensures.denied (λ w s.
     let full = client_room c.args.state.now w s.rows ∙ ap not (sym c.is_full.ensures.full ∙ c.if-is_full.true) in
     denied c.args.state.now w (Open (Primary c.args.root c.args.universal)) Full
-    (opening_verdict w (Primary c.args.root c.args.universal) ∙ rw full refl) s.rows
+    (opening_verdict w (Primary c.args.root c.args.universal) ∙ rw full refl) s.rows)
 
 pub returns-in_err-open_file-clause-refines : goal.returns-in_err-open_file-clause-refines
 unfolding Refines changed opened

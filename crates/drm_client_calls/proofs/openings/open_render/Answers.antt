@@ -31,9 +31,9 @@ accepted w room = opening_verdict w Render ∙ rw room refl
 
 pub returns-then-is_full-clause-refines : goal.returns-then-is_full-clause-refines
 unfolding Refines opening_checks
-returns-then-is_full-clause-refines c = λ w s.
+returns-then-is_full-clause-refines c = rw c.set_denied.ensures.denied (λ w s.
     let full = client_room c.args.state.now w s.rows ∙ ap not (sym c.is_full.ensures.full ∙ c.if-is_full.true) in
-    denied c.args.state.now w (Open Render) Full (opening_verdict w Render ∙ rw full refl) s.rows
+    denied c.args.state.now w (Open Render) Full (opening_verdict w Render ∙ rw full refl) s.rows)
 
 pub returns-in_err-open_file-clause-refines : goal.returns-in_err-open_file-clause-refines
 unfolding Refines changed opened

@@ -12,9 +12,9 @@ use Rattle.drm_device.proofs.audits.audit.Goals as goal
 
 pub returns : goal.returns
 unfolding RefinesCall IsPage meaning changed answer_of
-returns c = λ client w s a.
+returns c = rw c.set_audit.ensures.audit (λ client w s a.
     let page =
     c.page_of.ensures w
     (record { rows = s.rows; step_numbers = s.step_numbers; steps_are = omega (arith, s.step_number_is) }) in
     carried_on c.args.state.now w (Ask client (Audit c.args.kind c.args.from)) (answers.Audit c.page_of.result)
-    c.requires.invariants (call_verdict w client (Audit c.args.kind c.args.from) a) (ap answers.Audit page) s.rows
+    c.requires.invariants (call_verdict w client (Audit c.args.kind c.args.from) a) (ap answers.Audit page) s.rows)

@@ -1,8 +1,8 @@
-use Rattle.std.proofs.Common.{ap, sym, ◌∙◌, slice_get}
+use Rattle.std.proofs.Common.{Some, ap, sym, ◌∙◌, slice_get}
 use Rattle.std.specs.FinMap as fin
 use Rattle.drm_index_array.proofs.Least.{least_some}
 use Rattle.drm_files.specs.Records.{rows_in}
-use Rattle.drm_files.proofs.Walks.{from_none, from_least, least_there}
+use Rattle.drm_files.proofs.Walks.{from_none, from_least}
 use Rattle.drm_files.proofs.After.{first_row}
 use Rattle.drm_files.proofs.lists.first_held.Goals as goal
 
@@ -12,18 +12,13 @@ returns-in_err-handle c =
     c.from_residual.ensures
     ∙ sym (first_row c.args.client c.args.from (fin.entries m) ∙ ap (λ es. slice_get (rows_in c.args.client es) 0) (from_none m c.args.from c.in_err-handle.ensures.none_above))
 
-pub unreachable-requires : goal.unreachable-requires
-unreachable-requires c =
-    let h = c.in_ok-handle.handle in
-    least_there c.args.table.now.slots c.args.from 4294967295 h
-    (least_some _ c.args.from 4294967295 h (sym c.in_ok-handle.ensures.least)) c.in_default.ensures.value
-
 pub returns : goal.returns
 returns c =
     let m = c.args.table.now.slots in
     let h = c.in_ok-handle.handle in
     let first =
-    from_least m c.args.from 4294967295 h c.in-Some.held.now
-    (least_some _ c.args.from 4294967295 h (sym c.in_ok-handle.ensures.least)) (sym c.in-Some.ensures.value) in
-    sym
+    from_least m c.args.from 4294967295 h c.in_ok-handle.held.now
+    (least_some _ c.args.from 4294967295 h c.in_ok-handle.ensures.least) c.in_ok-handle.ensures.held in
+    ap Some c.hold_of.ensures
+    ∙ sym
     (first_row c.args.client c.args.from (fin.entries m) ∙ ap (λ es. slice_get (rows_in c.args.client es) 0) first)

@@ -1,4 +1,4 @@
-use Rattle.std.proofs.Common.{◌-◌, ap, sym, ◌∙◌, slice_get, option_map}
+use Rattle.std.proofs.Common.{◌-◌, Some, ap, sym, ◌∙◌, slice_get, option_map}
 use Rattle.std.specs.FinMap as fin
 use Rattle.drm_files.specs.declared.files.Held.{Held}
 use Rattle.drm_files.specs.Files.{hold}
@@ -26,4 +26,4 @@ returns-clause-ok c = λ rest.
     let here =
     sym (handle_at c.args.client m c.args.position) ∙ ap (held_named c.args.client m) (sym c.in-Some.ensures.nth) in
     at_front (rows_in c.args.client (fin.entries m)) rest c.args.position _
-    (here ∙ ap (option_map (λ (x : Held). hold c.args.client c.in-Some.handle x.object x.export_order)) (sym c.in-Some-get.ensures.value))
+    (here ∙ ap (option_map (λ (x : Held). hold c.args.client c.in-Some.handle x.object x.export_order)) (sym c.in-Some-get.ensures.value) ∙ ap Some (sym c.hold_of.ensures))

@@ -1,29 +1,33 @@
-use Rattle.std.proofs.Common.{◌≡◌, ℕ, zero, suc, ◌+◌, length, refl, ap, ◌∙◌, arith, length-append}
-use Rattle.drm_modes.specs.Numbers.{numbers_from}
-use Rattle.drm_modes.specs.Topology.{first_plane, first_connector}
+use Rattle.std.proofs.Common.{◌+◌, length, ap, ◌∙◌, arith, length-append}
+use Rattle.drm_modes.specs.Topology.{first_plane, first_connector, crtc_ids, plane_ids}
+use Rattle.drm_modes.proofs.Ids.{length-numbers_from}
 use Rattle.drm_lease_calls.proofs.told.leasable.Goals as goal
 
-counted : (first count : ℕ) → length (numbers_from first count) ≡ count
-unfolding numbers_from
-counted first zero = refl
-counted first (suc count) = ap suc (counted (first + 1) count)
-
-pub add_all-requires : goal.add_all-requires
-add_all-requires c =
+pub append_ids-requires : goal.append_ids-requires
+append_ids-requires c =
     let t = c.args.modes.now.topology in
-    let few = c.laws.ensures.topology.few in
-    let crtcs = ap length c.ids-list.ensures ∙ counted 1 t.crtcs in
-    let planes = ap length (c.ids.ensures.ids ∙ c.ids-planes.ensures) ∙ counted (first_plane t) (length t.planes) in
-    omega (arith, few, crtcs, planes)
+    let none = ap length c.new-list.ensures in
+    record { room = omega (arith, c.laws.ensures.topology.few, none, length-numbers_from 1 t.crtcs) }
 
-pub add_all-requires-2 : goal.add_all-requires-2
-add_all-requires-2 c =
+pub append_ids-requires-2 : goal.append_ids-requires-2
+append_ids-requires-2 c =
     let t = c.args.modes.now.topology in
-    let few = c.laws.ensures.topology.few in
-    let crtcs = ap length c.ids-list.ensures ∙ counted 1 t.crtcs in
-    let planes = ap length (c.ids.ensures.ids ∙ c.ids-planes.ensures) ∙ counted (first_plane t) (length t.planes) in
-    let both = ap length c.add_all.ensures ∙ length-append c.ids-list.result c.ids.result.now in
-    let connectors =
-    ap length (c.ids-2.ensures.ids ∙ c.ids-connectors.ensures)
-    ∙ counted (first_connector t) (length t.connectors) in
-    omega (arith, few, crtcs, planes, both, connectors)
+    let none = ap length c.new-list.ensures in
+    let crtcs = ap length c.append_ids.ensures ∙ length-append c.new-list.result (crtc_ids t) in
+    record {
+      room =
+          omega
+          (arith, c.laws.ensures.topology.few, none, crtcs, length-numbers_from 1 t.crtcs, length-numbers_from (first_plane t) (length t.planes));
+    }
+
+pub append_ids-requires-3 : goal.append_ids-requires-3
+append_ids-requires-3 c =
+    let t = c.args.modes.now.topology in
+    let none = ap length c.new-list.ensures in
+    let crtcs = ap length c.append_ids.ensures ∙ length-append c.new-list.result (crtc_ids t) in
+    let planes = ap length c.append_ids-2.ensures ∙ length-append c.append_ids.new.list (plane_ids t) in
+    record {
+      room =
+          omega
+          (arith, c.laws.ensures.topology.few, none, crtcs, planes, length-numbers_from 1 t.crtcs, length-numbers_from (first_plane t) (length t.planes), length-numbers_from (first_connector t) (length t.connectors));
+    }

@@ -20,29 +20,29 @@ returns-in-Err-clause-tells g c =
 pub returns-in-Err-wrote-clause-ends : goal.returns-in-Err-wrote-clause-ends
 returns-in-Err-wrote-clause-ends g c =
     let answered = c.answer_call-answered.ensures in
-    let wrote = rw c.in-Err-wrote.is at answered.3 in
-    let made = rw c.in-Ok.ensures.2 at answered.1 in
+    let wrote = rw c.in-Err-wrote.is at answered.wrote in
+    let made = rw c.in-Ok.ensures.2 at answered.answers in
     stopped-writing (Gated g.A.Access.answers g.G.Gate.passes) _ _ c.asking.invariant.0 c.in-Ok.ensures.1
-    (made, c.before-in-asking.ensures.passes) answered.2 wrote.0 wrote.1 wrote.2
+    (made, c.before-in-asking.ensures.passes) answered.steps wrote.0 wrote.1 wrote.2
 
 pub returns-in-Err-wrote-clause-tells : goal.returns-in-Err-wrote-clause-tells
 returns-in-Err-wrote-clause-tells g c =
     let answered = c.answer_call-answered.ensures in
-    let wrote = rw c.in-Err-wrote.is at answered.3 in
+    let wrote = rw c.in-Err-wrote.is at answered.wrote in
     tells-write _ _ _ _ wrote.1 (Untold-then c.asking.invariant.3 c.in-Ok.ensures.1.untold) c.asking.invariant.4 wrote.3
 
 pub asking-preserved : goal.asking-preserved
 asking-preserved g c =
     let answered = c.answer_call-answered.ensures in
-    let wrote = rw c.in_default.is at answered.3 in
-    let journaled = answered.2 in
-    let few = one_if_journaled-at-most answered.0 in
-    let less = wrote.1 answered.4 in
+    let wrote = rw c.in_default.is at answered.wrote in
+    let journaled = answered.steps in
+    let few = one_if_journaled-at-most c.answer_call-answered.new.outcome in
+    let less = wrote.1 answered.some in
     let spent = c.in-Ok.ensures.1.spends in
-    let made = rw c.in-Ok.ensures.2 at answered.1 in
+    let made = rw c.in-Ok.ensures.2 at answered.answers in
     let so_far = c.asking.invariant.2 in (
       SoFar-more (Gated g.A.Access.answers g.G.Gate.passes) _ c.asking.invariant.0 c.in-Ok.ensures.1
-          (made, c.before-in-asking.ensures.passes) answered.2 wrote.0,
+          (made, c.before-in-asking.ensures.passes) answered.steps wrote.0,
       IoCost-then c.asking.invariant.1 (IoCost-then (IoCost-read _ c.in-Ok.ensures.1.spends) (IoCost-write _ wrote.0)),
       omega arith,
       Untold-then c.asking.invariant.3 c.in-Ok.ensures.1.untold,

@@ -1,6 +1,6 @@
 use Rattle.std.proofs.Common.{◌≡◌, ◌≤◌, ◌++◌, filter, drop, length}
 use Rattle.drm_leases.specs.Views.{is_in_view}
-use Rattle.drm_mode_calls.proofs.seeing.ids_in.Given as goal
+use Rattle.drm_mode_calls.proofs.seeing.put_ids_in.Given as goal
 
 -- those so far, and those to come
 abbrev pub invariant-loop-id : goal.invariant-loop-id
