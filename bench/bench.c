@@ -481,26 +481,41 @@ static void print_trips(struct measured *rounds, int count) {
 static const int connections[] = {1, 4, 16, 64};
 #define COUNTS (sizeof connections / sizeof *connections)
 
+/* The rounds of two, one after the other in turn, and the ratios of the second's requests per second to the first's, rising. */
+struct compared {
+    struct measured first[MOST_TRIP_ROUNDS], second[MOST_TRIP_ROUNDS];
+    double ratios[MOST_TRIP_ROUNDS], ratio;
+};
+
+static void compare(struct compared *found, struct place *place, enum measurable first, enum measurable second, int connections,
+                    long requests, int count) {
+    for (int round = 0; round < count; round++) {
+        found->first[round] = measure_one(place, first, connections, requests, NULL);
+        found->second[round] = measure_one(place, second, connections, requests, NULL);
+        found->ratios[round] = found->second[round].per_second / found->first[round].per_second;
+    }
+    found->ratio = median_of(found->ratios, count);
+}
+
+static void print_ratios(const struct compared *found, int count) {
+    printf("  %10.2f %6.2f %5.2f\n", found->ratio, found->ratios[0], found->ratios[count - 1]);
+    fflush(stdout);
+}
+
 /* Round trips beside those of an echo, for each count of connections. */
 static void load_of_round_trips(struct place *place, long requests, int count) {
     printf("%11s  %39s  %39s  %s\n", "", "drm_server", "echo", "server / echo");
     printf("connections  requests/s 50%% us  99%% us switch  futex  requests/s 50%% us  99%% us switch  futex  requests/s  least  most\n");
     fflush(stdout);
     for (size_t i = 0; i < COUNTS; i++) {
-        struct measured plain[MOST_TRIP_ROUNDS], served[MOST_TRIP_ROUNDS];
-        double ratios[MOST_TRIP_ROUNDS];
-        for (int round = 0; round < count; round++) {
-            plain[round] = measure_one(place, ECHO, connections[i], requests, NULL);
-            served[round] = measure_one(place, SERVER, connections[i], requests, NULL);
-            ratios[round] = served[round].per_second / plain[round].per_second;
-        }
-        double ratio = median_of(ratios, count);
+        struct compared found;
+        compare(&found, place, ECHO, SERVER, connections[i], requests, count);
         printf("%11d", connections[i]);
-        print_trips(served, count);
+        print_trips(found.second, count);
         printf(" %6s", futexes_of(place, SERVER, connections[i]));
-        print_trips(plain, count);
-        printf(" %6s  %10.2f %6.2f %5.2f\n", futexes_of(place, ECHO, connections[i]), ratio, ratios[0], ratios[count - 1]);
-        fflush(stdout);
+        print_trips(found.first, count);
+        printf(" %6s", futexes_of(place, ECHO, connections[i]));
+        print_ratios(&found, count);
     }
 }
 
@@ -515,19 +530,12 @@ static void load_of_traces(struct place *place, long requests, int count) {
     printf("connections  requests/s 50%% us  99%% us  requests/s 50%% us  99%% us  requests/s  least  most\n");
     fflush(stdout);
     for (size_t i = 0; i < COUNTS; i++) {
-        struct measured plain[MOST_TRIP_ROUNDS], traced[MOST_TRIP_ROUNDS];
-        double ratios[MOST_TRIP_ROUNDS];
-        for (int round = 0; round < count; round++) {
-            plain[round] = measure_one(place, SERVER, connections[i], requests, NULL);
-            traced[round] = measure_one(place, TRACING, connections[i], requests, NULL);
-            ratios[round] = traced[round].per_second / plain[round].per_second;
-        }
-        double ratio = median_of(ratios, count);
+        struct compared found;
+        compare(&found, place, SERVER, TRACING, connections[i], requests, count);
         printf("%11d", connections[i]);
-        print_rate(plain, count);
-        print_rate(traced, count);
-        printf("  %10.2f %6.2f %5.2f\n", ratio, ratios[0], ratios[count - 1]);
-        fflush(stdout);
+        print_rate(found.first, count);
+        print_rate(found.second, count);
+        print_ratios(&found, count);
     }
 }
 
