@@ -243,6 +243,12 @@ def sockets_of_this_system() -> List[List[bytes]]:
     return [line.split(None, 7) for line in pathlib.Path("/proc/net/unix").read_bytes().split(b"\n")]
 
 
+def heed_signals() -> None:
+    """For a child: no signal is ignored, though the tests may have been started so, as by nohup."""
+    for number in (signal.SIGINT, signal.SIGTERM, signal.SIGHUP):
+        signal.signal(number, signal.SIG_DFL)
+
+
 @contextlib.contextmanager
 def ended_in_time(started: Started) -> Iterator[Started]:
     """Kills a process at the end, and after a time, so that who reads from it doesn't wait for ever."""

@@ -18,6 +18,7 @@ from support import (  # noqa: E402
     FolderCase,
     expect,
     expect_end,
+    heed_signals,
     retry,
     run,
     run_tests,
@@ -58,12 +59,6 @@ def within(folder, **more):
 def expect_status(folder, command, status, output="", error=""):
     expect_end(run(WITH_SERVER, *command, env=within(folder)), status, error, output)
     expect_nothing_left(folder)
-
-
-def heed_signals():
-    """For a child: no signal is ignored, though the tests may have been started so."""
-    for number in (signal.SIGINT, signal.SIGTERM, signal.SIGHUP):
-        signal.signal(number, signal.SIG_DFL)
 
 
 @contextlib.contextmanager
