@@ -97,9 +97,16 @@ def told_by(line: str) -> str:
 
 
 def next_told(started: Started) -> Optional[str]:
-    """The next line that a running server logs."""
-    ready, _, _ = select.select([started.stderr], [], [], SECONDS)
-    return told_by(started.stderr.readline()) if ready and started.stderr else None
+    """The next line that a running server logs. What follows stays in the pipe, for `end_of`."""
+    assert started.stderr is not None
+    pipe, line = started.stderr.fileno(), b""
+    while not line.endswith(b"\n"):
+        ready, _, _ = select.select([pipe], [], [], SECONDS)
+        byte = os.read(pipe, 1) if ready else b""
+        if not byte:
+            return None
+        line += byte
+    return told_by(line.decode())
 
 
 def expect_told(ran: Ran, status: int, told: List[str], output: str) -> None:

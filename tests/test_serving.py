@@ -261,8 +261,7 @@ class ServingTests(FolderCase):
 
     def test_sockets_are_logged(self):
         with lasting_server(self.folder, "--verbose") as started, ended_in_time(started):
-            assert started.stderr is not None
-            logged = [told_by(started.stderr.readline()) for _ in CLASSES]
+            logged = [next_told(started) for _ in CLASSES]
             told = [f"INFO {name}: {self.folder / name} accepts {AT_ONCE} at once" for name in CLASSES]
             expect("what is logged", logged, told)
             expect_end(stopped(started), 0, "", "device 0 0 0 0\n")
