@@ -286,6 +286,15 @@ def connect_raw(path: Word) -> socket.socket:
     return connected
 
 
+def read_end(connection: socket.socket) -> bytes:
+    """What is read of a connection until it ends, by whichever end. One that was not accepted is reset."""
+    with connection:
+        try:
+            return connection.recv(1)
+        except ConnectionResetError:
+            return b""
+
+
 def expect_refused(path: Word) -> None:
     """A further connection is refused at once, or a server that has ended removed the socket.
 

@@ -33,6 +33,7 @@ from support import (  # noqa: E402
     next_told,
     opened_by,
     path_words,
+    read_end,
     refusal_of,
     retry,
     run,
@@ -117,15 +118,6 @@ def expect_seen_beyond(ran, output):
     expect("what is told else, or twice", [line for line in lines if line not in told or lines.count(line) > 1], [])
     expect("status", ran.returncode, 0)
     expect("output", ran.stdout, output)
-
-
-def read_end(connection):
-    """What is read of a connection until it ends, by whichever end."""
-    with connection:
-        try:
-            return connection.recv(1)
-        except ConnectionResetError:
-            return b""
 
 
 @contextlib.contextmanager

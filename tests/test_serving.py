@@ -30,6 +30,7 @@ from support import (  # noqa: E402
     lasting_server,
     next_told,
     path_words,
+    read_end,
     refusal_of,
     retry,
     run,
@@ -55,10 +56,7 @@ JOURNAL_FULL = (
 
 def is_closed(connection):
     """Whether the server closed a connection without an answer."""
-    try:
-        return connection.recv(1) == b""
-    except ConnectionResetError:
-        return True
+    return read_end(connection) == b""
 
 
 def threads_of(started):
