@@ -24,9 +24,10 @@ REPOSITORY = pathlib.Path(__file__).resolve().parent.parent
 SCRIPT = REPOSITORY / "drm_server"
 CLIENTS = REPOSITORY / "clients"
 SECONDS = 30
-# the flags of a socket that listens, in /proc/net/unix, and the state of one that is no connection
+# in /proc/net/unix, the flags of a socket that listens, and the states of one that is no connection and of a connection that waits
 LISTENS = b"00010000"
 UNCONNECTED = b"01"
+WAITING = b"02"
 
 sys.dont_write_bytecode = True
 sys.path[:0] = [str(CLIENTS / "python"), str(REPOSITORY / "tools")]
@@ -236,6 +237,15 @@ def wait_until_it_listens(path: Word) -> None:
     wait_until(
         f"whether somebody listens on {path}",
         lambda: any(len(row) == 8 and row[3] == LISTENS and row[7] == wanted for row in sockets_of_this_system()),
+    )
+
+
+def wait_until_accepted(path: Word) -> None:
+    """Waits until the server has accepted each connection to this socket. One that it never accepts is reset at its end."""
+    wanted = os.fsencode(path)
+    wait_until(
+        f"whether no connection to {path} waits",
+        lambda: all(row[5:6] != [WAITING] or row[7:] != [wanted] for row in sockets_of_this_system()),
     )
 
 
