@@ -69,7 +69,8 @@ impl<R: Wait> Witness for Reporting<'_, R> {
     fn tell(&self, event: &Event, place: Option<u64>, outcome: &Result<Answer, Apart>) {
         let due = self.due(event);
         if let Some(watch) = self.watch {
-            watch.report(self.rt, self.class, event, place, outcome);
+            let connection = self.socket.unsigned_abs() as usize;
+            watch.report(self.rt, connection, self.class, event, place, outcome);
         }
         if let Some(millis) = due.millis {
             self.wait_for(millis);

@@ -8,6 +8,7 @@ use libc::CLOCK_MONOTONIC;
 use libc::types::timespec;
 use std::alloc::{AllocError, Global};
 use std::mem;
+use std::sync::atomic::{AtomicU64, Ordering};
 use std::sync::{Condvar, Mutex, Wait};
 use std::time::Duration;
 
@@ -15,7 +16,16 @@ use std::time::Duration;
 const MOST_FAULTS: usize = 1_024;
 
 /// The most steps that a reader takes at once.
-const BATCH: usize = 64;
+const BATCH: usize = 256;
+
+/// The number of trays. Connections that are open at once mostly use different ones.
+const TRAYS: usize = 64;
+
+/// The most steps in a tray.
+const TRAY_ROOM: usize = 512;
+
+/// The value of a flag that is set.
+const SET: u64 = 1;
 
 /// Returns the time since the system was started.
 fn now() -> Duration {
@@ -92,23 +102,30 @@ struct Placed {
     call: WatchedCall,
 }
 
-/// The calls that no reader took yet, in the order of their reports.
+/// Appends a step to a list, if there is room.
+fn add_step(steps: &mut Vec<Placed>, step: Placed) {
+    if steps.len() < steps.capacity() {
+        steps.push_reserved(step);
+    }
+}
+
+/// The calls that no reader took yet, but for the steps in the trays.
 #[derive(Drop)]
 struct Inbox {
+    /// Steps for which their trays had no room, in any order.
     steps: Vec<Placed>,
     faults: Vec<WatchedFault>,
     left_out: u64,
-    /// The number of reports so far.
-    reports: u64,
-    /// Whether some reader waits for more.
-    is_awaited: bool,
     has_ended: bool,
 }
 
 impl Inbox {
-    fn add_step(&mut self, place: u64, call: WatchedCall) {
-        if self.steps.len() < self.steps.capacity() {
-            self.steps.push_reserved(Placed { place, call });
+    /// Moves all steps of a tray here.
+    fn take_steps(&mut self, tray: &mut Vec<Placed>) {
+        for _ in 0..tray.len() {
+            if let Some(step) = tray.pop() {
+                add_step(&mut self.steps, step);
+            }
         }
     }
 
@@ -125,44 +142,48 @@ impl Inbox {
         mem::swap(&mut self.faults, &mut batch.faults);
         batch.left_out = mem::replace(&mut self.left_out, 0);
     }
-
-    /// Returns whether a reader that has seen this many reports has to wait, and notes that it does.
-    fn awaits(&mut self, seen: u64) -> bool {
-        let waits = !self.has_ended && self.reports == seen;
-        // another reader may wait, too
-        self.is_awaited = self.is_awaited || waits;
-        waits
-    }
 }
 
-/// The steps that some reader took from the inbox, for all readers.
+/// The steps that some reader took from the trays and from the inbox, for all readers.
 #[derive(Drop)]
 struct Shelf {
     /// The steps by their places in the history. Threads report them in any order.
     steps: Vec<Option<WatchedCall>>,
-    /// Those that have no place here yet.
+    /// Those of the inbox that have no place here yet.
     taken: Vec<Placed>,
+    /// Those of a tray that have no place here yet.
+    unloaded: Vec<Placed>,
+}
+
+/// Puts a step in its place.
+fn put(steps: &mut Vec<Option<WatchedCall>>, step: Placed) {
+    let place = step.place as usize;
+    for _ in steps.len()..place.saturating_add(1) {
+        if steps.len() < steps.capacity() {
+            steps.push_reserved(None);
+        }
+    }
+    if let Some(room) = steps.get_mut(place) {
+        *room = Some(step.call);
+    }
+}
+
+/// Puts all steps of a list in their places.
+fn put_all(steps: &mut Vec<Option<WatchedCall>>, placed: &mut Vec<Placed>) {
+    for _ in 0..placed.len() {
+        if let Some(step) = placed.pop() {
+            put(steps, step);
+        }
+    }
 }
 
 impl Shelf {
-    fn put(&mut self, step: Placed) {
-        let place = step.place as usize;
-        for _ in self.steps.len()..place.saturating_add(1) {
-            if self.steps.len() < self.steps.capacity() {
-                self.steps.push_reserved(None);
-            }
-        }
-        if let Some(room) = self.steps.get_mut(place) {
-            *room = Some(step.call);
-        }
+    fn put_taken(&mut self) {
+        put_all(&mut self.steps, &mut self.taken);
     }
 
-    fn put_taken(&mut self) {
-        for _ in 0..self.taken.len() {
-            if let Some(step) = self.taken.pop() {
-                self.put(step);
-            }
-        }
+    fn put_unloaded(&mut self) {
+        put_all(&mut self.steps, &mut self.unloaded);
     }
 
     fn step_at(&self, place: usize) -> Option<&WatchedCall> {
@@ -189,52 +210,71 @@ impl Shelf {
     }
 }
 
-/// The state of the inbox when a reader took its steps.
+/// What a reader saw when it took the steps.
 #[derive(Clone, Copy, Debug)]
 struct Seen {
+    /// The number of reports before it took them: it has all of these.
     reports: u64,
     has_ended: bool,
 }
 
-/// The calls of all connections. A thread that reports one waits for one that shows it only while that takes the list
-/// of all reports. There is room for each step of the journal, so that no step is left out. There is also room for
-/// some faults. Those beyond are counted.
+/// Creates the trays, without steps.
+fn empty_trays(alloc: Global) -> Result<Vec<Mutex<Vec<Placed>>>, AllocError> {
+    let mut trays = Vec::new(alloc);
+    for _ in 0..TRAYS {
+        trays.push(Mutex::new(Vec::with_capacity(alloc, TRAY_ROOM)?))?;
+    }
+    Ok(trays)
+}
+
+/// The calls of all connections. A thread that reports a step locks the tray of its connection, and the inbox of all only
+/// if the tray is full or a reader waits. There is room for each step of the journal, so that no step is left out. There is
+/// also room for some faults. Those beyond are counted.
 #[derive(Drop)]
 pub struct Watch {
     start: Duration,
+    /// The last steps of the connections. A tray is locked before the inbox.
+    trays: Vec<Mutex<Vec<Placed>>>,
     inbox: Mutex<Inbox>,
+    /// The number of reports so far.
+    reports: AtomicU64,
+    /// Whether some reader waits for more.
+    is_awaited: AtomicU64,
     more: Condvar,
-    /// Locked before the inbox, and by readers only.
+    /// Locked before the trays, and by readers only.
     shelf: Mutex<Shelf>,
 }
 
 impl Watch {
     /// Creates a watch for a device whose journal has room for this number of steps. Allocates room for each of them
-    /// three times.
+    /// three times, and the trays.
     pub fn new(alloc: Global, most_steps: usize) -> Result<Watch, AllocError> {
         Ok(Watch {
             start: now(),
+            trays: empty_trays(alloc)?,
             inbox: Mutex::new(Inbox {
                 steps: Vec::with_capacity(alloc, most_steps)?,
                 faults: Vec::with_capacity(alloc, MOST_FAULTS)?,
                 left_out: 0,
-                reports: 0,
-                is_awaited: false,
                 has_ended: false,
             }),
+            reports: AtomicU64::new(0),
+            is_awaited: AtomicU64::new(0),
             more: Condvar::new(),
             shelf: Mutex::new(Shelf {
                 steps: Vec::with_capacity(alloc, most_steps)?,
                 taken: Vec::with_capacity(alloc, most_steps)?,
+                unloaded: Vec::with_capacity(alloc, TRAY_ROOM)?,
             }),
         })
     }
 
-    /// Reports a call of a connection of this class, and its answer. `place` is that of its entry in the history, from
-    /// 0; none for a fault.
+    /// Reports a call of a connection, and its answer. `connection` is a number of the connection, such as its descriptor, and
+    /// `class` that of its listener. `place` is that of its entry in the history, from 0; none for a fault.
     pub fn report<R: Wait>(
         &self,
         rt: &R,
+        connection: usize,
         class: Class,
         event: &Event,
         place: Option<u64>,
@@ -248,18 +288,44 @@ impl Watch {
             class,
             event,
         };
-        let mut inbox = self.inbox.lock(rt);
         match (place, outcome) {
-            (Some(place), _) => inbox.add_step(place, call),
-            (None, Err(fault)) => inbox.add_fault(call, *fault),
+            (Some(place), _) => self.add_to_tray(rt, connection, Placed { place, call }),
+            (None, Err(fault)) => self.inbox.lock(rt).add_fault(call, *fault),
             (None, Ok(_)) => {}
         }
-        inbox.reports = inbox.reports.saturating_add(1);
-        let is_awaited = mem::replace(&mut inbox.is_awaited, false);
-        drop(inbox);
-        if is_awaited {
-            self.more.notify_all();
+        self.reports.fetch_add(1, Ordering::SeqCst);
+        if self.is_awaited.load(Ordering::SeqCst) == SET {
+            self.wake_readers(rt);
         }
+    }
+
+    /// Adds a step to the tray of its connection. A full tray is emptied into the inbox before.
+    fn add_to_tray<R: Wait>(&self, rt: &R, connection: usize, step: Placed) {
+        let Some(tray) = self.trays.get(connection % TRAYS) else {
+            return;
+        };
+        let mut steps = tray.lock(rt);
+        if steps.len() == steps.capacity() {
+            self.inbox.lock(rt).take_steps(&mut steps);
+        }
+        add_step(&mut steps, step);
+    }
+
+    /// Wakes the readers that wait for more.
+    ///
+    /// None is missed: a reader sets the flag before it looks for reports, and a report is counted before the flag is
+    /// looked at. The lock is that under which a reader starts to wait.
+    fn wake_readers<R: Wait>(&self, rt: &R) {
+        let inbox = self.inbox.lock(rt);
+        self.is_awaited.store(0, Ordering::SeqCst);
+        drop(inbox);
+        self.more.notify_all();
+    }
+
+    /// Returns whether a reader that has seen this many reports has to wait, and notes that it does.
+    fn awaits(&self, inbox: &Inbox, seen: u64) -> bool {
+        self.is_awaited.store(SET, Ordering::SeqCst);
+        !inbox.has_ended && self.reports.load(Ordering::SeqCst) == seen
     }
 
     /// Announces that no more calls follow.
@@ -273,19 +339,35 @@ impl Watch {
         self.inbox.lock(rt).has_ended
     }
 
-    /// Takes all that was reported, and fills a batch that is empty.
-    fn fill<R: Wait>(&self, rt: &R, place: usize, takes_faults: bool, batch: &mut Batch) -> Seen {
-        let mut shelf = self.shelf.lock(rt);
+    /// Takes the faults, and returns what is seen before the steps are taken. So no step is missed that was reported before
+    /// a fault or before the end.
+    fn look<R: Wait>(&self, rt: &R, takes_faults: bool, batch: &mut Batch) -> Seen {
         let mut inbox = self.inbox.lock(rt);
-        mem::swap(&mut inbox.steps, &mut shelf.taken);
         if takes_faults {
             inbox.move_faults(batch);
         }
-        let seen = Seen {
-            reports: inbox.reports,
+        Seen {
+            reports: self.reports.load(Ordering::SeqCst),
             has_ended: inbox.has_ended,
-        };
-        drop(inbox);
+        }
+    }
+
+    /// Puts the steps of all trays on the shelf.
+    fn unload_trays<R: Wait>(&self, rt: &R, shelf: &mut Shelf) {
+        for tray in self.trays.iter() {
+            let mut steps = tray.lock(rt);
+            mem::swap(&mut *steps, &mut shelf.unloaded);
+            drop(steps);
+            shelf.put_unloaded();
+        }
+    }
+
+    /// Takes all that was reported, and fills a batch that is empty.
+    fn fill<R: Wait>(&self, rt: &R, place: usize, takes_faults: bool, batch: &mut Batch) -> Seen {
+        let mut shelf = self.shelf.lock(rt);
+        let seen = self.look(rt, takes_faults, batch);
+        self.unload_trays(rt, &mut shelf);
+        mem::swap(&mut self.inbox.lock(rt).steps, &mut shelf.taken);
         shelf.put_taken();
         shelf.copy_steps(place, &mut batch.steps);
         seen
@@ -309,7 +391,7 @@ impl Watch {
             let inbox = self.inbox.lock(rt);
             drop(
                 self.more
-                    .wait_while(rt, inbox, |inbox| inbox.awaits(seen.reports)),
+                    .wait_while(rt, inbox, |inbox| self.awaits(inbox, seen.reports)),
             );
         }
         !batch.is_empty()

@@ -13,7 +13,7 @@ use std::time::Duration;
 
 /// How long the thread waits after a batch while the device is served, in milliseconds. So calls that follow each other fast
 /// do not wake it, and it takes little of the processors from them.
-const PAUSE: i32 = 2;
+const PAUSE: i32 = 10;
 
 /// The trace that a thread writes, and its file.
 #[derive(Drop)]

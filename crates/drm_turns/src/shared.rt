@@ -40,8 +40,8 @@ const TICKET: usize = 1;
 const SERVING: usize = 2;
 
 /// The number of times that a call looks whether it is served, or whether the device is free, before it sleeps until it
-/// is woken (own). All looks take about as long as a sleep and a wake, or as a few turns of others.
-const LOOKS: u32 = 500;
+/// is woken (own). All looks take longer than a turn in which the system provides a page for the journal.
+const LOOKS: u32 = 1_500;
 
 /// The most turns of others that a call waits for, before it draws a ticket though the device isn't free (own).
 const PATIENCE: u32 = 64;
