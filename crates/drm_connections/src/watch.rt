@@ -8,7 +8,7 @@ use libc::CLOCK_MONOTONIC;
 use libc::types::timespec;
 use std::alloc::{AllocError, Global};
 use std::mem;
-use std::sync::atomic::{AtomicU64, Ordering};
+use std::sync::atomic::{AtomicBool, AtomicU64, Ordering};
 use std::sync::{Condvar, Mutex, Wait};
 use std::time::Duration;
 
@@ -23,9 +23,6 @@ const TRAYS: usize = 64;
 
 /// The most steps in a tray.
 const TRAY_ROOM: usize = 512;
-
-/// The value of a flag that is set.
-const SET: u64 = 1;
 
 /// Returns the time since the system was started.
 fn now() -> Duration {
@@ -239,7 +236,7 @@ pub struct Watch {
     /// The number of reports so far.
     reports: AtomicU64,
     /// Whether some reader waits for more.
-    is_awaited: AtomicU64,
+    is_awaited: AtomicBool,
     more: Condvar,
     /// Locked before the trays, and by readers only.
     shelf: Mutex<Shelf>,
@@ -259,7 +256,7 @@ impl Watch {
                 has_ended: false,
             }),
             reports: AtomicU64::new(0),
-            is_awaited: AtomicU64::new(0),
+            is_awaited: AtomicBool::new(false),
             more: Condvar::new(),
             shelf: Mutex::new(Shelf {
                 steps: Vec::with_capacity(alloc, most_steps)?,
@@ -294,7 +291,7 @@ impl Watch {
             (None, Ok(_)) => {}
         }
         self.reports.fetch_add(1, Ordering::SeqCst);
-        if self.is_awaited.load(Ordering::SeqCst) == SET {
+        if self.is_awaited.load(Ordering::SeqCst) {
             self.wake_readers(rt);
         }
     }
@@ -317,14 +314,14 @@ impl Watch {
     /// looked at. The lock is that under which a reader starts to wait.
     fn wake_readers<R: Wait>(&self, rt: &R) {
         let inbox = self.inbox.lock(rt);
-        self.is_awaited.store(0, Ordering::SeqCst);
+        self.is_awaited.store(false, Ordering::SeqCst);
         drop(inbox);
         self.more.notify_all();
     }
 
     /// Returns whether a reader that has seen this many reports has to wait, and notes that it does.
     fn awaits(&self, inbox: &Inbox, seen: u64) -> bool {
-        self.is_awaited.store(SET, Ordering::SeqCst);
+        self.is_awaited.store(true, Ordering::SeqCst);
         !inbox.has_ended && self.reports.load(Ordering::SeqCst) == seen
     }
 
