@@ -1,10 +1,10 @@
-/* Three loads on drm_server.
+/* Four loads on drm_server.
  *
- *     bench SERVER [trips | handles | traces] [REQUESTS [ROUNDS]]
+ *     bench SERVER PLAIN [trips | handles | traces | scripts] [REQUESTS [ROUNDS]]
  *
- * SERVER is the program drm_server; REQUESTS is the number of requests of one measurement of the first load, over all
- * connections (90,000 by default: a device notes 100,000 steps at most), and ROUNDS how often it is measured (5 by default).
- * Both are also those of the third.
+ * SERVER is the program drm_server, and PLAIN the program of plain.rs, or - if there is none; REQUESTS is the number of
+ * requests of one measurement of the first load, over all connections (90,000 by default: a device notes 100,000 steps at
+ * most), and ROUNDS how often it is measured (5 by default). Both are also those of the third, ROUNDS that of the fourth.
  *
  * The first, trips: requests per second, round trips, context switches and futex calls, beside a plain echo of the same frames
  * over a Unix socket, in rounds that measure the echo and the server in turn; each figure is the median of the rounds. Each
@@ -16,9 +16,13 @@
  * connection is closed, while another asks VERSION.
  *
  * The third, traces: the round trips of the first while the server writes no trace, and while it writes one, in turn.
+ *
+ * The fourth, scripts: what a line of a script costs, beside PLAIN. A figure is the difference of a long and a short script, so
+ * that the start of the program is not in it.
  */
 #include <dirent.h>
 #include <errno.h>
+#include <fcntl.h>
 #include <pthread.h>
 #include <signal.h>
 #include <stddef.h>
@@ -412,7 +416,7 @@ static void load_of_handles(const char *server, const char *folder, const char *
 
 /* What the programs are, and where their sockets and files lie. */
 struct place {
-    const char *server, *folder;
+    const char *server, *plain, *folder;
     char path[160], trace[160], written[160];
 };
 
@@ -539,8 +543,80 @@ static void load_of_traces(struct place *place, long requests, int count) {
     }
 }
 
+#define SHORT_SCRIPT 1000
+#define LONG_SCRIPT 60000
+
+/* Lines of a script that are repeated, and those before them. */
+struct script {
+    const char *kind, *before, *lines[2];
+    int count;
+};
+
+static const struct script scripts[] = {
+    {"VERSION", "", {"a version"}, 1},
+    {"BUF_CREATE", "", {"a buf_create 4096"}, 1},
+    {"BUF_CREATE, GEM_CLOSE", "", {"a buf_create 4096", "a gem_close 1"}, 2},
+    {"STAMP_WRITE, STAMP_READ", "a buf_create 4096\n", {"a stamp_write 1 7", "a stamp_read 1"}, 2},
+};
+
+static void write_script(const char *path, const struct script *script, int lines) {
+    FILE *file = fopen(path, "w");
+    if (!file)
+        fail(path);
+    fprintf(file, "open a card\n%s", script->before);
+    for (int i = 0; i < lines; i++)
+        fprintf(file, "%s\n", script->lines[i % script->count]);
+    if (fclose(file))
+        fail(path);
+}
+
+/* How long a program takes over a script, in microseconds. */
+static double run_script(const char *program, const char *path) {
+    double begun = now();
+    pid_t child = fork();
+    if (child == 0) {
+        int script = open(path, O_RDONLY), answers = open("/dev/null", O_WRONLY);
+        if (script < 0 || answers < 0 || dup2(script, 0) < 0 || dup2(answers, 1) < 0)
+            fail(path);
+        execl(program, program, "run", (char *)NULL);
+        fail(program);
+    }
+    finish(child);
+    return now() - begun;
+}
+
+/* What a line costs a program, in microseconds: the median of the rounds. */
+static double cost_of_line(const char *program, const char *short_path, const char *long_path, int count) {
+    double costs[MOST_TRIP_ROUNDS];
+    for (int i = 0; i < count; i++)
+        costs[i] = (run_script(program, long_path) - run_script(program, short_path)) / (LONG_SCRIPT - SHORT_SCRIPT);
+    return median_of(costs, count);
+}
+
+/* What a line of a script costs, beside the plain program. */
+static void load_of_scripts(struct place *place, int count) {
+    int has_plain = strcmp(place->plain, "-") != 0;
+    snprintf(place->trace, sizeof place->trace, "%s/short", place->folder);
+    snprintf(place->written, sizeof place->written, "%s/long", place->folder);
+    printf("\n%-24s  %10s  %10s  %s\n", "us for a line of a script", "drm_server", "plain", "drm_server / plain");
+    for (size_t i = 0; i < sizeof scripts / sizeof *scripts; i++) {
+        write_script(place->trace, &scripts[i], SHORT_SCRIPT);
+        write_script(place->written, &scripts[i], LONG_SCRIPT);
+        double cost = cost_of_line(place->server, place->trace, place->written, count);
+        printf("%-25s  %10.2f", scripts[i].kind, cost);
+        if (has_plain) {
+            double plain = cost_of_line(place->plain, place->trace, place->written, count);
+            printf("  %10.2f  %.1f", plain, cost / plain);
+        }
+        printf("\n");
+        fflush(stdout);
+    }
+    unlink(place->trace);
+    unlink(place->written);
+}
+
 static int usage(void) {
-    fprintf(stderr, "usage: bench SERVER [trips | handles | traces] [REQUESTS [ROUNDS]], with at least %d REQUESTS and 1 to %d ROUNDS\n",
+    fprintf(stderr, "usage: bench SERVER PLAIN [trips | handles | traces | scripts] [REQUESTS [ROUNDS]], with at least %d REQUESTS and 1 to %d ROUNDS\n",
             MOST_CONNECTIONS, MOST_TRIP_ROUNDS);
     return 2;
 }
@@ -549,15 +625,20 @@ static int is_word(const char *word, const char *wanted) {
     return strcmp(word, wanted) == 0;
 }
 
+/* Whether a word names a load. */
+static int is_load(const char *word) {
+    return is_word(word, "trips") || is_word(word, "handles") || is_word(word, "traces") || is_word(word, "scripts");
+}
+
 int main(int count, char **words) {
     if (count == 4 && !strcmp(words[1], "--echo"))
         return serve_echo(words[2], atoi(words[3]));
-    if (count < 2)
+    if (count < 3)
         return usage();
     char folder[] = "/tmp/drm_bench_XXXXXX";
-    struct place place = {words[1], folder, "", "", ""};
-    const char *only = count > 2 && (is_word(words[2], "trips") || is_word(words[2], "handles") || is_word(words[2], "traces")) ? words[2] : NULL;
-    char **numbers = words + 2 + (only != NULL);
+    struct place place = {words[1], words[2], folder, "", "", ""};
+    const char *only = count > 3 && is_load(words[3]) ? words[3] : NULL;
+    char **numbers = words + 3 + (only != NULL);
     long requests = numbers < words + count ? atol(numbers[0]) : 90000;
     long rounds = numbers + 1 < words + count ? atol(numbers[1]) : 5;
     if (requests < MOST_CONNECTIONS || rounds < 1 || rounds > MOST_TRIP_ROUNDS)
@@ -572,6 +653,8 @@ int main(int count, char **words) {
         load_of_handles(words[1], folder, place.path);
     if (!only || is_word(only, "traces"))
         load_of_traces(&place, requests, rounds);
+    if (!only || is_word(only, "scripts"))
+        load_of_scripts(&place, rounds);
     rmdir(folder);
     return 0;
 }
