@@ -175,14 +175,6 @@ fn put_all(steps: &mut Vec<Option<WatchedCall>>, placed: &mut Vec<Placed>) {
 }
 
 impl Shelf {
-    fn put_taken(&mut self) {
-        put_all(&mut self.steps, &mut self.taken);
-    }
-
-    fn put_unloaded(&mut self) {
-        put_all(&mut self.steps, &mut self.unloaded);
-    }
-
     fn step_at(&self, place: usize) -> Option<&WatchedCall> {
         match self.steps.get(place) {
             Some(Some(step)) => Some(step),
@@ -291,8 +283,12 @@ impl Watch {
             (None, Ok(_)) => {}
         }
         self.reports.fetch_add(1, Ordering::SeqCst);
+        // no reader misses a report: it sets the flag before it looks for reports, and waits under the inbox's lock
         if self.is_awaited.load(Ordering::SeqCst) {
-            self.wake_readers(rt);
+            let inbox = self.inbox.lock(rt);
+            self.is_awaited.store(false, Ordering::SeqCst);
+            drop(inbox);
+            self.more.notify_all();
         }
     }
 
@@ -306,17 +302,6 @@ impl Watch {
             self.inbox.lock(rt).take_steps(&mut steps);
         }
         add_step(&mut steps, step);
-    }
-
-    /// Wakes the readers that wait for more.
-    ///
-    /// None is missed: a reader sets the flag before it looks for reports, and a report is counted before the flag is
-    /// looked at. The lock is that under which a reader starts to wait.
-    fn wake_readers<R: Wait>(&self, rt: &R) {
-        let inbox = self.inbox.lock(rt);
-        self.is_awaited.store(false, Ordering::SeqCst);
-        drop(inbox);
-        self.more.notify_all();
     }
 
     /// Returns whether a reader that has seen this many reports has to wait, and notes that it does.
@@ -336,36 +321,33 @@ impl Watch {
         self.inbox.lock(rt).has_ended
     }
 
-    /// Takes the faults, and returns what is seen before the steps are taken. So no step is missed that was reported before
-    /// a fault or before the end.
-    fn look<R: Wait>(&self, rt: &R, takes_faults: bool, batch: &mut Batch) -> Seen {
-        let mut inbox = self.inbox.lock(rt);
-        if takes_faults {
-            inbox.move_faults(batch);
-        }
-        Seen {
-            reports: self.reports.load(Ordering::SeqCst),
-            has_ended: inbox.has_ended,
-        }
-    }
-
     /// Puts the steps of all trays on the shelf.
     fn unload_trays<R: Wait>(&self, rt: &R, shelf: &mut Shelf) {
         for tray in self.trays.iter() {
             let mut steps = tray.lock(rt);
             mem::swap(&mut *steps, &mut shelf.unloaded);
             drop(steps);
-            shelf.put_unloaded();
+            put_all(&mut shelf.steps, &mut shelf.unloaded);
         }
     }
 
-    /// Takes all that was reported, and fills a batch that is empty.
+    /// Takes all that was reported, and fills a batch that is empty. The steps are taken last, so that none is missed that was
+    /// reported before a fault or before the end.
     fn fill<R: Wait>(&self, rt: &R, place: usize, takes_faults: bool, batch: &mut Batch) -> Seen {
-        let mut shelf = self.shelf.lock(rt);
-        let seen = self.look(rt, takes_faults, batch);
-        self.unload_trays(rt, &mut shelf);
+        let mut locked = self.shelf.lock(rt);
+        let shelf = &mut *locked;
+        let mut inbox = self.inbox.lock(rt);
+        if takes_faults {
+            inbox.move_faults(batch);
+        }
+        let seen = Seen {
+            reports: self.reports.load(Ordering::SeqCst),
+            has_ended: inbox.has_ended,
+        };
+        drop(inbox);
+        self.unload_trays(rt, shelf);
         mem::swap(&mut self.inbox.lock(rt).steps, &mut shelf.taken);
-        shelf.put_taken();
+        put_all(&mut shelf.steps, &mut shelf.taken);
         shelf.copy_steps(place, &mut batch.steps);
         seen
     }
