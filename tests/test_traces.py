@@ -39,16 +39,16 @@ from support import (  # noqa: E402
 LINE = re.compile(r" *(\d+\.\d{6}) +(\d+|-) (card|render|root) +(.*)")
 HELLO = b"\x0e\0\0\0\0\x01\x01" + bytes(11)
 VERSION = b"\x02\0\0\0\0\0"
-# the lengths of the answers to these
-OPENED, ANSWERED = 10, 18
+# the lengths of the answers to these, and of a fault
+OPENED, ANSWERED, FAULT = 10, 18, 14
 RED, PLAIN = "\x1b[31m", "\x1b[0m"
 
 
-def ask_often(path, calls):
-    """A client that sends all its calls at once, and reads the answers."""
+def ask_often(path, calls, faults=0):
+    """A client that sends all its calls at once, and reads the answers. The last ones are faults."""
     with contextlib.closing(retry(lambda: connect_raw(path))) as client:
         client.sendall(HELLO + calls * VERSION)
-        left = OPENED + calls * ANSWERED
+        left = OPENED + (calls - faults) * ANSWERED + faults * FAULT
         while left > 0:
             received = len(client.recv(65536))
             expect("whether there are more answers", received > 0, True)
@@ -150,6 +150,20 @@ class TracesTests(FolderCase):
         for number, (line, step) in enumerate(zip(traced, wanted)):
             expect(f"line {number + 1}", line, step)
         expect_end(run(PROGRAM, "check", journal), 0, "", f"{steps} passed, 0 failed\n")
+
+    def test_faults_after_many_steps(self):
+        """A fault has its line after the earlier steps of its client, also if the trace is thousands of lines late."""
+        folder = self.folder
+        trace = folder / "trace"
+        most, faults = 20_000, 3
+        with lasting_server(folder, "--trace", str(trace), "--limits", f"8 8 8 8 8 8 8 {most}") as started:
+            # the opening is a step, and there is room left for the closing
+            ask_often(folder / "card", most - 2 + faults, faults)
+            _, error = started.communicate("", timeout=8 * SECONDS)
+            expect("the end", (started.returncode, "journal is full" in error), (0, True))
+        numbers = [parts_of(line)[1] for line in trace.read_text().splitlines()]
+        expect("the steps", numbers[: most - 1], [str(number + 1) for number in range(most - 1)])
+        expect("the faults, and the closing", numbers[most - 1 :], ["-"] * faults + [str(most)])
 
     def test_journal_grows(self):
         """It has a line for each step while the server runs. After SIGKILL it passes its check, and can be explained."""

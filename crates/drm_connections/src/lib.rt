@@ -10,7 +10,6 @@ mod greeting;
 mod notes;
 mod open_connections;
 mod reporting;
-mod watch;
 
 pub use accepting::{accept_next, accept_unless_ended, note_beyond};
 pub use answering::Answering;
@@ -21,4 +20,3 @@ pub use greeting::Greeting;
 pub use notes::{Note, Notes, PROGRAM};
 pub use open_connections::{Attendance, OpenConnections, Role};
 pub use reporting::Reporting;
-pub use watch::{Batch, Watch, WatchedCall, WatchedFault};

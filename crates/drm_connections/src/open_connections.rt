@@ -6,8 +6,8 @@ ghost use Rattle.std.specs.Prelude.{◌≤◌};
 
 use crate::counts::{Counts, MOST_AT_ONCE};
 use crate::notes::Notes;
-use crate::watch::Watch;
 use drm_plans::Plan;
+use drm_watch::Watch;
 use libc::net::{POLLHUP, SHUT_RDWR, poll, shutdown};
 use libc::types::pollfd;
 use std::alloc::{AllocError, Global};

@@ -1,14 +1,15 @@
 //! The reports of a session to the watch of all connections, and what a plan does to its answers.
 
-use crate::watch::Watch;
 use drm_device::Shortage;
 use drm_plans::{Due, Plan};
 use drm_sessions::{Class, Witness};
 use drm_table::{Answer, Apart, Event};
+use drm_watch::Watch;
 use libc::net::{SHUT_RDWR, poll, shutdown};
 use libc::types::pollfd;
 use std::os::fd::RawFd;
 use std::sync::Wait;
+use std::sync::atomic::{AtomicU64, Ordering};
 
 /// Reports the calls of a connection of this class to the watch of all connections, if there is one. Where a plan is
 /// there, it counts them too: an answer may be delayed, or the connection closed.
@@ -19,6 +20,8 @@ pub struct Reporting<'a, R: Wait> {
     plan: Option<&'a Plan>,
     class: Class,
     socket: RawFd,
+    /// The place after that of the connection's last step.
+    next: AtomicU64,
 }
 
 impl<'a, R: Wait> Reporting<'a, R> {
@@ -36,6 +39,7 @@ impl<'a, R: Wait> Reporting<'a, R> {
             plan,
             class,
             socket,
+            next: AtomicU64::new(0),
         }
     }
 
@@ -44,6 +48,28 @@ impl<'a, R: Wait> Reporting<'a, R> {
         match self.plan {
             Some(plan) => plan.due(self.rt, event),
             None => Due::NOTHING,
+        }
+    }
+
+    /// Reports a call to the watch.
+    fn report(
+        &self,
+        watch: &Watch,
+        event: &Event,
+        place: Option<u64>,
+        outcome: &Result<Answer, Apart>,
+    ) {
+        let connection = self.socket.unsigned_abs() as usize;
+        match (place, outcome) {
+            (Some(place), _) => {
+                self.next.store(place.saturating_add(1), Ordering::Relaxed);
+                watch.report_step(self.rt, connection, self.class, event, place);
+            }
+            (None, Err(fault)) => {
+                let after = self.next.load(Ordering::Relaxed);
+                watch.report_fault(self.rt, self.class, event, *fault, after);
+            }
+            (None, Ok(_)) => {}
         }
     }
 
@@ -69,8 +95,7 @@ impl<R: Wait> Witness for Reporting<'_, R> {
     fn tell(&self, event: &Event, place: Option<u64>, outcome: &Result<Answer, Apart>) {
         let due = self.due(event);
         if let Some(watch) = self.watch {
-            let connection = self.socket.unsigned_abs() as usize;
-            watch.report(self.rt, connection, self.class, event, place, outcome);
+            self.report(watch, event, place, outcome);
         }
         if let Some(millis) = due.millis {
             self.wait_for(millis);

@@ -2,7 +2,7 @@
 use denote.Struct.Declared.{shape}
 use denote.Param.Send.{IsSend, recorded_send, sendable, struct_send}
 use Rattle.std.proofs.Crossing.{crosses}
-use Rattle.drm_connections.proofs.watch.Batch.TheSendSync as batch
+use Rattle.drm_watch.proofs.batch.Batch.TheSendSync as batch
 use Rattle.drm_journals.proofs.Crossing.{writer_send}
 use Rattle.drm_traces.proofs.Crossing.{tracer_send}
 use Rattle.drm_server.proofs.outlet.Outlet.TheSendSync as outlet
@@ -19,4 +19,4 @@ journal_send =
 pub trace_send : IsSend trace.the_row
 trace_send =
     recorded_send _ _ _ trace.the_type.to_one
-    (struct_send (shape trace.the_type) (outlet.the_field_send, (tracer_send, (search (crosses, sendable) depth 20, (batch.the_field_send, (search (crosses, sendable) depth 20, (search (crosses, sendable) depth 20, tt)))))))
+    (struct_send (shape trace.the_type) (outlet.the_field_send, (tracer_send, (search (crosses, sendable) depth 20, (batch.the_field_send, (search (crosses, sendable) depth 20, (search (crosses, sendable) depth 20, (search (crosses, sendable) depth 20, tt))))))))

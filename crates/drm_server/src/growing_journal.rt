@@ -2,10 +2,10 @@
 
 use crate::outlet::{Outlet, Put};
 use drm_commands::Fault;
-use drm_connections::{Batch, Watch};
 use drm_device::Device;
 use drm_journals::JournalWriter;
 use drm_table::Limits;
+use drm_watch::{Batch, Watch};
 use std::alloc::{AllocError, Global};
 use std::sync::Wait;
 

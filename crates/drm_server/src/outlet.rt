@@ -1,6 +1,6 @@
 //! Lines that a thread writes for a reader that may take none.
 
-use drm_connections::Watch;
+use drm_watch::Watch;
 use libc::net::{POLLOUT, poll};
 use libc::types::pollfd;
 use std::os::fd::RawFd;

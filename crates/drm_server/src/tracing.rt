@@ -2,14 +2,13 @@
 
 use crate::outlet::{Outlet, Put, count_lines};
 use drm_commands::Fault;
-use drm_connections::{Batch, Watch, WatchedFault};
 use drm_device::Device;
 use drm_traces::{Palette, Tracer};
+use drm_watch::{Batch, Watch};
 use libc::net::poll;
 use std::alloc::{AllocError, Global};
 use std::io::Write;
 use std::sync::Wait;
-use std::time::Duration;
 
 /// How long the thread waits after a batch while the device is served, in milliseconds. So calls that follow each other fast
 /// do not wake it, and it takes little of the processors from them.
@@ -23,18 +22,12 @@ pub(crate) struct Trace {
     /// The lines that are not written yet.
     text: Vec<u8>,
     batch: Batch,
+    /// The place of the batch's first step in the history.
+    place: usize,
     /// The number of calls without a line.
     left_out: u64,
     /// Whether nothing more is written.
     has_stopped: bool,
-}
-
-/// Returns whether a fault is later than this time.
-fn is_later(fault: &WatchedFault, until: Option<Duration>) -> bool {
-    match until {
-        Some(until) => fault.call.since > until,
-        None => false,
-    }
 }
 
 impl Trace {
@@ -53,26 +46,21 @@ impl Trace {
             tracer: Tracer::new(device, palette),
             text: Vec::new(alloc),
             batch,
+            place: 0,
             left_out: 0,
             has_stopped: false,
         })
     }
 
-    /// Returns the time of the batch's step at this place.
-    fn time_of(&self, at: usize) -> Option<Duration> {
-        let call = self.batch.steps.get(at)?;
-        Some(call.since)
-    }
-
-    /// Makes the lines of the batch's faults from this one on, of those up to a time. Returns the number of faults that
-    /// have a line then.
-    fn put_faults(&mut self, from: usize, until: Option<Duration>) -> Result<usize, AllocError> {
+    /// Makes the lines of the batch's faults from this one on, of those after at most this many steps. Returns the number of
+    /// faults that have a line then.
+    fn put_faults(&mut self, from: usize, steps: u64) -> Result<usize, AllocError> {
         let mut put = from;
         for at in from..self.batch.faults.len() {
             let Some(fault) = self.batch.faults.get(at) else {
                 return Ok(put);
             };
-            if is_later(fault, until) {
+            if fault.after > steps {
                 return Ok(put);
             }
             self.tracer.put_fault(&mut self.text, fault)?;
@@ -81,17 +69,17 @@ impl Trace {
         Ok(put)
     }
 
-    /// Makes the lines of the calls in the batch: those of steps, and those of faults by their times.
+    /// Makes the lines of the calls in the batch: those of steps, and those of faults between them.
     fn make_lines(&mut self) -> Result<(), AllocError> {
         self.text.clear();
         let mut faults: usize = 0;
         for at in 0..self.batch.steps.len() {
-            faults = self.put_faults(faults, self.time_of(at))?;
+            faults = self.put_faults(faults, self.place.saturating_add(at) as u64)?;
             if let Some(call) = self.batch.steps.get(at) {
                 self.tracer.put_step(&mut self.text, call)?;
             }
         }
-        self.put_faults(faults, None)?;
+        self.put_faults(faults, u64::MAX)?;
         if self.batch.left_out > 0 {
             self.tracer
                 .put_left_out(&mut self.text, self.batch.left_out)?;
@@ -130,16 +118,15 @@ impl Trace {
 /// Writes a line for each call, when it is answered, until no more follow. Returns the number of calls without a line.
 pub(crate) fn write_trace<R: Wait>(rt: &R, watch: &Watch, trace: Trace) -> u64 {
     let mut trace = trace;
-    let mut place: usize = 0;
     for _ in rt.forever() {
-        if !watch.take(rt, place, true, &mut trace.batch) {
+        if !watch.take(rt, trace.place, true, &mut trace.batch) {
             break;
         }
         let steps = trace.batch.steps.len();
         let faults = trace.batch.faults.len();
-        place = place.saturating_add(steps);
         trace.left_out = trace.left_out.saturating_add(trace.batch.left_out);
         trace.put_batch(rt, watch, steps.saturating_add(faults) as u64);
+        trace.place = trace.place.saturating_add(steps);
         if !watch.has_ended(rt) {
             poll(&mut [], PAUSE);
         }

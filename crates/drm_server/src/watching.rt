@@ -11,9 +11,10 @@ use crate::tracing::Trace;
 use drm_commands::{
     Fault, JournalFile, TopologyText, asked_device, create_trace, warn_of_comments, write_rest,
 };
-use drm_connections::{PROGRAM, Watch};
+use drm_connections::PROGRAM;
 use drm_device::{Device, Limits};
 use drm_traces::Palette;
+use drm_watch::Watch;
 use log::{Log, error, warn};
 use std::alloc::Global;
 use std::env::FillError;

@@ -1,11 +1,11 @@
 //! The lines of a trace.
 
-use drm_connections::{WatchedCall, WatchedFault};
 use drm_device::Device;
 use drm_sessions::Class;
 use drm_table::{Apart, Call, Event, Limits, Opening};
 use drm_test_devices::new_device;
 use drm_traces::{Palette, Tracer};
+use drm_watch::{WatchedCall, WatchedFault};
 use std::alloc::Global;
 use std::test::Fail;
 use std::time::Duration;
@@ -99,6 +99,7 @@ fn faults_are_no_steps(rt: HostRuntime) -> Result<(), Fail> {
         &WatchedFault {
             call,
             fault: Apart::NoMemory,
+            after: 1,
         },
     )?;
     expect_text(

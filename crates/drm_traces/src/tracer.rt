@@ -1,10 +1,11 @@
 //! The lines of a trace.
 
-use drm_connections::{WatchedCall, WatchedFault, class_word};
+use drm_connections::class_word;
 use drm_device::Device;
 use drm_journals::put_words;
-use drm_script::line_of;
+use drm_script::{LineText, line_of};
 use drm_table::{Answer, Apart};
+use drm_watch::{WatchedCall, WatchedFault};
 use std::alloc::AllocError;
 use std::io::Write;
 
@@ -40,7 +41,7 @@ pub enum Palette {
 /// # Examples
 ///
 /// ```rust
-/// use drm_connections::WatchedCall;
+/// use drm_watch::WatchedCall;
 /// use drm_device::{Device, Limits, Topology};
 /// use drm_sessions::Class;
 /// use drm_table::{Event, Opening};
@@ -65,6 +66,8 @@ pub struct Tracer {
     device: Device,
     steps: u64,
     palette: Palette,
+    /// The line of the last step's answer. This place is cleared once, and not for each step.
+    line: LineText,
 }
 
 /// Appends the front of a line, before the words of the event.
@@ -91,6 +94,18 @@ fn is_refusal(outcome: &Result<Answer, Apart>) -> bool {
     }
 }
 
+/// Appends ` -> ` and the line of an answer, with its end. A red answer has the codes of its colour.
+fn put_answer(text: &mut Vec<u8>, line: &LineText, is_red: bool) -> Result<(), AllocError> {
+    text.extend_from_slice(b" -> ")?;
+    if !is_red {
+        return text.extend_from_slice(line.as_bytes());
+    }
+    text.extend_from_slice(RED)?;
+    text.extend_from_slice(line.as_bytes().trim_ascii_end())?;
+    text.extend_from_slice(PLAIN)?;
+    text.extend_from_slice(b"\n")
+}
+
 impl Tracer {
     /// Creates what writes the trace of a server whose device began as this one. Does not allocate.
     ///
@@ -113,24 +128,8 @@ impl Tracer {
             device,
             steps: 0,
             palette,
+            line: LineText::new(),
         }
-    }
-
-    /// Appends ` -> ` and an answer, with the end of the line.
-    fn put_answer(
-        &self,
-        text: &mut Vec<u8>,
-        outcome: &Result<Answer, Apart>,
-    ) -> Result<(), AllocError> {
-        let line = line_of(outcome);
-        text.extend_from_slice(b" -> ")?;
-        if self.palette == Palette::Plain || !is_refusal(outcome) {
-            return text.extend_from_slice(line.as_bytes());
-        }
-        text.extend_from_slice(RED)?;
-        text.extend_from_slice(line.as_bytes().trim_ascii_end())?;
-        text.extend_from_slice(PLAIN)?;
-        text.extend_from_slice(b"\n")
     }
 
     /// Appends the line of the next step. Allocates what it appends, and what the step adds to its device.
@@ -142,7 +141,7 @@ impl Tracer {
     /// # Examples
     ///
     /// ```rust
-    /// use drm_connections::WatchedCall;
+    /// use drm_watch::WatchedCall;
     /// use drm_device::{Device, Limits, Topology};
     /// use drm_sessions::Class;
     /// use drm_table::{Event, Opening};
@@ -168,7 +167,9 @@ impl Tracer {
         put_words(text, &call.event)?;
         let mut outcome = Ok(Answer::Done);
         self.device.step_at(&call.event, &mut outcome);
-        self.put_answer(text, &outcome)
+        self.line.write(&outcome);
+        let is_red = self.palette == Palette::Red && is_refusal(&outcome);
+        put_answer(text, &self.line, is_red)
     }
 
     /// Appends the line of a fault, which is no step. Allocates what it appends.
@@ -180,7 +181,7 @@ impl Tracer {
     /// # Examples
     ///
     /// ```rust
-    /// use drm_connections::{WatchedCall, WatchedFault};
+    /// use drm_watch::{WatchedCall, WatchedFault};
     /// use drm_device::{Device, Limits, Topology};
     /// use drm_sessions::Class;
     /// use drm_table::{Apart, Event, Opening};
@@ -197,14 +198,15 @@ impl Tracer {
     ///     class: Class::Card,
     ///     event: Event::Open(Opening::Render),
     /// };
-    /// let fault = WatchedFault { call: called, fault: Apart::JournalFull };
+    /// let fault = WatchedFault { call: called, fault: Apart::JournalFull, after: 0 };
     /// let Ok(()) = faults.put_fault(&mut text, &fault) else { return };
     /// assert!(rt; text.starts_with(b"    1.000000      - card "));
     /// ```
     pub fn put_fault(&self, text: &mut Vec<u8>, fault: &WatchedFault) -> Result<(), AllocError> {
         put_head(text, &fault.call, None)?;
         put_words(text, &fault.call.event)?;
-        self.put_answer(text, &Err(fault.fault))
+        let line = line_of(&Err(fault.fault));
+        put_answer(text, &line, self.palette == Palette::Red)
     }
 
     /// Appends the line for faults that were not kept. Allocates what it appends.

@@ -1,10 +1,10 @@
 //! The examples of `drm_traces`, made by `tools/doc_examples` of its doc comments.
 
-use drm_connections::{WatchedCall, WatchedFault};
 use drm_device::{Device, Limits, Topology};
 use drm_sessions::Class;
 use drm_table::{Apart, Event, Opening};
 use drm_traces::{Palette, Tracer};
+use drm_watch::{WatchedCall, WatchedFault};
 use std::time::Duration;
 
 #[test]
@@ -69,6 +69,11 @@ fn tracer_from_put_step(rt: HostRuntime) {
         panic!(rt; "refused")
     };
     assert!(rt; text.starts_with(b"    0.020000      1 root "));
+}
+
+#[test]
+fn tracer_from_put_fault(rt: HostRuntime) {
+    let alloc = rt.alloc();
     let Some(topology) = Topology::new(2, &[1, 2], &[3, 2], &[5, 6]) else {
         panic!(rt; "refused")
     };
@@ -85,24 +90,12 @@ fn tracer_from_put_step(rt: HostRuntime) {
     let fault = WatchedFault {
         call: called,
         fault: Apart::JournalFull,
+        after: 0,
     };
     let Ok(()) = faults.put_fault(&mut text, &fault) else {
         panic!(rt; "refused")
     };
     assert!(rt; text.starts_with(b"    1.000000      - card "));
-}
-
-#[test]
-fn tracer_from_put_left_out(rt: HostRuntime) {
-    let alloc = rt.alloc();
-    let Some(topology) = Topology::new(2, &[1, 2], &[3, 2], &[5, 6]) else {
-        panic!(rt; "refused")
-    };
-    let Ok(full) = Device::new(alloc, topology, Limits::PROGRAM) else {
-        panic!(rt; "refused")
-    };
-    let faults = Tracer::new(full, Palette::Plain);
-    let alloc = rt.alloc();
     let Some(topology) = Topology::new(2, &[1, 2], &[3, 2], &[5, 6]) else {
         panic!(rt; "refused")
     };

@@ -1,0 +1,76 @@
+//! What a reader takes at once.
+
+use drm_sessions::Class;
+use drm_table::{Apart, Event};
+use std::alloc::{AllocError, Global};
+use std::time::Duration;
+
+/// The most faults that wait to be shown.
+pub(crate) const MOST_FAULTS: usize = 1_024;
+
+/// The most steps that a reader takes at once.
+pub(crate) const BATCH: usize = 256;
+
+/// A call of a connection, which is answered.
+#[derive(Clone, Drop)]
+pub struct WatchedCall {
+    /// The time from the start of the watch to the answer.
+    pub since: Duration,
+    /// The class of the connection's listener.
+    pub class: Class,
+    /// What was asked.
+    pub event: Event,
+}
+
+/// A call that was answered by a fault. The history has no entry of it.
+#[derive(Drop)]
+pub struct WatchedFault {
+    /// The call.
+    pub call: WatchedCall,
+    /// Its answer.
+    pub fault: Apart,
+    /// The number of steps of the history before it: those up to the last one of its connection.
+    pub after: u64,
+}
+
+/// What a reader takes at once.
+#[derive(Drop)]
+pub struct Batch {
+    /// Steps of the history, in its order, without a gap.
+    pub steps: Vec<WatchedCall>,
+    /// Faults before, between and right after these steps, in the order of their reports.
+    pub faults: Vec<WatchedFault>,
+    /// The number of further faults for which there was no room.
+    pub left_out: u64,
+}
+
+impl Batch {
+    /// Creates an empty batch, with room for all that is taken at once.
+    pub fn new(alloc: Global) -> Result<Batch, AllocError> {
+        let steps = Vec::with_capacity(alloc, BATCH)?;
+        let faults = Vec::with_capacity(alloc, MOST_FAULTS)?;
+        Ok(Batch {
+            steps,
+            faults,
+            left_out: 0,
+        })
+    }
+
+    /// Returns whether there is nothing in it.
+    pub(crate) fn is_empty(&self) -> bool {
+        self.steps.is_empty() && self.faults.is_empty() && self.left_out == 0
+    }
+
+    /// Adds a fault, if there is room.
+    pub(crate) fn add_fault(&mut self, fault: WatchedFault) {
+        if self.faults.len() < self.faults.capacity() {
+            self.faults.push_reserved(fault);
+        }
+    }
+
+    pub(crate) fn clear(&mut self) {
+        self.steps.clear();
+        self.faults.clear();
+        self.left_out = 0;
+    }
+}
