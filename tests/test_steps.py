@@ -16,6 +16,7 @@ sys.dont_write_bytecode = True
 from support import (  # noqa: E402
     PROGRAM,
     REPOSITORY,
+    SECONDS,
     FolderCase,
     connect,
     expect,
@@ -419,10 +420,12 @@ class StepsTests(FolderCase):
         expect("again", replays.explanation(9), text)
 
     def test_replay_that_is_stopped(self):
-        path = self.folder / "journal"
-        calls = "a getcrtc 1 -> number 0\n" * 90_000
-        path.write_text(LIMITS + "open a card -> client 1\n" + calls + "a create_dumb 8 8 8 -> dumb 1 8 64\n")
-        replays = replays_of(path)
+        path, program, proceed = (self.folder / name for name in ("journal", "program", "proceed"))
+        path.write_text(LIMITS + "open a card -> client 1\na create_dumb 8 8 8 -> dumb 1 8 64\n")
+        # without the last file, it runs until it is stopped
+        program.write_text(f'#!/bin/sh\n[ -e "{proceed}" ] || exec sleep {SECONDS}\nexec "{PROGRAM}" "$@"\n')
+        program.chmod(0o755)
+        replays = Replays(read(path), lambda: str(program))
         failures = []
 
         def ask(claim):
@@ -442,6 +445,7 @@ class StepsTests(FolderCase):
         for thread in (first, second):
             thread.join()
         expect("failures", failures, ["the program exited: no message", "a later request has ended this one"])
+        proceed.touch()
         expect("a shorter one", len(replays.audit_after(1, last).clients), 1)
 
     def test_replay_is_quick(self):
