@@ -590,7 +590,6 @@ def passed_on(count):
 STEPS = 100_000
 MOST_SECONDS = 5
 MOST_MEGABYTES = 200
-MOST_RUNS = 5
 
 
 def full_journals():
@@ -610,31 +609,18 @@ def full_journals():
         yield count, line, field, script
 
 
-def explain_measured(script, output, *words):
-    """Explains a script into a file. Returns the processor time in seconds, and the most memory in megabytes."""
+def expect_explained_within(script, output, *words):
+    """Explains a script into a file, and compares what that takes with what it may take."""
     with open(output, "wb") as written, subprocess.Popen(
         [PROGRAM, "explain", script, *words], stdin=subprocess.DEVNULL, stdout=written
     ) as started:
         _, ended, spent = os.wait4(started.pid, 0)
         started.returncode = -os.WTERMSIG(ended) if os.WIFSIGNALED(ended) else os.WEXITSTATUS(ended)
+    seconds, megabytes = spent.ru_utime + spent.ru_stime, spent.ru_maxrss / 1024
     expect("status", started.returncode, 0)
-    return spent.ru_utime + spent.ru_stime, spent.ru_maxrss / 1024
-
-
-def expect_explained_within(script, output, *words):
-    """Explains a script into a file, and compares what that takes with what it may take.
-
-    A machine's other guests add to the time, so the least one of a few runs counts.
-    """
-    least = float("inf")
-    for _ in range(MOST_RUNS):
-        seconds, megabytes = explain_measured(script, output, *words)
-        least = min(least, seconds)
-        if least <= MOST_SECONDS:
-            break
     expect(
-        f"that {least:.1f} s and {megabytes:.0f} MB are enough",
-        least <= MOST_SECONDS and megabytes <= MOST_MEGABYTES,
+        f"that {seconds:.1f} s and {megabytes:.0f} MB are enough",
+        seconds <= MOST_SECONDS and megabytes <= MOST_MEGABYTES,
         True,
     )
 

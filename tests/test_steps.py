@@ -421,8 +421,9 @@ class StepsTests(FolderCase):
 
     def test_replay_that_is_stopped(self):
         path, program, proceed = (self.folder / name for name in ("journal", "program", "proceed"))
-        path.write_text(LIMITS + "open a card -> client 1\na create_dumb 8 8 8 -> dumb 1 8 64\n")
-        # without the last file, it runs until it is stopped
+        calls = "a getcrtc 1 -> number 0\n" * 90_000
+        path.write_text(LIMITS + "open a card -> client 1\n" + calls + "a create_dumb 8 8 8 -> dumb 1 8 64\n")
+        # without the last file, it reads nothing and runs until it is stopped
         program.write_text(f'#!/bin/sh\n[ -e "{proceed}" ] || exec sleep {SECONDS}\nexec "{PROGRAM}" "$@"\n')
         program.chmod(0o755)
         replays = Replays(read(path), lambda: str(program))
