@@ -1,6 +1,7 @@
 //! The fields of the calls of buffers, of their handles and of their stamps.
 
-ghost use Rattle.std.specs.Prelude.{◌≡◌};
+ghost use Rattle.std.specs.Prelude.{◌≡◌, [], IfNone};
+ghost use Rattle.std.specs.Option.{option_map};
 ghost use Rattle.drm_table.specs.Table.{buffer_call, buffer_row};
 
 use crate::calls::{Call, CallKind};
@@ -8,24 +9,27 @@ use crate::fields::Field::{self, U32, U64};
 use crate::fields::Fields;
 
 impl Call {
-    /// Returns the row of a call of buffers and its fields in order.
-    pub(crate) fn buffer_row(&self) -> Option<(CallKind, Fields<32>)>
-        ensures { result ≡ buffer_row self.now }
+    /// Returns the kind of a call of buffers, and writes its fields in order. For another call it returns `None`, and
+    /// writes nothing.
+    pub(crate) fn buffer_row(&self, fields: &mut Fields<32>) -> Option<CallKind>
+        requires empty { fields.old ≡ [] }
+        ensures row { buffer_row self.now ≡ option_map (λ kind. (kind, fields.new)) result }
+        ensures none { IfNone result (fields.new ≡ []) }
     {
         Some(match self {
-            Call::GemClose { handle } => (CallKind::GemClose, Fields::of(&[U32(*handle)])),
-            Call::BufCreate { size } => (CallKind::BufCreate, Fields::of(&[U64(*size)])),
-            Call::StampWrite { handle, stamp } => (
+            Call::GemClose { handle } => fields.put(CallKind::GemClose, &[U32(*handle)]),
+            Call::BufCreate { size } => fields.put(CallKind::BufCreate, &[U64(*size)]),
+            Call::StampWrite { handle, stamp } => fields.put(
                 CallKind::StampWrite,
-                Fields::of(&[U32(*handle), U64(*stamp)]),
+                &[U32(*handle), U64(*stamp)],
             ),
-            Call::StampRead { handle } => (CallKind::StampRead, Fields::of(&[U32(*handle)])),
-            Call::ListHandles { from } => (CallKind::ListHandles, Fields::of(&[U32(*from)])),
-            Call::CreateDumb { width, height, bpp } => (
+            Call::StampRead { handle } => fields.put(CallKind::StampRead, &[U32(*handle)]),
+            Call::ListHandles { from } => fields.put(CallKind::ListHandles, &[U32(*from)]),
+            Call::CreateDumb { width, height, bpp } => fields.put(
                 CallKind::CreateDumb,
-                Fields::of(&[U32(*width), U32(*height), U32(*bpp)]),
+                &[U32(*width), U32(*height), U32(*bpp)],
             ),
-            Call::DestroyDumb { handle } => (CallKind::DestroyDumb, Fields::of(&[U32(*handle)])),
+            Call::DestroyDumb { handle } => fields.put(CallKind::DestroyDumb, &[U32(*handle)]),
             _ => return None,
         })
     }

@@ -1,7 +1,7 @@
 //! The calls of a client, and their table. For a new call, add its variants and its line here, and its fields in the
 //! file of its family.
 
-ghost use Rattle.std.specs.Prelude.{◌≡◌, length, map};
+ghost use Rattle.std.specs.Prelude.{◌≡◌, [], length, map};
 ghost use Rattle.drm_table.specs.Table.{all_kinds, columns, kind_row};
 
 use crate::audits::AuditKind;
@@ -438,13 +438,37 @@ impl Call {
     pub fn row(&self) -> Option<(CallKind, Fields<32>)>
         ensures { result ≡ call_row self.now }
     {
-        self.buffer_row()
-            .or_else(|| self.share_row())
-            .or_else(|| self.master_row())
-            .or_else(|| self.mode_row())
-            .or_else(|| self.framebuffer_row())
-            .or_else(|| self.lease_row())
-            .or_else(|| self.device_row())
+        let mut fields = Fields::new();
+        let kind = self.row_at(&mut fields)?;
+        Some((kind, fields))
+    }
+
+    /// Returns the kind of the call's row, and writes its fields in order. For a call without a row it returns `None`, and
+    /// writes nothing.
+    #[tactic(auto, unfolding(crate::specs::Table::call_row))]
+    fn row_at(&self, fields: &mut Fields<32>) -> Option<CallKind>
+        requires empty { fields.old ≡ [] }
+        ensures row { call_row self.now ≡ option_map (λ kind. (kind, fields.new)) result }
+    {
+        if let Some(kind) = self.buffer_row(fields) {
+            return Some(kind);
+        }
+        if let Some(kind) = self.share_row(fields) {
+            return Some(kind);
+        }
+        if let Some(kind) = self.master_row(fields) {
+            return Some(kind);
+        }
+        if let Some(kind) = self.mode_row(fields) {
+            return Some(kind);
+        }
+        if let Some(kind) = self.framebuffer_row(fields) {
+            return Some(kind);
+        }
+        if let Some(kind) = self.lease_row(fields) {
+            return Some(kind);
+        }
+        self.device_row(fields)
     }
 
     /// Returns the kind of the call's row, or `None` for a call without a row.

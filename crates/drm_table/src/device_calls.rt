@@ -1,6 +1,7 @@
 //! The fields of the calls of the device: its version, its capabilities and its audit.
 
-ghost use Rattle.std.specs.Prelude.{◌≡◌};
+ghost use Rattle.std.specs.Prelude.{◌≡◌, [], IfNone};
+ghost use Rattle.std.specs.Option.{option_map};
 ghost use Rattle.drm_table.specs.Table.{device_call, device_row};
 
 use crate::audits::AuditKind;
@@ -9,20 +10,23 @@ use crate::fields::Field::{self, U32, U64};
 use crate::fields::Fields;
 
 impl Call {
-    /// Returns the row of a call of the device and its fields in order.
-    pub(crate) fn device_row(&self) -> Option<(CallKind, Fields<32>)>
-        ensures { result ≡ device_row self.now }
+    /// Returns the kind of a call of the device, and writes its fields in order. For another call it returns `None`, and
+    /// writes nothing.
+    pub(crate) fn device_row(&self, fields: &mut Fields<32>) -> Option<CallKind>
+        requires empty { fields.old ≡ [] }
+        ensures row { device_row self.now ≡ option_map (λ kind. (kind, fields.new)) result }
+        ensures none { IfNone result (fields.new ≡ []) }
     {
         Some(match self {
-            Call::Version => (CallKind::Version, Fields::of(&[])),
-            Call::GetCap { cap } => (CallKind::GetCap, Fields::of(&[U64(*cap)])),
-            Call::SetClientCap { cap, value } => (
+            Call::Version => fields.put(CallKind::Version, &[]),
+            Call::GetCap { cap } => fields.put(CallKind::GetCap, &[U64(*cap)]),
+            Call::SetClientCap { cap, value } => fields.put(
                 CallKind::SetClientCap,
-                Fields::of(&[U64(*cap), U64(*value)]),
+                &[U64(*cap), U64(*value)],
             ),
-            Call::Audit { kind, from } => (
+            Call::Audit { kind, from } => fields.put(
                 CallKind::Audit,
-                Fields::of(&[U32(kind.number()), U32(*from)]),
+                &[U32(kind.number()), U32(*from)],
             ),
             _ => return None,
         })

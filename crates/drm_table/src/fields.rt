@@ -4,6 +4,7 @@ ghost use Rattle.std.specs.Prelude.{◌≡◌, ◌<◌, ◌≤◌, [], ◌∷◌
 ghost use Rattle.drm_table.specs.Fields.{number_in};
 ghost use Rattle.drm_table.specs.declared.fields.Width.TheVariants as widths;
 
+use crate::calls::CallKind;
 use arrayvec::ArrayVec;
 use std::marker::Model;
 
@@ -170,6 +171,17 @@ impl<const N: usize> Fields<N> {
         let mut copy = ArrayVec::new();
         let _ = copy.try_extend_from_slice(fields);
         Fields { fields: copy }
+    }
+
+    /// Writes these fields to an empty list, `N` at most, and returns the kind whose fields they are.
+    pub(crate) fn put(&mut self, kind: CallKind, fields: &[Field]) -> CallKind
+        requires empty { self.old ≡ [] }
+        requires few { length fields.now ≤ N }
+        ensures kind { result ≡ kind }
+        ensures fields { self.new ≡ fields.now }
+    {
+        let _ = self.fields.try_extend_from_slice(fields);
+        kind
     }
 
     /// Appends a field. The list must have fewer than `N` fields.

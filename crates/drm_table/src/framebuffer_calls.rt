@@ -1,6 +1,7 @@
 //! The fields of the calls of framebuffers.
 
-ghost use Rattle.std.specs.Prelude.{◌≡◌};
+ghost use Rattle.std.specs.Prelude.{◌≡◌, [], IfNone};
+ghost use Rattle.std.specs.Option.{option_map};
 ghost use Rattle.drm_table.specs.Table.{framebuffer_call, framebuffer_row};
 
 use crate::calls::{Call, CallKind};
@@ -8,29 +9,32 @@ use crate::fields::Field::{self, U32};
 use crate::fields::Fields;
 
 impl Call {
-    /// Returns the row of a call of framebuffers and its fields in order.
-    pub(crate) fn framebuffer_row(&self) -> Option<(CallKind, Fields<32>)>
-        ensures { result ≡ framebuffer_row self.now }
+    /// Returns the kind of a call of framebuffers, and writes its fields in order. For another call it returns `None`, and
+    /// writes nothing.
+    pub(crate) fn framebuffer_row(&self, fields: &mut Fields<32>) -> Option<CallKind>
+        requires empty { fields.old ≡ [] }
+        ensures row { framebuffer_row self.now ≡ option_map (λ kind. (kind, fields.new)) result }
+        ensures none { IfNone result (fields.new ≡ []) }
     {
         Some(match self {
-            Call::GetFb { framebuffer } => (CallKind::GetFb, Fields::of(&[U32(*framebuffer)])),
+            Call::GetFb { framebuffer } => fields.put(CallKind::GetFb, &[U32(*framebuffer)]),
             Call::AddFb {
                 width,
                 height,
                 pitch,
                 bpp,
                 handle,
-            } => (
+            } => fields.put(
                 CallKind::AddFb,
-                Fields::of(&[
+                &[
                     U32(*width),
                     U32(*height),
                     U32(*pitch),
                     U32(*bpp),
                     U32(*handle),
-                ]),
+                ],
             ),
-            Call::RmFb { framebuffer } => (CallKind::RmFb, Fields::of(&[U32(*framebuffer)])),
+            Call::RmFb { framebuffer } => fields.put(CallKind::RmFb, &[U32(*framebuffer)]),
             _ => return None,
         })
     }

@@ -1,6 +1,7 @@
 //! The fields of the calls of leases.
 
-ghost use Rattle.std.specs.Prelude.{◌≡◌, ◌≤◌, length};
+ghost use Rattle.std.specs.Prelude.{◌≡◌, ◌≤◌, [], length, IfNone};
+ghost use Rattle.std.specs.Option.{option_map};
 ghost use Rattle.drm_table.specs.Table.{lease_call, lease_row};
 
 use crate::calls::{Call, CallKind};
@@ -9,15 +10,21 @@ use crate::fields::Fields;
 use crate::lists::IdList;
 
 impl Call {
-    /// Returns the row of a call of leases and its fields in order.
-    pub(crate) fn lease_row(&self) -> Option<(CallKind, Fields<32>)>
-        ensures { result ≡ lease_row self.now }
+    /// Returns the kind of a call of leases, and writes its fields in order. For another call it returns `None`, and
+    /// writes nothing.
+    pub(crate) fn lease_row(&self, fields: &mut Fields<32>) -> Option<CallKind>
+        requires empty { fields.old ≡ [] }
+        ensures row { lease_row self.now ≡ option_map (λ kind. (kind, fields.new)) result }
+        ensures none { IfNone result (fields.new ≡ []) }
     {
         Some(match self {
-            Call::CreateLease { ids } => (CallKind::CreateLease, ids.fields()),
-            Call::ListLessees => (CallKind::ListLessees, Fields::of(&[])),
-            Call::GetLease => (CallKind::GetLease, Fields::of(&[])),
-            Call::RevokeLease { lessee } => (CallKind::RevokeLease, Fields::of(&[U32(*lessee)])),
+            Call::CreateLease { ids } => {
+                ids.put_fields(fields);
+                CallKind::CreateLease
+            },
+            Call::ListLessees => fields.put(CallKind::ListLessees, &[]),
+            Call::GetLease => fields.put(CallKind::GetLease, &[]),
+            Call::RevokeLease { lessee } => fields.put(CallKind::RevokeLease, &[U32(*lessee)]),
             _ => return None,
         })
     }

@@ -2,7 +2,7 @@
 
 ghost use Rattle.std.specs.Prelude.{◌≡◌, ◌<◌, ◌≤◌, ◌∷◌, ◌++◌, [], length, map, ⊤};
 ghost use Rattle.drm_table.specs.Fields.{ids_in};
-ghost use Rattle.drm_table.specs.declared.fields.Field.TheVariants as fields;
+ghost use Rattle.drm_table.specs.declared.fields.Field.TheVariants as numbers;
 
 use crate::fields::{Field, Fields};
 use arrayvec::ArrayVec;
@@ -184,15 +184,14 @@ impl IdList {
         self.named.as_slice()
     }
 
-    /// Returns the ids as fields.
-    pub(crate) fn fields(&self) -> Fields<32>
-        ensures { result ≡ map fields.U32 self.now }
+    /// Writes the ids as fields to an empty list.
+    pub(crate) fn put_fields(&self, fields: &mut Fields<32>)
+        requires empty { fields.old ≡ [] }
+        ensures { fields.new ≡ map numbers.U32 self.now }
     {
-        let mut fields = Fields::new();
         for id in self.ids() {
             fields.push(Field::U32(*id));
         }
-        fields
     }
 
     /// Returns the ids of these fields, or `None` if a field is wider than an id.

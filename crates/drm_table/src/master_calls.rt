@@ -1,6 +1,7 @@
 //! The fields of the calls of masters and magics.
 
-ghost use Rattle.std.specs.Prelude.{◌≡◌};
+ghost use Rattle.std.specs.Prelude.{◌≡◌, [], IfNone};
+ghost use Rattle.std.specs.Option.{option_map};
 ghost use Rattle.drm_table.specs.Table.{master_call, master_row};
 
 use crate::calls::{Call, CallKind};
@@ -8,15 +9,18 @@ use crate::fields::Field::{self, U32};
 use crate::fields::Fields;
 
 impl Call {
-    /// Returns the row of a call of masters and magics and its fields in order.
-    pub(crate) fn master_row(&self) -> Option<(CallKind, Fields<32>)>
-        ensures { result ≡ master_row self.now }
+    /// Returns the kind of a call of masters and magics, and writes its fields in order. For another call it returns `None`, and
+    /// writes nothing.
+    pub(crate) fn master_row(&self, fields: &mut Fields<32>) -> Option<CallKind>
+        requires empty { fields.old ≡ [] }
+        ensures row { master_row self.now ≡ option_map (λ kind. (kind, fields.new)) result }
+        ensures none { IfNone result (fields.new ≡ []) }
     {
         Some(match self {
-            Call::GetMagic => (CallKind::GetMagic, Fields::of(&[])),
-            Call::AuthMagic { magic } => (CallKind::AuthMagic, Fields::of(&[U32(*magic)])),
-            Call::SetMaster => (CallKind::SetMaster, Fields::of(&[])),
-            Call::DropMaster => (CallKind::DropMaster, Fields::of(&[])),
+            Call::GetMagic => fields.put(CallKind::GetMagic, &[]),
+            Call::AuthMagic { magic } => fields.put(CallKind::AuthMagic, &[U32(*magic)]),
+            Call::SetMaster => fields.put(CallKind::SetMaster, &[]),
+            Call::DropMaster => fields.put(CallKind::DropMaster, &[]),
             _ => return None,
         })
     }

@@ -1,6 +1,7 @@
 //! The fields of the calls of CRTCs, encoders, connectors and planes.
 
-ghost use Rattle.std.specs.Prelude.{◌≡◌};
+ghost use Rattle.std.specs.Prelude.{◌≡◌, [], IfNone};
+ghost use Rattle.std.specs.Option.{option_map};
 ghost use Rattle.drm_table.specs.Table.{mode_call, mode_row};
 
 use crate::calls::{Call, CallKind};
@@ -8,35 +9,38 @@ use crate::fields::Field::{self, U32};
 use crate::fields::Fields;
 
 impl Call {
-    /// Returns the row of a call of mode objects and its fields in order.
-    pub(crate) fn mode_row(&self) -> Option<(CallKind, Fields<32>)>
-        ensures { result ≡ mode_row self.now }
+    /// Returns the kind of a call of mode objects, and writes its fields in order. For another call it returns `None`, and
+    /// writes nothing.
+    pub(crate) fn mode_row(&self, fields: &mut Fields<32>) -> Option<CallKind>
+        requires empty { fields.old ≡ [] }
+        ensures row { mode_row self.now ≡ option_map (λ kind. (kind, fields.new)) result }
+        ensures none { IfNone result (fields.new ≡ []) }
     {
         Some(match self {
-            Call::GetResources => (CallKind::GetResources, Fields::of(&[])),
-            Call::GetCrtc { crtc } => (CallKind::GetCrtc, Fields::of(&[U32(*crtc)])),
+            Call::GetResources => fields.put(CallKind::GetResources, &[]),
+            Call::GetCrtc { crtc } => fields.put(CallKind::GetCrtc, &[U32(*crtc)]),
             Call::SetCrtc {
                 crtc,
                 framebuffer,
                 connector,
-            } => (
+            } => fields.put(
                 CallKind::SetCrtc,
-                Fields::of(&[U32(*crtc), U32(*framebuffer), U32(*connector)]),
+                &[U32(*crtc), U32(*framebuffer), U32(*connector)],
             ),
-            Call::GetEncoder { encoder } => (CallKind::GetEncoder, Fields::of(&[U32(*encoder)])),
-            Call::GetConnector { connector } => (
+            Call::GetEncoder { encoder } => fields.put(CallKind::GetEncoder, &[U32(*encoder)]),
+            Call::GetConnector { connector } => fields.put(
                 CallKind::GetConnector,
-                Fields::of(&[U32(*connector)]),
+                &[U32(*connector)],
             ),
-            Call::GetPlaneResources => (CallKind::GetPlaneResources, Fields::of(&[])),
-            Call::GetPlane { plane } => (CallKind::GetPlane, Fields::of(&[U32(*plane)])),
+            Call::GetPlaneResources => fields.put(CallKind::GetPlaneResources, &[]),
+            Call::GetPlane { plane } => fields.put(CallKind::GetPlane, &[U32(*plane)]),
             Call::SetPlane {
                 plane,
                 crtc,
                 framebuffer,
-            } => (
+            } => fields.put(
                 CallKind::SetPlane,
-                Fields::of(&[U32(*plane), U32(*crtc), U32(*framebuffer)]),
+                &[U32(*plane), U32(*crtc), U32(*framebuffer)],
             ),
             _ => return None,
         })

@@ -1,6 +1,7 @@
 //! The fields of the calls that share objects: by names and by tokens.
 
-ghost use Rattle.std.specs.Prelude.{◌≡◌};
+ghost use Rattle.std.specs.Prelude.{◌≡◌, [], IfNone};
+ghost use Rattle.std.specs.Option.{option_map};
 ghost use Rattle.drm_table.specs.Table.{share_call, share_row};
 
 use crate::calls::{Call, CallKind};
@@ -8,20 +9,23 @@ use crate::fields::Field::{self, U32};
 use crate::fields::Fields;
 
 impl Call {
-    /// Returns the row of a call that shares objects and its fields in order.
-    pub(crate) fn share_row(&self) -> Option<(CallKind, Fields<32>)>
-        ensures { result ≡ share_row self.now }
+    /// Returns the kind of a call that shares objects, and writes its fields in order. For another call it returns `None`, and
+    /// writes nothing.
+    pub(crate) fn share_row(&self, fields: &mut Fields<32>) -> Option<CallKind>
+        requires empty { fields.old ≡ [] }
+        ensures row { share_row self.now ≡ option_map (λ kind. (kind, fields.new)) result }
+        ensures none { IfNone result (fields.new ≡ []) }
     {
         Some(match self {
-            Call::GemFlink { handle } => (CallKind::GemFlink, Fields::of(&[U32(*handle)])),
-            Call::GemOpen { name } => (CallKind::GemOpen, Fields::of(&[U32(*name)])),
+            Call::GemFlink { handle } => fields.put(CallKind::GemFlink, &[U32(*handle)]),
+            Call::GemOpen { name } => fields.put(CallKind::GemOpen, &[U32(*name)]),
             Call::PrimeHandleToFd { handle } => {
-                (CallKind::PrimeHandleToFd, Fields::of(&[U32(*handle)]))
+                fields.put(CallKind::PrimeHandleToFd, &[U32(*handle)])
             }
             Call::PrimeFdToHandle { token } => {
-                (CallKind::PrimeFdToHandle, Fields::of(&[U32(*token)]))
+                fields.put(CallKind::PrimeFdToHandle, &[U32(*token)])
             }
-            Call::TokenClose { token } => (CallKind::TokenClose, Fields::of(&[U32(*token)])),
+            Call::TokenClose { token } => fields.put(CallKind::TokenClose, &[U32(*token)]),
             _ => return None,
         })
     }

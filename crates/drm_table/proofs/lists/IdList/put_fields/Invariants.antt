@@ -1,7 +1,7 @@
 use Rattle.std.proofs.Common.{◌≡◌, ◌++◌, length, drop}
 use Rattle.std.specs.Prelude.{map}
 use Rattle.drm_table.specs.declared.fields.Field.TheVariants as fields
-use Rattle.drm_table.proofs.lists.IdList.fields.Given as goal
+use Rattle.drm_table.proofs.lists.IdList.put_fields.Given as goal
 
 abbrev pub invariant-loop-id : goal.invariant-loop-id
 invariant-loop-id l = record {
