@@ -96,13 +96,22 @@ ssize_t write(int file, const void *text, size_t count)
     return file == 1 ? moved(&writes, (ssize_t)count) : (ssize_t)count;
 }
 
+/* What is read and stays (MSG_PEEK) has not passed. It passes when it is taken by a call that doesn't wait. That one isn't
+ * cut: it takes what was read before. */
 ssize_t recv(int file, void *buffer, size_t count, int flags)
 {
-    long most = room(&receives, count);
+    long most = flags & MSG_DONTWAIT ? (long)count : room(&receives, count);
+    ssize_t got;
 
-    return most <= 0 ? most
-                     : moved(&receives,
-                             syscall(SYS_recvfrom, file, buffer, (size_t)most, flags, NULL, NULL));
+    if (most <= 0)
+        return most;
+    got = syscall(SYS_recvfrom, file, buffer, (size_t)most, flags, NULL, NULL);
+    if (flags & MSG_PEEK) {
+        if (got > 0)
+            receives.in_a_row = 0;
+        return got;
+    }
+    return moved(&receives, got);
 }
 
 ssize_t send(int file, const void *text, size_t count, int flags)

@@ -165,6 +165,24 @@ class TracesTests(FolderCase):
         expect("the steps", numbers[: most - 1], [str(number + 1) for number in range(most - 1)])
         expect("the faults, and the closing", numbers[most - 1 :], ["-"] * faults + [str(most)])
 
+    def test_client_that_takes_no_answers(self):
+        """Its call has a line while its answer still waits to be taken, and so do the calls of others afterwards."""
+        folder = self.folder
+        trace = folder / "trace"
+        with lasting_server(folder, "--trace", str(trace)) as started:
+            with contextlib.closing(retry(lambda: connect_raw(folder / "card"))) as silent:
+                # the system keeps a few hundred answers for it
+                silent.sendall(HELLO + 1_000 * VERSION)
+                wait_until("whether its calls have lines", lambda: trace.read_text().count(" version -> ") > 100)
+                other = connect(folder / "root")
+                other.ask("buf_create 4096")
+                wait_until("whether the other's call has a line", lambda: " buf_create 4096 -> " in trace.read_text())
+                expect("whether an answer waits", trace.read_text().count(" version -> ") < 1_000, True)
+                other.close()
+            ran = stopped(started)
+        steps = len(words_of(trace.read_text()))
+        expect("the listing", (ran.returncode, ran.stdout), (0, f"device 0 0 0 {steps}\n"))
+
     def test_journal_grows(self):
         """It has a line for each step while the server runs. After SIGKILL it passes its check, and can be explained."""
         folder = self.folder

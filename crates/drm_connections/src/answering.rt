@@ -2,6 +2,7 @@
 
 use crate::backlog::Ahead;
 use crate::notes::{Note, Notes};
+use crate::reporting::Reporting;
 use std::io;
 use std::io::{ErrorKind, Write};
 use std::os::unix::net::UnixStream;
@@ -22,14 +23,16 @@ fn is_journal_full(frame: &[u8]) -> bool {
     frame.len() == FAULT && frame.starts_with(&JOURNAL_FULL)
 }
 
-/// The answers of a connection. While the client takes none, what it sends is read ahead. The first answer of all connections that the
-/// journal is full is logged.
+/// The answers of a connection. Once one is written, or waits to be taken, its request is taken from the stream, and its call is reported.
+/// While the client takes none, what it sends is read ahead. The first answer of all connections that the journal is full is logged.
 #[derive(Drop)]
 pub struct Answering<'a, R: Wait> {
     rt: &'a R,
     stream: &'a UnixStream,
     ahead: &'a Ahead,
     notes: &'a Notes,
+    /// What reports the calls, if there is a watch.
+    reporting: Option<&'a Reporting<'a, R>>,
 }
 
 impl<'a, R: Wait> Answering<'a, R> {
@@ -38,6 +41,7 @@ impl<'a, R: Wait> Answering<'a, R> {
         stream: &'a UnixStream,
         ahead: &'a Ahead,
         notes: &'a Notes,
+        reporting: &'a Reporting<'a, R>,
     ) -> Answering<'a, R> {
         // where this fails, an answer waits without an end, and nothing is read ahead
         let _ = stream.set_write_timeout(Some(Duration::from_millis(PATIENCE)));
@@ -46,6 +50,7 @@ impl<'a, R: Wait> Answering<'a, R> {
             stream,
             ahead,
             notes,
+            reporting: reporting.if_watched(),
         }
     }
 }
@@ -55,8 +60,14 @@ impl<R: Wait> Write for Answering<'_, R> {
         if is_journal_full(buf) {
             self.notes.add_once(self.rt, Note::JournalFull);
         }
-        match self.stream.write(buf) {
+        let written = self.stream.write(buf);
+        let settled = self.ahead.settle(self.stream);
+        if let Some(reporting) = self.reporting {
+            reporting.flush();
+        }
+        match written {
             Err(reason) if reason.kind() == ErrorKind::WouldBlock => {
+                settled?;
                 self.ahead.wait(self.stream)?;
                 Err(io::Error::from(ErrorKind::Interrupted))
             }

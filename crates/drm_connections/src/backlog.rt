@@ -1,9 +1,10 @@
 //! What a client sent while it took no answers.
 
+use crate::unread::{Lost, Unread};
 use libc::net::{POLLIN, POLLOUT, poll};
 use libc::types::pollfd;
 use std::alloc::Global;
-use std::cell::RefCell;
+use std::cell::{Cell, RefCell};
 use std::io;
 use std::io::{ErrorKind, Read};
 use std::os::fd::AsRawFd;
@@ -32,6 +33,9 @@ struct Bytes {
 #[derive(Drop)]
 pub struct Ahead {
     read: RefCell<Bytes>,
+    /// Whether some of these bytes are not taken.
+    waits: Cell<bool>,
+    unread: Unread,
 }
 
 impl Bytes {
@@ -98,22 +102,57 @@ impl Ahead {
                 taken: 0,
                 has_ended: false,
             }),
+            waits: Cell::new(false),
+            unread: Unread::new(),
         }
     }
 
     /// Takes bytes that were read ahead, and returns how many: 0 where there are none.
-    pub fn take(&self, buf: &mut [u8]) -> usize {
+    fn take(&self, buf: &mut [u8]) -> usize {
         match self.read.try_borrow_mut() {
-            Ok(mut read) => read.take(buf),
+            Ok(mut read) => {
+                let count = read.take(buf);
+                self.waits.set(!read.bytes.is_empty());
+                count
+            }
             Err(_) => 0,
         }
+    }
+
+    /// Reads what the client sent: first what was read ahead, then what is in the stream. There it stays until
+    /// [`settle`](Ahead::settle) or the next read, if `stays` is true.
+    pub(crate) fn read(
+        &self,
+        stream: &UnixStream,
+        stays: bool,
+        buf: &mut [u8],
+    ) -> io::Result<usize> {
+        self.settle(stream)?;
+        let room = buf.len();
+        if self.waits.get() {
+            return Ok(self.take(buf).min(room));
+        }
+        if stays {
+            return self.unread.read(stream, buf);
+        }
+        let mut stream = stream;
+        stream.read(buf)
+    }
+
+    /// Takes from the stream what was read and stayed there.
+    pub fn settle(&self, stream: &UnixStream) -> Result<(), Lost> {
+        self.unread.take(stream)
     }
 
     /// Waits until the stream has room for an answer, or the client has sent something, which is read ahead. An error closes the
     /// connection: the client sent more than may be kept.
     pub fn wait(&self, stream: &UnixStream) -> io::Result<()> {
         match self.read.try_borrow_mut() {
-            Ok(mut read) => read.wait(stream),
+            Ok(mut read) => {
+                read.wait(stream)?;
+                self.waits.set(!read.bytes.is_empty());
+                Ok(())
+            }
             Err(_) => Ok(()),
         }
     }

@@ -10,7 +10,8 @@ use std::sync::Wait;
 /// How many bytes a hello has.
 const HELLO: usize = 18;
 
-/// The bytes that a connection brings. The last of its hello is handed on once the connection is admitted.
+/// The bytes that a connection brings. The last of its hello is handed on once the connection is admitted. Afterwards requests stay in the
+/// stream until they are answered, if few connections are open.
 #[derive(Drop)]
 pub struct Greeting<'a, R: Wait> {
     stream: &'a UnixStream,
@@ -36,13 +37,8 @@ impl<'a, R: Wait> Greeting<'a, R> {
 
 impl<R: Wait> Read for Greeting<'_, R> {
     fn read(&mut self, buf: &mut [u8]) -> io::Result<usize> {
-        let room = buf.len();
-        let taken = self.ahead.take(buf);
-        let count = if taken == 0 || taken > room {
-            self.stream.read(buf)?
-        } else {
-            taken
-        };
+        let stays = self.lacking == 0 && !self.attendance.is_crowded();
+        let count = self.ahead.read(self.stream, stays, buf)?;
         if self.lacking > 0 {
             self.lacking = self.lacking.saturating_sub(count);
             if self.lacking == 0 {

@@ -10,6 +10,7 @@ mod greeting;
 mod notes;
 mod open_connections;
 mod reporting;
+mod unread;
 
 pub use accepting::{accept_next, accept_unless_ended, note_beyond};
 pub use answering::Answering;
@@ -20,3 +21,4 @@ pub use greeting::Greeting;
 pub use notes::{Note, Notes, PROGRAM};
 pub use open_connections::{Attendance, OpenConnections, Role};
 pub use reporting::Reporting;
+pub use unread::Lost;

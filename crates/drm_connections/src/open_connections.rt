@@ -13,6 +13,7 @@ use libc::types::pollfd;
 use std::alloc::{AllocError, Global};
 use std::os::fd::RawFd;
 use std::os::unix::net::UnixStream;
+use std::sync::atomic::{AtomicUsize, Ordering};
 use std::sync::{Condvar, Mutex, Wait};
 
 /// How many listeners there are.
@@ -20,6 +21,9 @@ const LISTENERS: usize = 3;
 
 /// How many places there are for control: its listener, and a connection.
 const CONTROLS: usize = 2;
+
+/// How many connections are few: two for each of four processors.
+const FEW: usize = 8;
 
 /// What a socket on which a thread waits is.
 #[derive(Clone, Copy, PartialEq, Eq)]
@@ -240,6 +244,8 @@ pub struct OpenConnections {
     alloc: Global,
     places: Mutex<Places>,
     left: Condvar,
+    /// The number of connections that threads attend to.
+    attended: AtomicUsize,
     ended: Option<UnixStream>,
     notes: Notes,
     watch: Option<Watch>,
@@ -289,6 +295,7 @@ impl OpenConnections {
                 free_from: 0,
             }),
             left: Condvar::new(),
+            attended: AtomicUsize::new(0),
             ended,
             notes,
             watch: None,
@@ -302,6 +309,7 @@ impl OpenConnections {
             alloc,
             places,
             left,
+            attended,
             ended,
             notes,
             watch: _unused,
@@ -311,6 +319,7 @@ impl OpenConnections {
             alloc,
             places,
             left,
+            attended,
             ended,
             notes,
             watch: Some(watch),
@@ -324,6 +333,7 @@ impl OpenConnections {
             alloc,
             places,
             left,
+            attended,
             ended,
             notes,
             watch,
@@ -333,6 +343,7 @@ impl OpenConnections {
             alloc,
             places,
             left,
+            attended,
             ended,
             notes,
             watch,
@@ -420,11 +431,16 @@ impl OpenConnections {
             shutdown(socket, SHUT_RDWR);
         }
         places.put(place, Place::Taken(Attending { socket, role }));
+        drop(places);
+        if role == Role::Connection {
+            self.attended.fetch_add(1, Ordering::Relaxed);
+        }
         Attendance {
             rt,
             open: self,
             place,
             socket,
+            role,
         }
     }
 }
@@ -435,9 +451,16 @@ pub struct Attendance<'a, R: Wait> {
     open: &'a OpenConnections,
     place: usize,
     socket: RawFd,
+    /// What the socket was when the thread began to wait.
+    role: Role,
 }
 
 impl<R: Wait> Attendance<'_, R> {
+    /// Returns whether more than a few connections are open.
+    pub(crate) fn is_crowded(&self) -> bool {
+        self.open.attended.load(Ordering::Relaxed) > FEW
+    }
+
     /// Waits until each client is closed whose connection has no client at the other end, and counts this connection's
     /// own as open.
     pub fn admit(&self) {
@@ -461,7 +484,11 @@ impl<R: Wait> Drop for Attendance<'_, R> {
             open,
             place,
             socket: _socket,
+            role,
         } = self;
+        if role == Role::Connection {
+            open.attended.fetch_sub(1, Ordering::Relaxed);
+        }
         open.places.lock(rt).put(place, Place::Left);
         open.left.notify_all();
     }

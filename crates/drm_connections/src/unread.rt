@@ -3,18 +3,31 @@
 use libc::net::{MSG_DONTWAIT, MSG_PEEK, recv};
 use std::cell::Cell;
 use std::io;
-use std::io::{ErrorKind, Read};
+use std::io::ErrorKind;
 use std::os::fd::AsRawFd;
 use std::os::unix::net::UnixStream;
 
 /// How many bytes are taken at once. Most requests have fewer.
 const PIECE: usize = 64;
 
+/// Bytes that were read are no longer in the stream: the connection has failed.
+#[derive(Clone, Copy, Debug)]
+pub struct Lost;
+
+impl From<Lost> for io::Error {
+    fn from(_: Lost) -> io::Error {
+        io::Error::from(ErrorKind::InvalidData)
+    }
+}
+
 /// The number of bytes of a stream that were read and are still in it.
 ///
 /// Linux wakes a client that waits for its answer also when its request is taken from the stream, since there is room to
-/// send more. The client finds no answer and sleeps again, which costs more time than most requests. So a request is
-/// read where it lies, and is taken once its answer is written: then nothing waits that would be woken in vain.
+/// send more. The client finds no answer and sleeps again, which costs more than most requests. So a request is read
+/// where it lies, and is taken once its answer is written: then no client sleeps that would be woken in vain.
+///
+/// That is one call of the system more. With many connections it costs more than it saves: all processors are busy then,
+/// so a client that was woken finds its answer by the time that it runs.
 #[derive(Drop)]
 pub(crate) struct Unread {
     seen: Cell<usize>,
@@ -25,7 +38,7 @@ impl Unread {
         Unread { seen: Cell::new(0) }
     }
 
-    /// Waits for bytes and reads them. They stay in the stream, if the system can leave them there.
+    /// Waits for bytes and reads them. They stay in the stream.
     pub(crate) fn read(&self, stream: &UnixStream, buf: &mut [u8]) -> io::Result<usize> {
         let room = buf.len();
         let count = unsafe { recv(stream.as_raw_fd(), buf, MSG_PEEK) };
@@ -34,18 +47,22 @@ impl Unread {
                 self.seen.set(count);
                 Ok(count)
             }
-            _ => {
-                let mut stream = stream;
-                stream.read(buf)
-            }
+            _ => Err(io::Error::from_raw_os_error(os::errno())),
         }
     }
 
-    /// Takes what was read from the stream. It doesn't wait. If something is lacking, the connection has failed.
-    pub(crate) fn take(&self, stream: &UnixStream) -> io::Result<()> {
-        let mut left = self.seen.get();
+    /// Takes what was read from the stream. It doesn't wait.
+    pub(crate) fn take(&self, stream: &UnixStream) -> Result<(), Lost> {
+        match self.seen.get() {
+            0 => Ok(()),
+            seen => self.take_seen(stream, seen),
+        }
+    }
+
+    fn take_seen(&self, stream: &UnixStream, seen: usize) -> Result<(), Lost> {
+        let mut left = seen;
         let mut piece = [0; PIECE];
-        for _ in 0..self.seen.get() {
+        for _ in 0..seen {
             let Some(part) = piece.get_mut(..left.min(PIECE)) else {
                 break;
             };
@@ -59,9 +76,6 @@ impl Unread {
             }
         }
         self.seen.set(left);
-        if left > 0 {
-            return Err(io::Error::from(ErrorKind::InvalidData));
-        }
-        Ok(())
+        if left == 0 { Ok(()) } else { Err(Lost) }
     }
 }

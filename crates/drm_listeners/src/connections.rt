@@ -140,17 +140,21 @@ fn serve_attended<R: Wait, D: Gathering>(
     let attendance = open.attend(rt, place, stream.as_raw_fd(), Role::Connection);
     let ahead = Ahead::new(open.alloc());
     let mut source = FromRead::new(Greeting::new(&stream, &ahead, &attendance));
-    let mut sink = ToWrite::new(Answering::new(rt, &stream, &ahead, open.notes()));
-    let witness = Reporting::new(rt, open.watch(), open.plan(), class, stream.as_raw_fd());
-    serve_sides(
+    let reporting = Reporting::new(rt, open.watch(), open.plan(), class, stream.as_raw_fd());
+    let answering = Answering::new(rt, &stream, &ahead, open.notes(), &reporting);
+    let mut sink = ToWrite::new(answering);
+    let served = serve_sides(
         rt,
         shared,
         participant,
-        witness,
+        &reporting,
         class,
         &mut source,
         &mut sink,
-    )
+    );
+    reporting.flush();
+    let _ = ahead.settle(&stream);
+    served
 }
 
 // Serves a connection. A session that doesn't end plainly is logged once its connection is closed, unless all were

@@ -70,19 +70,37 @@ pub struct Tracer {
     line: LineText,
 }
 
+/// Appends a character this often.
+fn put_fill(text: &mut Vec<u8>, fill: u8, count: usize) -> Result<(), AllocError> {
+    for _ in 0..count {
+        text.push(fill)?;
+    }
+    Ok(())
+}
+
+/// Appends a number with at least this width, with `fill` before its digits. `write!` takes five times as many
+/// instructions, which was two fifths of a line.
+fn put_number(text: &mut Vec<u8>, number: u64, fill: u8, width: usize) -> Result<(), AllocError> {
+    let mut buffer = itoa::Buffer::new();
+    let digits = buffer.format(number).as_bytes();
+    put_fill(text, fill, width.saturating_sub(digits.len()))?;
+    text.extend_from_slice(digits)
+}
+
 /// Appends the front of a line, before the words of the event.
 fn put_head(text: &mut Vec<u8>, call: &WatchedCall, number: Option<u64>) -> Result<(), AllocError> {
-    let seconds = call.since.as_secs();
-    let micros = call.since.subsec_micros();
-    let class = class_word(call.class);
-    let written = match number {
-        Some(number) => write!(text, "{seconds:>5}.{micros:06} {number:>6} {class:<6} "),
-        None => write!(text, "{seconds:>5}.{micros:06}      - {class:<6} "),
-    };
-    match written {
-        Ok(()) => Ok(()),
-        Err(_) => Err(AllocError),
+    put_number(text, call.since.as_secs(), b' ', 5)?;
+    text.push(b'.')?;
+    put_number(text, u64::from(call.since.subsec_micros()), b'0', 6)?;
+    text.push(b' ')?;
+    match number {
+        Some(number) => put_number(text, number, b' ', 6)?,
+        None => text.extend_from_slice(b"     -")?,
     }
+    let class = class_word(call.class).as_bytes();
+    text.push(b' ')?;
+    text.extend_from_slice(class)?;
+    put_fill(text, b' ', 7_usize.saturating_sub(class.len()))
 }
 
 /// Returns whether an answer is marked.

@@ -5,7 +5,7 @@ use crate::inbox::Inbox;
 use crate::shelf::{Shelf, put_all};
 use crate::trays::{Placed, TRAY_ROOM, Tray, add_tray, locked_trays};
 use drm_sessions::Class;
-use drm_table::{Apart, Event};
+use drm_table::Event;
 use libc::CLOCK_MONOTONIC;
 use libc::types::timespec;
 use std::alloc::{AllocError, Global};
@@ -73,33 +73,15 @@ impl Watch {
     }
 
     /// Reports a step of a connection, with the place of its entry in the history, from 0. `connection` is a number of the
-    /// connection, such as its descriptor, and `class` that of its listener.
-    pub fn report_step<R: Wait>(
-        &self,
-        rt: &R,
-        connection: usize,
-        class: Class,
-        event: &Event,
-        place: u64,
-    ) {
-        self.add_step(rt, connection, place, class, event);
+    /// connection, such as its descriptor.
+    pub fn report_step<R: Wait>(&self, rt: &R, connection: usize, place: u64, call: WatchedCall) {
+        self.add_step(rt, connection, Placed { place, call });
         self.announce(rt);
     }
 
-    /// Reports a call of a connection that was answered by a fault. `after` is the place after that of the connection's last
-    /// step, and `class` that of its listener.
-    pub fn report_fault<R: Wait>(
-        &self,
-        rt: &R,
-        class: Class,
-        event: &Event,
-        fault: Apart,
-        after: u64,
-    ) {
-        let call = self.call_of(class, event);
-        self.inbox
-            .lock(rt)
-            .add_fault(WatchedFault { call, fault, after });
+    /// Reports a call of a connection that was answered by a fault.
+    pub fn report_fault<R: Wait>(&self, rt: &R, fault: WatchedFault) {
+        self.inbox.lock(rt).add_fault(fault);
         self.announce(rt);
     }
 
@@ -115,8 +97,8 @@ impl Watch {
         }
     }
 
-    /// Returns a call that was just answered.
-    fn call_of(&self, class: Class, event: &Event) -> WatchedCall {
+    /// Returns a call that was just answered. `class` is that of its connection's listener.
+    pub fn call_of(&self, class: Class, event: &Event) -> WatchedCall {
         let Ok(event) = event.clone() else {
             unreachable!()
         };
@@ -128,14 +110,7 @@ impl Watch {
     }
 
     /// Adds a step to the tray of its connection. A full tray is moved to the inbox before.
-    fn add_step<R: Wait>(
-        &self,
-        rt: &R,
-        connection: usize,
-        place: u64,
-        class: Class,
-        event: &Event,
-    ) {
+    fn add_step<R: Wait>(&self, rt: &R, connection: usize, step: Placed) {
         let Some(tray) = self.trays.get(connection % TRAYS) else {
             return;
         };
@@ -143,10 +118,7 @@ impl Watch {
         if tray.is_full() {
             self.inbox.lock(rt).take_tray(&mut tray);
         }
-        tray.add(Placed {
-            place,
-            call: self.call_of(class, event),
-        });
+        tray.add(step);
     }
 
     /// Returns whether a reader that has seen this many reports has to wait, and notes that it does.
