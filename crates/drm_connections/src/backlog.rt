@@ -1,5 +1,7 @@
 //! What a client sent while it took no answers.
 
+ghost use Rattle.std.specs.Io.{ReadsAtMost};
+
 use crate::unread::{Lost, Unread};
 use libc::net::{POLLIN, POLLOUT, poll};
 use libc::types::pollfd;
@@ -121,16 +123,13 @@ impl Ahead {
 
     /// Reads what the client sent: first what was read ahead, then what is in the stream. There it stays until
     /// [`settle`](Ahead::settle) or the next read, if `stays` is true.
-    pub(crate) fn read(
-        &self,
-        stream: &UnixStream,
-        stays: bool,
-        buf: &mut [u8],
-    ) -> io::Result<usize> {
+    pub(crate) fn read(&self, stream: &UnixStream, stays: bool, buf: &mut [u8]) -> io::Result<usize>
+        ensures { ReadsAtMost result buf.new }
+    {
         self.settle(stream)?;
-        let room = buf.len();
         if self.waits.get() {
-            return Ok(self.take(buf).min(room));
+            let taken = self.take(buf);
+            return Ok(taken.min(buf.len()));
         }
         if stays {
             return self.unread.read(stream, buf);

@@ -1,5 +1,7 @@
 //! What a client sent, read where it lies.
 
+ghost use Rattle.std.specs.Io.{ReadsAtMost};
+
 use libc::net::{MSG_DONTWAIT, MSG_PEEK, recv};
 use std::cell::Cell;
 use std::io;
@@ -39,11 +41,12 @@ impl Unread {
     }
 
     /// Waits for bytes and reads them. They stay in the stream.
-    pub(crate) fn read(&self, stream: &UnixStream, buf: &mut [u8]) -> io::Result<usize> {
-        let room = buf.len();
+    pub(crate) fn read(&self, stream: &UnixStream, buf: &mut [u8]) -> io::Result<usize>
+        ensures { ReadsAtMost result buf.new }
+    {
         let count = unsafe { recv(stream.as_raw_fd(), buf, MSG_PEEK) };
         match usize::try_from(count) {
-            Ok(count) if count <= room => {
+            Ok(count) if count <= buf.len() => {
                 self.seen.set(count);
                 Ok(count)
             }
