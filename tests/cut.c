@@ -96,8 +96,8 @@ ssize_t write(int file, const void *text, size_t count)
     return file == 1 ? moved(&writes, (ssize_t)count) : (ssize_t)count;
 }
 
-/* What is read and stays (MSG_PEEK) has not passed. It passes when it is taken by a call that doesn't wait. That one isn't
- * cut: it takes what was read before. */
+/* What is read and stays (MSG_PEEK) has not passed. It passes when it is taken by a call that
+ * doesn't wait. That one isn't cut: it takes what was read before. */
 ssize_t recv(int file, void *buffer, size_t count, int flags)
 {
     long most = flags & MSG_DONTWAIT ? (long)count : room(&receives, count);
