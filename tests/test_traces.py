@@ -176,7 +176,7 @@ class TracesTests(FolderCase):
                 wait_until("whether its calls have lines", lambda: trace.read_text().count(" version -> ") > 100)
                 other = connect(folder / "root")
                 other.ask("buf_create 4096")
-                wait_until("whether the other's call has a line", lambda: " buf_create 4096 -> " in trace.read_text())
+                wait_until("whether the other's has one", lambda: " buf_create 4096 -> " in trace.read_text())
                 expect("whether an answer waits", trace.read_text().count(" version -> ") < 1_000, True)
                 other.close()
             ran = stopped(started)
