@@ -23,8 +23,9 @@ fn is_journal_full(frame: &[u8]) -> bool {
     frame.len() == FAULT && frame.starts_with(&JOURNAL_FULL)
 }
 
-/// The answers of a connection. Once one is written, or waits to be taken, its request is taken from the stream, and its call is reported.
-/// While the client takes none, what it sends is read ahead. The first answer of all connections that the journal is full is logged.
+/// The answers of a connection. After one is written, or was not taken for 10 milliseconds, its request is removed from the
+/// stream and its call is reported. While the client takes none, what it sends is read ahead. The first answer of all
+/// connections that the journal is full is logged.
 #[derive(Drop)]
 pub struct Answering<'a, R: Wait> {
     rt: &'a R,

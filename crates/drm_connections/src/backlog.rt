@@ -35,7 +35,7 @@ struct Bytes {
 #[derive(Drop)]
 pub struct Ahead {
     read: RefCell<Bytes>,
-    /// Whether some of these bytes are not taken.
+    /// Whether there are such bytes that were not taken. A read then need not borrow them.
     waits: Cell<bool>,
     unread: Unread,
 }
@@ -121,8 +121,8 @@ impl Ahead {
         }
     }
 
-    /// Reads what the client sent: first what was read ahead, then what is in the stream. There it stays until
-    /// [`settle`](Ahead::settle) or the next read, if `stays` is true.
+    /// Reads what the client sent: first what was read ahead, then what is in the stream. If `stays` is true, bytes of the
+    /// stream stay in it until [`settle`](Ahead::settle) or the next read. After an error, nothing was read.
     pub(crate) fn read(&self, stream: &UnixStream, stays: bool, buf: &mut [u8]) -> io::Result<usize>
         ensures { ReadsAtMost result buf.new }
     {
@@ -138,7 +138,11 @@ impl Ahead {
         stream.read(buf)
     }
 
-    /// Takes from the stream what was read and stayed there.
+    /// Removes from the stream what was read and stayed in it. Does not wait.
+    ///
+    /// # Errors
+    ///
+    /// [`Lost`] if the stream no longer has it. The connection has then failed.
     pub fn settle(&self, stream: &UnixStream) -> Result<(), Lost> {
         self.unread.take(stream)
     }

@@ -10,8 +10,8 @@ use std::sync::Wait;
 /// How many bytes a hello has.
 const HELLO: usize = 18;
 
-/// The bytes that a connection brings. The last of its hello is handed on once the connection is admitted. Afterwards requests stay in the
-/// stream until they are answered, if few connections are open.
+/// The bytes that a connection brings. The last of its hello is handed on once the connection is admitted. If few
+/// connections are open, later requests stay in the stream until they are answered.
 #[derive(Drop)]
 pub struct Greeting<'a, R: Wait> {
     stream: &'a UnixStream,

@@ -22,7 +22,7 @@ const LISTENERS: usize = 3;
 /// How many places there are for control: its listener, and a connection.
 const CONTROLS: usize = 2;
 
-/// How many connections are few: two for each of four processors.
+/// The most connections that are few. With 4 processors, more than two for each keep all of them busy.
 const FEW: usize = 8;
 
 /// What a socket on which a thread waits is.
@@ -456,7 +456,7 @@ pub struct Attendance<'a, R: Wait> {
 }
 
 impl<R: Wait> Attendance<'_, R> {
-    /// Returns whether more than a few connections are open.
+    /// Returns whether more than [`FEW`] connections are open.
     pub(crate) fn is_crowded(&self) -> bool {
         self.open.attended.load(Ordering::Relaxed) > FEW
     }

@@ -57,7 +57,7 @@ impl<'a, R: Wait> Reporting<'a, R> {
         }
     }
 
-    /// Returns this, if there is a watch.
+    /// Returns these reports if there is a watch.
     pub(crate) fn if_watched(&'a self) -> Option<&'a Reporting<'a, R>> {
         match self.watch {
             Some(_) => Some(self),
@@ -73,7 +73,7 @@ impl<'a, R: Wait> Reporting<'a, R> {
         }
     }
 
-    /// Returns a call that was just answered, or `None` where there is nothing to report.
+    /// Returns a call that was just answered, or `None` if there is nothing to report.
     fn told(
         &self,
         watch: &Watch,

@@ -1,4 +1,4 @@
-//! What a client sent, read where it lies.
+//! Requests that are read in place.
 
 ghost use Rattle.std.specs.Io.{ReadsAtMost};
 
@@ -9,10 +9,10 @@ use std::io::ErrorKind;
 use std::os::fd::AsRawFd;
 use std::os::unix::net::UnixStream;
 
-/// How many bytes are taken at once. Most requests have fewer.
+/// The most bytes that are removed at once. Most requests have fewer.
 const PIECE: usize = 64;
 
-/// Bytes that were read are no longer in the stream: the connection has failed.
+/// The stream no longer has bytes that were read in place. The connection has failed.
 #[derive(Clone, Copy, Debug)]
 pub struct Lost;
 
@@ -22,13 +22,13 @@ impl From<Lost> for io::Error {
     }
 }
 
-/// The number of bytes of a stream that were read and are still in it.
+/// The number of bytes of a stream that were read and are still in it (own).
 ///
-/// Linux wakes a client that waits for its answer also when its request is taken from the stream, since there is room to
-/// send more. The client finds no answer and sleeps again, which costs more than most requests. So a request is read
-/// where it lies, and is taken once its answer is written: then no client sleeps that would be woken in vain.
+/// When a request is removed from the stream, Linux wakes the client, since there is room to send more. A client that
+/// waits for its answer finds none and sleeps again. That costs more than most requests. So a request is read in place,
+/// and removed once its answer is written: the answer has then woken the client already.
 ///
-/// That is one call of the system more. With many connections it costs more than it saves: all processors are busy then,
+/// That is one more call of the system. With many connections it costs more than it saves. All processors are busy then,
 /// so a client that was woken finds its answer by the time that it runs.
 #[derive(Drop)]
 pub(crate) struct Unread {
@@ -40,7 +40,8 @@ impl Unread {
         Unread { seen: Cell::new(0) }
     }
 
-    /// Waits for bytes and reads them. They stay in the stream.
+    /// Waits for bytes and reads them in place. They stay in the stream until [`take`](Unread::take). After an error, none
+    /// were read.
     pub(crate) fn read(&self, stream: &UnixStream, buf: &mut [u8]) -> io::Result<usize>
         ensures { ReadsAtMost result buf.new }
     {
@@ -54,7 +55,7 @@ impl Unread {
         }
     }
 
-    /// Takes what was read from the stream. It doesn't wait.
+    /// Removes from the stream what was read in place. It does not wait. After an error, the next call tries the rest.
     pub(crate) fn take(&self, stream: &UnixStream) -> Result<(), Lost> {
         match self.seen.get() {
             0 => Ok(()),

@@ -97,7 +97,8 @@ impl Watch {
         }
     }
 
-    /// Returns a call that was just answered. `class` is that of its connection's listener.
+    /// Returns a call that was just answered, with the time since the start of the watch. `class` is that of the
+    /// connection's listener. Does not allocate.
     pub fn call_of(&self, class: Class, event: &Event) -> WatchedCall {
         let Ok(event) = event.clone() else {
             unreachable!()
