@@ -103,6 +103,13 @@ def words_of(trace):
     return [words for _, _, _, words in parts]
 
 
+def is_still(path):
+    """Whether a file is the same for a tenth of a second."""
+    before = path.stat().st_size
+    time.sleep(0.1)
+    return path.stat().st_size == before
+
+
 class TracesTests(FolderCase):
     """Tests of what a server writes while it runs."""
 
@@ -173,11 +180,13 @@ class TracesTests(FolderCase):
             with contextlib.closing(retry(lambda: connect_raw(folder / "card"))) as silent:
                 # the system keeps a few hundred answers for it
                 silent.sendall(HELLO + 1_000 * VERSION)
-                wait_until("whether its calls have lines", lambda: trace.read_text().count(" version -> ") > 100)
+                wait_until(
+                    "whether an answer waits", lambda: is_still(trace) and trace.read_text().count(" version -> ") > 100
+                )
                 other = connect(folder / "root")
                 other.ask("buf_create 4096")
                 wait_until("whether the other's has one", lambda: " buf_create 4096 -> " in trace.read_text())
-                expect("whether an answer waits", trace.read_text().count(" version -> ") < 1_000, True)
+                expect("whether it still waits", trace.read_text().count(" version -> ") < 1_000, True)
                 other.close()
             ran = stopped(started)
         steps = len(words_of(trace.read_text()))

@@ -1,5 +1,5 @@
 -- What is true of a device's fields, and of the fields after a step.
-use Rattle.std.proofs.Common.{◌≡◌, ℕ, zero, suc, replicate, Ok, ◌+◌, ◌-◌, ◌<◌, ◌≤◌, ◌&&◌, ◌||◌, Bool, true, false, not, List, Option, find, refl, sym, ap, ◌∙◌, arith, subst, length, map, [], ◌∷◌, ◌++◌, nat_le, nat_lt, None, Some, filter}
+use Rattle.std.proofs.Common.{◌≡◌, ℕ, zero, suc, replicate, Ok, ◌+◌, ◌-◌, ◌<◌, ◌≤◌, ◌&&◌, ◌||◌, Bool, true, false, not, List, Option, find, refl, sym, ap, ◌∙◌, arith, subst, length, map, [], ◌∷◌, ◌++◌, nat_le, nat_lt, None, Some, filter, take}
 use Rattle.std.specs.List.{filter_map, list_any, AllByRecursion}
 use Rattle.std.specs.Option.{is_some, option_and_then}
 use Rattle.std.specs.Vec.{vec_len, vec_capacity}
@@ -9,6 +9,7 @@ use Rattle.std.proofs.lemmas.Bool.Decides.{nat_tests}
 use Rattle.drm_lists.specs.Orders.{InOrder}
 use Rattle.std.specs.Prelude.{unwrap_or}
 use Rattle.std.proofs.lemmas.List.{length-map}
+use Rattle.std.proofs.Math.Seq.{take-append_seam}
 use Rattle.drm_lists.proofs.Orders.{same-any, same-length}
 use Rattle.drm_lists.proofs.Rising.{found}
 use Rattle.drm_lists.proofs.Lists.{all_weaker, all_of_map}
@@ -110,10 +111,11 @@ pub next_rows : (d : Inside) (event : Event) (journal : Vec Event) (s : State)
 next_rows d event journal s e fixed =
     ap rows_of (next_history d event journal s e fixed) ∙ rows_journaled (value_of d) event
 
--- Another state with the same mode objects leaves the history of the device.
-pub same_history : (d : Inside) (s : State) → s.modes.topology ≡ d.state.modes.topology
-    → value_of (record { limits = d.limits; journal = d.journal; state = s }) ≡ value_of d
-same_history d s fixed = λ i. record { topology = fixed i; limits = d.limits; journal = d.journal.items }
+-- A journal of the same events and a state with the same mode objects leave the history of the device.
+pub same_history : (d : Inside) (journal : Vec Event) (s : State) → journal.items ≡ d.journal.items
+    → s.modes.topology ≡ d.state.modes.topology
+    → value_of (record { limits = d.limits; journal = journal; state = s }) ≡ value_of d
+same_history d journal s e fixed = λ i. record { topology = fixed i; limits = d.limits; journal = e i }
 
 -- The state keeps the fixed mode objects.
 pub topology_same : (d : Inside) (s : State) (w : Rows) → Represents s w → w.topology ≡ (rows_of (value_of d)).topology
@@ -155,18 +157,34 @@ next_device d event journal s h room items len capacity t r =
       journal_fits = h.journal_fits;
     }
 
+-- A journal without the event that was just written has the events from before.
+pub taken_back : (d : Inside) (longer journal : Vec Event) (event : Event)
+    → longer.items ≡ d.journal.items ++ event ∷ [] → vec_len longer ≡ vec_len d.journal + 1
+    → journal.items ≡ take (vec_len longer - 1) longer.items → journal.items ≡ d.journal.items
+taken_back d longer journal event items len is =
+    let long : vec_len longer - 1 ≡ length d.journal.items = omega (arith, len, d.journal.ok.0) in
+    is ∙ ap (take (vec_len longer - 1)) items ∙ ap (λ (n : ℕ). take n (d.journal.items ++ event ∷ [])) long
+    ∙ take-append_seam d.journal.items (event ∷ [])
+
 -- A device is one after refused memory too: its history is unchanged.
-pub same_device : (d : Inside) (s : State) → IsDevice d → MeetsInvariants s → Represents s (rows_of (value_of d))
-    → IsDevice (record { limits = d.limits; journal = d.journal; state = s })
-same_device d s h t r =
+pub same_device : (d : Inside) (journal : Vec Event) (s : State) → IsDevice d → journal.items ≡ d.journal.items
+    → vec_capacity journal ≡ vec_capacity d.journal → MeetsInvariants s → Represents s (rows_of (value_of d))
+    → IsDevice (record { limits = d.limits; journal = journal; state = s })
+same_device d journal s h e capacity t r =
     let now = represented_count s (rows_of (value_of d)) r in
     let before = represented_count d.state (rows_of (value_of d)) h.rows in
     let fixed = topology_same d s (rows_of (value_of d)) r refl in
-    let rows =
-    subst (λ t. Represents s (rows_of (record { topology = t; limits = d.limits; journal = d.journal.items })))
-    (sym fixed) r in
-    let found = subst (λ t. FoundRoom (empty_rows t d.limits) d.journal.items) (sym fixed) h.found_room in
-    record { rows = rows; invariants = t; found_room = found; places = omega (arith, h.places); reserved = h.reserved; in_range = h.in_range; journal_fits = h.journal_fits }
+    let same = same_history d journal s e fixed in
+    let long : vec_len journal ≡ vec_len d.journal = journal.ok.0 ∙ ap length e ∙ sym d.journal.ok.0 in
+    record {
+      rows = subst (λ v. Represents s (rows_of v)) (sym same) r;
+      invariants = t;
+      found_room = subst (λ v. FoundRoom (start_of v) v.journal) (sym same) h.found_room;
+      places = omega (arith, h.places, long);
+      reserved = omega (arith, h.reserved, capacity);
+      in_range = h.in_range;
+      journal_fits = h.journal_fits;
+    }
 
 -- a number that is tested for its range is at most the greatest
 at_most : (low high n : ℕ) → is_between low high n ≡ true → n ≤ high

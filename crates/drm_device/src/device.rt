@@ -18,7 +18,7 @@ use drm_modes::{Modes, Topology};
 use drm_share::{Names, Tokens};
 use drm_state::State;
 use drm_table::{Answer, Apart, AuditKind, AuditPage, Event, Limits, are_in_range};
-use std::alloc::Global;
+use std::alloc::{AllocError, Global};
 use std::marker::Model;
 
 /// A state machine over openings, requests and closings. Contracts see its topology, its limits and its journal, and as
@@ -194,11 +194,12 @@ impl Device {
             return;
         }
         let step_number = self.journal.len() as u32 + 1;
-        let Ok(()) = advance_at(&mut self.state, step_number, event, outcome) else {
-            Apart::NoMemory.replace(outcome);
-            return;
-        };
+        // The event is recorded before the call is carried out. The processor fetches the journal's memory meanwhile.
         self.journal.push_reserved(copy_of(event));
+        if let Err(AllocError) = advance_at(&mut self.state, step_number, event, outcome) {
+            self.journal.pop();
+            Apart::NoMemory.replace(outcome);
+        }
     }
 
     /// Answers one event as [`step_at`](Device::step_at) does, and refuses memory to an event of a shortage, so that a

@@ -15,7 +15,7 @@ use Rattle.drm_turns.specs.declared.history.Entry.{Entry}
 use Rattle.drm_turns.specs.declared.history.View.{View}
 use Rattle.drm_turns.specs.declared.history.Stage.TheVariants.{Idle, Serving, Spent}
 use Rattle.drm_turns.specs.History.{AllDiffer, Has, device_at, replayed}
-use Rattle.drm_turns.specs.Rule.{Slot, Table, Sat, World, Fits, Knows, has_ticket, Placed, AllKnow, AllHeld, IsHeld, TicketsDiffer, Orderly, Lent}
+use Rattle.drm_turns.specs.Rule.{Slot, Table, Sat, World, Fits, Knows, has_ticket, Placed, AllKnow, AllHeld, IsHeld, TicketsDiffer, Orderly, Lent, words_of}
 use Rattle.drm_turns.specs.Views.{IsOwn, child, informed, lending, met_of, numbered, opening_view, outstanding_after, spent_view, told_of}
 use Rattle.drm_turns.specs.Plays.{Reads, settles, learns}
 use Rattle.drm_turns.proofs.GrowingHistories.{starts_whole, starts_with_none, none_before, replayed-events, replayed-legal, replayed-calls}
@@ -228,14 +228,14 @@ replayed-length w (e ∷ es) = ap suc (replayed-length (after w e) es)
 
 -- A device that is shared anew keeps the rule: no ticket was drawn, and the device is in its slot.
 pub opens : (d : DeviceValue) (n : ℕ) → n ≡ length d.journal → FoundRoom (start_of d) d.journal
-    → Orderly (opening (n ∷ 0 ∷ 0 ∷ []) (Some d ∷ []) (opening_view d))
+    → Orderly (opening (words_of n 0 0) (Some d ∷ []) (opening_view d))
 opens d n is room =
     let w : Rows = start_of d in
     let log : List Entry = replayed w d.journal in
     let x : World = record { origin = d; log = log; next = 0; serving = 0; outstanding = false } in
     let v : View = opening_view d in record {
       world = x;
-      words = ap (λ (k : ℕ). k ∷ 0 ∷ 0 ∷ []) (is ∙ sym (replayed-length w d.journal));
+      words = ap (λ (k : ℕ). words_of k 0 0) (is ∙ sym (replayed-length w d.journal));
       few = omega arith;
       behind = omega arith;
       legal = replayed-legal w d.journal room;
@@ -271,18 +271,18 @@ quiet_home true x homes views quiet know p = let k : Knows x p.0 p.1 Serving = s
 -- If all tickets were served at the end, the slot has the device with the history that the participant read.
 pub closes : (id : ℕ) (v : View) (words : List ℕ) (xs : List Slot) (next serving : ℕ) (slot : Slot) → v.stage ≡ Idle
     → Final (Seen Orderly id v) words xs
-    → get_elem? words 1 ≡ some next → get_elem? words 2 ≡ some serving → next ≡ serving → get_elem? xs 0 ≡ some slot
+    → get_elem? words 8 ≡ some next → get_elem? words 9 ≡ some serving → next ≡ serving → get_elem? xs 0 ≡ some slot
     → (log : List Entry) × (slot ≡ Some (device_at v.origin log)) × Reads v log
 closes id v words xs next serving slot idle final at_next at_serving quiet at =
     let s : Table = final.0 in
     let r : Orderly s = final.1.0 in
     let x = r.world in
     let fits : Fits x.origin x.log id v = subst (Knows x id v) idle (r.know id v final.1.1) in
-    let words_are : words ≡ length x.log ∷ x.next ∷ x.serving ∷ [] = sym final.2 ∙ r.words in
+    let words_are : words ≡ words_of (length x.log) x.next x.serving = sym final.2 ∙ r.words in
     let next_is : x.next ≡ next =
-    some-injective x.next next (ap (λ (l : List ℕ). get_elem? l 1) (sym words_are) ∙ at_next) in
+    some-injective x.next next (ap (λ (l : List ℕ). get_elem? l 8) (sym words_are) ∙ at_next) in
     let serving_is : x.serving ≡ serving =
-    some-injective x.serving serving (ap (λ (l : List ℕ). get_elem? l 2) (sym words_are) ∙ at_serving) in
+    some-injective x.serving serving (ap (λ (l : List ℕ). get_elem? l 9) (sym words_are) ∙ at_serving) in
     let home = quiet_home x.outstanding x s.homes s.views (next_is ∙ (quiet ∙ sym serving_is)) r.know r.placed in
     let found = final.4 0 (Some (device_at x.origin x.log)) home in
     (x.log, some-injective slot (Some (device_at x.origin x.log)) (sym at ∙ found) ∙ ap (λ (d : DeviceValue). Some (device_at d x.log)) (sym fits.origin_is), reads x id v fits r.legal)
@@ -290,17 +290,17 @@ closes id v words xs next serving slot idle final at_next at_serving quiet at =
 -- If not all tickets were served, a participant has the ticket that is served.
 pub turn_is_out : (id : ℕ) (v : View) (words : List ℕ) (xs : List Slot) (next serving : ℕ)
     → Final (Seen Orderly id v) words xs
-    → get_elem? words 1 ≡ some next → get_elem? words 2 ≡ some serving → next ≢ serving
-    → (s : Table) × Orderly s × (get_elem? s.views id ≡ some v) × IsHeld s.views (slice_index s.words 2)
+    → get_elem? words 8 ≡ some next → get_elem? words 9 ≡ some serving → next ≢ serving
+    → (s : Table) × Orderly s × (get_elem? s.views id ≡ some v) × IsHeld s.views (slice_index s.words 9)
 turn_is_out id v words xs next serving final at_next at_serving ne =
     let s : Table = final.0 in
     let r : Orderly s = final.1.0 in
     let x = r.world in
-    let words_are : words ≡ length x.log ∷ x.next ∷ x.serving ∷ [] = sym final.2 ∙ r.words in
+    let words_are : words ≡ words_of (length x.log) x.next x.serving = sym final.2 ∙ r.words in
     let next_is : x.next ≡ next =
-    some-injective x.next next (ap (λ (l : List ℕ). get_elem? l 1) (sym words_are) ∙ at_next) in
+    some-injective x.next next (ap (λ (l : List ℕ). get_elem? l 8) (sym words_are) ∙ at_next) in
     let serving_is : x.serving ≡ serving =
-    some-injective x.serving serving (ap (λ (l : List ℕ). get_elem? l 2) (sym words_are) ∙ at_serving) in
+    some-injective x.serving serving (ap (λ (l : List ℕ). get_elem? l 9) (sym words_are) ∙ at_serving) in
     let behind = r.behind in
     let out : x.next ≢ x.serving = λ e. ne (sym next_is ∙ (e ∙ serving_is)) in
     (s, r, final.1.1, subst (IsHeld s.views) (sym (word_is s r).2) (r.held x.serving (omega arith) (omega arith)))
@@ -308,7 +308,7 @@ turn_is_out id v words xs next serving final at_next at_serving ne =
 -- If all that was split off the first participant is returned, all tickets were served and the slot has the device.
 pub comes_home : (id : ℕ) (v : View) (words : List ℕ) (xs : List Slot) (next serving : ℕ) (slot : Slot) → v.stage ≡ Idle
     → v.number ≡ 1 → v.outstanding ≡ 0 → Final (Seen Orderly id v) words xs
-    → get_elem? words 1 ≡ some next → get_elem? words 2 ≡ some serving → get_elem? xs 0 ≡ some slot
+    → get_elem? words 8 ≡ some next → get_elem? words 9 ≡ some serving → get_elem? xs 0 ≡ some slot
     → (next ≡ serving) × (d : DeviceValue) × (slot ≡ Some d)
 comes_home id v words xs next serving slot idle first none_outstanding final at_next at_serving at =
     let s : Table = final.0 in
@@ -325,10 +325,10 @@ comes_home id v words xs next serving slot idle first none_outstanding final at_
     (λ ne. let b = r.behind in absurd (free x.serving (r.held x.serving (omega arith) (omega arith)))) in
     let home = quiet_home x.outstanding x s.homes s.views quiet r.know r.placed in
     let found = final.4 0 (Some (device_at x.origin x.log)) home in
-    let words_are : words ≡ length x.log ∷ x.next ∷ x.serving ∷ [] = sym final.2 ∙ r.words in (
-      some-injective next x.next (sym at_next ∙ ap (λ (l : List ℕ). get_elem? l 1) words_are)
+    let words_are : words ≡ words_of (length x.log) x.next x.serving = sym final.2 ∙ r.words in (
+      some-injective next x.next (sym at_next ∙ ap (λ (l : List ℕ). get_elem? l 8) words_are)
           ∙
-          (quiet ∙ sym (some-injective serving x.serving (sym at_serving ∙ ap (λ (l : List ℕ). get_elem? l 2) words_are))),
+          (quiet ∙ sym (some-injective serving x.serving (sym at_serving ∙ ap (λ (l : List ℕ). get_elem? l 9) words_are))),
       device_at x.origin x.log,
       some-injective slot (Some (device_at x.origin x.log)) (sym at ∙ found),
     )
@@ -337,7 +337,7 @@ comes_home id v words xs next serving slot idle first none_outstanding final at_
 -- counts.
 pub closes_counted : (id : ℕ) (v : View) (words : List ℕ) (xs : List Slot) (next serving : ℕ) (slot : Slot)
     → v.stage ≡ Idle → Final (Seen Orderly id v) words xs
-    → get_elem? words 1 ≡ some next → get_elem? words 2 ≡ some serving → next ≡ serving → get_elem? xs 0 ≡ some slot
+    → get_elem? words 8 ≡ some next → get_elem? words 9 ≡ some serving → next ≡ serving → get_elem? xs 0 ≡ some slot
     → v.number ≡ 1 → v.outstanding ≡ 0
     → (log : List Entry) × (slot ≡ Some (device_at v.origin log)) × (length log ≡ length v.origin.journal + v.journaled)
 unfolding closes

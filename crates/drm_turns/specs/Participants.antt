@@ -13,7 +13,7 @@ use Rattle.drm_turns.specs.declared.history.Entry.{Entry}
 use Rattle.drm_turns.specs.declared.history.View.{View}
 use Rattle.drm_turns.specs.declared.history.Stage.TheVariants.{Idle}
 use Rattle.drm_turns.specs.History.{AllDiffer, IsLegal, StartsWith, calls_by, device_at, entry, rows_after}
-use Rattle.drm_turns.specs.Rule.{Table, IsHeld, Orderly}
+use Rattle.drm_turns.specs.Rule.{Table, IsHeld, Orderly, serving_word}
 
 -- A participant:
 --
@@ -99,7 +99,7 @@ abbrev pub IsTurnOut : ParticipantView → Type 0
 IsTurnOut s = (state : Table) × Orderly state
     ×
     ((id : ℕ) × (v : View) × (get_elem? state.views id ≡ some v) × (v.stage ≡ Idle) × (v.number ≡ s.number) × (v.outstanding ≡ s.outstanding) × (v.seen ≡ s.seen))
-    × IsHeld state.views (slice_index state.words 2)
+    × IsHeld state.views (slice_index state.words serving_word)
 
 -- ---- participants that are split off and taken in
 

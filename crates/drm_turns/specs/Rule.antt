@@ -1,4 +1,4 @@
--- The rule of the turn (own). The words are the length of the history, the next ticket, and the ticket that is served.
+-- The rule of the turn (own). Three words are in use: the length of the history, the next ticket, and the ticket that is served.
 use Rattle.std.specs.Prelude.{◌≡◌, ◌≢◌, ◌⊎◌, ℕ, suc, ◌+◌, ◌<◌, ◌≤◌, ◌^◌, Bool, true, false, List, [], ◌∷◌, length, Option, Some}
 use mathlib.Core.Option.{Option as maybe, some}
 use lib.ListN.{get_elem?}
@@ -13,6 +13,19 @@ use Rattle.drm_turns.specs.History.{AllDiffer, Has, IsLegal, StartsWith, calls_b
 -- the slot of the device
 abbrev pub Slot : Type 0
 Slot = Option DeviceValue
+
+-- the number of the word of the next ticket
+abbrev pub ticket_word : ℕ
+ticket_word = 8
+
+-- the number of the word of the ticket that is served
+abbrev pub serving_word : ℕ
+serving_word = 9
+
+-- All words. Those between are always 0. They only keep the two of tickets away from the others in memory.
+abbrev pub words_of : ℕ → ℕ → ℕ → List ℕ
+words_of count next serving =
+    count ∷ 0 ∷ 0 ∷ 0 ∷ 0 ∷ 0 ∷ 0 ∷ 0 ∷ next ∷ serving ∷ 0 ∷ 0 ∷ 0 ∷ 0 ∷ 0 ∷ 0 ∷ []
 
 -- the state of the table
 abbrev pub Table : Type 0
@@ -117,7 +130,7 @@ pub record Lent (views : List View) : Type 0 where
 -- the facts about the table
 pub record Orderly (s : Table) : Type 0 where
   pub world : World
-  pub words : s.words ≡ length world.log ∷ world.next ∷ world.serving ∷ []
+  pub words : s.words ≡ words_of (length world.log) world.next world.serving
   pub few : world.next < 2 ^ 64
   pub behind : world.serving ≤ world.next
   pub legal : IsLegal world.origin world.log

@@ -8,7 +8,7 @@ ghost use Rattle.drm_turns.specs.declared.history.Entry.{Entry};
 ghost use Rattle.drm_turns.specs.declared.history.View.{View};
 ghost use Rattle.drm_turns.specs.declared.history.Stage.TheVariants.{Serving, Spent};
 ghost use Rattle.drm_turns.specs.History.{IsLegal, device_at};
-ghost use Rattle.drm_turns.specs.Rule.{Table, Orderly, has_ticket, total};
+ghost use Rattle.drm_turns.specs.Rule.{Table, Orderly, has_ticket, serving_word, ticket_word, total};
 
 /// No two participants have one ticket.
 pub fn tickets_differ()
@@ -28,10 +28,10 @@ pub fn numbers_differ()
 pub fn device_is_placed()
     ensures { (s : Table) → Orderly s
         → ((origin : DeviceValue) × (log : List Entry) × (get_elem? s.homes 0 ≡ some (some (Some (device_at origin log)))) × IsLegal origin log)
-        ⊎ ((id : ℕ) × (v : View) × (get_elem? s.views id ≡ some v) × (v.stage ≡ Serving) × (v.ticket ≡ slice_index s.words 2)) }
+        ⊎ ((id : ℕ) × (v : View) × (get_elem? s.views id ≡ some v) × (v.stage ≡ Serving) × (v.ticket ≡ slice_index s.words serving_word)) }
 {}
 
 /// The word of the next ticket is how many tickets all participants drew.
 pub fn tickets_are_counted()
-    ensures { (s : Table) → Orderly s → slice_index s.words 1 ≡ total (λ v. v.drawn) s.views }
+    ensures { (s : Table) → Orderly s → slice_index s.words ticket_word ≡ total (λ v. v.drawn) s.views }
 {}

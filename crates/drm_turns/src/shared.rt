@@ -33,11 +33,15 @@ use std::sync::atomic::{AtomicU64, Ordering};
 /// The word of the length of the history.
 const COUNT: usize = 0;
 
-/// The word of the next ticket.
-const TICKET: usize = 1;
+/// The word of the next ticket. It is in another cache line than the length of the history. So calls that wait, which read
+/// the tickets again and again, do not delay the call that writes the length.
+const TICKET: usize = 8;
 
 /// The word of the ticket that is served.
-const SERVING: usize = 2;
+const SERVING: usize = 9;
+
+/// The number of words. Those after the tickets keep the slot of the device out of their cache line.
+const WORDS: usize = 16;
 
 /// The number of times that a call looks whether it is served, or whether the device is free, before it sleeps until it
 /// is woken (own). All looks take longer than a turn in which the system provides a page for the journal.
@@ -127,7 +131,7 @@ impl Model for SharedDevice {
 
     ghost view = { λ shared. shared.table.shared.table_id };
 
-    ghost invariant = { λ shared. (shared.table.shared.table_id.words ≡ 3) × (shared.table.shared.table_id.slots ≡ 1) };
+    ghost invariant = { λ shared. (shared.table.shared.table_id.words ≡ 16) × (shared.table.shared.table_id.slots ≡ 1) };
 }
 
 /// A handle of a shared device that threads can share. A function that starts threads takes it as a type parameter, so
@@ -371,7 +375,9 @@ impl SharedDevice {
             Err(device) => return Err((device, NoMemory)),
         };
         slots.push_reserved(Some(boxed));
-        match Table::new(alloc, &[journaled, 0, 0], slots, &about) {
+        let mut words = [0; WORDS];
+        words[COUNT] = journaled;
+        match Table::new(alloc, &words, slots, &about) {
             Ok((table, place)) => {
                 let sleepers = AtomicU64::new(0);
                 Ok((SharedDevice { table, sleepers }, Seat { place }))

@@ -6,7 +6,7 @@ use Rattle.drm_table.specs.Results.{FitsOneFrame}
 use Rattle.drm_model.specs.Run.{Step, rows_of, journaled_in}
 use Rattle.drm_device.specs.Device.{value_of}
 use Rattle.drm_state.specs.Refinement.{Refines}
-use Rattle.drm_device.proofs.Devices.{stands, precondition, has_room_for, next_history, next_rows, same_history, topology_same, topology_after, few_answer, next_device, same_device, within_after}
+use Rattle.drm_device.proofs.Devices.{stands, precondition, has_room_for, next_history, next_rows, same_history, topology_same, topology_after, few_answer, next_device, same_device, taken_back, within_after}
 use Rattle.drm_device.proofs.Places.{opened}
 use Rattle.drm_device.proofs.device.Device.step_at.Goals as goal
 
@@ -23,11 +23,11 @@ push_reserved-requires c =
     let room = not-true _ (sym c.has_room.ensures ∙ c.if-not-has_room.false) in
     has_room_for c.self.inside c.args.event.now c.self.invariant (rw (ap rows_of c.self.view_is) room)
 
-pub invariant_of-self-2 : goal.invariant_of-self-2
+pub invariant_of-self-in_default : goal.invariant_of-self-in_default
 unfolding Refines
-invariant_of-self-2 c =
+invariant_of-self-in_default c =
     let room = not-true _ (sym c.has_room.ensures ∙ c.if-not-has_room.false) in
-    let made = opened c.advance_at.new.outcome c.in-Ok.ensures.answered c.in-Ok.ensures.ok in
+    let made = opened c.advance_at.new.outcome c.in_default.ensures.answered c.in_default.ensures.ok in
     let out =
     made.2 (rows_of (value_of c.self.inside)) (stands c.self.inside c.len.result c.self.invariant c.len.ensures) in
     let items =
@@ -36,21 +36,23 @@ invariant_of-self-2 c =
     next_device c.self.inside c.args.event.now c.push_reserved.new.self c.advance_at.new.state c.self.invariant
     (rw (ap rows_of c.self.view_is) room)
     items c.push_reserved.ensures.len c.push_reserved.ensures.capacity
-    c.in-Ok.ensures.invariants out.1
+    c.in_default.ensures.invariants out.1
 
 pub invariant_of-self : goal.invariant_of-self
 unfolding Refines
 invariant_of-self c =
     let out =
-    c.in_default.ensures.err (rows_of (value_of c.self.inside))
+    c.in-Err.ensures.err (rows_of (value_of c.self.inside))
     (stands c.self.inside c.len.result c.self.invariant c.len.ensures) in
-    same_device c.self.inside c.advance_at.new.state c.self.invariant c.in_default.ensures.invariants out.1
+    same_device c.self.inside c.pop.new.self c.advance_at.new.state c.self.invariant
+    (taken_back c.self.inside c.push_reserved.new.self c.pop.new.self c.copy_of.result c.push_reserved.ensures.items c.push_reserved.ensures.len c.pop.ensures.rest)
+    (c.pop.ensures.capacity ∙ c.push_reserved.ensures.capacity) c.in-Err.ensures.invariants out.1
 
-pub returns-clause-step : goal.returns-clause-step
+pub returns-in_default-clause-step : goal.returns-in_default-clause-step
 unfolding Step Refines
-returns-clause-step c =
+returns-in_default-clause-step c =
     let room = not-true _ (sym c.has_room.ensures ∙ c.if-not-has_room.false) in
-    let made = opened c.advance_at.new.outcome c.in-Ok.ensures.answered c.in-Ok.ensures.ok in
+    let made = opened c.advance_at.new.outcome c.in_default.ensures.answered c.in_default.ensures.ok in
     let out =
     made.2 (rows_of (value_of c.self.inside)) (stands c.self.inside c.len.result c.self.invariant c.len.ensures) in
     let items =
@@ -59,29 +61,34 @@ returns-clause-step c =
     rw made.1
     (room, rw (← ap rows_of c.self.view_is) out.0, rw (← ap rows_of c.self.view_is) (next_rows c.self.inside c.args.event.now c.push_reserved.new.self c.advance_at.new.state items (topology_after c.self.inside c.args.event.now c.advance_at.new.state out.1)))
 
-pub returns-in_default-clause-step : goal.returns-in_default-clause-step
+pub returns-in-Err-clause-step : goal.returns-in-Err-clause-step
 unfolding Step Refines
-returns-in_default-clause-step c = rw c.replace-in_default.ensures.replaced (
+returns-in-Err-clause-step c = rw c.replace-in-Err.ensures.replaced (
     let room = not-true _ (sym c.has_room.ensures ∙ c.if-not-has_room.false) in
     let out =
-    c.in_default.ensures.err (rows_of (value_of c.self.inside))
+    c.in-Err.ensures.err (rows_of (value_of c.self.inside))
     (stands c.self.inside c.len.result c.self.invariant c.len.ensures) in
-    let fixed = topology_same c.self.inside c.advance_at.new.state (rows_of (value_of c.self.inside)) out.1 refl in
-    (room, rw (← ap rows_of c.self.view_is) out.0, ap rows_of (same_history c.self.inside c.advance_at.new.state fixed ∙ c.self.view_is)))
+    let fixed = topology_same c.self.inside c.advance_at.new.state (rows_of (value_of c.self.inside)) out.1 refl in (
+      room,
+      rw (← ap rows_of c.self.view_is) out.0,
+      ap rows_of (same_history c.self.inside c.pop.new.self c.advance_at.new.state
+          (taken_back c.self.inside c.push_reserved.new.self c.pop.new.self c.copy_of.result c.push_reserved.ensures.items c.push_reserved.ensures.len c.pop.ensures.rest)
+          fixed ∙ c.self.view_is),
+    ))
 
-pub returns-clause-few : goal.returns-clause-few
+pub returns-in_default-clause-few : goal.returns-in_default-clause-few
 unfolding Refines
-returns-clause-few c =
-    let made = opened c.advance_at.new.outcome c.in-Ok.ensures.answered c.in-Ok.ensures.ok in
+returns-in_default-clause-few c =
+    let made = opened c.advance_at.new.outcome c.in_default.ensures.answered c.in_default.ensures.ok in
     let out =
     made.2 (rows_of (value_of c.self.inside)) (stands c.self.inside c.len.result c.self.invariant c.len.ensures) in
     rw made.1
     (subst (λ (a : Answer). FitsOneFrame (Ok a)) (sym out.0) (few_answer c.self.inside c.args.event.now c.self.invariant))
 
-pub returns-clause-ok : goal.returns-clause-ok
+pub returns-in_default-clause-ok : goal.returns-in_default-clause-ok
 unfolding Refines
-returns-clause-ok c =
-    let made = opened c.advance_at.new.outcome c.in-Ok.ensures.answered c.in-Ok.ensures.ok in
+returns-in_default-clause-ok c =
+    let made = opened c.advance_at.new.outcome c.in_default.ensures.answered c.in_default.ensures.ok in
     let out =
     made.2 (rows_of (value_of c.self.inside)) (stands c.self.inside c.len.result c.self.invariant c.len.ensures) in
     let items =
@@ -90,25 +97,27 @@ returns-clause-ok c =
     rw made.1
     (next_history c.self.inside c.args.event.now c.push_reserved.new.self c.advance_at.new.state items (topology_after c.self.inside c.args.event.now c.advance_at.new.state out.1) ∙ ap (λ h. journaled_in h c.args.event.now) c.self.view_is)
 
-pub returns-clause-err : goal.returns-clause-err
-returns-clause-err c = rw (opened c.advance_at.new.outcome c.in-Ok.ensures.answered c.in-Ok.ensures.ok).1 tt
-
 pub returns-in_default-clause-err : goal.returns-in_default-clause-err
+returns-in_default-clause-err c = rw (opened c.advance_at.new.outcome c.in_default.ensures.answered c.in_default.ensures.ok).1 tt
+
+pub returns-in-Err-clause-err : goal.returns-in-Err-clause-err
 unfolding Refines
-returns-in_default-clause-err c = rw c.replace-in_default.ensures.replaced (
+returns-in-Err-clause-err c = rw c.replace-in-Err.ensures.replaced (
     let out =
-    c.in_default.ensures.err (rows_of (value_of c.self.inside))
+    c.in-Err.ensures.err (rows_of (value_of c.self.inside))
     (stands c.self.inside c.len.result c.self.invariant c.len.ensures) in
-    same_history c.self.inside c.advance_at.new.state (topology_same c.self.inside c.advance_at.new.state (rows_of (value_of c.self.inside)) out.1 refl) ∙ c.self.view_is)
+    same_history c.self.inside c.pop.new.self c.advance_at.new.state
+    (taken_back c.self.inside c.push_reserved.new.self c.pop.new.self c.copy_of.result c.push_reserved.ensures.items c.push_reserved.ensures.len c.pop.ensures.rest)
+    (topology_same c.self.inside c.advance_at.new.state (rows_of (value_of c.self.inside)) out.1 refl) ∙ c.self.view_is)
 
-pub returns-in_default-clause-found_room : goal.returns-in_default-clause-found_room
-returns-in_default-clause-found_room c = (invariant_of-self c).found_room
+pub returns-in-Err-clause-found_room : goal.returns-in-Err-clause-found_room
+returns-in-Err-clause-found_room c = (invariant_of-self c).found_room
 
-pub returns-clause-within : goal.returns-clause-within
-returns-clause-within c =
+pub returns-in_default-clause-within : goal.returns-in_default-clause-within
+returns-in_default-clause-within c =
     let room = not-true _ (sym c.has_room.ensures ∙ c.if-not-has_room.false) in
     within_after c.self.inside c.args.event.now c.push_reserved.new.self c.self.invariant
     (rw (ap rows_of c.self.view_is) room) c.push_reserved.ensures.len
 
-pub returns-clause-found_room : goal.returns-clause-found_room
-returns-clause-found_room c = (invariant_of-self-2 c).found_room
+pub returns-in_default-clause-found_room : goal.returns-in_default-clause-found_room
+returns-in_default-clause-found_room c = (invariant_of-self-in_default c).found_room

@@ -2,7 +2,7 @@ use Rattle.std.proofs.Common.{◌≡◌, List, [], ◌∷◌, ◌++◌, length, 
 use Rattle.atomic_table.specs.Table.{opening}
 use Rattle.drm_model.specs.Run.{DeviceValue}
 use Rattle.drm_turns.specs.History.{AllDiffer, Has, IsLegal, calls_by}
-use Rattle.drm_turns.specs.Rule.{Orderly, Sat, Slot}
+use Rattle.drm_turns.specs.Rule.{Orderly, Sat, Slot, words_of}
 use Rattle.drm_turns.specs.Views.{opening_view}
 use Rattle.drm_turns.proofs.Ends.{opens, opening_own}
 use Rattle.drm_turns.proofs.shared.SharedDevice.new.Goals as goal
@@ -12,7 +12,7 @@ new-requires-2 c =
     let slots : c.push_reserved.new.self.items ≡ Some c.args.device ∷ [] =
     c.push_reserved.ensures.items ∙ (λ i. c.in-Ok.ensures.items i ++ Some (c.in-Ok-new.ensures.ok i) ∷ []) in
     subst
-    (λ (z : List Slot × DeviceValue). Orderly (opening (length c.journal.result.now ∷ 0 ∷ 0 ∷ []) z.0 (opening_view z.1)))
+    (λ (z : List Slot × DeviceValue). Orderly (opening (words_of (length c.journal.result.now) 0 0) z.0 (opening_view z.1)))
     (λ i. (sym slots i, sym c.of-about.ensures i))
     (opens c.args.device (length c.journal.result.now) (ap length c.journal.ensures.events) c.journal.ensures.found_room)
 
