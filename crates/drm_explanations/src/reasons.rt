@@ -197,7 +197,7 @@ pub(crate) fn holds_of(
     let held = handles_of(alloc, steps, client)?;
     let mut rows = Vec::new(alloc);
     for one in &held {
-        if let Some(object) = trail.object_of(steps.len(), client, one.handle) {
+        if let Some(object) = trail.object_assigned(one.step) {
             rows.push(hold_row(alloc, trail, fronts, client, *one, object)?)?;
         }
     }

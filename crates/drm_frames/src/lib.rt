@@ -28,6 +28,6 @@ pub use laws::{
     one_decoding, one_frame, one_hello, one_reading, one_result, rows_of_the_table,
     texts_are_found,
 };
-pub use requests::{call_of, encode_call};
+pub use requests::{call_of, encode_call, read_call};
 pub use results::answer_of;
 pub use text::FrameBytes;

@@ -49,22 +49,46 @@ fn ids_call(kind: CallKind, bytes: &[u8]) -> Option<Call>
 /// assert!(rt; call_of(&Frame::new(0x09, &[])) == Call::BadLayout(0x09));
 /// assert!(rt; call_of(&Frame::new(0x7F, &[])) == Call::Unknown(0x7F));
 /// ```
-#[tactic(auto, unfolding(crate::specs::Requests::request_of, crate::specs::Fields::fields_in))]
 pub fn call_of(frame: &Frame<'_>) -> Call
     ensures { result ≡ request_of frame.now }
 {
+    let mut call = Call::Version;
+    read_call(frame, &mut call);
+    call
+}
+
+/// Writes the call of a frame, as [`call_of`] returns it, to a place of the caller's, so that a call is moved less. Does
+/// not allocate.
+///
+/// # Examples
+///
+/// ```rust
+/// use drm_frames::{Frame, read_call};
+/// use drm_table::Call;
+///
+/// let mut call = Call::Version;
+/// read_call(&Frame::new(0x09, &[1, 0, 0, 0]), &mut call);
+/// assert!(rt; call == Call::GemClose { handle: 1 });
+/// read_call(&Frame::new(0x7F, &[]), &mut call);
+/// assert!(rt; call == Call::Unknown(0x7F));
+/// ```
+#[tactic(auto, unfolding(crate::specs::Requests::request_of, crate::specs::Fields::fields_in))]
+pub fn read_call(frame: &Frame<'_>, place: &mut Call)
+    ensures { place.new ≡ request_of frame.now }
+{
     let number = frame.number();
     let Some(kind) = CallKind::of_number(number) else {
-        return Call::Unknown(number);
+        *place = Call::Unknown(number);
+        return;
     };
     let call = match kind.layout() {
         Layout::Numbers(widths) => numbers_call(kind, widths, frame.fields()),
         Layout::Ids => ids_call(kind, frame.fields()),
     };
-    match call {
+    *place = match call {
         Some(call) => call,
         None => Call::BadLayout(number),
-    }
+    };
 }
 
 /// Returns the bytes of the frame of a call (drm-uapi for the rows; the layout is own). Does not allocate.

@@ -103,12 +103,12 @@ ReadShows ends.ReadFault from to has = from.counts.faults < to.counts.faults
 ReadShows ends.TurnsUsed from to has = has ≡ 0
 ReadShows _ from to has = ⊤
 
--- what the next frame says, or how reading for it stopped
-abbrev pub Reads : {M : Type 0} → (FrameValue → M) → Result M SessionEnd → SourceTrace → SourceTrace → List ℕ → List ℕ
-    → ℕ → ℕ → Type 0
-Reads said (Ok message) from to waited waits had has =
+-- the message is what the next frame says, or how reading for it stopped
+abbrev pub Reads : {M : Type 0} → (FrameValue → M) → M → Result ⊤ SessionEnd → SourceTrace → SourceTrace → List ℕ
+    → List ℕ → ℕ → ℕ → Type 0
+Reads said message (Ok _) from to waited waits had has =
     (frame : FrameValue) × Uses from to waited waits had has frame × (message ≡ said frame)
-Reads said (Err end) from to waited waits had has =
+Reads said message (Err end) from to waited waits had has =
     Comes from to waited waits had has × StopsAt end waits × ReadShows end from to has × SourceTells end from.counts
     to.counts
 

@@ -1,11 +1,11 @@
 //! Reading the next frame.
 
-ghost use Rattle.std.specs.Prelude.{◌≡◌, ◌^◌, ◌+◌, ◌<◌};
+ghost use Rattle.std.specs.Prelude.{◌≡◌, ◌^◌, ◌+◌, ◌<◌, IfErr};
 ghost use Rattle.drm_sessions.specs.Reading.{Reads};
 
 use crate::end::SessionEnd;
 use crate::inbox::Inbox;
-use drm_frames::{Decoded, Frame, Hello, call_of, decode, hello_of};
+use drm_frames::{Decoded, Frame, Hello, decode, hello_of, read_call};
 use drm_streams::{Refill, Source};
 use drm_table::Call;
 
@@ -16,9 +16,9 @@ pub(crate) trait Message {
     /// What each frame says.
     ghost said: { FrameValue → Self };
 
-    /// What the frame says.
-    fn of(frame: &Frame<'_>) -> Self
-        ensures said { result ≡ said frame.now };
+    /// Writes what the frame says to a place.
+    fn read(frame: &Frame<'_>, place: &mut Self)
+        ensures said { place.new ≡ said frame.now };
 }
 
 impl Message for Call {
@@ -26,8 +26,8 @@ impl Message for Call {
 
     ghost said = { request_of };
 
-    fn of(frame: &Frame<'_>) -> Call {
-        call_of(frame)
+    fn read(frame: &Frame<'_>, place: &mut Call) {
+        read_call(frame, place);
     }
 }
 
@@ -36,27 +36,30 @@ impl Message for Option<Hello> {
 
     ghost said = { hello_in };
 
-    fn of(frame: &Frame<'_>) -> Option<Hello> {
-        hello_of(frame)
+    fn read(frame: &Frame<'_>, place: &mut Option<Hello>) {
+        *place = hello_of(frame);
     }
 }
 
-/// What the next frame says, from the bytes that wait and the source. A byte is taken only if no whole frame waits.
+/// Writes what the next frame says to a place, from the bytes that wait and the source. A byte is taken only if no whole
+/// frame waits. If there is no further frame, the place is unchanged.
 pub(crate) fn next_message<M: Message, S: Source>(
     source: &mut S,
     inbox: &mut Inbox,
     turns: &mut u64,
-) -> Result<M, SessionEnd>
+    place: &mut M,
+) -> Result<(), SessionEnd>
     requires { (S.trace source.old).counts.calls + turns.old < 2 ^ 48 }
-    ensures { Reads M.said result (S.trace source.old) (S.trace source.new)
+    ensures reads { Reads M.said place.new result (S.trace source.old) (S.trace source.new)
         inbox.old inbox.new turns.old turns.new }
+    ensures err { IfErr result (λ _. place.new ≡ place.old) }
 {
     'waiting: loop {
         match decode(inbox.as_slice()) {
             Decoded::Whole(frame, used) => {
-                let message = M::of(&frame);
+                M::read(&frame, place);
                 inbox.drop_front(used);
-                return Ok(message);
+                return Ok(());
             }
             Decoded::TooLong => return Err(SessionEnd::TooLong),
             Decoded::NeedMore => {}

@@ -79,13 +79,15 @@ pub(crate) fn answer_requests<A: Access, G: Gate, S: Source, K: Sink>(
     ensures few { result.steps ≤ turns.old + 1 }
 {
     let mut steps = 0;
+    let mut event = Event::Ask(client, Call::Version);
     'asking: loop {
-        let call = match next_message::<Call, S>(source, inbox, turns) {
-            Ok(call) => call,
-            Err(end) => return Stopped { end, steps },
+        let Event::Ask(_, call) = &mut event else {
+            unreachable!()
         };
+        if let Err(end) = next_message::<Call, S>(source, inbox, turns, call) {
+            return Stopped { end, steps };
+        }
         gate.before(client);
-        let event = Event::Ask(client, call);
         let answered = answer_call(access, sink, turns, outcome, text, &event);
         steps += answered.steps;
         if let Err(end) = answered.wrote {

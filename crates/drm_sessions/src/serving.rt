@@ -206,16 +206,14 @@ pub fn serve<A: Access, G: Gate, S: Source, K: Sink>(
 {
     let mut inbox = Inbox::new();
     let mut left = turns;
-    let hello = match next_message::<Option<Hello>, S>(source, &mut inbox, &mut left) {
-        Ok(hello) => hello,
-        Err(end) => {
-            return Session {
-                end,
-                client: 0,
-                steps: 0,
-            };
-        }
-    };
+    let mut hello = None;
+    if let Err(end) = next_message::<Option<Hello>, S>(source, &mut inbox, &mut left, &mut hello) {
+        return Session {
+            end,
+            client: 0,
+            steps: 0,
+        };
+    }
     match opening_of(class, hello) {
         Some(opening) => run_session(
             access, gate, class, source, sink, &mut inbox, &mut left, opening,

@@ -4,7 +4,7 @@ ghost use Rattle.std.specs.Prelude.{◌-◌, ◌^◌, ◌<◌, length};
 
 use drm_frames::{
     Decoded, Frame, FrameBytes, FromRead, Hello, Put, Sink, Source, Taken, ToWrite, answer_of,
-    call_of, decode, encode_answer, encode_call, encode_hello, hello_of,
+    call_of, decode, encode_answer, encode_call, encode_hello, hello_of, read_call,
 };
 use drm_table::{Answer, Apart, Call};
 use std::io::{Read, Write};
@@ -24,6 +24,11 @@ pub fn first(bytes: &[u8]) -> Decoded<'_> {
 /// The contents of a frame: a request, a hello, or an answer.
 pub fn read(frame: &Frame<'_>) -> (Call, Option<Hello>, Option<Result<Answer, Apart>>) {
     (call_of(frame), hello_of(frame), answer_of(frame))
+}
+
+/// A request in a place of the caller's.
+pub fn read_in_place(frame: &Frame<'_>, call: &mut Call) {
+    read_call(frame, call);
 }
 
 /// A hello.

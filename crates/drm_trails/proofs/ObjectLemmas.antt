@@ -78,6 +78,21 @@ pub held_is_none : (history : List AnsweredEvent) (c h : ℕ) (found : Option �
 held_is_none history c h None e = has_none history c h (sym e)
 held_is_none history c h (Some o) e = tt
 
+-- The object that is known of the step that assigned a handle is that of the handle.
+pub assigned_is_held : (steps : List Step) (objects : List (Option ℕ)) (c h step : ℕ) (found : Option ℕ)
+    → AreObjects steps objects
+    → ((past : ℕ) (object : Option ℕ) → step ≡ past + 1 → slice_get objects past ≡ Some object → found ≡ object)
+    → is_given_at (last_gift (history_of steps) c h) step ≡ true → found ≡ object_held (history_of steps) c h
+assigned_is_held steps objects c h step found known is given = of (last_gift (history_of steps) c h) refl given
+  where
+    of : (gift : Option Gift) → last_gift (history_of steps) c h ≡ gift → is_given_at gift step ≡ true
+        → found ≡ object_held (history_of steps) c h
+    of None e given = absurd (let no : false ≡ true = given in cc)
+    of (Some g) e given =
+        is (length g.past) (object_given g.past g.source) (grind (arith, nat_tests))
+        (known.told (length steps) c h g (ap (λ xs. last_gift (history_of xs) c h) (take_all (length steps) steps (omega arith)) ∙ e))
+        ∙ sym (held_by_gift (history_of steps) c h g e)
+
 kept : (history : List AnsweredEvent) → IsOfDevice history → Kept history
 kept history of_device = subst Kept (sym of_device.1) (agrees of_device.0).facts.held.kept
 

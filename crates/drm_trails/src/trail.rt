@@ -1,14 +1,16 @@
 //! The steps of a history, with an index of what they published.
 
-ghost use Rattle.std.specs.Prelude.{◌≡◌, ◌++◌, ◌∷◌, ℕ, [], take, IfOk, IfSome, IfNone};
+ghost use Rattle.std.specs.Prelude.{◌≡◌, ◌++◌, ◌∷◌, ℕ, [], true, take, IfOk, IfSome, IfNone};
 ghost use Rattle.drm_history.specs.Holds.{Has};
 ghost use Rattle.drm_trails.specs.Chains.{EndsChain, Explains, HasNone, IsExplained, IsOfDevice, LeadsTo, links_of};
+ghost use Rattle.drm_trails.specs.Handles.{is_given_at};
 ghost use Rattle.drm_trails.specs.Objects as objects;
+ghost use Rattle.drm_trails.specs.Searches.{last_gift};
 ghost use Rattle.drm_trails.specs.Steps.{history_of, source_of};
 
 use crate::chains::{ChainEnd, Link, Marks, chain_end_in, chain_in};
 use crate::items::with_item;
-use crate::objects::{object_given, object_held};
+use crate::objects::{object_assigned_in, object_given, object_held};
 use crate::searches::{Publication, Touch, publication_of, touch_of};
 use crate::steps::{Giving, Step};
 use std::alloc::{AllocError, Global};
@@ -153,6 +155,32 @@ impl Trail {
         )
     }
 
+    /// Returns the object of the handle that a step assigned, by the number of the step, from 1. It returns `None` if the
+    /// step assigned none.
+    ///
+    /// For a handle of `handles_of`, it is the object of `object_of` after all steps. It takes the same time for each step.
+    /// Does not allocate.
+    ///
+    /// # Examples
+    ///
+    /// ```rust
+    /// use drm_table::{Answer, Call, Event};
+    /// use drm_trails::{Step, Trail};
+    ///
+    /// let alloc = rt.alloc();
+    /// let call = Call::BufCreate { size: 4096 };
+    /// let answer = Answer::Buffer { handle: 1, size: 4096 };
+    /// let step = Step { event: Event::Ask(1, call), answer };
+    /// let Ok(trail) = Trail::new(alloc).push(step) else { return };
+    /// assert!(rt; trail.object_assigned(1) == Some(1));
+    /// ```
+    pub fn object_assigned(&self, step: u64) -> Option<u64>
+        ensures object { (c h : ℕ) → is_given_at (last_gift (history_of self.now) c h) step ≡ true → IfSome result (Has (history_of self.now) c h) }
+        ensures none { (c h : ℕ) → is_given_at (last_gift (history_of self.now) c h) step ≡ true → IfNone result (IsOfDevice (history_of self.now) → HasNone (history_of self.now) c h) }
+    {
+        object_assigned_in(&self.objects, step)
+    }
+
     /// Returns the steps, the oldest first. Does not allocate.
     ///
     /// # Examples
@@ -224,8 +252,8 @@ impl Trail {
 
     /// Returns what `chain_of` returns, without the links that the marks leave out.
     ///
-    /// Its time grows only with the links that it returns. The chains of all handles of a history take time in
-    /// proportion to its steps. Allocates the links.
+    /// The search for a link starts from the link that it leads to, or for the first from `count`. On the way it looks
+    /// only at steps that published, or that assigned or took a handle. Allocates the links.
     ///
     /// # Errors
     ///

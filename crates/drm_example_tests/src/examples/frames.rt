@@ -2,7 +2,7 @@
 
 use drm_frames::{
     AnswerText, Decoded, Frame, Hello, answer_of, call_of, decode, encode_answer, encode_call,
-    encode_hello, hello_of,
+    encode_hello, hello_of, read_call,
 };
 use drm_table::{Answer, Call};
 
@@ -34,6 +34,11 @@ fn values(rt: HostRuntime) {
     assert!(rt; call_of(&Frame::new(0x09, &[1, 0, 0, 0])) == Call::GemClose { handle: 1 });
     assert!(rt; call_of(&Frame::new(0x09, &[])) == Call::BadLayout(0x09));
     assert!(rt; call_of(&Frame::new(0x7F, &[])) == Call::Unknown(0x7F));
+    let mut call = Call::Version;
+    read_call(&Frame::new(0x09, &[1, 0, 0, 0]), &mut call);
+    assert!(rt; call == Call::GemClose { handle: 1 });
+    read_call(&Frame::new(0x7F, &[]), &mut call);
+    assert!(rt; call == Call::Unknown(0x7F));
     let frame = encode_call(&Call::GemClose { handle: 1 });
     assert!(rt; frame.as_slice() == [6, 0, 0, 0, 0x09, 0x00, 1, 0, 0, 0].as_slice());
     assert!(rt; answer_of(&Frame::new(0x1000, &[])) == Some(Ok(Answer::Done)));

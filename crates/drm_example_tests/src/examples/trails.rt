@@ -213,6 +213,7 @@ fn trail(rt: HostRuntime) {
     assert!(rt; trail.object_of(1, 1, 1) == Some(1));
     assert!(rt; Trail::new(alloc).steps().is_empty());
     assert!(rt; trail.object_of(1, 1, 1) == Some(1));
+    assert!(rt; trail.object_assigned(1) == Some(1));
     assert!(rt; trail.steps().len() == 1);
     let Ok(found) = trail.chain_of(alloc, 1, 1, 1) else {
         panic!(rt; "refused")

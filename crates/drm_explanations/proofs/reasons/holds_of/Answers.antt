@@ -1,11 +1,9 @@
-use Rattle.std.proofs.Common.{◌≡◌, ℕ, ◌+◌, ◌<◌, List, length, get_or, take, sym, ◌∙◌, ap, subst, arith}
+use Rattle.std.proofs.Common.{◌≡◌, ℕ, ◌+◌, ◌<◌, ◌==◌, ◌&&◌, true, List, length, get_or, take, refl, sym, ◌∙◌, ap, subst, eq-eqb}
 use Rattle.std.specs.Prelude.{AllPairs}
 use Rattle.std.specs.List.{AllByRecursion}
 use Rattle.std.proofs.lemmas.List.{take_all}
+use Rattle.std.proofs.lemmas.List.Folds.{list_any_at}
 use Rattle.std.proofs.lemmas.Option.{get_or_from_slice_get, slice_get-get_or}
-use Rattle.drm_history.specs.History.{AnsweredEvent}
-use Rattle.drm_history.specs.Holds.{Has}
-use Rattle.drm_trails.specs.Chains.{HasNone, IsOfDevice}
 use Rattle.drm_trails.specs.Handles.{is_given_at, is_held_since}
 use Rattle.drm_trails.specs.Searches.{last_gift}
 use Rattle.drm_trails.specs.Steps.{history_of}
@@ -16,10 +14,13 @@ use Rattle.drm_explanations.proofs.HoldLemmas.{AreRows, IsShown, all_rows, no_ro
 use Rattle.drm_explanations.proofs.reasons.holds_of.Goals as goal
 use Rattle.drm_explanations.proofs.reasons.holds_of.Goals.{in-Some+in_ok-hold_row+in_ok-push, in_default}
 
--- after all steps
-all_steps : (trail steps : List Step) → steps ≡ trail → history_of (take (length steps) trail) ≡ history_of trail
-all_steps trail steps same =
-    ap history_of (take_all (length steps) trail (let sizes = ap length same in omega (arith, sizes)))
+-- the handles that were found are those that a step assigned
+are_given : (client : ℕ) (trail steps : List Step) (held found : List Held) → steps ≡ trail → held ≡ found
+    → ((h s : ℕ) → is_held_since found h s ≡ is_given_at (last_gift (history_of steps) client h) s) → (h s : ℕ)
+    → is_held_since held h s ≡ is_given_at (last_gift (history_of trail) client h) s
+are_given client trail steps held found same is are h s =
+    ap (λ (items : List Held). is_held_since items h s) is ∙ are h s
+    ∙ ap (λ (steps : List Step). is_given_at (last_gift (history_of steps) client h) s) same
 
 -- a handle that is read
 read_at : (held : List Held) (n : ℕ) (d : Held) → n < length held → get_or held n d ≡ get_or held n (get_or held n d)
@@ -45,19 +46,19 @@ loop-one-preserved c =
     let rise =
     subst (AllPairs (λ (x y : Held). x.handle < y.handle)) (sym c.deref-one-items.ensures.value)
     c.in_ok-held.ensures.rising in
-    let all = all_steps c.args.trail.now c.steps-steps.result.now c.steps-steps.ensures in
-    elim c.match-object_of.branch [
+    let listed =
+    list_any_at (λ (x : Held). (x.handle == one.handle) && (x.step == one.step)) held n none within
+    (λ i. eq-eqb one.handle one.handle refl i && eq-eqb one.step one.step refl i) in
+    let given : is_given_at (last_gift history client one.handle) one.step ≡ true =
+    sym (are_given client c.args.trail.now c.steps-steps.result.now held _ c.steps-steps.ensures c.deref-one-items.ensures.value c.in_ok-held.ensures.held one.handle one.step) ∙ listed in
+    elim c.match-object_assigned.branch [
       | in-Some+in_ok-hold_row+in_ok-push w ↦
-          let has =
-          subst (λ (past : List AnsweredEvent). Has past client one.handle w.in-Some.object) all
-          w.in-Some.ensures.object in
+          let has = w.in-Some.ensures.object client one.handle given in
           subst (λ (rows : List HandleRow). AreRows history client held (n + 1) rows)
           (sym (ap (λ told. told.items) w.rows-is ∙ w.in_ok-push.ensures.items))
           (with_row history client held rise n one within (read_at held n none within) c.loop-one.rows.items told w.in_ok-hold_row.field-0 w.in-Some.object w.in_ok-hold_row.ensures.handle w.in_ok-hold_row.ensures.object has)
       | in_default w ↦
-          let nothing =
-          subst (λ (past : List AnsweredEvent). IsOfDevice past → HasNone past client one.handle) all
-          w.in_default.ensures.none in
+          let nothing = w.in_default.ensures.none client one.handle given in
           subst (λ (rows : List HandleRow). AreRows history client held (n + 1) rows)
           (sym (ap (λ told. told.items) w.rows-is))
           (without_row history client held rise n one within (read_at held n none within) c.loop-one.rows.items told nothing)
@@ -71,8 +72,8 @@ returns c =
     let rows = c.loop-one.rows.items in
     let all : take c.loop-one.one-index held ≡ held = take_all c.loop-one.one-index held c.loop-one-test.false in
     let told = c.loop-one.invariant in
-    let are : (h s : ℕ) → is_held_since held h s ≡ is_given_at (last_gift history client h) s = λ h s.
-    ap (λ (items : List Held). is_held_since items h s) c.deref-one-items.ensures.value ∙ c.in_ok-held.ensures.held h s ∙ ap (λ (steps : List Step). is_given_at (last_gift (history_of steps) client h) s) c.steps-steps.ensures in
+    let are =
+    are_given client c.args.trail.now c.steps-steps.result.now held _ c.steps-steps.ensures c.deref-one-items.ensures.value c.in_ok-held.ensures.held in
     record {
       rising = told.rising;
       had = told.had;

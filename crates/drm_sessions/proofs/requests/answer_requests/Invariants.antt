@@ -1,4 +1,6 @@
-use Rattle.std.proofs.Common.{◌+◌, ◌≤◌}
+use Rattle.std.proofs.Common.{◌≡◌, ◌+◌, ◌≤◌}
+use Rattle.drm_table.specs.declared.calls.Call.{Call}
+use Rattle.drm_table.specs.declared.events.Event.TheVariants.{Ask}
 use Rattle.drm_sessions.proofs.SessionEnds.{SoFar}
 use Rattle.drm_sessions.specs.Gates.{Gated}
 use Rattle.drm_sessions.specs.Reading.{Untold}
@@ -15,6 +17,7 @@ invariant-asking g l =
     × (l.steps + l.turns ≤ l.fn.turns)
     × Untold (g.S.Source.trace l.fn.source).counts (g.S.Source.trace l.source).counts
     × Untold (g.K.Sink.trace l.fn.sink).counts (g.K.Sink.trace l.sink).counts
+    × ((call : Call) × (l.event ≡ Ask l.client call))
 
 abbrev pub decreases-asking : goal.decreases-asking
 decreases-asking g l = l.turns
