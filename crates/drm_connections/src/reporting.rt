@@ -8,15 +8,25 @@ use drm_watch::{Watch, WatchedCall, WatchedFault};
 use libc::net::{SHUT_RDWR, poll, shutdown};
 use libc::types::pollfd;
 use std::cell::{Cell, RefCell};
+use std::mem;
 use std::os::fd::RawFd;
 use std::sync::Wait;
+use std::time::Duration;
 
-/// A call with its answer, until it is reported.
-#[derive(Drop)]
-enum Told {
+/// What is left to report of a call.
+#[derive(Clone, Copy)]
+enum Unreported {
+    Nothing,
     /// A step, with the place of its entry in the history.
-    Step(u64, WatchedCall),
-    Fault(WatchedFault),
+    Step(u64),
+    Fault(Apart),
+}
+
+/// The last call of a connection. It stays in one place until it is reported, so that it is moved less.
+#[derive(Drop)]
+struct Last {
+    call: WatchedCall,
+    unreported: Unreported,
 }
 
 /// Reports the calls of a connection of this class to the watch of all connections, if there is one. Where a plan is
@@ -29,12 +39,10 @@ pub struct Reporting<'a, R: Wait> {
     rt: &'a R,
     watch: Option<&'a Watch>,
     plan: Option<&'a Plan>,
-    class: Class,
     socket: RawFd,
     /// The place after that of the connection's last step.
     next: Cell<u64>,
-    /// The last call, if it is not reported yet.
-    told: RefCell<Option<Told>>,
+    last: RefCell<Last>,
 }
 
 impl<'a, R: Wait> Reporting<'a, R> {
@@ -50,10 +58,16 @@ impl<'a, R: Wait> Reporting<'a, R> {
             rt,
             watch,
             plan,
-            class,
             socket,
             next: Cell::new(0),
-            told: RefCell::new(None),
+            last: RefCell::new(Last {
+                call: WatchedCall {
+                    since: Duration::ZERO,
+                    class,
+                    event: Event::Close(0),
+                },
+                unreported: Unreported::Nothing,
+            }),
         }
     }
 
@@ -73,26 +87,15 @@ impl<'a, R: Wait> Reporting<'a, R> {
         }
     }
 
-    /// Returns a call that was just answered, or `None` if there is nothing to report.
-    fn told(
-        &self,
-        watch: &Watch,
-        event: &Event,
-        place: Option<u64>,
-        outcome: &Result<Answer, Apart>,
-    ) -> Option<Told> {
-        let call = watch.call_of(self.class, event);
+    /// Returns what is to be reported of a call that was just answered.
+    fn unreported(&self, place: Option<u64>, outcome: &Result<Answer, Apart>) -> Unreported {
         match (place, outcome) {
             (Some(place), _) => {
                 self.next.set(place.saturating_add(1));
-                Some(Told::Step(place, call))
+                Unreported::Step(place)
             }
-            (None, Err(fault)) => Some(Told::Fault(WatchedFault {
-                call,
-                fault: *fault,
-                after: self.next.get(),
-            })),
-            (None, Ok(_)) => None,
+            (None, Err(fault)) => Unreported::Fault(*fault),
+            (None, Ok(_)) => Unreported::Nothing,
         }
     }
 
@@ -105,17 +108,9 @@ impl<'a, R: Wait> Reporting<'a, R> {
         outcome: &Result<Answer, Apart>,
     ) {
         self.flush();
-        let told = self.told(watch, event, place, outcome);
-        if let Ok(mut kept) = self.told.try_borrow_mut() {
-            *kept = told;
-        }
-    }
-
-    /// Returns the call that was kept, and keeps it no longer.
-    fn take_told(&self) -> Option<Told> {
-        match self.told.try_borrow_mut() {
-            Ok(mut kept) => kept.take(),
-            Err(_) => None,
+        if let Ok(mut last) = self.last.try_borrow_mut() {
+            watch.note(&mut last.call, event);
+            last.unreported = self.unreported(place, outcome);
         }
     }
 
@@ -127,11 +122,20 @@ impl<'a, R: Wait> Reporting<'a, R> {
     }
 
     fn report_to(&self, watch: &Watch) {
+        let Ok(mut last) = self.last.try_borrow_mut() else {
+            return;
+        };
         let connection = self.socket.unsigned_abs() as usize;
-        match self.take_told() {
-            Some(Told::Step(place, call)) => watch.report_step(self.rt, connection, place, call),
-            Some(Told::Fault(fault)) => watch.report_fault(self.rt, fault),
-            None => {}
+        match mem::replace(&mut last.unreported, Unreported::Nothing) {
+            Unreported::Nothing => {}
+            Unreported::Step(place) => {
+                watch.report_step(self.rt, connection, place, &last.call);
+            }
+            Unreported::Fault(fault) => {
+                let call = last.call.copy();
+                let after = self.next.get();
+                watch.report_fault(self.rt, WatchedFault { call, fault, after });
+            }
         }
     }
 

@@ -2,13 +2,11 @@
 use Rattle.std.proofs.Common.{◌≡◌, ℕ, zero, suc, replicate, Ok, ◌+◌, ◌-◌, ◌<◌, ◌≤◌, ◌&&◌, ◌||◌, Bool, true, false, not, List, Option, find, refl, sym, ap, ◌∙◌, arith, subst, length, map, [], ◌∷◌, ◌++◌, nat_le, nat_lt, None, Some, filter, take}
 use Rattle.std.specs.List.{filter_map, list_any, AllByRecursion}
 use Rattle.std.specs.Option.{is_some, option_and_then}
-use Rattle.std.specs.Vec.{vec_len, vec_capacity}
-use Rattle.std.specs.Global.{Vec}
 use Rattle.std.proofs.lemmas.Bool.{leb-true, eqb-true, and_parts}
 use Rattle.std.proofs.lemmas.Bool.Decides.{nat_tests}
 use Rattle.drm_lists.specs.Orders.{InOrder}
 use Rattle.std.specs.Prelude.{unwrap_or}
-use Rattle.std.proofs.lemmas.List.{length-map}
+use Rattle.std.proofs.lemmas.List.{length-map, length-append}
 use Rattle.std.proofs.Math.Seq.{take-append_seam}
 use Rattle.drm_lists.proofs.Orders.{same-any, same-length}
 use Rattle.drm_lists.proofs.Rising.{found}
@@ -48,6 +46,7 @@ use Rattle.drm_leases.specs.Leases.{LeaseSet, AreLeases, no_leases}
 use Rattle.drm_leases.specs.Calls.{IsNewLessee}
 use Rattle.drm_state.specs.declared.state.State.{State}
 use Rattle.drm_device.specs.Device.{value_of, IsDevice}
+use Rattle.drm_device.specs.Journals.{JournalValue}
 use Rattle.drm_state.specs.Parts.{client_row_of, master_row_of, magic_row_of, object_row_of, handle_row_of, holds_of, name_row_of, token_row_of, tokens_of, grant_row_of, grants_of, framebuffer_row_of, framebuffers_of, shown_row_of, keys_of, framebuffer_keys, referring, referring_keys}
 use Rattle.drm_leases.specs.Agreed.{AreAgreed}
 use Rattle.drm_state.specs.Invariants.{Invariant, MembersOpen, ClientsHave, MastersAre, MagicsSuffice, LeasesAre, TokensOfLessees, KeptHaveTokens, LeasesAgree, ModesAre, HasMaster, HoldsRise, ObjectsCounted, NamesHeld, meets_invariant, MeetsInvariants, IsLater, StepPrecondition, AreCounted, AreNamed, AreOfLessees, AreKeptBy}
@@ -58,12 +57,12 @@ use Rattle.drm_state.proofs.Refinements.{represented_count}
 use Rattle.drm_state.proofs.Lookups.{is_open_is}
 
 -- The state of a device represents the rows of its history.
-pub stands : (d : Inside) (n : ℕ) → IsDevice d → n ≡ vec_len d.journal
+pub stands : (d : Inside) (n : ℕ) → IsDevice d → n ≡ length d.journal.events
     → RepresentsAt d.state (n + 1) (rows_of (value_of d))
 stands d n h e = record {
   rows = h.rows;
   step_numbers = step_numbers_rise (value_of d);
-  step_number_is = ap (λ n. n + 1) (rows_of-steps (value_of d) ∙ sym d.journal.ok.0 ∙ sym e);
+  step_number_is = ap (λ n. n + 1) (rows_of-steps (value_of d) ∙ sym e);
 }
 
 -- The journal has a place for the closing of each open client.
@@ -74,45 +73,51 @@ fits d h =
     let count = represented_count d.state (rows_of (value_of d)) h.rows in
     let limit : (rows_of (value_of d)).limits.journal ≡ d.limits.journal =
     ap (λ (l : Limits). l.journal) (rows_of-limits (value_of d)) in
-    omega (arith, h.places, d.journal.ok.0)
+    omega (arith, h.places)
 
 -- After an event that found room the journal has a place for the closing of each open client.
 pub fits_after : (d : Inside) (event : Event) → IsDevice d → no_room (rows_of (value_of d)) event ≡ false
-    → vec_len d.journal + 1 + length (after (rows_of (value_of d)) event).clients ≤ d.limits.journal
+    → length d.journal.events + 1 + length (after (rows_of (value_of d)) event).clients ≤ d.limits.journal
 fits_after d event h room =
     let enough = room_after (rows_of (value_of d)) event (fits d h) room in
     let next = after-steps (rows_of (value_of d)) event in
     let steps = rows_of-steps (value_of d) in
     let limit : (rows_of (value_of d)).limits.journal ≡ d.limits.journal =
     ap (λ (l : Limits). l.journal) (rows_of-limits (value_of d)) in
-    omega (arith, d.journal.ok.0)
+    omega arith
+
+-- An event more is a place more.
+longer_by_one : (d : Inside) (event : Event) (journal : JournalValue) → journal.events ≡ d.journal.events ++ event ∷ []
+    → length journal.events ≡ length d.journal.events + 1
+longer_by_one d event journal items = ap length items ∙ length-append d.journal.events (event ∷ [])
 
 -- The journal is within its limit after an event that found room.
-pub within_after : (d : Inside) (event : Event) (journal : Vec Event) → IsDevice d
+pub within_after : (d : Inside) (event : Event) (journal : JournalValue) → IsDevice d
     → no_room (rows_of (value_of d)) event ≡ false →
-    vec_len journal ≡ vec_len d.journal + 1 → length journal.items ≤ d.limits.journal
-within_after d event journal h room len = omega (arith, fits_after d event h room, journal.ok.0)
+    journal.events ≡ d.journal.events ++ event ∷ [] → length journal.events ≤ d.limits.journal
+within_after d event journal h room items =
+    omega (arith, fits_after d event h room, longer_by_one d event journal items)
 
 -- The journal has memory for an event that found room.
 pub has_room_for : (d : Inside) (event : Event) → IsDevice d → no_room (rows_of (value_of d)) event ≡ false
-    → vec_len d.journal < vec_capacity d.journal
+    → length d.journal.events < d.journal.room
 has_room_for d event h room = omega (arith, fits_after d event h room, h.reserved)
 
 -- After a recorded event the history of the device has this event more.
-pub next_history : (d : Inside) (event : Event) (journal : Vec Event) (s : State)
-    → journal.items ≡ d.journal.items ++ event ∷ [] → s.modes.topology ≡ d.state.modes.topology →
+pub next_history : (d : Inside) (event : Event) (journal : JournalValue) (s : State)
+    → journal.events ≡ d.journal.events ++ event ∷ [] → s.modes.topology ≡ d.state.modes.topology →
     value_of (record { limits = d.limits; journal = journal; state = s }) ≡ journaled_in (value_of d) event
 next_history d event journal s e fixed = λ i. record { topology = fixed i; limits = d.limits; journal = e i }
 
 -- The rows after a recorded event are those of the event after the rows before.
-pub next_rows : (d : Inside) (event : Event) (journal : Vec Event) (s : State)
-    → journal.items ≡ d.journal.items ++ event ∷ [] → s.modes.topology ≡ d.state.modes.topology →
+pub next_rows : (d : Inside) (event : Event) (journal : JournalValue) (s : State)
+    → journal.events ≡ d.journal.events ++ event ∷ [] → s.modes.topology ≡ d.state.modes.topology →
     rows_of (value_of (record { limits = d.limits; journal = journal; state = s })) ≡ after (rows_of (value_of d)) event
 next_rows d event journal s e fixed =
     ap rows_of (next_history d event journal s e fixed) ∙ rows_journaled (value_of d) event
 
 -- A journal of the same events and a state with the same mode objects leave the history of the device.
-pub same_history : (d : Inside) (journal : Vec Event) (s : State) → journal.items ≡ d.journal.items
+pub same_history : (d : Inside) (journal : JournalValue) (s : State) → journal.events ≡ d.journal.events
     → s.modes.topology ≡ d.state.modes.topology
     → value_of (record { limits = d.limits; journal = journal; state = s }) ≡ value_of d
 same_history d journal s e fixed = λ i. record { topology = fixed i; limits = d.limits; journal = e i }
@@ -130,18 +135,17 @@ topology_after d event s r =
 
 -- each event of the longer journal found room
 next_room : (d : Inside) (event : Event) → IsDevice d → no_room (rows_of (value_of d)) event ≡ false
-    → FoundRoom (start_of (value_of d)) (d.journal.items ++ event ∷ [])
+    → FoundRoom (start_of (value_of d)) (d.journal.events ++ event ∷ [])
 unfolding rows_of
-next_room d event h room = found_room_push (start_of (value_of d)) d.journal.items event h.found_room room
+next_room d event h room = found_room_push (start_of (value_of d)) d.journal.events event h.found_room room
 
 -- A device is one after a recorded event too: the invariants hold and the state represents the new rows.
-pub next_device : (d : Inside) (event : Event) (journal : Vec Event) (s : State) → IsDevice d
+pub next_device : (d : Inside) (event : Event) (journal : JournalValue) (s : State) → IsDevice d
     → no_room (rows_of (value_of d)) event ≡ false →
-    journal.items ≡ d.journal.items ++ event ∷ [] → vec_len journal ≡ vec_len d.journal + 1 → vec_capacity journal ≡
-    vec_capacity d.journal →
+    journal.events ≡ d.journal.events ++ event ∷ [] → journal.room ≡ d.journal.room →
     MeetsInvariants s → Represents s (after (rows_of (value_of d)) event) → IsDevice
     (record { limits = d.limits; journal = journal; state = s })
-next_device d event journal s h room items len capacity t r =
+next_device d event journal s h room items capacity t r =
     let count = represented_count s (after (rows_of (value_of d)) event) r in
     let enough = fits_after d event h room in
     let fixed = topology_after d event s r in
@@ -149,33 +153,34 @@ next_device d event journal s h room items len capacity t r =
       rows = subst (Represents s) (sym (next_rows d event journal s items fixed)) r;
       invariants = t;
       found_room =
-          subst (λ t. FoundRoom (empty_rows t d.limits) journal.items) (sym fixed)
+          subst (λ t. FoundRoom (empty_rows t d.limits) journal.events) (sym fixed)
           (subst (FoundRoom (start_of (value_of d))) (sym items) (next_room d event h room));
-      places = omega arith;
+      places = omega (arith, enough, count, longer_by_one d event journal items);
       reserved = omega (arith, h.reserved);
       in_range = h.in_range;
       journal_fits = h.journal_fits;
     }
 
 -- A journal without the event that was just written has the events from before.
-pub taken_back : (d : Inside) (longer journal : Vec Event) (event : Event)
-    → longer.items ≡ d.journal.items ++ event ∷ [] → vec_len longer ≡ vec_len d.journal + 1
-    → journal.items ≡ take (vec_len longer - 1) longer.items → journal.items ≡ d.journal.items
-taken_back d longer journal event items len is =
-    let long : vec_len longer - 1 ≡ length d.journal.items = omega (arith, len, d.journal.ok.0) in
-    is ∙ ap (take (vec_len longer - 1)) items ∙ ap (λ (n : ℕ). take n (d.journal.items ++ event ∷ [])) long
-    ∙ take-append_seam d.journal.items (event ∷ [])
+pub taken_back : (d : Inside) (longer journal : JournalValue) (event : Event)
+    → longer.events ≡ d.journal.events ++ event ∷ []
+    → journal.events ≡ take (length longer.events - 1) longer.events → journal.events ≡ d.journal.events
+taken_back d longer journal event items is =
+    let long : length longer.events - 1 ≡ length d.journal.events =
+    omega (arith, longer_by_one d event longer items) in
+    is ∙ ap (take (length longer.events - 1)) items ∙ ap (λ (n : ℕ). take n (d.journal.events ++ event ∷ [])) long
+    ∙ take-append_seam d.journal.events (event ∷ [])
 
 -- A device is one after refused memory too: its history is unchanged.
-pub same_device : (d : Inside) (journal : Vec Event) (s : State) → IsDevice d → journal.items ≡ d.journal.items
-    → vec_capacity journal ≡ vec_capacity d.journal → MeetsInvariants s → Represents s (rows_of (value_of d))
+pub same_device : (d : Inside) (journal : JournalValue) (s : State) → IsDevice d → journal.events ≡ d.journal.events
+    → journal.room ≡ d.journal.room → MeetsInvariants s → Represents s (rows_of (value_of d))
     → IsDevice (record { limits = d.limits; journal = journal; state = s })
 same_device d journal s h e capacity t r =
     let now = represented_count s (rows_of (value_of d)) r in
     let before = represented_count d.state (rows_of (value_of d)) h.rows in
     let fixed = topology_same d s (rows_of (value_of d)) r refl in
     let same = same_history d journal s e fixed in
-    let long : vec_len journal ≡ vec_len d.journal = journal.ok.0 ∙ ap length e ∙ sym d.journal.ok.0 in
+    let long : length journal.events ≡ length d.journal.events = ap length e in
     record {
       rows = subst (λ v. Represents s (rows_of v)) (sym same) r;
       invariants = t;
@@ -335,14 +340,14 @@ start_invariants t limits s is NamesHeld =
     subst (λ (l : NameList). AreNamed (keys_of s.files.holds) l.names) (sym is.names) tt
 
 -- A device that starts with limits in their ranges and an empty journal is one.
-pub new_device : (d : Inside) (t : Topology) → are_in_range d.limits ≡ true → d.journal.items ≡ []
-    → d.limits.journal ≤ vec_capacity d.journal → IsStart d.state t d.limits → IsDevice d
+pub new_device : (d : Inside) (t : Topology) → are_in_range d.limits ≡ true → d.journal.events ≡ []
+    → d.limits.journal ≤ d.journal.room → IsStart d.state t d.limits → IsDevice d
 unfolding rows_of run FoundRoom
 new_device d t good e room is =
     let fixed : d.state.modes.topology ≡ t = ap (λ (set : ModeSet). set.topology) is.modes in
     let start : rows_of (value_of d) ≡ empty_rows t d.limits =
     ap (run (empty_rows d.state.modes.topology d.limits)) e ∙ ap (λ t. empty_rows t d.limits) fixed in
-    let journal : vec_len d.journal ≡ 0 = d.journal.ok.0 ∙ ap length e in
+    let journal : length d.journal.events ≡ 0 = ap length e in
     let clients : length d.state.files.clients ≡ 0 = ap (λ (f : FileLists). length f.clients) is.files in
     record {
       rows = subst (Represents d.state) (sym start) (start_represents t d.limits d.state is);
@@ -428,10 +433,10 @@ leases_later s w t h made older = record {
 }
 
 -- A device is ready for its next step.
-pub precondition : (d : Inside) (n : ℕ) → IsDevice d → n ≡ vec_len d.journal → StepPrecondition d.state (n + 1)
+pub precondition : (d : Inside) (n : ℕ) → IsDevice d → n ≡ length d.journal.events → StepPrecondition d.state (n + 1)
 precondition d n h e =
     let w = rows_of (value_of d) in
-    let steps : w.steps ≡ n = rows_of-steps (value_of d) ∙ sym d.journal.ok.0 ∙ sym e in
+    let steps : w.steps ≡ n = rows_of-steps (value_of d) ∙ sym e in
     let step_numbers = step_numbers_rise (value_of d) in
     let masters =
     all_weaker (λ (x : Master). x.step_number ≤ w.steps) (λ (x : Master). x.step_number < w.steps + 1)
@@ -476,26 +481,26 @@ few_answer d event h =
 not_less : (a b : ℕ) → nat_le b a ≡ not (nat_lt a b)
 not_less a b = grind (arith, nat_tests)
 
-places_are : (d : Inside) → places_left (rows_of (value_of d)) ≡ d.limits.journal - vec_len d.journal
+places_are : (d : Inside) → places_left (rows_of (value_of d)) ≡ d.limits.journal - length d.journal.events
 places_are d =
     ap (λ (l : Limits). l.journal - (rows_of (value_of d)).steps) (rows_of-limits (value_of d))
-    ∙ ap (λ n. d.limits.journal - n) (rows_of-steps (value_of d) ∙ sym d.journal.ok.0)
+    ∙ ap (λ n. d.limits.journal - n) (rows_of-steps (value_of d))
 
 -- The test for room before an opening is exactly that of the rows.
 pub room_to_open : (d : Inside) → IsDevice d → (opening : Opening)
-    → nat_le (length d.state.files.clients + 2) (d.limits.journal - vec_len d.journal) ≡ not (no_room (rows_of (value_of d)) (Open opening))
+    → nat_le (length d.state.files.clients + 2) (d.limits.journal - length d.journal.events) ≡ not (no_room (rows_of (value_of d)) (Open opening))
 unfolding no_room
 room_to_open d h opening =
     rw (places_are d, represented_count d.state (rows_of (value_of d)) h.rows)
-    (not_less (d.limits.journal - vec_len d.journal) (length d.state.files.clients + 2))
+    (not_less (d.limits.journal - length d.journal.events) (length d.state.files.clients + 2))
 
 -- The test for room before a request is exactly that of the rows.
 pub room_to_ask : (d : Inside) → IsDevice d → (c : ℕ) (call : Call)
-    → nat_le (length d.state.files.clients + 1) (d.limits.journal - vec_len d.journal) ≡ not (no_room (rows_of (value_of d)) (Ask c call))
+    → nat_le (length d.state.files.clients + 1) (d.limits.journal - length d.journal.events) ≡ not (no_room (rows_of (value_of d)) (Ask c call))
 unfolding no_room
 room_to_ask d h c call =
     rw (places_are d, represented_count d.state (rows_of (value_of d)) h.rows)
-    (not_less (d.limits.journal - vec_len d.journal) (length d.state.files.clients + 1))
+    (not_less (d.limits.journal - length d.journal.events) (length d.state.files.clients + 1))
 
 -- The closing of an open client always finds room.
 pub room_to_close_open : (d : Inside) → IsDevice d → (c : ℕ) → is_open_client d.state.files c ≡ true
@@ -505,17 +510,17 @@ room_to_close_open d h c e = rw (is_open_is d.state (rows_of (value_of d)) h.row
 
 -- The test for room before the closing of a client that is not open is exactly that of the rows.
 pub room_to_close : (d : Inside) → IsDevice d → (c : ℕ) → is_open_client d.state.files c ≡ false →
-    nat_le (length d.state.files.clients + 1) (d.limits.journal - vec_len d.journal) ≡ not
+    nat_le (length d.state.files.clients + 1) (d.limits.journal - length d.journal.events) ≡ not
     (no_room (rows_of (value_of d)) (Close c))
 unfolding no_room
 room_to_close d h c e =
     rw
     (is_open_is d.state (rows_of (value_of d)) h.rows c, e, places_are d, represented_count d.state (rows_of (value_of d)) h.rows)
-    (not_less (d.limits.journal - vec_len d.journal) (length d.state.files.clients + 1))
+    (not_less (d.limits.journal - length d.journal.events) (length d.state.files.clients + 1))
 
 -- The journal has its events, a place for each open client, and what is left.
 pub journal_left_is : (d : Inside) → IsDevice d →
-    d.limits.journal - vec_len d.journal - length d.state.files.clients + length d.journal.items + length
+    d.limits.journal - length d.journal.events - length d.state.files.clients + length d.journal.events + length
     (rows_of (value_of d)).clients ≡ d.limits.journal
 journal_left_is d h =
-    let count = represented_count d.state (rows_of (value_of d)) h.rows in omega (arith, h.places, d.journal.ok.0)
+    let count = represented_count d.state (rows_of (value_of d)) h.rows in omega (arith, h.places)

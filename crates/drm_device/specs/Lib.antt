@@ -1,3 +1,4 @@
 pub mod Audits
 pub mod Device
+pub mod Journals
 pub mod Replay

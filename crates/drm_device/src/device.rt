@@ -9,6 +9,7 @@ ghost use Rattle.drm_model.specs.Run.{Step, FoundRoom, no_room, journaled_in, ro
 
 use crate::audits::page_of;
 use crate::events::advance_at;
+use crate::journal::Journal;
 use crate::shortage::Shortage;
 use drm_files::Files;
 use drm_gem::Objects;
@@ -35,7 +36,7 @@ use std::marker::Model;
 /// ```
 pub struct Device {
     limits: Limits,
-    journal: Vec<Event>,
+    journal: Journal,
     state: State,
 }
 
@@ -106,7 +107,7 @@ impl Device {
         if !are_in_range(limits) {
             return Err(NewFault::BadLimits);
         }
-        let Ok(journal) = Vec::with_capacity(alloc, limits.journal as usize) else {
+        let Ok(journal) = Journal::with_capacity(alloc, limits.journal as usize) else {
             return Err(NewFault::NoMemory);
         };
         let modes = Modes::new(alloc, topology, limits.framebuffers);
@@ -194,11 +195,22 @@ impl Device {
             return;
         }
         let step_number = self.journal.len() as u32 + 1;
+        let places = self.places_for(event);
+        self.journal.provide(places);
         // The event is recorded before the call is carried out. The processor fetches the journal's memory meanwhile.
-        self.journal.push_reserved(copy_of(event));
+        self.journal.record(event);
         if let Err(AllocError) = advance_at(&mut self.state, step_number, event, outcome) {
-            self.journal.pop();
+            self.journal.take_back();
             Apart::NoMemory.replace(outcome);
+        }
+    }
+
+    /// Returns for how many events the journal's memory is provided with this one: 5,000 for each open client and the new
+    /// one if it opens, and none otherwise. An opening may take the time that a request may not.
+    fn places_for(&self, event: &Event) -> usize {
+        match event {
+            Event::Open(_) => 5_000_usize.saturating_mul(self.state.files.len().saturating_add(1)),
+            _ => 0,
         }
     }
 
@@ -323,7 +335,7 @@ impl Device {
         ensures within { length self.now.journal ≤ self.now.limits.journal }
         ensures bounded { self.now.limits.journal ≤ 100000 }
     {
-        &self.journal
+        self.journal.events()
     }
 
     /// Returns up to 16 rows of a kind, after the first `from`, in the order of their numbers (own). Does not allocate.
@@ -374,16 +386,6 @@ impl Device {
         ensures left { result + length self.now.journal + length (rows_of self.now).clients ≡ self.now.limits.journal }
     {
         self.limits.journal - self.journal.len() as u32 - self.state.files.len() as u32
-    }
-}
-
-/// Returns the same event.
-fn copy_of(event: &Event) -> Event
-    ensures { result ≡ event.now }
-{
-    match event.clone() {
-        Ok(copy) => copy,
-        Err(_) => unreachable!(),
     }
 }
 

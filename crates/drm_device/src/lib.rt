@@ -9,6 +9,7 @@ mod capabilities;
 mod device;
 mod events;
 mod families;
+mod journal;
 mod replays;
 mod shortage;
 

@@ -109,7 +109,7 @@ splits_moves id v idle some_number s r at =
 
 -- To set the number of a new participant keeps the rule.
 pub settles_moves : (slots id : ℕ) (me : Sat) → me.0.stage ≡ Idle
-    → Allows Orderly slots id me 0 (λ n. n) (settles (step slots 0 0 0 none) me)
+    → Allows Orderly slots id me 10 (λ n. n) (settles (step slots 10 0 0 none) me)
 settles_moves slots id me idle s r wide at small =
     let x = r.world in
     let fits : Fits x.origin x.log id me.0 = subst (Knows x id me.0) idle (r.know id me.0 at) in
@@ -117,7 +117,7 @@ settles_moves slots id me idle s r wide at small =
       w,
       keeps,
       tt,
-      stays_put s r 0 id me.1 me.0 w (word_same s r).0 at (λ is. absurd (cc))
+      stays_put s r 10 id me.1 me.0 w (word_same s r).0 at (λ is. absurd (cc))
           (subst (Knows x id w) (sym idle) (record { origin_is = fits.origin_is; number = inr refl; parent = fits.parent; seen = fits.seen; told = fits.told; mine = fits.mine }))
           (λ has. (has, refl)) (no_ticket s.views id w (ap has_ticket idle)) (λ k. absurd (cc)) refl refl refl refl
           refl,
@@ -126,7 +126,7 @@ settles_moves slots id me idle s r wide at small =
 
 -- To read the history keeps the rule.
 pub learns_moves : (slots id : ℕ) (me : Sat) → me.0.stage ≡ Idle
-    → Allows Orderly slots id me 0 (λ n. n) (learns (step slots 0 0 0 none) me)
+    → Allows Orderly slots id me 10 (λ n. n) (learns (step slots 10 0 0 none) me)
 learns_moves slots id me idle s r wide at small =
     let x = r.world in
     let fits : Fits x.origin x.log id me.0 = subst (Knows x id me.0) idle (r.know id me.0 at) in
@@ -134,7 +134,7 @@ learns_moves slots id me idle s r wide at small =
       w,
       keeps,
       tt,
-      stays_put s r 0 id me.1 me.0 w (word_same s r).0 at (λ is. absurd (cc))
+      stays_put s r 10 id me.1 me.0 w (word_same s r).0 at (λ is. absurd (cc))
           (subst (Knows x id w) (sym idle) (record { origin_is = fits.origin_is; number = fits.number; parent = fits.parent; seen = starts_whole x.log; told = starts_with_none x.log; mine = fits.mine }))
           (λ has. (has, refl)) (no_ticket s.views id w (ap has_ticket idle)) (λ k. absurd (cc)) refl refl refl refl
           refl,

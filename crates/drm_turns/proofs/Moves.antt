@@ -231,11 +231,11 @@ pub counts_moves : (slots id : ℕ) (me : Sat) (e : Entry) → me.0.stage ≡ Se
     → length me.0.seen < 2 ^ 64 - 1
     → no_room (rows_after me.0.origin me.0.seen) e.event ≡ false
     → e.answer ≡ reply (rows_after me.0.origin me.0.seen) e.event
-    → Allows Orderly slots id me 0 (λ n. (n + 1) % 2 ^ 64) (counts e (step slots 0 1 0 none) me)
+    → Allows Orderly slots id me 10 (λ n. (n + 1) % 2 ^ 64) (counts e (step slots 10 1 0 none) me)
 counts_moves slots id me e serves by some_number few room answer s r wide at small =
     let x = r.world in
     let v : View = me.0 in
-    let n : ℕ = slice_index s.words 0 in
+    let n : ℕ = slice_index s.words 10 in
     let is : n ≡ length x.log = (word_is s r).0 in
     let known : Knows x id v Serving = subst (Knows x id v) serves (r.know id v at) in
     let fits : Fits x.origin x.log id v = known.0 in
@@ -247,14 +247,14 @@ counts_moves slots id me e serves by some_number few room answer s r wide at sma
     let len : length (x.log ++ e ∷ []) ≡ length x.log + 1 = length-append x.log (e ∷ []) in
     let seen_len : length v.seen ≡ length x.log = ap length seen_is in
     let word : (n + 1) % 2 ^ 64 ≡ length (x.log ++ e ∷ []) = omega arith in
-    let words : slice_set s.words 0 ((n + 1) % 2 ^ 64) ≡ words_of (length (x.log ++ e ∷ [])) x.next x.serving =
-    ap (λ (l : List ℕ). slice_set l 0 ((n + 1) % 2 ^ 64)) r.words
+    let words : slice_set s.words 10 ((n + 1) % 2 ^ 64) ≡ words_of (length (x.log ++ e ∷ [])) x.next x.serving =
+    ap (λ (l : List ℕ). slice_set l 10 ((n + 1) % 2 ^ 64)) r.words
     ∙ ap (λ (k : ℕ). words_of k x.next x.serving) word in
     let rows_are : rows_after v.origin v.seen ≡ rows_after x.origin x.log = λ i. rows_after (fits.origin_is i) (seen_is i) in (
       w,
       keeps,
       tt,
-      unchanged s r y 0 ((n + 1) % 2 ^ 64) id me.1 w keeps words r.few r.behind
+      unchanged s r y 10 ((n + 1) % 2 ^ 64) id me.1 w keeps words r.few r.behind
           (legal-more x.origin x.log e r.legal (subst (λ (z : Rows). no_room z e.event ≡ false) rows_are room) (subst (λ (z : Rows). e.answer ≡ reply z e.event) rows_are answer))
           (placed_here x.outstanding y s.homes (set s.views id w) id w known.3 (set_here s.views id w (at_below s.views id v at)) serves)
           (λ j u ne at_j. others_count x j u u.stage e (λ b. ne (let h : suc j ≡ suc id = sym b ∙ by_id in omega arith)) (alone x s.views id j v u r.differ at serves known.1 ne at_j (r.know j u at_j)) (r.know j u at_j))

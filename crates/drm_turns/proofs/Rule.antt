@@ -215,18 +215,18 @@ stays_whole s r i id c v words at unspent =
 
 -- A write of the value that a word has leaves the words.
 pub word_same : (s : Table) (r : Orderly s)
-    → (slice_set s.words 0 (slice_index s.words 0) ≡ s.words) × (slice_set s.words 8 (slice_index s.words 8) ≡ s.words) × (slice_set s.words 9 (slice_index s.words 9) ≡ s.words)
+    → (slice_set s.words 10 (slice_index s.words 10) ≡ s.words) × (slice_set s.words 8 (slice_index s.words 8) ≡ s.words) × (slice_set s.words 9 (slice_index s.words 9) ≡ s.words)
 word_same s r = (
-  subst (λ (l : List ℕ). slice_set l 0 (slice_index l 0) ≡ l) (sym r.words) refl,
+  subst (λ (l : List ℕ). slice_set l 10 (slice_index l 10) ≡ l) (sym r.words) refl,
   subst (λ (l : List ℕ). slice_set l 8 (slice_index l 8) ≡ l) (sym r.words) refl,
   subst (λ (l : List ℕ). slice_set l 9 (slice_index l 9) ≡ l) (sym r.words) refl,
 )
 
 -- The three words are the length of the history, the next ticket and the ticket that is served.
 pub word_is : (s : Table) (r : Orderly s)
-    → (slice_index s.words 0 ≡ length r.world.log) × (slice_index s.words 8 ≡ r.world.next) × (slice_index s.words 9 ≡ r.world.serving)
+    → (slice_index s.words 10 ≡ length r.world.log) × (slice_index s.words 8 ≡ r.world.next) × (slice_index s.words 9 ≡ r.world.serving)
 word_is s r =
-    (ap (λ (l : List ℕ). slice_index l 0) r.words, ap (λ (l : List ℕ). slice_index l 8) r.words, ap (λ (l : List ℕ). slice_index l 9) r.words)
+    (ap (λ (l : List ℕ). slice_index l 10) r.words, ap (λ (l : List ℕ). slice_index l 8) r.words, ap (λ (l : List ℕ). slice_index l 9) r.words)
 
 -- A participant's view fits the history with any other ticket, stage and count of tickets.
 pub refits : (origin : DeviceValue) (log : List Entry) (id : ℕ) (v : View) (ticket : ℕ) (stage : Stage) (drawn : ℕ)

@@ -22,10 +22,11 @@ ticket_word = 8
 abbrev pub serving_word : ℕ
 serving_word = 9
 
--- All words. Those between are always 0. They only keep the two of tickets away from the others in memory.
+-- All words: the length of the history is behind the two of tickets. The others are always 0, and only keep these three
+-- away from all else in memory.
 abbrev pub words_of : ℕ → ℕ → ℕ → List ℕ
 words_of count next serving =
-    count ∷ 0 ∷ 0 ∷ 0 ∷ 0 ∷ 0 ∷ 0 ∷ 0 ∷ next ∷ serving ∷ 0 ∷ 0 ∷ 0 ∷ 0 ∷ 0 ∷ 0 ∷ []
+    0 ∷ 0 ∷ 0 ∷ 0 ∷ 0 ∷ 0 ∷ 0 ∷ 0 ∷ next ∷ serving ∷ count ∷ 0 ∷ 0 ∷ 0 ∷ 0 ∷ 0 ∷ []
 
 -- the state of the table
 abbrev pub Table : Type 0

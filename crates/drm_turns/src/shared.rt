@@ -30,17 +30,16 @@ use std::snapshot::Snapshot;
 use std::sync::Wait;
 use std::sync::atomic::{AtomicU64, Ordering};
 
-/// The word of the length of the history.
-const COUNT: usize = 0;
-
-/// The word of the next ticket. It is in another cache line than the length of the history. So calls that wait, which read
-/// the tickets again and again, do not delay the call that writes the length.
+/// The word of the next ticket.
 const TICKET: usize = 8;
 
 /// The word of the ticket that is served.
 const SERVING: usize = 9;
 
-/// The number of words. Those after the tickets keep the slot of the device out of their cache line.
+/// The word of the length of the history. It is next to the tickets: a call in its turn has just written their cache line.
+const COUNT: usize = 10;
+
+/// The number of words. Those before and after the three keep all else out of their cache line.
 const WORDS: usize = 16;
 
 /// The number of times that a call looks whether it is served, or whether the device is free, before it sleeps until it

@@ -11,8 +11,16 @@ pub(crate) const MOST_FAULTS: usize = 1_024;
 /// The most steps that a reader takes at once.
 pub(crate) const BATCH: usize = 256;
 
+/// Returns the same event.
+pub(crate) fn copy_of(event: &Event) -> Event {
+    match event.clone() {
+        Ok(copy) => copy,
+        Err(_) => unreachable!(),
+    }
+}
+
 /// A call of a connection, which is answered.
-#[derive(Clone, Drop)]
+#[derive(Drop)]
 pub struct WatchedCall {
     /// The time from the start of the watch to the answer.
     pub since: Duration,
@@ -20,6 +28,17 @@ pub struct WatchedCall {
     pub class: Class,
     /// What was asked.
     pub event: Event,
+}
+
+impl WatchedCall {
+    /// Returns the same call. Does not allocate.
+    pub fn copy(&self) -> WatchedCall {
+        WatchedCall {
+            since: self.since,
+            class: self.class,
+            event: copy_of(&self.event),
+        }
+    }
 }
 
 /// A call that was answered by a fault. The history has no entry of it.

@@ -37,6 +37,16 @@ pub(crate) fn put_all(steps: &mut Vec<Option<WatchedCall>>, tray: &mut Tray) {
     }
 }
 
+/// Writes to each place once, so that the system provides the memory now and not while clients are served.
+fn provide(steps: &mut Vec<Option<WatchedCall>>) {
+    for _ in steps.len()..steps.capacity() {
+        if steps.len() < steps.capacity() {
+            steps.push_reserved(None);
+        }
+    }
+    steps.clear();
+}
+
 impl Shelf {
     /// Creates an empty shelf for this many steps, of which this many trays can be full.
     pub(crate) fn new(
@@ -44,8 +54,10 @@ impl Shelf {
         most_steps: usize,
         most_full: usize,
     ) -> Result<Shelf, AllocError> {
+        let mut steps = Vec::with_capacity(alloc, most_steps)?;
+        provide(&mut steps);
         Ok(Shelf {
-            steps: Vec::with_capacity(alloc, most_steps)?,
+            steps,
             taken: Vec::with_capacity(alloc, most_full)?,
             unloaded: Tray::new(alloc)?,
         })
@@ -58,19 +70,21 @@ impl Shelf {
         }
     }
 
+    /// Returns whether there is a step at this place.
+    pub(crate) fn has(&self, place: usize) -> bool {
+        self.step_at(place).is_some()
+    }
+
     /// Copies the steps from this place on to a batch that has room for them.
     pub(crate) fn copy_steps(&self, place: usize, steps: &mut Vec<WatchedCall>) {
         for at in place..place.saturating_add(BATCH) {
             let Some(step) = self.step_at(at) else {
                 return;
             };
-            let Ok(copy) = step.clone() else {
-                return;
-            };
             if steps.len() == steps.capacity() {
                 return;
             }
-            steps.push_reserved(copy);
+            steps.push_reserved(step.copy());
         }
     }
 }

@@ -1,10 +1,9 @@
 //! The calls of all connections, for threads that show or write them in the order of the history.
 
-use crate::batch::{Batch, WatchedCall, WatchedFault};
+use crate::batch::{Batch, WatchedCall, WatchedFault, copy_of};
 use crate::inbox::Inbox;
 use crate::shelf::{Shelf, put_all};
-use crate::trays::{Placed, TRAY_ROOM, Tray, add_tray, locked_trays};
-use drm_sessions::Class;
+use crate::trays::{Placed, Stand, TRAY_ROOM, add_tray, stands};
 use drm_table::Event;
 use libc::CLOCK_MONOTONIC;
 use libc::types::timespec;
@@ -45,10 +44,10 @@ struct Seen {
 pub struct Watch {
     start: Duration,
     /// The last steps of the connections. A tray is locked before the inbox.
-    trays: Vec<Mutex<Tray>>,
+    stands: Vec<Stand>,
     inbox: Mutex<Inbox>,
-    /// The number of reports so far.
-    reports: AtomicU64,
+    /// The number of faults that were reported so far.
+    faults: AtomicU64,
     /// Whether some reader waits for more.
     is_awaited: AtomicBool,
     more: Condvar,
@@ -63,9 +62,9 @@ impl Watch {
         let most_full = (most_steps / TRAY_ROOM).saturating_add(1);
         Ok(Watch {
             start: now(),
-            trays: locked_trays(alloc, TRAYS)?,
+            stands: stands(alloc, TRAYS)?,
             inbox: Mutex::new(Inbox::new(alloc, most_full)?),
-            reports: AtomicU64::new(0),
+            faults: AtomicU64::new(0),
             is_awaited: AtomicBool::new(false),
             more: Condvar::new(),
             shelf: Mutex::new(Shelf::new(alloc, most_steps, most_full)?),
@@ -74,21 +73,33 @@ impl Watch {
 
     /// Reports a step of a connection, with the place of its entry in the history, from 0. `connection` is a number of the
     /// connection, such as its descriptor.
-    pub fn report_step<R: Wait>(&self, rt: &R, connection: usize, place: u64, call: WatchedCall) {
-        self.add_step(rt, connection, Placed { place, call });
-        self.announce(rt);
+    pub fn report_step<R: Wait>(&self, rt: &R, connection: usize, place: u64, call: &WatchedCall) {
+        if let Some(stand) = self.stands.get(connection % TRAYS) {
+            self.add_step(rt, stand, place, call);
+            stand.count();
+            self.announce(rt);
+        }
     }
 
     /// Reports a call of a connection that was answered by a fault.
     pub fn report_fault<R: Wait>(&self, rt: &R, fault: WatchedFault) {
         self.inbox.lock(rt).add_fault(fault);
+        self.faults.fetch_add(1, Ordering::SeqCst);
         self.announce(rt);
     }
 
-    /// Counts a report, and wakes the readers if some reader waits. No reader misses a report: it sets the flag before it looks
-    /// for reports, and waits under the inbox's lock.
+    /// Returns the number of reports so far.
+    fn reports(&self) -> u64 {
+        let mut reports = self.faults.load(Ordering::SeqCst);
+        for stand in self.stands.iter() {
+            reports = reports.wrapping_add(stand.reports());
+        }
+        reports
+    }
+
+    /// Wakes the readers if some reader waits. No reader misses a report, which is counted before: it sets the flag before it
+    /// looks for reports, and waits under the inbox's lock.
     fn announce<R: Wait>(&self, rt: &R) {
-        self.reports.fetch_add(1, Ordering::SeqCst);
         if self.is_awaited.load(Ordering::SeqCst) {
             let inbox = self.inbox.lock(rt);
             self.is_awaited.store(false, Ordering::SeqCst);
@@ -97,35 +108,29 @@ impl Watch {
         }
     }
 
-    /// Returns a call that was just answered, with the time since the start of the watch. `class` is that of the
-    /// connection's listener. Does not allocate.
-    pub fn call_of(&self, class: Class, event: &Event) -> WatchedCall {
-        let Ok(event) = event.clone() else {
-            unreachable!()
-        };
-        WatchedCall {
-            since: now().saturating_sub(self.start),
-            class,
-            event,
-        }
+    /// Replaces a call by one of the same connection that was just answered, at the time since the start of the watch. Does not
+    /// allocate.
+    pub fn note(&self, call: &mut WatchedCall, event: &Event) {
+        call.since = now().saturating_sub(self.start);
+        call.event = copy_of(event);
     }
 
     /// Adds a step to the tray of its connection. A full tray is moved to the inbox before.
-    fn add_step<R: Wait>(&self, rt: &R, connection: usize, step: Placed) {
-        let Some(tray) = self.trays.get(connection % TRAYS) else {
-            return;
-        };
-        let mut tray = tray.lock(rt);
+    fn add_step<R: Wait>(&self, rt: &R, stand: &Stand, place: u64, call: &WatchedCall) {
+        let mut tray = stand.tray.lock(rt);
         if tray.is_full() {
             self.inbox.lock(rt).take_tray(&mut tray);
         }
-        tray.add(step);
+        tray.add(Placed {
+            place,
+            call: call.copy(),
+        });
     }
 
     /// Returns whether a reader that has seen this many reports has to wait, and notes that it does.
     fn awaits(&self, inbox: &Inbox, seen: u64) -> bool {
         self.is_awaited.store(true, Ordering::SeqCst);
-        !inbox.has_ended && self.reports.load(Ordering::SeqCst) == seen
+        !inbox.has_ended && self.reports() == seen
     }
 
     /// Announces that no more calls follow.
@@ -141,8 +146,8 @@ impl Watch {
 
     /// Puts the steps of all trays on the shelf. A tray without steps keeps its memory, so that few connections use little.
     fn unload_trays<R: Wait>(&self, rt: &R, shelf: &mut Shelf) {
-        for tray in self.trays.iter() {
-            let mut tray = tray.lock(rt);
+        for stand in self.stands.iter() {
+            let mut tray = stand.tray.lock(rt);
             if tray.steps.is_empty() {
                 continue;
             }
@@ -167,19 +172,21 @@ impl Watch {
     fn seen<R: Wait>(&self, rt: &R) -> Seen {
         let inbox = self.inbox.lock(rt);
         Seen {
-            reports: self.reports.load(Ordering::SeqCst),
+            reports: self.reports(),
             has_ended: inbox.has_ended,
         }
     }
 
-    /// Takes all steps that were reported, and fills a batch that is empty. The reports are counted before, so that none of them
-    /// is missed.
+    /// Fills a batch that is empty. If the step at this place is not on the shelf, it takes all steps that were reported. The
+    /// reports are counted before, so that none of them is missed.
     fn fill<R: Wait>(&self, rt: &R, place: usize, takes_faults: bool, batch: &mut Batch) -> Seen {
         let mut locked = self.shelf.lock(rt);
         let shelf = &mut *locked;
         let seen = self.seen(rt);
-        self.unload_trays(rt, shelf);
-        self.unload_inbox(rt, shelf);
+        if !shelf.has(place) {
+            self.unload_trays(rt, shelf);
+            self.unload_inbox(rt, shelf);
+        }
         shelf.copy_steps(place, &mut batch.steps);
         if takes_faults {
             let steps = place.saturating_add(batch.steps.len());

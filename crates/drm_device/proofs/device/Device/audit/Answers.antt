@@ -17,7 +17,7 @@ returns-clause-page c =
     rw (← c.self.view_is) (c.page_of.ensures (rows_of (value_of d)) (record {
       rows = c.self.invariant.rows;
       step_numbers = step_numbers_rise (value_of d);
-      steps_are = rows_of-steps (value_of d) ∙ sym d.journal.ok.0 ∙ sym c.len.ensures;
+      steps_are = rows_of-steps (value_of d) ∙ sym c.len.ensures;
     }))
 
 pub returns-clause-few : goal.returns-clause-few
@@ -29,5 +29,5 @@ returns-clause-few c =
     let steps = rows_of-steps (value_of d) in
     let same = length-sorted is_before (audit_rows (rows_of (value_of d)) c.args.kind) in
     let small : length (rising_rows (audit_rows (rows_of (value_of d)) c.args.kind)) < 2 ^ 31 =
-    omega (arith, few, same, steps, d.journal.ok.0, c.self.invariant.places, c.self.invariant.journal_fits) in
+    omega (arith, few, same, steps, c.self.invariant.places, c.self.invariant.journal_fits) in
     rw (← c.self.view_is) small

@@ -37,6 +37,5 @@ invariant_of-result c =
           { files = c.new.result; masters = c.new-2.result; leases = c.new-leases.result; objects = c.new-3.result; names = c.new-4.result; tokens = c.new-5.result; modes = c.new-modes.result };
     })
     c.args.topology
-    (sym c.are_in_range.ensures ∙ c.if-not-are_in_range.false) c.in-Ok.ensures.items
-    (omega (arith, c.in-Ok.ensures.exact))
+    (sym c.are_in_range.ensures ∙ c.if-not-are_in_range.false) c.in-Ok.ensures.empty c.in-Ok.ensures.room
     (record { files = c.new.ensures; masters = c.new-2.ensures; leases = c.new-leases.ensures; objects = c.new-3.ensures; names = c.new-4.ensures; tokens = c.new-5.ensures; modes = c.new-modes.ensures; modes_are = c.laws.ensures; leases_are = c.laws-2.ensures; lessees_few = few_lessees_allowed c.args.limits (sym c.are_in_range.ensures ∙ c.if-not-are_in_range.false) })

@@ -1,10 +1,12 @@
-use Rattle.std.proofs.Common.{[], ◌∷◌, ◌++◌, refl, sym, ap, ◌∙◌, subst, Ok}
+use Rattle.std.proofs.Common.{◌<◌, [], ◌∷◌, ◌++◌, length, refl, sym, ap, ◌∙◌, subst, Ok, arith}
+use Rattle.std.proofs.lemmas.List.{length-append}
 use Rattle.std.proofs.lemmas.Bool.{not-false, not-true}
 use Rattle.drm_table.specs.declared.answers.Answer.{Answer}
 use Rattle.drm_table.specs.declared.events.Event.{Event}
 use Rattle.drm_table.specs.Results.{FitsOneFrame}
 use Rattle.drm_model.specs.Run.{Step, rows_of, journaled_in}
 use Rattle.drm_device.specs.Device.{value_of}
+use Rattle.drm_device.specs.Journals.{JournalValue}
 use Rattle.drm_state.specs.Refinement.{Refines}
 use Rattle.drm_device.proofs.Devices.{stands, precondition, has_room_for, next_history, next_rows, same_history, topology_same, topology_after, few_answer, next_device, same_device, taken_back, within_after}
 use Rattle.drm_device.proofs.Places.{opened}
@@ -18,10 +20,15 @@ returns-then-not-has_room-clause-step c =
 pub advance_at-requires : goal.advance_at-requires
 advance_at-requires c = precondition c.self.inside c.len.result c.self.invariant c.len.ensures
 
-pub push_reserved-requires : goal.push_reserved-requires
-push_reserved-requires c =
+pub record-requires : goal.record-requires
+record-requires c =
     let room = not-true _ (sym c.has_room.ensures ∙ c.if-not-has_room.false) in
-    has_room_for c.self.inside c.args.event.now c.self.invariant (rw (ap rows_of c.self.view_is) room)
+    subst (λ (j : JournalValue). length j.events < j.room) (sym c.provide.ensures)
+    (has_room_for c.self.inside c.args.event.now c.self.invariant (rw (ap rows_of c.self.view_is) room))
+
+pub take_back-requires : goal.take_back-requires
+take_back-requires c =
+    omega (arith, ap length c.record.ensures.events, length-append c.provide.new.self.events (c.args.event.now ∷ []))
 
 pub invariant_of-self-in_default : goal.invariant_of-self-in_default
 unfolding Refines
@@ -31,11 +38,10 @@ invariant_of-self-in_default c =
     let out =
     made.2 (rows_of (value_of c.self.inside)) (stands c.self.inside c.len.result c.self.invariant c.len.ensures) in
     let items =
-    c.push_reserved.ensures.items
-    ∙ ap (λ (e : Event). c.self.inside.journal.items ++ e ∷ []) c.copy_of.ensures in
-    next_device c.self.inside c.args.event.now c.push_reserved.new.self c.advance_at.new.state c.self.invariant
+    c.record.ensures.events ∙ ap (λ (j : JournalValue). j.events ++ c.args.event.now ∷ []) c.provide.ensures in
+    next_device c.self.inside c.args.event.now c.record.new.self c.advance_at.new.state c.self.invariant
     (rw (ap rows_of c.self.view_is) room)
-    items c.push_reserved.ensures.len c.push_reserved.ensures.capacity
+    items (c.record.ensures.room ∙ ap (λ (j : JournalValue). j.room) c.provide.ensures)
     c.in_default.ensures.invariants out.1
 
 pub invariant_of-self : goal.invariant_of-self
@@ -44,9 +50,9 @@ invariant_of-self c =
     let out =
     c.in-Err.ensures.err (rows_of (value_of c.self.inside))
     (stands c.self.inside c.len.result c.self.invariant c.len.ensures) in
-    same_device c.self.inside c.pop.new.self c.advance_at.new.state c.self.invariant
-    (taken_back c.self.inside c.push_reserved.new.self c.pop.new.self c.copy_of.result c.push_reserved.ensures.items c.push_reserved.ensures.len c.pop.ensures.rest)
-    (c.pop.ensures.capacity ∙ c.push_reserved.ensures.capacity) c.in-Err.ensures.invariants out.1
+    same_device c.self.inside c.take_back.new.self c.advance_at.new.state c.self.invariant
+    (taken_back c.self.inside c.record.new.self c.take_back.new.self c.args.event.now (c.record.ensures.events ∙ ap (λ (j : JournalValue). j.events ++ c.args.event.now ∷ []) c.provide.ensures) c.take_back.ensures.events)
+    (c.take_back.ensures.room ∙ c.record.ensures.room ∙ ap (λ (j : JournalValue). j.room) c.provide.ensures) c.in-Err.ensures.invariants out.1
 
 pub returns-in_default-clause-step : goal.returns-in_default-clause-step
 unfolding Step Refines
@@ -56,10 +62,9 @@ returns-in_default-clause-step c =
     let out =
     made.2 (rows_of (value_of c.self.inside)) (stands c.self.inside c.len.result c.self.invariant c.len.ensures) in
     let items =
-    c.push_reserved.ensures.items
-    ∙ ap (λ (e : Event). c.self.inside.journal.items ++ e ∷ []) c.copy_of.ensures in
+    c.record.ensures.events ∙ ap (λ (j : JournalValue). j.events ++ c.args.event.now ∷ []) c.provide.ensures in
     rw made.1
-    (room, rw (← ap rows_of c.self.view_is) out.0, rw (← ap rows_of c.self.view_is) (next_rows c.self.inside c.args.event.now c.push_reserved.new.self c.advance_at.new.state items (topology_after c.self.inside c.args.event.now c.advance_at.new.state out.1)))
+    (room, rw (← ap rows_of c.self.view_is) out.0, rw (← ap rows_of c.self.view_is) (next_rows c.self.inside c.args.event.now c.record.new.self c.advance_at.new.state items (topology_after c.self.inside c.args.event.now c.advance_at.new.state out.1)))
 
 pub returns-in-Err-clause-step : goal.returns-in-Err-clause-step
 unfolding Step Refines
@@ -71,8 +76,8 @@ returns-in-Err-clause-step c = rw c.replace-in-Err.ensures.replaced (
     let fixed = topology_same c.self.inside c.advance_at.new.state (rows_of (value_of c.self.inside)) out.1 refl in (
       room,
       rw (← ap rows_of c.self.view_is) out.0,
-      ap rows_of (same_history c.self.inside c.pop.new.self c.advance_at.new.state
-          (taken_back c.self.inside c.push_reserved.new.self c.pop.new.self c.copy_of.result c.push_reserved.ensures.items c.push_reserved.ensures.len c.pop.ensures.rest)
+      ap rows_of (same_history c.self.inside c.take_back.new.self c.advance_at.new.state
+          (taken_back c.self.inside c.record.new.self c.take_back.new.self c.args.event.now (c.record.ensures.events ∙ ap (λ (j : JournalValue). j.events ++ c.args.event.now ∷ []) c.provide.ensures) c.take_back.ensures.events)
           fixed ∙ c.self.view_is),
     ))
 
@@ -92,10 +97,9 @@ returns-in_default-clause-ok c =
     let out =
     made.2 (rows_of (value_of c.self.inside)) (stands c.self.inside c.len.result c.self.invariant c.len.ensures) in
     let items =
-    c.push_reserved.ensures.items
-    ∙ ap (λ (e : Event). c.self.inside.journal.items ++ e ∷ []) c.copy_of.ensures in
+    c.record.ensures.events ∙ ap (λ (j : JournalValue). j.events ++ c.args.event.now ∷ []) c.provide.ensures in
     rw made.1
-    (next_history c.self.inside c.args.event.now c.push_reserved.new.self c.advance_at.new.state items (topology_after c.self.inside c.args.event.now c.advance_at.new.state out.1) ∙ ap (λ h. journaled_in h c.args.event.now) c.self.view_is)
+    (next_history c.self.inside c.args.event.now c.record.new.self c.advance_at.new.state items (topology_after c.self.inside c.args.event.now c.advance_at.new.state out.1) ∙ ap (λ h. journaled_in h c.args.event.now) c.self.view_is)
 
 pub returns-in_default-clause-err : goal.returns-in_default-clause-err
 returns-in_default-clause-err c = rw (opened c.advance_at.new.outcome c.in_default.ensures.answered c.in_default.ensures.ok).1 tt
@@ -106,8 +110,8 @@ returns-in-Err-clause-err c = rw c.replace-in-Err.ensures.replaced (
     let out =
     c.in-Err.ensures.err (rows_of (value_of c.self.inside))
     (stands c.self.inside c.len.result c.self.invariant c.len.ensures) in
-    same_history c.self.inside c.pop.new.self c.advance_at.new.state
-    (taken_back c.self.inside c.push_reserved.new.self c.pop.new.self c.copy_of.result c.push_reserved.ensures.items c.push_reserved.ensures.len c.pop.ensures.rest)
+    same_history c.self.inside c.take_back.new.self c.advance_at.new.state
+    (taken_back c.self.inside c.record.new.self c.take_back.new.self c.args.event.now (c.record.ensures.events ∙ ap (λ (j : JournalValue). j.events ++ c.args.event.now ∷ []) c.provide.ensures) c.take_back.ensures.events)
     (topology_same c.self.inside c.advance_at.new.state (rows_of (value_of c.self.inside)) out.1 refl) ∙ c.self.view_is)
 
 pub returns-in-Err-clause-found_room : goal.returns-in-Err-clause-found_room
@@ -116,8 +120,9 @@ returns-in-Err-clause-found_room c = (invariant_of-self c).found_room
 pub returns-in_default-clause-within : goal.returns-in_default-clause-within
 returns-in_default-clause-within c =
     let room = not-true _ (sym c.has_room.ensures ∙ c.if-not-has_room.false) in
-    within_after c.self.inside c.args.event.now c.push_reserved.new.self c.self.invariant
-    (rw (ap rows_of c.self.view_is) room) c.push_reserved.ensures.len
+    within_after c.self.inside c.args.event.now c.record.new.self c.self.invariant
+    (rw (ap rows_of c.self.view_is) room)
+    (c.record.ensures.events ∙ ap (λ (j : JournalValue). j.events ++ c.args.event.now ∷ []) c.provide.ensures)
 
 pub returns-in_default-clause-found_room : goal.returns-in_default-clause-found_room
 returns-in_default-clause-found_room c = (invariant_of-self-in_default c).found_room
