@@ -22,7 +22,7 @@ ticket_word = 8
 abbrev pub serving_word : ℕ
 serving_word = 9
 
--- All words: the length of the history is behind the two of tickets. The others are always 0, and only keep these three
+-- All words: the length of the history is after the two of tickets. The others are always 0, and only keep these three
 -- away from all else in memory.
 abbrev pub words_of : ℕ → ℕ → ℕ → List ℕ
 words_of count next serving =

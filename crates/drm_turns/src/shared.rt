@@ -36,7 +36,8 @@ const TICKET: usize = 8;
 /// The word of the ticket that is served.
 const SERVING: usize = 9;
 
-/// The word of the length of the history. It is next to the tickets: a call in its turn has just written their cache line.
+/// The word of the length of the history. It is next to the tickets, whose cache line a call has written when it counts an
+/// entry.
 const COUNT: usize = 10;
 
 /// The number of words. Those before and after the three keep all else out of their cache line.
