@@ -205,11 +205,11 @@ impl Device {
         }
     }
 
-    /// Returns for how many events the journal's memory is provided with this one: 5,000 for each open client and the new
+    /// Returns for how many events the journal's memory is provided with this one: 10,000 for each open client and the new
     /// one if it opens, and none otherwise. An opening may take the time that a request may not.
     fn places_for(&self, event: &Event) -> usize {
         match event {
-            Event::Open(_) => 5_000_usize.saturating_mul(self.state.files.len().saturating_add(1)),
+            Event::Open(_) => 10_000_usize.saturating_mul(self.state.files.len().saturating_add(1)),
             _ => 0,
         }
     }
