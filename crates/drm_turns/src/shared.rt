@@ -36,11 +36,10 @@ const TICKET: usize = 8;
 /// The word of the ticket that is served.
 const SERVING: usize = 9;
 
-/// The word of the length of the history. It is next to the tickets, whose cache line a call has written when it counts an
-/// entry.
+/// The word of the length of the history. It is next to the tickets, which a call has written when it counts an entry.
 const COUNT: usize = 10;
 
-/// The number of words. Those before and after the three keep all else out of their cache line.
+/// The number of words. Those before and after the three keep them away from other memory, which other calls may write.
 const WORDS: usize = 16;
 
 /// The number of times that a call looks whether it is served, or whether the device is free, before it sleeps until it
