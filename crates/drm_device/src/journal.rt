@@ -1,6 +1,7 @@
 //! The events of a device, in memory that is provided ahead.
 
 ghost use Rattle.std.specs.Prelude.{◌≡◌, ◌+◌, ◌-◌, ◌<◌, ◌≤◌, ◌∷◌, ◌++◌, [], length, take, IfOk};
+ghost use Rattle.std.specs.Vec.{vec_capacity};
 
 use drm_table::Event;
 use std::alloc::{AllocError, Global};
@@ -66,10 +67,9 @@ impl Journal {
         ensures events { self.new.events ≡ self.old.events ++ event.now ∷ [] }
         ensures room { self.new.room ≡ self.old.room }
     {
-        let copy = copy_of(event);
         match self.places.get_mut(self.recorded) {
-            Some(place) => *place = copy,
-            None => self.places.push_reserved(copy),
+            Some(place) => copy_to(event, place),
+            None => push_copy(event, &mut self.places),
         }
         self.recorded += 1;
     }
@@ -99,12 +99,28 @@ impl Journal {
     }
 }
 
-/// Returns the same event.
-fn copy_of(event: &Event) -> Event
-    ensures { result ≡ event.now }
+/// Writes the same event to a place.
+fn copy_to(event: &Event, place: &mut Event)
+    ensures { place.new ≡ event.now }
+{
+    match event {
+        Event::Open(opening) => *place = Event::Open(*opening),
+        Event::Ask(client, call) => match call.clone() {
+            Ok(call) => *place = Event::Ask(*client, call),
+            Err(_) => unreachable!(),
+        },
+        Event::Close(client) => *place = Event::Close(*client),
+    }
+}
+
+/// Adds the same event as the last. Does not allocate.
+fn push_copy(event: &Event, places: &mut Vec<Event>)
+    requires { length places.old.items < vec_capacity places.old }
+    ensures items { places.new.items ≡ places.old.items ++ event.now ∷ [] }
+    ensures room { vec_capacity places.new ≡ vec_capacity places.old }
 {
     match event.clone() {
-        Ok(copy) => copy,
+        Ok(copy) => places.push_reserved(copy),
         Err(_) => unreachable!(),
     }
 }

@@ -1,5 +1,5 @@
 //! The call of a frame.
-ghost use Rattle.std.specs.Prelude.{◌≡◌, ◌<◌, ◌≤◌, length};
+ghost use Rattle.std.specs.Prelude.{◌≡◌, ◌<◌, ◌≤◌, Some, None, IfSome, IfNone, length};
 ghost use Rattle.std.specs.Option.{option_and_then};
 ghost use Rattle.drm_table.specs.Fields.Layout.{ids};
 ghost use Rattle.drm_table.specs.Table.{call_with};
@@ -11,27 +11,31 @@ use crate::frame::Frame;
 use crate::text::FrameBytes;
 use drm_table::{Call, CallKind, Fields, Layout, Width};
 
-/// Returns the call of a kind, if the bytes are exactly numbers of these widths.
-fn numbers_call(kind: CallKind, widths: &[Width], bytes: &[u8]) -> Option<Call>
+/// Writes the call of a kind to its place, if the bytes are exactly numbers of these widths.
+fn read_numbers_call(kind: CallKind, widths: &[Width], bytes: &[u8], place: &mut Call) -> Option<()>
     requires { length widths.now ≤ 5 }
-    ensures { result ≡ option_and_then (call_with kind) (numbers_in widths.now bytes.now) }
+    ensures some { IfSome result (λ _. option_and_then (call_with kind) (numbers_in widths.now bytes.now) ≡ Some place.new) }
+    ensures none { IfNone result (option_and_then (call_with kind) (numbers_in widths.now bytes.now) ≡ None) }
 {
     let mut fields: Fields<5> = Fields::new();
     if !read_numbers(&mut fields, widths, bytes) {
         return None;
     }
-    kind.call(fields.as_slice())
+    *place = kind.call(fields.as_slice())?;
+    Some(())
 }
 
-/// Returns the call of a kind, if the bytes are exactly a count and as many ids.
-fn ids_call(kind: CallKind, bytes: &[u8]) -> Option<Call>
-    ensures { result ≡ option_and_then (call_with kind) (fields_in ids bytes.now) }
+/// Writes the call of a kind to its place, if the bytes are exactly a count and as many ids.
+fn read_ids_call(kind: CallKind, bytes: &[u8], place: &mut Call) -> Option<()>
+    ensures some { IfSome result (λ _. option_and_then (call_with kind) (fields_in ids bytes.now) ≡ Some place.new) }
+    ensures none { IfNone result (option_and_then (call_with kind) (fields_in ids bytes.now) ≡ None) }
 {
     let mut fields: Fields<32> = Fields::new();
     if !read_ids(&mut fields, bytes) {
         return None;
     }
-    kind.call(fields.as_slice())
+    *place = kind.call(fields.as_slice())?;
+    Some(())
 }
 
 /// Returns the call of a frame (drm-uapi for the rows; the layout is own). Does not allocate.
@@ -81,14 +85,13 @@ pub fn read_call(frame: &Frame<'_>, place: &mut Call)
         *place = Call::Unknown(number);
         return;
     };
-    let call = match kind.layout() {
-        Layout::Numbers(widths) => numbers_call(kind, widths, frame.fields()),
-        Layout::Ids => ids_call(kind, frame.fields()),
+    let read = match kind.layout() {
+        Layout::Numbers(widths) => read_numbers_call(kind, widths, frame.fields(), place),
+        Layout::Ids => read_ids_call(kind, frame.fields(), place),
     };
-    *place = match call {
-        Some(call) => call,
-        None => Call::BadLayout(number),
-    };
+    if read.is_none() {
+        *place = Call::BadLayout(number);
+    }
 }
 
 /// Returns the bytes of the frame of a call (drm-uapi for the rows; the layout is own). Does not allocate.

@@ -1,9 +1,10 @@
 -- The objects of handles, step by step.
-use Rattle.std.proofs.Common.{◌≡◌, ℕ, ◌+◌, ◌==◌, ◌&&◌, nat_lt, Bool, true, false, cond, List, [], ◌∷◌, ◌++◌, Option, None, Some, IfNone, IfSome, get_or, length, option_map, take, refl, sym, ◌∙◌, ap, subst, arith, eq-eqb}
+use Rattle.std.proofs.Common.{◌≡◌, ◌<◌, ℕ, zero, suc, ◌+◌, ⊎_elim, ◌==◌, ◌&&◌, nat_lt, Bool, true, false, cond, List, [], ◌∷◌, ◌++◌, Option, None, Some, IfNone, IfSome, get_or, length, option_map, take, refl, sym, ◌∙◌, ap, subst, arith, eq-eqb}
 use Rattle.std.specs.Prelude.{slice_get}
+use Rattle.std.specs.Option.{option_and_then}
 use Rattle.std.proofs.lemmas.Bool.Decides.{nat_tests}
 use Rattle.std.proofs.lemmas.List.{take_all, take-append-le, length-append}
-use Rattle.std.proofs.lemmas.Option.{get_or_from_slice_get, same_Some, slice_get-get_or, slice_get_within}
+use Rattle.std.proofs.lemmas.Option.{get_or_from_slice_get, same_Some, slice_get-get_or, slice_get_cases, slice_get_past, slice_get_within}
 use Rattle.std.proofs.Math.ListN.{get_or-append}
 use Rattle.std.proofs.Math.Seq.{get_or-append_seam}
 use Rattle.drm_history.specs.History.{AnsweredEvent, next_number}
@@ -13,11 +14,10 @@ use Rattle.drm_history.proofs.HistoryFunctions.{has_is_told, Held, Kept, none_so
 use Rattle.drm_history.proofs.RunsAgree.{agrees}
 use Rattle.drm_trails.specs.Chains.{HasNone, IsOfDevice}
 use Rattle.drm_trails.specs.Handles.{is_given_at}
-use Rattle.drm_trails.specs.Objects.{AreObjects, object_given, object_held, object_under}
+use Rattle.drm_trails.specs.Objects.{AreObjects, object_assigned, object_by, object_given, object_held, object_in, object_under}
 use Rattle.drm_trails.specs.Searches.{AreNoted, Gift, gift_or, last_gift, last_sharing, publication_in, sharing_by, source_for}
-use Rattle.drm_trails.specs.Steps.{entry_of, followed_by, givings_of, history_of, source_of}
+use Rattle.drm_trails.specs.Steps.{entry_of, followed_by, history_of}
 use Rattle.drm_trails.specs.declared.searches.Publication.{Publication}
-use Rattle.drm_trails.specs.declared.steps.Giving.{Giving as GivenHandle}
 use Rattle.drm_trails.specs.declared.steps.Step.{Step}
 use Rattle.drm_trails.proofs.ChainLemmas.{has_none, told-last_gift, told-last_sharing, told_from_gift, told_from_sharing}
 use Rattle.drm_trails.proofs.HistoryLemmas.{followed_by-append, length-history_of}
@@ -78,19 +78,34 @@ pub held_is_none : (history : List AnsweredEvent) (c h : ℕ) (found : Option �
 held_is_none history c h None e = has_none history c h (sym e)
 held_is_none history c h (Some o) e = tt
 
--- The object that is known of the step that assigned a handle is that of the handle.
-pub assigned_is_held : (steps : List Step) (objects : List (Option ℕ)) (c h step : ℕ) (found : Option ℕ)
-    → AreObjects steps objects
-    → ((past : ℕ) (object : Option ℕ) → step ≡ past + 1 → slice_get objects past ≡ Some object → found ≡ object)
-    → is_given_at (last_gift (history_of steps) c h) step ≡ true → found ≡ object_held (history_of steps) c h
-assigned_is_held steps objects c h step found known is given = of (last_gift (history_of steps) c h) refl given
+-- The object that a step assigned is in its place.
+pub assigned_is_in : (steps : List Step) (objects : List (Option ℕ)) (step : ℕ) → AreObjects steps objects
+    → object_in objects step ≡ object_assigned steps step
+assigned_is_in steps objects zero known = refl
+assigned_is_in steps objects (suc past) known =
+    ⊎_elim (λ there. ap of_place (known.each past there.0 there.2) ∙ sym (ap of_step there.2))
+    (λ none. ap of_place (slice_get_past objects past (let ends = none.0 in let same = known.count in omega (arith, ends, same))) ∙ sym (ap of_step none.1))
+    (slice_get_cases steps past).1
+  where
+    of_place : Option (Option ℕ) → Option ℕ
+    of_place found = option_and_then (λ (object : Option ℕ). object) found
+
+    of_step : Option Step → Option ℕ
+    of_step found = option_and_then (λ (step : Step). object_by (history_of (take past steps)) (given (entry_of step))) found
+
+-- The object in the place of the step that assigned a handle is that of the handle.
+pub assigned_is_held : (steps : List Step) (objects : List (Option ℕ)) (c h step : ℕ) → AreObjects steps objects
+    → is_given_at (last_gift (history_of steps) c h) step ≡ true
+    → object_in objects step ≡ object_held (history_of steps) c h
+assigned_is_held steps objects c h step known given = of (last_gift (history_of steps) c h) refl given
   where
     of : (gift : Option Gift) → last_gift (history_of steps) c h ≡ gift → is_given_at gift step ≡ true
-        → found ≡ object_held (history_of steps) c h
+        → object_in objects step ≡ object_held (history_of steps) c h
     of None e given = absurd (let no : false ≡ true = given in cc)
     of (Some g) e given =
-        is (length g.past) (object_given g.past g.source) (grind (arith, nat_tests))
-        (known.told (length steps) c h g (ap (λ xs. last_gift (history_of xs) c h) (take_all (length steps) steps (omega arith)) ∙ e))
+        let place : step ≡ suc (length g.past) = grind (arith, nat_tests) in
+        ap (object_in objects) place
+        ∙ ap (option_and_then (λ (object : Option ℕ). object)) (known.told (length steps) c h g (ap (λ xs. last_gift (history_of xs) c h) (take_all (length steps) steps (omega arith)) ∙ e))
         ∙ sym (held_by_gift (history_of steps) c h g e)
 
 kept : (history : List AnsweredEvent) → IsOfDevice history → Kept history
@@ -123,6 +138,7 @@ none_known = record {
   told =
       λ moment c h g e. none_some g
       (ap (λ (steps : List Step). last_gift (history_of steps) c h) (sym (take_all moment [] (omega arith))) ∙ e);
+  each = λ past step e. absurd (let within = slice_get_within [] past step e in omega (arith, within));
   count = refl;
 }
 
@@ -131,6 +147,12 @@ get_front xs ys n x e =
     let within = slice_get_within xs n x e in
     slice_get-get_or (xs ++ ys) n x (let size = length-append xs ys in omega (arith, within, size))
     ∙ ap Some (get_or-append xs ys x n within ∙ get_or_from_slice_get xs n x x e)
+
+slice_get-front : {X : Type 0} (xs ys : List X) (n : ℕ) → n < length xs → slice_get (xs ++ ys) n ≡ slice_get xs n
+slice_get-front xs ys n within =
+    ⊎_elim (λ there. get_front xs ys n there.0 there.2 ∙ sym there.2)
+    (λ past. absurd (let ends = past.0 in omega (arith, ends, within)))
+    (slice_get_cases xs n).1
 
 get_last : {X : Type 0} (xs : List X) (n : ℕ) (x : X) → n ≡ length xs → slice_get (xs ++ x ∷ []) n ≡ Some x
 get_last xs n x e =
@@ -173,9 +195,32 @@ module _ (steps : List Step) (step : Step) (objects : List (Option ℕ)) (known 
       get_front objects (object ∷ []) (length g.past) (object_given g.past g.source)
       (known.told moment c h g (ap (λ xs. last_gift (history_of xs) c h) (sym (take-append-le moment steps (step ∷ []) (grind (arith, nat_tests)))) ∙ e))
 
-source_object : (c h : ℕ) (g : Option Giving) (past : List AnsweredEvent) (object : Option ℕ)
-    → IfSome g (λ (giving : Giving). object ≡ object_given past giving.source) → (s : Source)
-    → source_for c h g ≡ Some s → object ≡ object_given past s
+  -- a step before this one has the object that was known
+  each_before : (past : ℕ) (earlier : Step) → past < length steps → slice_get longer past ≡ Some earlier
+      → slice_get more past ≡ Some (object_by (history_of (take past longer)) (given (entry_of earlier)))
+  each_before past earlier before e =
+      get_front objects (object ∷ []) past _ (known.each past earlier (sym (slice_get-front steps (step ∷ []) past before) ∙ e))
+      ∙ ap (λ xs. Some (object_by (history_of xs) (given (entry_of earlier)))) (sym (take-append-le past steps (step ∷ []) (omega (arith, before))))
+
+  -- this step has its own
+  each_last : (past : ℕ) (last : Step) → past ≡ length steps → slice_get longer past ≡ Some last
+      → object ≡ object_by (history_of steps) (given (entry_of step))
+      → slice_get more past ≡ Some (object_by (history_of (take past longer)) (given (entry_of last)))
+  each_last past last end e its =
+      get_last objects past object (end ∙ sym known.count)
+      ∙ ap Some its
+      ∙ ap (λ xs. Some (object_by (history_of xs) (given (entry_of step)))) (sym (take-append-le past steps (step ∷ []) (omega (arith, end)) ∙ take_all past steps (omega (arith, end))))
+      ∙ ap (λ s. Some (object_by (history_of (take past longer)) (given (entry_of s)))) (same_Some step last (sym (get_last steps past step end) ∙ e))
+
+  each_more : (past : ℕ) (any : Step) → object ≡ object_by (history_of steps) (given (entry_of step))
+      → slice_get longer past ≡ Some any → (b : Bool) → nat_lt past (length steps) ≡ b
+      → slice_get more past ≡ Some (object_by (history_of (take past longer)) (given (entry_of any)))
+  each_more past any its e true before = each_before past any (lt_of past (length steps) before) e
+  each_more past any its e false not_before =
+      each_last past any (let within = slice_get_within longer past any e in grind (arith, nat_tests, within, one_longer)) e its
+
+source_object : (c h : ℕ) (g : Option Giving) (past : List AnsweredEvent) (object : Option ℕ) → object ≡ object_by past g
+    → (s : Source) → source_for c h g ≡ Some s → object ≡ object_given past s
 source_object c h None past object its s e = none_some s e
 source_object c h (Some g) past object its s e = of ((g.client == c) && (g.handle == h)) e
   where
@@ -185,13 +230,13 @@ source_object c h (Some g) past object its s e = of ((g.client == c) && (g.handl
 
 -- With one more step, the object that the step assigned is known, as those before.
 pub known_more : (steps : List Step) (step : Step) (objects : List (Option ℕ)) (object : Option ℕ)
-    → AreObjects steps objects
-    → IfSome (given (entry_of step)) (λ (giving : Giving). object ≡ object_given (history_of steps) giving.source) →
-    AreObjects (steps ++ step ∷ []) (objects ++ object ∷ [])
+    → AreObjects steps objects → object ≡ object_by (history_of steps) (given (entry_of step))
+    → AreObjects (steps ++ step ∷ []) (objects ++ object ∷ [])
 known_more steps step objects object known its = record {
   told =
       λ moment c h g e. known_if steps step objects known object moment c h g (nat_lt (length steps) moment)
       (source_object c h (given (entry_of step)) (history_of steps) object its) refl e;
+  each = λ past any e. each_more steps step objects known object past any its e (nat_lt past (length steps)) refl;
   count = length-append objects (object ∷ []) ∙ ap (λ n. n + 1) known.count ∙ sym (length-append steps (step ∷ []));
 }
 
@@ -200,17 +245,3 @@ pub known_along : (steps same : List Step) (objects also : List (Option ℕ)) �
     → AreObjects steps objects → AreObjects same also
 known_along steps same objects also is are known =
     subst (λ (x : List Step × List (Option ℕ)). AreObjects x.0 x.1) (λ i. (sym is i, sym are i)) known
-
--- If the object of the handle that was found in a step is known, so is that of the step's assignment.
-pub given_known : (found : Option GivenHandle) (g : Option Giving) (object : Option ℕ) (past : List AnsweredEvent)
-    → givings_of found ≡ g
-    → IfSome found (λ (giving : GivenHandle). object ≡ object_given past (source_of giving.source)) →
-    IfSome g (λ (giving : Giving). object ≡ object_given past giving.source)
-given_known found g object past is its =
-    subst (λ o. IfSome o (λ (giving : Giving). object ≡ object_given past giving.source)) is (of found its)
-  where
-    of : (found : Option GivenHandle)
-        → IfSome found (λ (giving : GivenHandle). object ≡ object_given past (source_of giving.source))
-        → IfSome (givings_of found) (λ (giving : Giving). object ≡ object_given past giving.source)
-    of None its = tt
-    of (Some giving) its = its

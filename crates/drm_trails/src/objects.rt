@@ -1,6 +1,6 @@
 //! The object of a handle.
 
-ghost use Rattle.std.specs.Prelude.{◌≡◌, ◌+◌, ℕ, Option, Some, slice_get, take};
+ghost use Rattle.std.specs.Prelude.{◌≡◌, take};
 ghost use Rattle.drm_trails.specs.Objects.{AreObjects};
 ghost use Rattle.drm_trails.specs.Objects as specs;
 ghost use Rattle.drm_trails.specs.Searches.{AreNoted, AreTouched};
@@ -30,7 +30,7 @@ pub(crate) fn object_held(
 
 /// Returns the object of the handle that the step with this number assigned. It returns `None` if the step assigned none.
 pub(crate) fn object_assigned_in(objects: &[Option<u64>], step: u64) -> Option<u64>
-    ensures { (past : ℕ) (object : Option ℕ) → step ≡ past + 1 → slice_get objects.now past ≡ Some object → result ≡ object }
+    ensures { result ≡ specs.object_in objects.now step }
 {
     let past = step.checked_sub(1)?;
     let object = objects.get(usize::try_from(past).ok()?)?;

@@ -6,7 +6,7 @@ ghost use Rattle.drm_trails.specs.Chains.{EndsChain, Explains, HasNone, IsExplai
 ghost use Rattle.drm_trails.specs.Handles.{is_given_at};
 ghost use Rattle.drm_trails.specs.Objects as objects;
 ghost use Rattle.drm_trails.specs.Searches.{last_gift};
-ghost use Rattle.drm_trails.specs.Steps.{history_of, source_of};
+ghost use Rattle.drm_trails.specs.Steps.{givings_of, history_of};
 
 use crate::chains::{ChainEnd, Link, Marks, chain_end_in, chain_in};
 use crate::items::with_item;
@@ -112,7 +112,7 @@ impl Trail {
 
     /// Returns the object of the handle that the next step assigns, or `None`.
     fn object_by(&self, given: Option<Giving>) -> Option<u64>
-        ensures { IfSome given (λ giving. result ≡ objects.object_given (history_of self.now) (source_of giving.source)) }
+        ensures { result ≡ objects.object_by (history_of self.now) (givings_of given) }
     {
         object_given(
             &self.steps,
@@ -156,7 +156,7 @@ impl Trail {
     }
 
     /// Returns the object of the handle that a step assigned, by the number of the step, from 1. It returns `None` if the
-    /// step assigned none.
+    /// step assigned none, or if there is no such step.
     ///
     /// For a handle of `handles_of`, it is the object of `object_of` after all steps. It takes the same time for each step.
     /// Does not allocate.
@@ -175,6 +175,7 @@ impl Trail {
     /// assert!(rt; trail.object_assigned(1) == Some(1));
     /// ```
     pub fn object_assigned(&self, step: u64) -> Option<u64>
+        ensures assigned { result ≡ objects.object_assigned self.now step }
         ensures object { (c h : ℕ) → is_given_at (last_gift (history_of self.now) c h) step ≡ true → IfSome result (Has (history_of self.now) c h) }
         ensures none { (c h : ℕ) → is_given_at (last_gift (history_of self.now) c h) step ≡ true → IfNone result (IsOfDevice (history_of self.now) → HasNone (history_of self.now) c h) }
     {

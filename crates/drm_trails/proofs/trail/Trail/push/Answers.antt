@@ -1,12 +1,11 @@
-use Rattle.std.proofs.Common.{◌≡◌, IfSome, List, subst, ◌∷◌, [], ◌++◌, option_to_list, sym, ◌∙◌, ap}
+use Rattle.std.proofs.Common.{List, ◌∷◌, [], ◌++◌, option_to_list, sym, ◌∙◌, ap}
 use Rattle.drm_trails.specs.Searches.{publications_of, touch_in_step}
-use Rattle.drm_history.specs.Steps.{given}
-use Rattle.drm_trails.specs.Steps.{entry_of, history_of, source_of}
-use Rattle.drm_trails.specs.Objects.{object_given}
+use Rattle.drm_trails.specs.Steps.{entry_of, givings_of, history_of}
+use Rattle.drm_trails.specs.Objects.{object_by}
 use Rattle.drm_trails.specs.declared.steps.Step.{Step}
 use Rattle.drm_trails.proofs.TrailLemmas.{noted_along, noted_more}
 use Rattle.drm_trails.proofs.TouchLemmas.{touched_along, touched_more}
-use Rattle.drm_trails.proofs.ObjectLemmas.{given_known, known_along, known_more}
+use Rattle.drm_trails.proofs.ObjectLemmas.{known_along, known_more}
 use Rattle.drm_trails.proofs.trail.Trail.push.Goals as goal
 
 pub invariant_of-result : goal.invariant_of-result
@@ -24,5 +23,5 @@ invariant_of-result c =
       known_along (old.steps.items ++ c.args.step ∷ []) _ _ _
           c.in_ok-with_item.ensures
           c.in_ok-with_item-4.ensures
-          (known_more old.steps.items c.args.step old.objects.items c.object_by-object.result c.self.invariant.2 (given_known c.given.result (given (entry_of c.args.step)) c.object_by-object.result (history_of old.steps.items) c.given.ensures (subst (λ (steps : List Step). IfSome c.given.result (λ giving. c.object_by-object.result ≡ object_given (history_of steps) (source_of giving.source))) (sym c.self.view_is) c.object_by-object.ensures))),
+          (known_more old.steps.items c.args.step old.objects.items c.object_by-object.result c.self.invariant.2 (c.object_by-object.ensures ∙ ap (λ (steps : List Step). object_by (history_of steps) (givings_of c.given.result)) (sym c.self.view_is) ∙ ap (object_by (history_of old.steps.items)) c.given.ensures)),
     )
