@@ -1,1 +1,4 @@
+pub mod Answers
 pub mod Classes
+pub mod Looks
+pub mod Requests

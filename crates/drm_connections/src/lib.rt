@@ -2,23 +2,22 @@
 #![tactic(auto)]
 
 mod accepting;
-mod answering;
-mod backlog;
+mod ahead;
+mod answers;
 mod classes;
 mod counts;
-mod greeting;
 mod notes;
 mod open_connections;
+mod peek;
 mod reporting;
-mod unread;
+mod requests;
 
 pub use accepting::{accept_next, accept_unless_ended, note_beyond};
-pub use answering::Answering;
-pub use backlog::Ahead;
+pub use answers::Answers;
 pub use classes::class_word;
 pub use counts::{Counts, MOST, MOST_AT_ONCE};
-pub use greeting::Greeting;
 pub use notes::{Note, Notes, PROGRAM};
 pub use open_connections::{Attendance, OpenConnections, Role};
+pub use peek::{Peek, Ready};
 pub use reporting::Reporting;
-pub use unread::Lost;
+pub use requests::Requests;

@@ -14,7 +14,7 @@ use crate::hall::Gathering;
 use crate::serve_faults::ServeFault;
 use arrayvec::ArrayVec;
 use drm_connections::{
-    Ahead, Answering, Greeting, MOST, Note, Reporting, Role, accept_next, note_beyond,
+    Answers, MOST, Note, Reporting, Requests, Role, accept_next, note_beyond,
 };
 use drm_sessions::{Class, NoGate, Served, Session, Witness, serve_witnessed};
 use drm_streams::{FromRead, Sink, Source, ToWrite};
@@ -138,11 +138,9 @@ fn serve_attended<R: Wait, D: Gathering>(
     } = visitor;
     let open = shared.open();
     let attendance = open.attend(rt, place, stream.as_raw_fd(), Role::Connection);
-    let ahead = Ahead::new(open.alloc());
-    let mut source = FromRead::new(Greeting::new(&stream, &ahead, &attendance));
+    let mut source = FromRead::new(Requests::new(open.alloc(), &stream, &attendance));
     let reporting = Reporting::new(rt, open.watch(), open.plan(), class, stream.as_raw_fd());
-    let answering = Answering::new(rt, &stream, &ahead, open.notes(), &reporting);
-    let mut sink = ToWrite::new(answering);
+    let mut sink = ToWrite::new(Answers::new(rt, &stream, open.notes(), &reporting));
     let served = serve_sides(
         rt,
         shared,
@@ -153,7 +151,8 @@ fn serve_attended<R: Wait, D: Gathering>(
         &mut sink,
     );
     reporting.flush();
-    let _ = ahead.settle(&stream);
+    // a connection that is closed with bytes to read would be reset
+    let _ = source.into_inner().settle();
     served
 }
 
