@@ -37,6 +37,9 @@ from support import (  # noqa: E402
 
 PIECES = (1, 2, 3, 7)
 
+# how long answers are left unread, in seconds
+LATE = 60
+
 # a fault that comes once, behind which the calls would go on, and one for good
 TIMES = (1, 1_000_000_000)
 
@@ -354,6 +357,21 @@ class SessionTests(FolderCase):
         folder = self.folder
         # what the sockets hold is less than these: each side has to wait for the other
         expect_exchanges(folder, (1, 0, 0), 20_000)
+
+    def test_answers_that_are_read_late(self):
+        """Small requests arrive one by one while answers wait, for longer than any wait of the server. Each has its answer."""
+        folder = self.folder
+        with server(folder, 1, 0, 0) as started, retry(lambda: connect_raw(folder / "card")) as late:
+            late.settimeout(SECONDS)
+            late.sendall(HELLO + 600 * VERSION)
+            asked, until = 600, time.monotonic() + LATE
+            while time.monotonic() < until:
+                late.sendall(VERSION)
+                asked += 1
+                time.sleep(0.02)
+            late.shutdown(socket.SHUT_WR)
+            expect("the answers", read_all(late), OPENED + asked * IS_VERSION)
+            expect_end(end_of(started), 0, "", f"device 0 0 0 {asked + 2}\n")
 
     def test_requests_of_many_connections_at_once(self):
         folder = self.folder

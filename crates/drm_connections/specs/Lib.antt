@@ -1,4 +1,5 @@
 pub mod Answers
 pub mod Classes
 pub mod Looks
+pub mod Places
 pub mod Requests

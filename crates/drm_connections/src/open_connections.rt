@@ -2,7 +2,9 @@
 //!
 //! Nothing here is in a contract: no clause says when a connection ends, or that a thread waits for another.
 
-ghost use Rattle.std.specs.Prelude.{◌≤◌};
+ghost use Rattle.std.specs.Prelude.{◌≡◌, ◌≢◌, ◌↔◌, ◌≤◌, ◌<◌, true, false, length, slice_get, slice_set, Some};
+ghost use Rattle.drm_connections.specs.declared.open_connections.Place.TheVariants as place_is;
+ghost use Rattle.drm_connections.specs.Places.{IsFirstFree, NoneFreeBefore};
 
 use crate::counts::{Counts, MOST_AT_ONCE};
 use crate::notes::Notes;
@@ -110,7 +112,9 @@ impl Place {
         }
     }
 
-    fn has_left(&self) -> bool {
+    fn has_left(&self) -> bool
+        ensures { (result ≡ true) ↔ (self.now ≡ place_is.Left) }
+    {
         match self {
             Place::Left => true,
             Place::Free | Place::Reserved | Place::Taken(_) => false,
@@ -127,6 +131,7 @@ struct Places {
     asked: Vec<pollfd>,
     /// No place before this one is free.
     free_from: usize,
+    ghost none_free: { NoneFreeBefore places.items free_from },
 }
 
 impl Places {
@@ -186,7 +191,9 @@ impl Places {
     }
 
     /// Returns the first place that is free, or the one after the last.
-    fn first_free(&self) -> usize {
+    fn first_free(&self) -> usize
+        ensures { IsFirstFree self.now.places.items result }
+    {
         for place in self.free_from..self.places.len() {
             if let Some(Place::Free) = self.places.get(place) {
                 return place;
@@ -196,21 +203,26 @@ impl Places {
     }
 
     /// Reserves a place and returns it. If there is no room, it returns one that does not exist. Does not allocate.
-    fn reserve(&mut self) -> usize {
+    fn reserve(&mut self) -> usize
+        ensures first { IsFirstFree self.old.places.items result }
+        ensures reserved { result < length self.old.places.items → self.new.places.items ≡ slice_set self.old.places.items result place_is.Reserved }
+    {
         let place = self.first_free();
-        self.free_from = place.saturating_add(1);
         if place < self.places.len() {
             self.put(place, Place::Reserved);
-            return place;
-        }
-        if place < self.places.capacity() && self.asked.len() < self.asked.capacity() {
+        } else if place < self.places.capacity() && self.asked.len() < self.asked.capacity() {
             self.places.push_reserved(Place::Reserved);
             self.asked.push_reserved(asking_nothing());
         }
+        self.free_from = place;
         place
     }
 
-    fn put(&mut self, place: usize, used: Place) {
+    fn put(&mut self, place: usize, used: Place)
+        requires { used ≢ place_is.Free }
+        ensures set { self.new.places.items ≡ slice_set self.old.places.items place used }
+        ensures from { self.new.free_from ≡ self.old.free_from }
+    {
         if let Some(slot) = self.places.get_mut(place) {
             *slot = used;
         }
@@ -220,7 +232,11 @@ impl Places {
     }
 
     /// Frees a place that its thread has left, and returns whether it has.
-    fn free_left(&mut self, place: usize) -> bool {
+    fn free_left(&mut self, place: usize) -> bool
+        ensures when { (result ≡ true) ↔ (slice_get self.old.places.items place ≡ Some place_is.Left) }
+        ensures freed { result ≡ true → self.new.places.items ≡ slice_set self.old.places.items place place_is.Free }
+        ensures kept { result ≡ false → self.new.places.items ≡ self.old.places.items }
+    {
         match self.places.get_mut(place) {
             Some(slot) if slot.has_left() => {
                 *slot = Place::Free;
