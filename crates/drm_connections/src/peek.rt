@@ -32,8 +32,8 @@ pub trait Peek: Read {
         ensures bound { ReadsAtMost result buf.new }
         ensures shows { Shows (Self.remaining self.old) (Self.remaining self.new) result buf.new };
 
-    /// Waits until the other end has taken so many answers that there is room for 64 of 1,028 bytes. If `for_bytes` is true,
-    /// it also ends when there are bytes to read.
+    /// Waits until there is room for 64 answers of 1,028 bytes, or the other end is closed. If `for_bytes` is true, it also
+    /// ends when there are bytes to read.
     fn wait(&mut self, for_bytes: bool) -> Ready
         ensures { Keeps (Self.remaining self.old) (Self.remaining self.new) };
 }
