@@ -399,7 +399,7 @@ class ConnectionTests(FolderCase):
         expect(
             "status and what is told",
             (ended.returncode, lines),
-            (0, ["WARN card, client 1: the connection could not be written"]),
+            (0, ["WARN card, client 1: the connection could not be read"]),
         )
 
 

@@ -93,15 +93,19 @@ impl<'a, S: Peek, R: Wait> Requests<'a, S, R> {
         ensures settled { OnOk result (IsSettled self.new) }
     {
         let mut piece = [0; PIECE];
-        while self.seen > 0 {
-            let most = self.seen.min(PIECE);
-            let count = self.stream.read(&mut piece[..most])?;
-            if count == 0 {
-                return Err(io::Error::from(ErrorKind::UnexpectedEof));
+        for _ in 0..u64::MAX {
+            if self.seen == 0 {
+                return Ok(());
             }
-            self.seen -= count;
+            let most = self.seen.min(PIECE);
+            match self.stream.read(&mut piece[..most]) {
+                Ok(0) => return Err(io::Error::from(ErrorKind::UnexpectedEof)),
+                Ok(count) => self.seen -= count,
+                Err(reason) if reason.kind() == ErrorKind::Interrupted => {}
+                Err(reason) => return Err(reason),
+            }
         }
-        Ok(())
+        Err(io::Error::from(ErrorKind::Interrupted))
     }
 
     /// Waits until there is room for answers, and reads ahead meanwhile.
