@@ -109,7 +109,7 @@ splits_moves id v idle some_number s r at =
 
 -- To set the number of a new participant keeps the rule.
 pub settles_moves : (slots id : ℕ) (me : Sat) → me.0.stage ≡ Idle
-    → Allows Orderly slots id me 10 (λ n. n) (settles (step slots 10 0 0 none) me)
+    → Allows Orderly slots id me 0 (λ n. n) (settles (step slots 0 0 0 none) me)
 settles_moves slots id me idle s r wide at small =
     let x = r.world in
     let fits : Fits x.origin x.log id me.0 = subst (Knows x id me.0) idle (r.know id me.0 at) in
@@ -117,7 +117,7 @@ settles_moves slots id me idle s r wide at small =
       w,
       keeps,
       tt,
-      stays_put s r 10 id me.1 me.0 w (word_same s r).0 at (λ is. absurd (cc))
+      stays_put s r 0 id me.1 me.0 w (word_same s r).0 at (λ is. absurd (cc))
           (subst (Knows x id w) (sym idle) (record { origin_is = fits.origin_is; number = inr refl; parent = fits.parent; seen = fits.seen; told = fits.told; mine = fits.mine }))
           (λ has. (has, refl)) (no_ticket s.views id w (ap has_ticket idle)) (λ k. absurd (cc)) refl refl refl refl
           refl,
@@ -126,7 +126,7 @@ settles_moves slots id me idle s r wide at small =
 
 -- To read the history keeps the rule.
 pub learns_moves : (slots id : ℕ) (me : Sat) → me.0.stage ≡ Idle
-    → Allows Orderly slots id me 10 (λ n. n) (learns (step slots 10 0 0 none) me)
+    → Allows Orderly slots id me 0 (λ n. n) (learns (step slots 0 0 0 none) me)
 learns_moves slots id me idle s r wide at small =
     let x = r.world in
     let fits : Fits x.origin x.log id me.0 = subst (Knows x id me.0) idle (r.know id me.0 at) in
@@ -134,7 +134,7 @@ learns_moves slots id me idle s r wide at small =
       w,
       keeps,
       tt,
-      stays_put s r 10 id me.1 me.0 w (word_same s r).0 at (λ is. absurd (cc))
+      stays_put s r 0 id me.1 me.0 w (word_same s r).0 at (λ is. absurd (cc))
           (subst (Knows x id w) (sym idle) (record { origin_is = fits.origin_is; number = fits.number; parent = fits.parent; seen = starts_whole x.log; told = starts_with_none x.log; mine = fits.mine }))
           (λ has. (has, refl)) (no_ticket s.views id w (ap has_ticket idle)) (λ k. absurd (cc)) refl refl refl refl
           refl,
@@ -271,7 +271,7 @@ quiet_home true x homes views quiet know p = let k : Knows x p.0 p.1 Serving = s
 -- If all tickets were served at the end, the slot has the device with the history that the participant read.
 pub closes : (id : ℕ) (v : View) (words : List ℕ) (xs : List Slot) (next serving : ℕ) (slot : Slot) → v.stage ≡ Idle
     → Final (Seen Orderly id v) words xs
-    → get_elem? words 8 ≡ some next → get_elem? words 9 ≡ some serving → next ≡ serving → get_elem? xs 0 ≡ some slot
+    → get_elem? words 1 ≡ some next → get_elem? words 2 ≡ some serving → next ≡ serving → get_elem? xs 0 ≡ some slot
     → (log : List Entry) × (slot ≡ Some (device_at v.origin log)) × Reads v log
 closes id v words xs next serving slot idle final at_next at_serving quiet at =
     let s : Table = final.0 in
@@ -280,9 +280,9 @@ closes id v words xs next serving slot idle final at_next at_serving quiet at =
     let fits : Fits x.origin x.log id v = subst (Knows x id v) idle (r.know id v final.1.1) in
     let words_are : words ≡ words_of (length x.log) x.next x.serving = sym final.2 ∙ r.words in
     let next_is : x.next ≡ next =
-    some-injective x.next next (ap (λ (l : List ℕ). get_elem? l 8) (sym words_are) ∙ at_next) in
+    some-injective x.next next (ap (λ (l : List ℕ). get_elem? l 1) (sym words_are) ∙ at_next) in
     let serving_is : x.serving ≡ serving =
-    some-injective x.serving serving (ap (λ (l : List ℕ). get_elem? l 9) (sym words_are) ∙ at_serving) in
+    some-injective x.serving serving (ap (λ (l : List ℕ). get_elem? l 2) (sym words_are) ∙ at_serving) in
     let home = quiet_home x.outstanding x s.homes s.views (next_is ∙ (quiet ∙ sym serving_is)) r.know r.placed in
     let found = final.4 0 (Some (device_at x.origin x.log)) home in
     (x.log, some-injective slot (Some (device_at x.origin x.log)) (sym at ∙ found) ∙ ap (λ (d : DeviceValue). Some (device_at d x.log)) (sym fits.origin_is), reads x id v fits r.legal)
@@ -290,17 +290,17 @@ closes id v words xs next serving slot idle final at_next at_serving quiet at =
 -- If not all tickets were served, a participant has the ticket that is served.
 pub turn_is_out : (id : ℕ) (v : View) (words : List ℕ) (xs : List Slot) (next serving : ℕ)
     → Final (Seen Orderly id v) words xs
-    → get_elem? words 8 ≡ some next → get_elem? words 9 ≡ some serving → next ≢ serving
-    → (s : Table) × Orderly s × (get_elem? s.views id ≡ some v) × IsHeld s.views (slice_index s.words 9)
+    → get_elem? words 1 ≡ some next → get_elem? words 2 ≡ some serving → next ≢ serving
+    → (s : Table) × Orderly s × (get_elem? s.views id ≡ some v) × IsHeld s.views (slice_index s.words 2)
 turn_is_out id v words xs next serving final at_next at_serving ne =
     let s : Table = final.0 in
     let r : Orderly s = final.1.0 in
     let x = r.world in
     let words_are : words ≡ words_of (length x.log) x.next x.serving = sym final.2 ∙ r.words in
     let next_is : x.next ≡ next =
-    some-injective x.next next (ap (λ (l : List ℕ). get_elem? l 8) (sym words_are) ∙ at_next) in
+    some-injective x.next next (ap (λ (l : List ℕ). get_elem? l 1) (sym words_are) ∙ at_next) in
     let serving_is : x.serving ≡ serving =
-    some-injective x.serving serving (ap (λ (l : List ℕ). get_elem? l 9) (sym words_are) ∙ at_serving) in
+    some-injective x.serving serving (ap (λ (l : List ℕ). get_elem? l 2) (sym words_are) ∙ at_serving) in
     let behind = r.behind in
     let out : x.next ≢ x.serving = λ e. ne (sym next_is ∙ (e ∙ serving_is)) in
     (s, r, final.1.1, subst (IsHeld s.views) (sym (word_is s r).2) (r.held x.serving (omega arith) (omega arith)))
@@ -308,7 +308,7 @@ turn_is_out id v words xs next serving final at_next at_serving ne =
 -- If all that was split off the first participant is returned, all tickets were served and the slot has the device.
 pub comes_home : (id : ℕ) (v : View) (words : List ℕ) (xs : List Slot) (next serving : ℕ) (slot : Slot) → v.stage ≡ Idle
     → v.number ≡ 1 → v.outstanding ≡ 0 → Final (Seen Orderly id v) words xs
-    → get_elem? words 8 ≡ some next → get_elem? words 9 ≡ some serving → get_elem? xs 0 ≡ some slot
+    → get_elem? words 1 ≡ some next → get_elem? words 2 ≡ some serving → get_elem? xs 0 ≡ some slot
     → (next ≡ serving) × (d : DeviceValue) × (slot ≡ Some d)
 comes_home id v words xs next serving slot idle first none_outstanding final at_next at_serving at =
     let s : Table = final.0 in
@@ -326,9 +326,9 @@ comes_home id v words xs next serving slot idle first none_outstanding final at_
     let home = quiet_home x.outstanding x s.homes s.views quiet r.know r.placed in
     let found = final.4 0 (Some (device_at x.origin x.log)) home in
     let words_are : words ≡ words_of (length x.log) x.next x.serving = sym final.2 ∙ r.words in (
-      some-injective next x.next (sym at_next ∙ ap (λ (l : List ℕ). get_elem? l 8) words_are)
+      some-injective next x.next (sym at_next ∙ ap (λ (l : List ℕ). get_elem? l 1) words_are)
           ∙
-          (quiet ∙ sym (some-injective serving x.serving (sym at_serving ∙ ap (λ (l : List ℕ). get_elem? l 9) words_are))),
+          (quiet ∙ sym (some-injective serving x.serving (sym at_serving ∙ ap (λ (l : List ℕ). get_elem? l 2) words_are))),
       device_at x.origin x.log,
       some-injective slot (Some (device_at x.origin x.log)) (sym at ∙ found),
     )
@@ -337,7 +337,7 @@ comes_home id v words xs next serving slot idle first none_outstanding final at_
 -- counts.
 pub closes_counted : (id : ℕ) (v : View) (words : List ℕ) (xs : List Slot) (next serving : ℕ) (slot : Slot)
     → v.stage ≡ Idle → Final (Seen Orderly id v) words xs
-    → get_elem? words 8 ≡ some next → get_elem? words 9 ≡ some serving → next ≡ serving → get_elem? xs 0 ≡ some slot
+    → get_elem? words 1 ≡ some next → get_elem? words 2 ≡ some serving → next ≡ serving → get_elem? xs 0 ≡ some slot
     → v.number ≡ 1 → v.outstanding ≡ 0
     → (log : List Entry) × (slot ≡ Some (device_at v.origin log)) × (length log ≡ length v.origin.journal + v.journaled)
 unfolding closes

@@ -26,7 +26,7 @@ use Rattle.drm_turns.proofs.Rule.{at_below, all_held_set, held_set, lent_set, sa
 
 -- the next ticket is as many as the first participant drew, where none is out of it
 found_all : (s : Table) (r : Orderly s) (id : ℕ) (v : View) → get_elem? s.views id ≡ some v → v.stage ≡ Idle
-    → v.number ≡ 1 → v.outstanding ≡ 0 → slice_index s.words 8 ≡ v.drawn
+    → v.number ≡ 1 → v.outstanding ≡ 0 → slice_index s.words 1 ≡ v.drawn
 found_all s r id v at idle first none_outstanding =
     let fits : Fits r.world.origin r.world.log id v = subst (Knows r.world id v) idle (r.know id v at) in
     let is_first : id ≡ 0 =
@@ -35,14 +35,14 @@ found_all s r id v at idle first none_outstanding =
 
 -- To look for the next ticket keeps the rule.
 pub finds_moves : (slots id : ℕ) (me : Sat) → me.0.stage ≡ Idle
-    → Allows Orderly slots id me 8 (λ n. n) (finds (step slots 8 0 0 none) me)
+    → Allows Orderly slots id me 1 (λ n. n) (finds (step slots 1 0 0 none) me)
 finds_moves slots id me idle s r wide at small =
     let fits : Fits r.world.origin r.world.log id me.0 = subst (Knows r.world id me.0) idle (r.know id me.0 at) in
-    let w : View = found_at me.0 (slice_index s.words 8) in (
+    let w : View = found_at me.0 (slice_index s.words 1) in (
       w,
       keeps,
       tt,
-      stays_put s r 8 id me.1 me.0 w (word_same s r).1 at (λ is. absurd (cc))
+      stays_put s r 1 id me.1 me.0 w (word_same s r).1 at (λ is. absurd (cc))
           (refits r.world.origin r.world.log id me.0 w.ticket Idle me.0.drawn fits)
           (λ has. absurd (ticketless me.0.stage idle has)) (no_ticket s.views id w refl) (λ is. absurd (cc)) refl refl refl
           refl refl,
@@ -80,10 +80,10 @@ held_drawn x views id v old at idle is held t from to = let below : t < old + 1 
 
 -- To draw a ticket keeps the rule.
 pub draws_moves : (slots id : ℕ) (me : Sat) (old : ℕ) → me.0.stage ≡ Idle → old < 2 ^ 64 - 1
-    → Allows Orderly slots id me 8 (λ n. either (n == old) (old + 1) n) (draws (step slots 8 old (old + 1) none) me)
+    → Allows Orderly slots id me 1 (λ n. either (n == old) (old + 1) n) (draws (step slots 1 old (old + 1) none) me)
 draws_moves slots id me old idle room s r wide at small =
     let x = r.world in
-    let n : ℕ = slice_index s.words 8 in
+    let n : ℕ = slice_index s.words 1 in
     let is_next : n ≡ x.next = (word_is s r).1 in
     let fits : Fits x.origin x.log id me.0 = subst (Knows x id me.0) idle (r.know id me.0 at) in
     let w : View = waiting me.0 old in
@@ -95,8 +95,8 @@ draws_moves slots id me old idle room s r wide at small =
       w,
       keeps,
       tt,
-      subst (λ (b : Bool). Orderly (stepped s 8 (either b (old + 1) n) id me.1 w keeps)) (sym (eq-eqb n old hit))
-          (unchanged s r y 8 (old + 1) id me.1 w keeps (ap (λ (l : List ℕ). slice_set l 8 (old + 1)) r.words) (omega arith) (omega arith) r.legal
+      subst (λ (b : Bool). Orderly (stepped s 1 (either b (old + 1) n) id me.1 w keeps)) (sym (eq-eqb n old hit))
+          (unchanged s r y 1 (old + 1) id me.1 w keeps (ap (λ (l : List ℕ). slice_set l 1 (old + 1)) r.words) (omega arith) (omega arith) r.legal
           (placed_drawn x.outstanding x old s.homes s.views id me.0 w at (λ k. absurd (cc)) r.placed)
           (λ j u ne e. later x (old + 1) j u u.stage (omega arith) (r.know j u e))
           (refits x.origin x.log id me.0 old Waiting (me.0.drawn + 1) fits, omega arith, omega arith)
@@ -112,8 +112,8 @@ draws_moves slots id me old idle room s r wide at small =
       me.0,
       keeps,
       tt,
-      subst (λ (b : Bool). Orderly (stepped s 8 (either b (old + 1) n) id me.1 me.0 keeps)) (sym (ne_eqb n old miss))
-          (stays_whole s r 8 id me.1 me.0 (word_same s r).1 at (λ k. absurd (cc))),
+      subst (λ (b : Bool). Orderly (stepped s 1 (either b (old + 1) n) id me.1 me.0 keeps)) (sym (ne_eqb n old miss))
+          (stays_whole s r 1 id me.1 me.0 (word_same s r).1 at (λ k. absurd (cc))),
       ((λ hit. absurd (miss hit)), λ _. refl),
     ))
 
@@ -159,10 +159,10 @@ sees origin log id v stage f =
 
 -- To look for the ticket that is served keeps the rule.
 pub looks_moves : (slots id : ℕ) (me : Sat) → me.0.stage ≡ Waiting
-    → Allows Orderly slots id me 9 (λ n. n) (looks (step slots 9 0 0 none) me)
+    → Allows Orderly slots id me 2 (λ n. n) (looks (step slots 2 0 0 none) me)
 looks_moves slots id me waits s r wide at small =
     let x = r.world in
-    let n : ℕ = slice_index s.words 9 in
+    let n : ℕ = slice_index s.words 2 in
     let is : n ≡ x.serving = (word_is s r).2 in
     let known : Knows x id me.0 Waiting = subst (Knows x id me.0) waits (r.know id me.0 at) in
     let fits : Fits x.origin x.log id me.0 = known.0 in
@@ -173,7 +173,7 @@ looks_moves slots id me waits s r wide at small =
       w,
       takes 0 (Some (device_at x.origin x.log)),
       is_home x.outstanding x s.homes s.views id me.0 at waits (sym hit ∙ is) r.know r.differ r.placed,
-      unchanged s r y 9 n id me.1 w (takes 0 (Some (device_at x.origin x.log))) ((word_same s r).2 ∙ r.words) r.few
+      unchanged s r y 2 n id me.1 w (takes 0 (Some (device_at x.origin x.log))) ((word_same s r).2 ∙ r.words) r.few
           r.behind r.legal
           (id, w, set_here s.views id w (at_below s.views id me.0 at), refl)
           (λ j u _ e. taken x j u u.stage (r.know j u e))
@@ -191,7 +191,7 @@ looks_moves slots id me waits s r wide at small =
       me.0,
       keeps,
       tt,
-      stays_whole s r 9 id me.1 me.0 (word_same s r).2 at (λ k. absurd (cc)),
+      stays_whole s r 2 id me.1 me.0 (word_same s r).2 at (λ k. absurd (cc)),
       ((λ hit. absurd (miss hit)), λ _. refl),
     ))
 
@@ -231,11 +231,11 @@ pub counts_moves : (slots id : ℕ) (me : Sat) (e : Entry) → me.0.stage ≡ Se
     → length me.0.seen < 2 ^ 64 - 1
     → no_room (rows_after me.0.origin me.0.seen) e.event ≡ false
     → e.answer ≡ reply (rows_after me.0.origin me.0.seen) e.event
-    → Allows Orderly slots id me 10 (λ n. (n + 1) % 2 ^ 64) (counts e (step slots 10 1 0 none) me)
+    → Allows Orderly slots id me 0 (λ n. (n + 1) % 2 ^ 64) (counts e (step slots 0 1 0 none) me)
 counts_moves slots id me e serves by some_number few room answer s r wide at small =
     let x = r.world in
     let v : View = me.0 in
-    let n : ℕ = slice_index s.words 10 in
+    let n : ℕ = slice_index s.words 0 in
     let is : n ≡ length x.log = (word_is s r).0 in
     let known : Knows x id v Serving = subst (Knows x id v) serves (r.know id v at) in
     let fits : Fits x.origin x.log id v = known.0 in
@@ -247,14 +247,14 @@ counts_moves slots id me e serves by some_number few room answer s r wide at sma
     let len : length (x.log ++ e ∷ []) ≡ length x.log + 1 = length-append x.log (e ∷ []) in
     let seen_len : length v.seen ≡ length x.log = ap length seen_is in
     let word : (n + 1) % 2 ^ 64 ≡ length (x.log ++ e ∷ []) = omega arith in
-    let words : slice_set s.words 10 ((n + 1) % 2 ^ 64) ≡ words_of (length (x.log ++ e ∷ [])) x.next x.serving =
-    ap (λ (l : List ℕ). slice_set l 10 ((n + 1) % 2 ^ 64)) r.words
+    let words : slice_set s.words 0 ((n + 1) % 2 ^ 64) ≡ words_of (length (x.log ++ e ∷ [])) x.next x.serving =
+    ap (λ (l : List ℕ). slice_set l 0 ((n + 1) % 2 ^ 64)) r.words
     ∙ ap (λ (k : ℕ). words_of k x.next x.serving) word in
     let rows_are : rows_after v.origin v.seen ≡ rows_after x.origin x.log = λ i. rows_after (fits.origin_is i) (seen_is i) in (
       w,
       keeps,
       tt,
-      unchanged s r y 10 ((n + 1) % 2 ^ 64) id me.1 w keeps words r.few r.behind
+      unchanged s r y 0 ((n + 1) % 2 ^ 64) id me.1 w keeps words r.few r.behind
           (legal-more x.origin x.log e r.legal (subst (λ (z : Rows). no_room z e.event ≡ false) rows_are room) (subst (λ (z : Rows). e.answer ≡ reply z e.event) rows_are answer))
           (placed_here x.outstanding y s.homes (set s.views id w) id w known.3 (set_here s.views id w (at_below s.views id v at)) serves)
           (λ j u ne at_j. others_count x j u u.stage e (λ b. ne (let h : suc j ≡ suc id = sym b ∙ by_id in omega arith)) (alone x s.views id j v u r.differ at serves known.1 ne at_j (r.know j u at_j)) (r.know j u at_j))
@@ -296,11 +296,11 @@ others_pass x j u Spent idles other k = k
 -- To pass on the ticket that was served keeps the rule.
 pub passes_moves : (slots id : ℕ) (me : Sat) (more : List (ℕ × Slot)) → 0 < slots → me.0.stage ≡ Serving
     → me.1 ≡ (0, Some (device_at me.0.origin me.0.seen)) ∷ more
-    → Allows Orderly slots id me 9 (λ n. (n + 1) % 2 ^ 64) (passes (step slots 9 1 0 none) me)
+    → Allows Orderly slots id me 2 (λ n. (n + 1) % 2 ^ 64) (passes (step slots 2 1 0 none) me)
 passes_moves slots id me more some_slot serves holds s r wide at small =
     let x = r.world in
     let v : View = me.0 in
-    let n : ℕ = slice_index s.words 9 in
+    let n : ℕ = slice_index s.words 2 in
     let is : n ≡ x.serving = (word_is s r).2 in
     let known : Knows x id v Serving = subst (Knows x id v) serves (r.know id v at) in
     let fits : Fits x.origin x.log id v = known.0 in
@@ -309,14 +309,14 @@ passes_moves slots id me more some_slot serves holds s r wide at small =
     let few = r.few in
     let below = known.2 in
     let word : (n + 1) % 2 ^ 64 ≡ x.serving + 1 = omega arith in
-    let words : slice_set s.words 9 ((n + 1) % 2 ^ 64) ≡ words_of (length x.log) x.next (x.serving + 1) =
-    ap (λ (l : List ℕ). slice_set l 9 ((n + 1) % 2 ^ 64)) r.words
+    let words : slice_set s.words 2 ((n + 1) % 2 ^ 64) ≡ words_of (length x.log) x.next (x.serving + 1) =
+    ap (λ (l : List ℕ). slice_set l 2 ((n + 1) % 2 ^ 64)) r.words
     ∙ ap (λ (k : ℕ). words_of (length x.log) x.next k) word in
     let device_is : device_at v.origin v.seen ≡ device_at x.origin x.log = λ i. device_at (fits.origin_is i) (known.4 i) in (
       w,
       gives,
       tt,
-      unchanged s r y 9 ((n + 1) % 2 ^ 64) id me.1 w gives words r.few (omega arith) r.legal
+      unchanged s r y 2 ((n + 1) % 2 ^ 64) id me.1 w gives words r.few (omega arith) r.legal
           (subst (λ (c : List (ℕ × Slot)). get_elem? (homes_after s.homes c gives) 0 ≡ some (some (Some (device_at x.origin x.log)))) (sym holds)
           (set_here s.homes 0 (some (Some (device_at v.origin v.seen))) (omega arith) ∙ ap (λ d. some (some (Some d))) device_is))
           (λ j u ne at_j. others_pass x j u u.stage (alone x s.views id j v u r.differ at serves known.1 ne at_j (r.know j u at_j))

@@ -215,18 +215,18 @@ stays_whole s r i id c v words at unspent =
 
 -- A write of the value that a word has leaves the words.
 pub word_same : (s : Table) (r : Orderly s)
-    → (slice_set s.words 10 (slice_index s.words 10) ≡ s.words) × (slice_set s.words 8 (slice_index s.words 8) ≡ s.words) × (slice_set s.words 9 (slice_index s.words 9) ≡ s.words)
+    → (slice_set s.words 0 (slice_index s.words 0) ≡ s.words) × (slice_set s.words 1 (slice_index s.words 1) ≡ s.words) × (slice_set s.words 2 (slice_index s.words 2) ≡ s.words)
 word_same s r = (
-  subst (λ (l : List ℕ). slice_set l 10 (slice_index l 10) ≡ l) (sym r.words) refl,
-  subst (λ (l : List ℕ). slice_set l 8 (slice_index l 8) ≡ l) (sym r.words) refl,
-  subst (λ (l : List ℕ). slice_set l 9 (slice_index l 9) ≡ l) (sym r.words) refl,
+  subst (λ (l : List ℕ). slice_set l 0 (slice_index l 0) ≡ l) (sym r.words) refl,
+  subst (λ (l : List ℕ). slice_set l 1 (slice_index l 1) ≡ l) (sym r.words) refl,
+  subst (λ (l : List ℕ). slice_set l 2 (slice_index l 2) ≡ l) (sym r.words) refl,
 )
 
 -- The three words are the length of the history, the next ticket and the ticket that is served.
 pub word_is : (s : Table) (r : Orderly s)
-    → (slice_index s.words 10 ≡ length r.world.log) × (slice_index s.words 8 ≡ r.world.next) × (slice_index s.words 9 ≡ r.world.serving)
+    → (slice_index s.words 0 ≡ length r.world.log) × (slice_index s.words 1 ≡ r.world.next) × (slice_index s.words 2 ≡ r.world.serving)
 word_is s r =
-    (ap (λ (l : List ℕ). slice_index l 10) r.words, ap (λ (l : List ℕ). slice_index l 8) r.words, ap (λ (l : List ℕ). slice_index l 9) r.words)
+    (ap (λ (l : List ℕ). slice_index l 0) r.words, ap (λ (l : List ℕ). slice_index l 1) r.words, ap (λ (l : List ℕ). slice_index l 2) r.words)
 
 -- A participant's view fits the history with any other ticket, stage and count of tickets.
 pub refits : (origin : DeviceValue) (log : List Entry) (id : ℕ) (v : View) (ticket : ℕ) (stage : Stage) (drawn : ℕ)
@@ -239,7 +239,7 @@ refits origin log id v ticket stage drawn f =
 pub placed_at : (b : Bool) (s : Table) (r : Orderly s) → Placed b r.world s.homes s.views
     → ((origin : DeviceValue) × (log : List Entry) × (get_elem? s.homes 0 ≡ some (some (Some (device_at origin log)))) × IsLegal origin log)
     ⊎
-    ((id : ℕ) × (v : View) × (get_elem? s.views id ≡ some v) × (v.stage ≡ Serving) × (v.ticket ≡ slice_index s.words 9))
+    ((id : ℕ) × (v : View) × (get_elem? s.views id ≡ some v) × (v.stage ≡ Serving) × (v.ticket ≡ slice_index s.words 2))
 placed_at false s r p = inl (r.world.origin, r.world.log, p, r.legal)
 placed_at true s r p = let k : Knows r.world p.0 p.1 Serving = subst (Knows r.world p.0 p.1) p.3 (r.know p.0 p.1 p.2) in inr (p.0, p.1, p.2, p.3, k.1 ∙ sym (word_is s r).2)
 

@@ -16,17 +16,17 @@ Slot = Option DeviceValue
 
 -- the number of the word of the next ticket
 abbrev pub ticket_word : ℕ
-ticket_word = 8
+ticket_word = 1
 
 -- the number of the word of the ticket that is served
 abbrev pub serving_word : ℕ
-serving_word = 9
+serving_word = 2
 
--- All words: the length of the history is after the two of tickets. The others are always 0, and only keep these three
--- away from all else in memory.
+-- All words: the length of the history, then the two of tickets. The others are always 0, and only keep these three away
+-- from what follows in memory.
 abbrev pub words_of : ℕ → ℕ → ℕ → List ℕ
 words_of count next serving =
-    0 ∷ 0 ∷ 0 ∷ 0 ∷ 0 ∷ 0 ∷ 0 ∷ 0 ∷ next ∷ serving ∷ count ∷ 0 ∷ 0 ∷ 0 ∷ 0 ∷ 0 ∷ []
+    count ∷ next ∷ serving ∷ 0 ∷ 0 ∷ 0 ∷ 0 ∷ 0 ∷ 0 ∷ 0 ∷ 0 ∷ 0 ∷ 0 ∷ 0 ∷ 0 ∷ 0 ∷ []
 
 -- the state of the table
 abbrev pub Table : Type 0

@@ -30,16 +30,16 @@ use std::snapshot::Snapshot;
 use std::sync::Wait;
 use std::sync::atomic::{AtomicU64, Ordering};
 
+/// The word of the length of the history. It is next to the tickets, which a call has written when it counts an entry.
+const COUNT: usize = 0;
+
 /// The word of the next ticket.
-const TICKET: usize = 8;
+const TICKET: usize = 1;
 
 /// The word of the ticket that is served.
-const SERVING: usize = 9;
+const SERVING: usize = 2;
 
-/// The word of the length of the history. It is next to the tickets, which a call has written when it counts an entry.
-const COUNT: usize = 10;
-
-/// The number of words. Those before and after the three keep them away from other memory, which other calls may write.
+/// The number of words. Those after the three keep them away from the memory that follows, which other calls may write.
 const WORDS: usize = 16;
 
 /// The number of times that a call looks whether it is served, or whether the device is free, before it sleeps until it
