@@ -1,6 +1,6 @@
 //! A listener that counts the connections that it accepts, until it is asked to end.
 
-ghost use Rattle.std.specs.Prelude.{◌≡◌, ◌+◌, true, IfNone, IfOk, IfSome};
+ghost use Rattle.std.specs.Prelude.{◌≡◌, ◌+◌, ◌^◌, ◌<◌, true, IfNone, IfOk, IfSome};
 ghost use Rattle.drm_listeners.specs.UntilEnded.{AreAll, all_of};
 
 use drm_connections::{OpenConnections, accept_unless_ended};
@@ -80,6 +80,7 @@ impl LastingListener {
     ) -> io::Result<Option<UnixStream>>
         ensures class { self.new.class ≡ self.old.class }
         ensures accepted { IfOk result (λ arrival. IfSome arrival (λ stream. self.new.accepted ≡ self.old.accepted + 1)) }
+        ensures few { IfOk result (λ arrival. IfSome arrival (λ stream. self.old.accepted + 1 < 2 ^ 64)) }
         ensures asked { IfOk result (λ arrival. IfNone arrival (self.new.was_asked ≡ true)) }
         ensures none { IfOk result (λ arrival. IfNone arrival (self.new.accepted ≡ self.old.accepted)) }
     {
