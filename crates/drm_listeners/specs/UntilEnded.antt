@@ -48,7 +48,7 @@ all_of fates = fates.served + fates.crowded + fates.threadless
 abbrev pub AreCounted : Fates → ℕ → ParticipantView → Type 0
 AreCounted fates threads participant = length participant.merged + threads ≡ fates.served + fates.threadless
 
--- each connection that was accepted was served in a thread, was closed for want of room, or got no thread
+-- each connection that was accepted was served in a thread, was closed because 64 were open, or got no thread
 abbrev pub AreAll : Visitors → Type 0
 AreAll visitors = visitors.accepted ≡ visitors.served + visitors.crowded + visitors.threadless
 
@@ -67,7 +67,7 @@ pub record IsAccount (own : ParticipantView) (visitors : Visitors) : Type 0 wher
   pub all : AreAll visitors
   pub sessions : length own.merged ≡ attended visitors
 
--- a listener that was asked to end gives an account, and another a fault of its class
+-- a listener that was asked to end has an account, and another a fault of its class
 abbrev pub IsAccounted : Class → ParticipantView → Result Visitors ServeFault → Type 0
 IsAccounted class own (Ok visitors) = IsAccount own visitors
 IsAccounted class own (Err fault) = IsFaultOf class fault

@@ -120,7 +120,10 @@ fn start_keeper<'s, E: 's, R: Wait + Threads + Log + Sync, D: Gathering + Sync>(
 }
 
 // Waits for the thread of a listener, if there is one.
-fn join_keeper<R: Threads>(rt: &R, started: Result<KeeperHandle, Failed>) -> Result<KeptListener, Failed>
+fn join_keeper<R: Threads>(
+    rt: &R,
+    started: Result<KeeperHandle, Failed>,
+) -> Result<KeptListener, Failed>
     ensures { (class : Class) (participant : ParticipantView)
         → IfOk started (λ handle. (handle.promise.class ≡ class) × (handle.promise.participant.value ≡ participant))
         → IfErr started (λ failed. Keeps class participant (Err failed)) → Keeps class participant result }

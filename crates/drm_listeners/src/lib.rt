@@ -12,7 +12,9 @@ mod serving;
 mod until_ended;
 mod visitors;
 
-pub use class_listeners::{CardClass, ClassListener, ListenerClass, Listeners, RenderClass, RootClass};
+pub use class_listeners::{
+    CardClass, ClassListener, ListenerClass, Listeners, RenderClass, RootClass,
+};
 pub use listeners::ByClass;
 pub use serve_faults::ServeFault;
 pub use serving::{Unserved, serve_all, serve_keeping, serve_until_told};

@@ -210,7 +210,15 @@ pub fn serve_keeping<R: Wait + Threads + Log + Sync>(
             });
         }
     };
-    let served = serve_shared(rt, alloc, &shared, open, &mut participant, listeners, counts);
+    let served = serve_shared(
+        rt,
+        alloc,
+        &shared,
+        open,
+        &mut participant,
+        listeners,
+        counts,
+    );
     let Ok(device) = shared.close(participant) else {
         unreachable!()
     };

@@ -153,7 +153,15 @@ pub(crate) fn finish_journal<R: Files + AllocGlobal + Log>(
             return Err(Fault::Write);
         }
     };
-    complete_journal(rt, alloc, journal, topology, limits, device.journal(), written)
+    complete_journal(
+        rt,
+        alloc,
+        journal,
+        topology,
+        limits,
+        device.journal(),
+        written,
+    )
 }
 
 /// Logs the number of calls that have no line in the trace, if standard error takes it.

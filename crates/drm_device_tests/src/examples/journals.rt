@@ -11,14 +11,23 @@ fn values(rt: HostRuntime) {
     assert!(rt; first_difference(b"open a card\n", b"open a card\n").is_none());
     assert!(rt; first_difference(b"open a card\nclose a", b"open a card\na version") == Some(2));
     let alloc = rt.alloc();
-    let journal = Journal { text: Vec::new(alloc), is_whole: true };
+    let journal = Journal {
+        text: Vec::new(alloc),
+        is_whole: true,
+    };
     assert!(rt; journal.is_whole);
-    let Some(device) = make_device(alloc, Limits::PROGRAM) else { panic!(rt; "refused") };
+    let Some(device) = make_device(alloc, Limits::PROGRAM) else {
+        panic!(rt; "refused")
+    };
     let events = [Event::Open(Opening::Render)];
-    let Ok(journal) = journal_of(alloc, &events, Limits::PROGRAM, device) else { panic!(rt; "refused") };
+    let Ok(journal) = journal_of(alloc, &events, Limits::PROGRAM, device) else {
+        panic!(rt; "refused")
+    };
     assert!(rt; journal.is_whole);
     let mut text = Vec::new(alloc);
-    let Ok(()) = put_words(&mut text, &Event::Ask(3, Call::Version)) else { panic!(rt; "refused") };
+    let Ok(()) = put_words(&mut text, &Event::Ask(3, Call::Version)) else {
+        panic!(rt; "refused")
+    };
     assert!(rt; text.as_slice() == b"client 3 version".as_slice());
 }
 
@@ -26,21 +35,39 @@ fn values(rt: HostRuntime) {
 #[tactic(auto, unfolding(drm_table::specs::Limits::are_in_range))]
 fn journal_writer_writer(rt: HostRuntime) {
     let alloc = rt.alloc();
-    let Some(device) = make_device(alloc, Limits::PROGRAM) else { panic!(rt; "refused") };
+    let Some(device) = make_device(alloc, Limits::PROGRAM) else {
+        panic!(rt; "refused")
+    };
     let mut text = Vec::new(alloc);
-    let Ok(mut writer) = JournalWriter::begin(alloc, Limits::PROGRAM, device, &mut text) else { panic!(rt; "refused") };
+    let Ok(mut writer) = JournalWriter::begin(alloc, Limits::PROGRAM, device, &mut text) else {
+        panic!(rt; "refused")
+    };
     text.clear();
-    let Ok(()) = writer.write(&mut text, &Event::Open(Opening::Render)) else { panic!(rt; "refused") };
+    let Ok(()) = writer.write(&mut text, &Event::Open(Opening::Render)) else {
+        panic!(rt; "refused")
+    };
     assert!(rt; text.as_slice() == b"open a render -> client 1\n".as_slice());
-    let Some(empty) = make_device(alloc, Limits::PROGRAM) else { panic!(rt; "refused") };
+    let Some(empty) = make_device(alloc, Limits::PROGRAM) else {
+        panic!(rt; "refused")
+    };
     let mut text = Vec::new(alloc);
-    let Ok(mut writer) = JournalWriter::begin(alloc, Limits::PROGRAM, empty, &mut text) else { panic!(rt; "refused") };
+    let Ok(mut writer) = JournalWriter::begin(alloc, Limits::PROGRAM, empty, &mut text) else {
+        panic!(rt; "refused")
+    };
     assert!(rt; writer.is_whole());
-    let Some(fresh) = make_device(alloc, Limits::PROGRAM) else { panic!(rt; "refused") };
+    let Some(fresh) = make_device(alloc, Limits::PROGRAM) else {
+        panic!(rt; "refused")
+    };
     let mut text = Vec::new(alloc);
-    let Ok(mut writer) = JournalWriter::begin(alloc, Limits::PROGRAM, fresh, &mut text) else { panic!(rt; "refused") };
-    let Ok(()) = writer.write(&mut text, &Event::Open(Opening::Render)) else { panic!(rt; "refused") };
-    let Ok(()) = writer.write(&mut text, &Event::Ask(1, Call::Version)) else { panic!(rt; "refused") };
+    let Ok(mut writer) = JournalWriter::begin(alloc, Limits::PROGRAM, fresh, &mut text) else {
+        panic!(rt; "refused")
+    };
+    let Ok(()) = writer.write(&mut text, &Event::Open(Opening::Render)) else {
+        panic!(rt; "refused")
+    };
+    let Ok(()) = writer.write(&mut text, &Event::Ask(1, Call::Version)) else {
+        panic!(rt; "refused")
+    };
     assert!(rt; text.ends_with(b"a version -> version 1 0 0\n"));
 }
 
@@ -48,8 +75,12 @@ fn journal_writer_writer(rt: HostRuntime) {
 #[tactic(auto, unfolding(drm_table::specs::Limits::are_in_range))]
 fn journal_writer_writer_from_is_whole(rt: HostRuntime) {
     let alloc = rt.alloc();
-    let Some(unused) = make_device(alloc, Limits::PROGRAM) else { panic!(rt; "refused") };
+    let Some(unused) = make_device(alloc, Limits::PROGRAM) else {
+        panic!(rt; "refused")
+    };
     let mut text = Vec::new(alloc);
-    let Ok(mut writer) = JournalWriter::begin(alloc, Limits::PROGRAM, unused, &mut text) else { panic!(rt; "refused") };
+    let Ok(mut writer) = JournalWriter::begin(alloc, Limits::PROGRAM, unused, &mut text) else {
+        panic!(rt; "refused")
+    };
     assert!(rt; writer.is_whole());
 }

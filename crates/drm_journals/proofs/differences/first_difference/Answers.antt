@@ -19,9 +19,9 @@ returns-then-at-other-clause-line c = record {
   at = c.loop-at.at;
   same = c.loop-at.invariant.same;
   apart = λ same. elim c.then-at-other.branch [
-      then-at-other-via-then-at-other w ↦ one-ends _ _ _ c.loop-at-test.true w.if-at-other.true same
-      | then-at-other-via-else-at-other+then-other-at w ↦ another-byte _ _ _ c.loop-at-test.true w.if-other-at.true same
-      ];
+    | then-at-other-via-then-at-other w ↦ one-ends _ _ _ c.loop-at-test.true w.if-at-other.true same
+    | then-at-other-via-else-at-other+then-other-at w ↦ another-byte _ _ _ c.loop-at-test.true w.if-other-at.true same
+  ];
   line_is = c.loop-at.invariant.line;
 }
 

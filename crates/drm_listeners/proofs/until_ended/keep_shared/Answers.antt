@@ -26,10 +26,10 @@ returns-clause-served g c =
     ∙ (ap (λ (s : ParticipantView). s.journaled) second ∙ ap (λ (s : ParticipantView). s.journaled) first) in
     if_accounted _ _ c.keep_listeners-kept.result.visitors c.keep_listeners-kept.ensures.accounts
     (λ v card render root.
-        all-sat (counts_of v) _ c.keep_listeners-kept.result c.args.participant.now c.split-3.new.participant c.take_in.new.participant
-        c.keep_listeners-kept.ensures
-        c.take_in.ensures.seen none journaled c.take_in.ensures.merged c.take_in.ensures.differ c.take_in.ensures.journaled
-        card.sessions render.sessions root.sessions)
+    all-sat (counts_of v) _ c.keep_listeners-kept.result c.args.participant.now c.split-3.new.participant c.take_in.new.participant
+    c.keep_listeners-kept.ensures
+    c.take_in.ensures.seen none journaled c.take_in.ensures.merged c.take_in.ensures.differ c.take_in.ensures.journaled
+    card.sessions render.sessions root.sessions)
 
 pub returns-clause-kept : goal.returns-clause-kept
 returns-clause-kept g c =
