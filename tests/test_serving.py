@@ -262,7 +262,8 @@ class ServingTests(FolderCase):
                 expect("an answer", client.ask("version"), "version 1 0 0")
             ran = stopped(started)
         told = [told_by(line) for line in ran.stderr.splitlines()]
-        expect("what is told", told, ["ERROR a connection on the card socket could not be accepted", "fault: accept card"])
+        wanted = ["ERROR a connection on the card socket could not be accepted", "fault: accept card"]
+        expect("what is told", told, wanted)
         expect("status and listing", (ran.returncode, ran.stdout), (1, "device 0 0 0 5\n"))
         expect_no_sockets(folder)
 

@@ -258,7 +258,7 @@ class TracesTests(FolderCase):
         words_of(trace.read_text())
 
     def test_faults_that_are_left_out(self):
-        """Faults without room are counted once, where they are left out. All others have their lines, and the server ends."""
+        """Faults without room are counted once, where they are left out. All others have lines, and the server ends."""
         folder = self.folder
         pipe = folder / "pipe"
         os.mkfifo(pipe)
@@ -418,7 +418,8 @@ class TracesTests(FolderCase):
     def test_colour_of_faults(self):
         """On a terminal faults are red, as denials are."""
         shown = [line for line in self.colours("--limits", "8 8 8 8 8 8 8 2") if LINE.fullmatch(line)]
-        expect("a fault", parts_of(shown[1])[1:], ("-", "card", f"client 1 gem_close 9 -> {RED}apart 50 JournalFull 28{PLAIN}"))
+        words = f"client 1 gem_close 9 -> {RED}apart 50 JournalFull 28{PLAIN}"
+        expect("a fault", parts_of(shown[1])[1:], ("-", "card", words))
 
     def test_files_that_cannot_be_traced_to(self):
         """The trace replaces neither the topology nor the journal, and its file must be writable."""
@@ -465,7 +466,8 @@ class TracesTests(FolderCase):
                 for _ in range(10):
                     client.ask("version")
                 wait_until("whether the file is full", lambda: journal.stat().st_size == 100)
-                time.sleep(2)
+                # the thread has given up by then
+                time.sleep(1)
                 resource.prlimit(started.pid, resource.RLIMIT_FSIZE, most)
                 client.ask("buf_create 1")
             ran = stopped(started)
