@@ -7,6 +7,7 @@ import os
 import pathlib
 import resource
 import shlex
+import shutil
 import signal
 import subprocess
 import sys
@@ -16,6 +17,7 @@ from support import (  # noqa: E402
     PROGRAM,
     REPOSITORY,
     FolderCase,
+    Skipped,
     expect,
     expect_end,
     run,
@@ -61,6 +63,12 @@ a version
 a buf_create 1 -> buffer 1 4096
 a gem_close 7               -> denied 22
 """
+
+
+def want_mounts():
+    """Skips the test if the system allows no mounts in a namespace."""
+    if shutil.which("unshare") is None or run("unshare", "--map-root-user", "--mount", "true").returncode != 0:
+        raise Skipped("the system allows no namespace with mounts")
 
 
 class ChecksTests(FolderCase):
@@ -284,6 +292,19 @@ class ChecksTests(FolderCase):
         expect("the file", (folder / "a").read_text(), WRONG)
         ran = run(PROGRAM, "check", "--update", "absent", cwd=folder)
         expect("status and output", (ran.returncode, ran.stdout), (1, ""))
+
+    def test_file_that_cannot_be_replaced(self):
+        """A file that is a mount point can't be renamed over. It is unchanged, and no other file is left."""
+        folder = self.folder
+        text = "open a card -> done\n"
+        (folder / "a").write_text(text)
+        want_mounts()
+        script = 'mount --bind a a && exec "$1" check --update a'
+        ran = run("unshare", "--map-root-user", "--mount", "sh", "-c", script, "sh", PROGRAM, cwd=folder)
+        told = [told_by(line) for line in ran.stderr.splitlines()]
+        expect("what is told", told, ["ERROR a: Device or resource busy (os error 16)", "fault: write"])
+        expect("status and output", (ran.returncode, ran.stdout), (1, ""))
+        expect("the files", {file.name: file.read_text() for file in folder.iterdir()}, {"a": text})
 
     def test_updated_files_keep_their_mode_and_their_links(self):
         folder = self.folder

@@ -423,6 +423,18 @@ class FaultsTests(FolderCase):
             journal.unlink()
             expect_no_sockets(folder)
 
+    def test_break_of_a_stalled_call(self):
+        """A call to which both rules apply is late, and then its connection breaks. Each rule is used once."""
+        for way in WAYS:
+            with planning(self.folder, way, f"stall version={1000 * LATE:.0f}", "break 1:1") as started:
+                client = connect(self.folder / "card")
+                broken, seconds = timed(lambda client=client: is_broken(client, "version"))
+                expect(f"whether it breaks late, {way}", (broken, seconds >= LATE), (True, True))
+                with contextlib.closing(connect(self.folder / "root")) as other:
+                    expect("another's answer", seconds_of(other, "version") < LATE, True)
+                expect_well(started)
+            expect_no_sockets(self.folder)
+
     def test_requests_behind_a_break_are_not_carried_out(self):
         """A client sends four requests at once, and its connection breaks after the second."""
         with planning(self.folder, COMMAND_LINE, "break 1:2") as started:

@@ -259,6 +259,11 @@ close a -> closed
 
         text = noted(folder, (1, 0, 0), session)
         expect("the long call", "\na raw 198 -> denied 2 Layout 22\n" in text, True)
+        number = text.splitlines().index("a raw 198 -> denied 2 Layout 22") + 1
+        ran = run(PROGRAM, "explain", "journal", "--line", number, cwd=folder)
+        reason = "a journal has it for a create_lease that is too long for a line, too"
+        told = [f"ERROR journal: line {number} can't be explained: {reason}", "fault: command line"]
+        expect("its explanation", ([told_by(line) for line in ran.stderr.splitlines()], ran.returncode), (told, 3))
         expect("the longer answer", "\na list_handles 100\n" in text, True)
         expect("the longest line", max(map(len, text.splitlines())) <= 255, True)
         expect_checked(folder, text.count(" -> "))

@@ -4,6 +4,7 @@
 Each test has a folder of its own. The last line is `N passed, M failed`. Standard library only.
 """
 import contextlib
+import ctypes
 import os
 import pathlib
 import resource
@@ -20,6 +21,7 @@ from support import (  # noqa: E402
     SCRIPT,
     SECONDS,
     FolderCase,
+    Skipped,
     connect,
     connect_raw,
     ended_in_time,
@@ -52,6 +54,28 @@ CLIENTS_ENOUGH = ["--limits", "200 8 8 8 8 8 8 100000"]
 JOURNAL_FULL = (
     "ERROR the journal is full: requests are answered with fault 50 (the last number of --limits is the most steps)"
 )
+
+
+# the system call that copies a descriptor of another process
+PIDFD_GETFD = 438
+
+
+def shut_listener(started, path):
+    """Shuts the listening socket of a server, so that it can accept no more connections."""
+    rows = [line.split() for line in pathlib.Path("/proc/net/unix").read_text().splitlines()]
+    wanted = [f"socket:[{row[6]}]" for row in rows if row[-1] == str(path) and row[3] == "00010000"]
+    expect("how many sockets listen there", len(wanted), 1)
+    folder = pathlib.Path(f"/proc/{started.pid}/fd")
+    number = next(int(entry.name) for entry in folder.iterdir() if os.readlink(entry) == wanted[0])
+    process = os.pidfd_open(started.pid)
+    try:
+        copied = ctypes.CDLL(None, use_errno=True).syscall(PIDFD_GETFD, process, number, 0)
+    finally:
+        os.close(process)
+    if copied < 0:
+        raise Skipped(f"no descriptor can be copied: {os.strerror(ctypes.get_errno())}")
+    with socket.socket(fileno=copied) as listener:
+        listener.shutdown(socket.SHUT_RDWR)
 
 
 def is_closed(connection):
@@ -225,6 +249,23 @@ class ServingTests(FolderCase):
             connect(folder / "card").close()
             ran = stopped(started)
             expect("status", ran.returncode, 0)
+
+    def test_listener_that_fails(self):
+        """Its fault is the end's, with status 1. The other sockets are served until the server is told to end."""
+        folder = self.folder
+        with lasting_server(folder) as started:
+            connect(folder / "root").close()
+            shut_listener(started, folder / "card")
+            expect("what is logged", next_told(started), "ERROR card: Invalid argument (os error 22)")
+            expect_refused(folder / "card")
+            with contextlib.closing(connect(folder / "render")) as client:
+                expect("an answer", client.ask("version"), "version 1 0 0")
+            ran = stopped(started)
+        told = [told_by(line) for line in ran.stderr.splitlines()]
+        wanted = ["ERROR a connection on the card socket could not be accepted", "fault: accept card"]
+        expect("what is told", told, wanted)
+        expect("status and listing", (ran.returncode, ran.stdout), (1, "device 0 0 0 5\n"))
+        expect_no_sockets(folder)
 
     def test_front_ends_it_at_a_signal(self):
         """SIGTERM, SIGINT and SIGHUP to ./drm_server end it, as they end a server of counted connections."""

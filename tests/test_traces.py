@@ -8,6 +8,7 @@ import os
 import pathlib
 import pty
 import re
+import resource
 import signal
 import subprocess
 import sys
@@ -22,6 +23,7 @@ from support import (  # noqa: E402
     FolderCase,
     connect,
     connect_raw,
+    end_of,
     expect,
     expect_end,
     lasting_server,
@@ -241,6 +243,89 @@ class TracesTests(FolderCase):
         expect("whether there are many steps", steps > 1_000, True)
         expect_end(run(PROGRAM, "check", journal), 0, "", f"{steps} passed, 0 failed\n")
 
+    def test_stalled_call_holds_no_line(self):
+        """A call has its line before its answer is due, and so do the calls of others meanwhile."""
+        folder = self.folder
+        trace = folder / "trace"
+        with lasting_server(folder, "--trace", str(trace), "--stall", "version=60000") as started:
+            with contextlib.closing(retry(lambda: connect_raw(folder / "card"))) as stalled:
+                stalled.sendall(HELLO + VERSION)
+                wait_until("whether the stalled call has its line", lambda: " version -> " in trace.read_text())
+                with contextlib.closing(connect(folder / "root")) as other:
+                    other.ask("buf_create 1")
+                    wait_until("whether the other's has one", lambda: " buf_create 1 -> " in trace.read_text())
+            expect("the status", stopped(started).returncode, 0)
+        words_of(trace.read_text())
+
+    def test_faults_that_are_left_out(self):
+        """Faults without room are counted once, where they are left out. All others have lines, and the server ends."""
+        folder = self.folder
+        pipe = folder / "pipe"
+        os.mkfifo(pipe)
+        read = os.open(pipe, os.O_RDONLY | os.O_NONBLOCK)
+        faults = 6_000
+        with open(read, "rb") as reader:
+            with lasting_server(folder, "--trace", str(pipe), "--limits", "8 8 8 8 8 8 8 3") as started:
+                wait_until_it_listens(folder / "root")
+                # of three steps one is kept for the closing
+                ask_often(folder / "card", 1 + faults, faults)
+                os.set_blocking(read, True)
+                lines = []
+                taking = threading.Thread(target=lambda: lines.extend(reader.read().decode().splitlines()))
+                taking.start()
+                ran = stopped(started)
+                taking.join()
+        expect("status and listing", (ran.returncode, ran.stdout), (0, "device 0 0 0 3\n"))
+        counts = [int(line.split()[1]) for line in lines if line.startswith("# ") and line.endswith(" left out here")]
+        expect("whether some are left out", sum(counts) > 0, True)
+        shown = sum(1 for line in lines if not line.startswith("#") and parts_of(line)[1] == "-")
+        expect("the faults", shown + sum(counts), faults)
+        told = f"WARN {pipe}: {sum(counts)} calls have no line in the trace"
+        expect("the total", [told_by(line) for line in ran.stderr.splitlines() if "WARN" in line], [told])
+
+    def test_reader_that_pauses(self):
+        """A reader of the trace that takes nothing for longer than a second misses no line while the server runs."""
+        folder = self.folder
+        pipe = folder / "pipe"
+        os.mkfifo(pipe)
+        read = os.open(pipe, os.O_RDONLY | os.O_NONBLOCK)
+        with open(read, "rb") as reader:
+            with lasting_server(folder, "--trace", str(pipe)) as started:
+                wait_until_it_listens(folder / "root")
+                steps = ask_at_once(folder, 4, 500)
+                time.sleep(1.5)
+                os.set_blocking(read, True)
+                text = []
+                taking = threading.Thread(target=lambda: text.append(reader.read().decode()))
+                taking.start()
+                ran = stopped(started)
+                taking.join()
+        expect("the listing and what is logged", (ran.stdout, ran.stderr), (f"device 0 0 0 {steps}\n", ""))
+        expect("the number of lines", len(words_of(text[0])), steps)
+
+    def test_slow_reader_at_the_end(self):
+        """A reader that takes a piece twice a second is waited for after the last call."""
+        folder = self.folder
+        pipe = folder / "pipe"
+        os.mkfifo(pipe)
+        read = os.open(pipe, os.O_RDONLY | os.O_NONBLOCK)
+        try:
+            with lasting_server(folder, "--trace", str(pipe)) as started:
+                wait_until_it_listens(folder / "root")
+                steps = ask_at_once(folder, 4, 500)
+                started.stdin.close()
+                started.stdin = None
+                os.set_blocking(read, True)
+                text = b""
+                for piece in iter(lambda: os.read(read, 16_384), b""):
+                    text += piece
+                    time.sleep(0.5)
+                ran = end_of(started)
+        finally:
+            os.close(read)
+        expect("the end", (ran.returncode, ran.stderr), (0, ""))
+        expect("the number of lines", len(words_of(text.decode())), steps)
+
     def test_trace_that_nobody_reads(self):
         """It delays no client, and the end by a second. The number of calls without a line is logged."""
         folder = self.folder
@@ -299,11 +384,11 @@ class TracesTests(FolderCase):
         told = f"WARN {pipe}: {steps} calls have no line in the trace"
         expect("what is logged", [told_by(line) for line in ran.stderr.splitlines()], [told])
 
-    def colours(self, **environment):
+    def colours(self, *more, **environment):
         """What a terminal shows as standard error of a denied call."""
         folder = self.folder
         near, far = pty.openpty()
-        words = [PROGRAM, "serve", *path_words(folder), "--until-ended", "--trace", "-"]
+        words = [PROGRAM, "serve", *path_words(folder), "--until-ended", "--trace", "-", *more]
         given = {**{name: value for name, value in os.environ.items() if name != "NO_COLOR"}, **environment}
         with subprocess.Popen(
             words, stdin=subprocess.PIPE, stdout=subprocess.DEVNULL, stderr=far, env=given, text=True
@@ -327,7 +412,14 @@ class TracesTests(FolderCase):
             shown = self.colours(**environment)
             expect("a denial", parts_of(shown[1])[3], denied + wanted)
             expect("another answer", parts_of(shown[0])[3], "open ? card -> client 1")
-        expect("a denial", parts_of(self.colours(NO_COLOR="1")[1])[3], denied + answer)
+        for value in ("1", "yes", "0"):
+            expect(f"a denial, {value}", parts_of(self.colours(NO_COLOR=value)[1])[3], denied + answer)
+
+    def test_colour_of_faults(self):
+        """On a terminal faults are red, as denials are."""
+        shown = [line for line in self.colours("--limits", "8 8 8 8 8 8 8 2") if LINE.fullmatch(line)]
+        words = f"client 1 gem_close 9 -> {RED}apart 50 JournalFull 28{PLAIN}"
+        expect("a fault", parts_of(shown[1])[1:], ("-", "card", words))
 
     def test_files_that_cannot_be_traced_to(self):
         """The trace replaces neither the topology nor the journal, and its file must be writable."""
@@ -358,6 +450,61 @@ class TracesTests(FolderCase):
                 [f"ERROR {path}: {told}", f"fault: {fault}"],
             )
         expect("the topology", topology.read_text().startswith("crtcs 1\n"), True)
+
+    def test_journal_that_takes_some_bytes(self):
+        """If the file takes a part of a line, the rest follows at the end, and no byte is there twice."""
+        folder = self.folder
+        journal = folder / "journal"
+        words = [PROGRAM, "serve", *path_words(folder), "--until-ended", "--journal", journal]
+        pipes = {"stdin": subprocess.PIPE, "stdout": subprocess.PIPE, "stderr": subprocess.PIPE}
+        # a signal that ends the server at its limit stays ignored
+        with subprocess.Popen(words, restore_signals=False, text=True, **pipes) as started:
+            wait_until_it_listens(folder / "root")
+            most = resource.prlimit(started.pid, resource.RLIMIT_FSIZE)
+            resource.prlimit(started.pid, resource.RLIMIT_FSIZE, (100, most[1]))
+            with contextlib.closing(connect(folder / "card")) as client:
+                for _ in range(10):
+                    client.ask("version")
+                wait_until("whether the file is full", lambda: journal.stat().st_size == 100)
+                # the thread has given up by then
+                time.sleep(1)
+                resource.prlimit(started.pid, resource.RLIMIT_FSIZE, most)
+                client.ask("buf_create 1")
+            ran = stopped(started)
+        expect("the end", (ran.returncode, ran.stderr, ran.stdout), (0, "", "device 0 0 0 13\n"))
+        lines = journal.read_text().splitlines()
+        expect("the lines", (len(lines), len(lines[1:])), (14, 13))
+        expect_end(run(PROGRAM, "check", journal), 0, "", "13 passed, 0 failed\n")
+
+    def test_journal_that_was_changed(self):
+        """At the end the file is compared with the journal of the device. The first line that differs is logged."""
+        folder = self.folder
+        journal = folder / "journal"
+
+        def reversed_lines(text):
+            lines = text.splitlines(keepends=True)
+            return "".join([lines[0], *reversed(lines[1:])])
+
+        for number, (change, line) in enumerate(
+            (
+                (reversed_lines, 2),
+                (lambda text: text.replace("version 1 0 0", "version 1 0 1"), 3),
+                (lambda text: text.replace("limits 64", "limits 63"), 1),
+            )
+        ):
+            with lasting_server(folder, "--journal", str(journal)) as started:
+                with contextlib.closing(connect(folder / "card")) as client:
+                    client.ask("version")
+                    client.ask("buf_create 1")
+                wait_until("whether the lines are there", lambda: len(journal.read_text().splitlines()) == 5)
+                text = journal.read_text()
+                expect("whether it is changed", change(text) != text, True)
+                journal.write_text(change(text))
+                ran = stopped(started)
+            told = [told_by(line) for line in ran.stderr.splitlines()]
+            wanted = f"ERROR {journal}: line {line}: it differs from the journal of the device"
+            expect(f"what is told, {number}", told, [wanted, "fault: write"])
+            expect("status and listing", (ran.returncode, ran.stdout), (1, "device 0 0 0 4\n"))
 
     def test_journal_that_takes_no_bytes(self):
         """A journal on a full disk is the fault `write` at the end, as ever."""

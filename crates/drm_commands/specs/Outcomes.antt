@@ -1,6 +1,8 @@
 -- The outcome of the program, by the end of its script (own).
 use Rattle.std.specs.Prelude.{ℕ, List, [], Option, None, Some, Result, Ok, Err, nat_lt, if◌then◌else◌}
 use Rattle.std.specs.Option.{option_map_or}
+use Rattle.drm_streams.specs.declared.turns.Written.{Written}
+use Rattle.drm_streams.specs.declared.turns.Written.TheVariants as written
 use Rattle.drm_runs.specs.declared.stops.ScriptEnd.{ScriptEnd}
 use Rattle.drm_runs.specs.declared.stops.ScriptEnd.TheVariants as ends
 use Rattle.drm_checks.specs.declared.totals.Totals.{Totals}
@@ -16,6 +18,12 @@ fault_of ends.ReadFault = Some faults.Read
 fault_of ends.WriteFault = Some faults.Write
 fault_of ends.TurnsUsed = Some faults.Turns
 fault_of ends.NoMemory = Some faults.Memory
+
+-- the fault of a text that was not written whole, or else nothing
+abbrev pub fault_of_writing : Written → Result (Unit {0}) Fault
+fault_of_writing written.Whole = Ok tt
+fault_of_writing written.Fault = Err faults.Write
+fault_of_writing written.TurnsUsed = Err faults.Turns
 
 -- a fault, or else nothing
 abbrev pub unless_fault : Option Fault → Result (Unit {0}) Fault

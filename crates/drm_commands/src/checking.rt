@@ -27,7 +27,9 @@ use std::{fs, io};
 const MOST_TURNS: u64 = 1_000_000;
 
 /// Returns the fault of writing a text, or nothing if it was written whole.
-pub(crate) fn fault_of(written: Written) -> Result<(), Fault> {
+pub(crate) fn fault_of(written: Written) -> Result<(), Fault>
+    ensures { result ≡ outcomes.fault_of_writing written }
+{
     match written {
         Written::Whole => Ok(()),
         Written::Fault => Err(Fault::Write),

@@ -10,10 +10,12 @@ use crate::recording::{Recording, record};
 use drm_connections::PROGRAM;
 use drm_explanations::{Explanation, Labels, explain, lines_of};
 use drm_refusals::{WrittenAnswer, explain_answer};
+use drm_rights::Ledger;
 use drm_runs::Stop;
 use drm_script::Label;
 use drm_sentences::{lines_of_answer, write_answer};
 use drm_streams::{FromRead, ToWrite, put_all};
+use drm_table::{Call, CallKind, Event};
 use log::{Log, error};
 use std::alloc::Global;
 use std::io;
@@ -102,6 +104,24 @@ fn no_answer<R: Log>(rt: &R, path: &str, number: u64, lines: u64) -> Fault {
     Fault::CommandLine
 }
 
+/// Returns whether the last step may be that of another request. A journal has `raw 198` in place of a lease of ids that no
+/// device has, if its line would be too long.
+fn may_be_another(ledger: &Ledger) -> bool {
+    let Some(step) = ledger.steps().last() else {
+        return false;
+    };
+    match &step.event {
+        Event::Ask(_, Call::BadLayout(number)) => *number == CallKind::CreateLease.number(),
+        _ => false,
+    }
+}
+
+/// Logs that a line may be that of another request.
+fn no_request<R: Log>(rt: &R, path: &str, number: u64) -> Fault {
+    error!(rt; target: PROGRAM, "{path}: line {number} can't be explained: a journal has it for a create_lease that is too long for a line, too");
+    Fault::CommandLine
+}
+
 /// Returns the answer as JSON, with a line end.
 fn json_of_answer(alloc: Global, answer: &WrittenAnswer) -> Result<String, Fault> {
     let Ok(mut text) = serde_json::to_string_pretty(alloc, answer) else {
@@ -130,6 +150,9 @@ fn text_of_answer<R: Log>(
     let Some(line) = last else {
         return Err(no_answer(rt, explaining.path, number, lines));
     };
+    if line.apart.is_none() && may_be_another(&ledger) {
+        return Err(no_request(rt, explaining.path, number));
+    }
     let topology = asked_topology(rt, topology)?;
     let row = match explain_answer(alloc, &ledger, &topology, &labels, limits, line) {
         Ok(row) => row,

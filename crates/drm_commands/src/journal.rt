@@ -5,10 +5,10 @@ ghost use Rattle.drm_table.specs.Limits.{are_in_range};
 
 use crate::devices::{TopologyText, asked_device};
 use crate::faults::Fault;
-use crate::files::write_fault;
+use crate::files::{read_whole, write_fault};
 use drm_connections::PROGRAM;
 use drm_device::{Device, Limits};
-use drm_journals::journal_of;
+use drm_journals::{Journal, first_difference, journal_of};
 use drm_table::Event;
 use log::{Log, error, warn};
 use std::alloc::Global;
@@ -186,19 +186,6 @@ pub fn create_asked<'a, R: Files + Log>(
     }
 }
 
-/// Logs that a journal at this path has comments in place of its last steps.
-///
-/// # Examples
-///
-/// ```rust
-/// use drm_commands::warn_of_comments;
-///
-/// warn_of_comments(&rt, "steps.script");
-/// ```
-pub fn warn_of_comments<R: Log>(rt: &R, path: &str) {
-    warn!(rt; target: PROGRAM, "{path}: more clients were open at once than a script has labels: the last steps are comments");
-}
-
 /// Writes the events of a journal to its file, with the answers of an empty device of the same topology and limits. The
 /// file has this many bytes of the script already.
 fn write_journal<R: Log, F: Write + Drop>(
@@ -209,7 +196,7 @@ fn write_journal<R: Log, F: Write + Drop>(
     events: &[Event],
     replayed: Device,
     written: usize,
-) -> Result<(), Fault> {
+) -> Result<Journal, Fault> {
     let JournalFile { path, file } = journal;
     let Ok(script) = journal_of(alloc, events, limits, replayed) else {
         return Err(Fault::Memory);
@@ -220,9 +207,31 @@ fn write_journal<R: Log, F: Write + Drop>(
         return Err(write_fault(rt, path, &reason));
     }
     if !script.is_whole {
-        warn_of_comments(rt, path);
+        warn!(rt; target: PROGRAM, "{path}: more clients were open at once than a script has labels: the last steps are comments");
     }
-    Ok(())
+    Ok(script)
+}
+
+/// Compares the file at a path with the text of a journal, unless it is a pipe or a device. The line of a difference is
+/// logged.
+fn compare<R: Files + AllocGlobal + Log>(
+    rt: &R,
+    alloc: Global,
+    path: &str,
+    text: &[u8],
+) -> Result<(), Fault> {
+    match fs::metadata(rt, path) {
+        Ok(metadata) if !metadata.is_file() => return Ok(()),
+        _ => {}
+    }
+    let found = read_whole(rt, alloc, path)?;
+    match first_difference(found.as_slice(), text) {
+        None => Ok(()),
+        Some(line) => {
+            error!(rt; target: PROGRAM, "{path}: line {line}: it differs from the journal of the device");
+            Err(Fault::Write)
+        }
+    }
 }
 
 /// Writes the events of a journal to its file, if there is one (own). The answers are those of an empty device of the
@@ -259,29 +268,34 @@ pub fn write_noted<R: Files + AllocGlobal + Log>(
     let Some(journal) = journal else {
         return Ok(());
     };
-    write_rest(rt, alloc, journal, topology, limits, events, 0)
+    let replayed = asked_device(rt, alloc, topology, limits)?;
+    write_journal(rt, alloc, journal, limits, events, replayed, 0)?;
+    Ok(())
 }
 
 /// Writes the events of a journal to its file as [`write_noted`] does, if the file has this many bytes of the script
-/// already (own).
+/// already (own). Then it compares the file with the whole script, unless it is a pipe or a device.
 ///
 /// # Errors
 ///
-/// Those of [`write_noted`].
+/// Those of [`write_noted`], and:
+///
+/// - `Fault::Write` if the file differs. The first line that does is logged.
+/// - `Fault::Read`, which is logged, if the file can't be read.
 ///
 /// # Examples
 ///
 /// ```rust
-/// use drm_commands::{FilesRead, create_asked, write_rest};
+/// use drm_commands::{FilesRead, complete_journal, create_asked};
 /// use drm_device::Limits;
 ///
 /// let alloc = rt.alloc();
 /// let read = FilesRead { topology: None, script: None };
 /// let Ok(Some(journal)) = create_asked(&rt, Some("/dev/null"), read) else { return };
-/// let written = write_rest(&rt, alloc, journal, None, Limits::PROGRAM, &[], 4);
+/// let written = complete_journal(&rt, alloc, journal, None, Limits::PROGRAM, &[], 4);
 /// assert!(rt; written.is_ok());
 /// ```
-pub fn write_rest<R: Files + AllocGlobal + Log>(
+pub fn complete_journal<R: Files + AllocGlobal + Log>(
     rt: &R,
     alloc: Global,
     journal: JournalFile<'_, R::File>,
@@ -292,6 +306,8 @@ pub fn write_rest<R: Files + AllocGlobal + Log>(
 ) -> Result<(), Fault>
     requires { are_in_range limits ≡ true }
 {
+    let path = journal.path;
     let replayed = asked_device(rt, alloc, topology, limits)?;
-    write_journal(rt, alloc, journal, limits, events, replayed, written)
+    let script = write_journal(rt, alloc, journal, limits, events, replayed, written)?;
+    compare(rt, alloc, path, script.text.as_slice())
 }

@@ -23,7 +23,7 @@ pub use devices::{TopologyText, asked_device, asked_limits, read_asked};
 pub use explaining::explain_script;
 pub use faults::{Fault, FaultLine};
 pub use journal::{
-    FilesRead, JournalFile, create_asked, create_trace, warn_of_comments, write_noted, write_rest,
+    FilesRead, JournalFile, complete_journal, create_asked, create_trace, write_noted,
 };
 pub use outcomes::{Outcome, outcome_by, outcome_of, outcome_of_checks, outcome_of_fault};
 pub use running::run;

@@ -1,11 +1,11 @@
 -- The sessions of three listeners that accept connections until they are asked to end.
-use Rattle.std.proofs.Common.{◌≡◌, ℕ, ◌+◌, List, [], ◌∷◌, ◌++◌, length, refl, sym, ap, ◌∙◌, subst, arith, length-append}
+use Rattle.std.proofs.Common.{◌≡◌, ℕ, suc, ◌+◌, List, [], ◌∷◌, ◌++◌, length, refl, sym, ap, ◌∙◌, subst, arith, length-append}
 use Rattle.drm_model.specs.Run.{DeviceValue}
 use Rattle.drm_turns.specs.declared.history.Entry.{Entry}
 use Rattle.drm_turns.specs.History.{AllDiffer, IsLegal, StartsWith, device_at, journaled_before}
-use Rattle.drm_turns.specs.Participants.{Closes, ParticipantView, Same}
+use Rattle.drm_turns.specs.Participants.{Closes, ParticipantView, Same, numbers_of}
 use Rattle.drm_turns.proofs.ParticipantsIn.{starts_on}
-use Rattle.std.specs.Prelude.{Option, None, Some}
+use Rattle.std.specs.Prelude.{IfErr, IfOk, Result, Ok, Err}
 use Rattle.drm_sessions.specs.declared.class.Class.{Class}
 use Rattle.drm_sessions.specs.declared.class.Class.TheVariants.{Card, Render, Root}
 use Rattle.drm_sessions.specs.declared.end.Session.{Session}
@@ -14,42 +14,56 @@ use Rattle.drm_connections.specs.declared.counts.Counts.{Counts}
 use Rattle.drm_listeners.specs.declared.lasting_listeners.KeptListeners.{KeptListeners}
 use Rattle.drm_listeners.specs.declared.listeners.ByClass.{ByClass}
 use Rattle.drm_listeners.specs.declared.serve_faults.ServeFault.{ServeFault}
-use Rattle.drm_listeners.specs.Connections.{IsFaultOf, IsSessionOf, SessionState, sessions_in}
-use Rattle.drm_listeners.specs.UntilEnded.{AreKept, HasServedAll, HaveAllSat, IsFaultIn, IsOutside}
+use Rattle.drm_listeners.specs.declared.visitors.Visitors.{Visitors}
+use Rattle.drm_listeners.specs.Connections.{IsSessionOf, SessionState, participants_in, sessions_in}
+use Rattle.drm_listeners.specs.UntilEnded.{AreAccounted, AreKept, HasServed, HasServedAll, HaveAllSat, IsAccount}
 use Rattle.drm_listeners.proofs.Gathering.{length-sessions, map-three, of-class, parted, sat-of, steps-three, told-by-class}
 
+length-numbers : (sittings : List SessionState) → length (numbers_of (participants_in sittings)) ≡ length sittings
+length-numbers [] = refl
+length-numbers (s ∷ sittings) = ap suc (length-numbers sittings)
+
+-- As many sessions were served as participants were taken in.
+sessions-taken : (class : Class) (own : ParticipantView) (h : HasServed class own) (count : ℕ) → length own.merged ≡ count
+    → length h.sittings ≡ count
+sessions-taken class own h count is =
+    sym (length-numbers h.sittings) ∙ ap (λ (l : List ℕ). length l) (sym h.taken.merged) ∙ is
+
 -- If each of three participants took in its own, the participant that takes in the three has taken in all.
-pub all-sat : (participants : ByClass ParticipantView) (kept : KeptListeners) (first old new : ParticipantView)
+pub all-sat : (counts : Counts) (participants : ByClass ParticipantView) (kept : KeptListeners) (first old new : ParticipantView)
     → AreKept participants kept
     → StartsWith new.seen kept.participants.card.seen × StartsWith new.seen kept.participants.render.seen × StartsWith new.seen kept.participants.root.seen
     → old.merged ≡ [] → old.journaled ≡ first.journaled
     → new.merged ≡ ((old.merged ++ kept.participants.card.number ∷ kept.participants.card.merged) ++ kept.participants.render.number ∷ kept.participants.render.merged) ++ kept.participants.root.number ∷ kept.participants.root.merged
     → AllDiffer new.merged
     → new.journaled ≡ old.journaled + (kept.participants.card.journaled + (kept.participants.render.journaled + kept.participants.root.journaled))
-    → HaveAllSat first new
-all-sat participants kept first old new h seen none before merged differ journaled =
+    → length kept.participants.card.merged ≡ counts.cards → length kept.participants.render.merged ≡ counts.renders
+    → length kept.participants.root.merged ≡ counts.roots → HaveAllSat counts first new
+all-sat counts participants kept first old new h seen none before merged differ journaled of_card of_render of_root =
     let cards : List SessionState = h.card.served.sittings in
     let renders : List SessionState = h.render.served.sittings in
     let roots : List SessionState = h.root.served.sittings in
-    let counts : Counts = record { cards = length cards; renders = length renders; roots = length roots } in
+    let c = sessions-taken Card _ h.card.served counts.cards of_card in
+    let r = sessions-taken Render _ h.render.served counts.renders of_render in
+    let o = sessions-taken Root _ h.root.served counts.roots of_root in
     let sessions : List Session = sessions_in cards ++ (sessions_in renders ++ sessions_in roots) in
     let parts =
     parted (IsSessionOf Card) (IsSessionOf Render) (IsSessionOf Root) counts (sessions_in cards) (sessions_in renders)
-    (sessions_in roots) (length-sessions cards) (length-sessions renders)
+    (sessions_in roots) (length-sessions cards ∙ c)
+    (length-sessions renders ∙ r)
     (of-class Card cards h.card.served.of_class) (of-class Render renders h.render.served.of_class) (of-class Root roots h.root.served.of_class) in
     record {
-      counts = counts;
       sessions = sessions;
       of_classes = record {
         count = (let a = length-append (sessions_in cards) (sessions_in renders ++ sessions_in roots) in let b = length-append (sessions_in renders) (sessions_in roots) in
-            let c = length-sessions cards in let r = length-sessions renders in let o = length-sessions roots in omega (arith, a, b, c, r, o));
+            let ca = length-sessions cards in let re = length-sessions renders in let ro = length-sessions roots in omega (arith, a, b, c, r, o, ca, re, ro));
         cards = parts.0;
         renders = parts.1;
         roots = parts.2;
       };
       sat =
           sat-of counts kept.participants.card kept.participants.render kept.participants.root old new cards renders
-          roots sessions refl refl
+          roots sessions c r
           h.card.served.of_class h.render.served.of_class h.root.served.of_class h.card.served.taken
           h.render.served.taken h.root.served.taken
           seen none merged differ (sym (map-three (λ (s : SessionState). s.session) cards renders roots));
@@ -58,18 +72,17 @@ all-sat participants kept first old new h seen none before merged differ journal
     }
 
 -- A device that was shared by all sessions of three listeners has the history of these sessions.
-pub all-served : (before after : DeviceValue) (first last : ParticipantView)
+pub all-served : (counts : Counts) (before after : DeviceValue) (first last : ParticipantView)
     → (first.origin ≡ before) × (first.seen ≡ journaled_before before) → first.journaled ≡ 0
-    → Same first last × StartsWith last.seen first.seen → HaveAllSat first last → Closes last after
-    → length after.journal ≡ length last.origin.journal + last.journaled → HasServedAll before after
-all-served before after first last seen none same h closes counted =
+    → Same first last × StartsWith last.seen first.seen → HaveAllSat counts first last → Closes last after
+    → length after.journal ≡ length last.origin.journal + last.journaled → HasServedAll counts before after
+all-served counts before after first last seen none same h closes counted =
     let log : List Entry = closes.0 in
     let origin : last.origin ≡ before = same.0.2 ∙ seen.0 in
     let begun : StartsWith last.seen (journaled_before before) =
     subst (λ (l : List Entry). StartsWith last.seen l) seen.1 same.1 in
-    let told = told-by-class log h.counts last h.sessions closes.3 h.sat in
+    let told = told-by-class log counts last h.sessions closes.3 h.sat in
     record {
-      counts = h.counts;
       sessions = h.sessions;
       count = h.of_classes.count;
       cards = h.of_classes.cards;
@@ -91,7 +104,15 @@ all-served before after first last seen none same h closes counted =
           (let more = h.journaled in let long = ap (λ (d : DeviceValue). length d.journal) origin in omega (arith, counted, more, none, long));
     }
 
--- A fault of a listener is neither of the turn nor for lack of memory.
-pub is-outside : (class : Class) (fault : Option ServeFault) → IsFaultIn class fault → IsOutside fault
-is-outside class None h = tt
-is-outside class (Some fault) h = ((λ e. subst (IsFaultOf class) e h), (λ e. subst (IsFaultOf class) e h))
+-- What follows from the accounts of three listeners holds if they have accounts.
+pub if_accounted : (owns : ByClass ParticipantView) (Q : ByClass Visitors → Type 0) (r : Result (ByClass Visitors) ServeFault)
+    → AreAccounted owns r
+    → ((v : ByClass Visitors) → IsAccount owns.card v.card → IsAccount owns.render v.render → IsAccount owns.root v.root → Q v)
+    → IfOk r Q
+if_accounted owns Q (Ok v) h step = step v h.0 h.1 h.2
+if_accounted owns Q (Err fault) h step = tt
+
+-- What holds in any case holds on a fault.
+pub if_fault : (Q : Type 0) (r : Result (ByClass Visitors) ServeFault) → Q → IfErr r (λ fault. Q)
+if_fault Q (Ok v) q = tt
+if_fault Q (Err fault) q = q

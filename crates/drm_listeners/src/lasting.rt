@@ -1,32 +1,26 @@
 //! A listener that accepts connections until it is asked to end, each served in its own thread.
 
-ghost use Rattle.std.specs.Prelude.{◌≡◌, ◌+◌, ◌≤◌, ◌<◌, true, IfOk, IfErr};
+ghost use Rattle.std.specs.Prelude.{◌≡◌, ◌+◌, ◌^◌, ◌≤◌, ◌<◌, [], true, IfOk, IfErr, length};
 ghost use Rattle.arrayvec.specs.ArrayVec.{array_vec_len};
 ghost use Rattle.drm_turns.specs.Participants.{Same, Unchanged};
-ghost use Rattle.drm_listeners.specs.Connections.{IsFresh};
-ghost use Rattle.drm_listeners.specs.UntilEnded.{ArePromised, HasServed, IsFaultIn, Keeps};
+ghost use Rattle.drm_listeners.specs.Connections.{IsFaultOf, IsFresh};
+ghost use Rattle.drm_listeners.specs.UntilEnded.{AreAll, AreCounted, ArePromised, HasServed, Keeps, all_of, attended};
 ghost use Rattle.drm_listeners.specs.declared.lasting.Awaited.TheVariants.{All};
 
 use crate::connections::{ConnectionHandle, Failed, Visitor, start_visitor};
 use crate::hall::Gathering;
 use crate::serve_faults::ServeFault;
+use crate::visitors::{Fates, LastingListener, Visitors};
 use arrayvec::ArrayVec;
-use drm_connections::{MOST_AT_ONCE, Note, Role, accept_unless_ended};
+use drm_connections::{MOST_AT_ONCE, Note, Role};
 use drm_sessions::{Class, Served};
 use drm_turns::Seat;
 use log::Log;
 use std::os::fd::AsRawFd;
-use std::os::unix::net::{UnixListener, UnixStream};
+use std::os::unix::net::UnixStream;
 use std::sync::Wait;
 use std::thread;
 use std::thread::{Scope, Threads};
-
-/// A listener that accepts connections of this class.
-#[derive(Drop)]
-pub(crate) struct LastingListener {
-    pub(crate) socket: UnixListener,
-    pub(crate) class: Class,
-}
 
 /// The thread of a connection, and the connection's place among the open ones.
 #[derive(Drop)]
@@ -37,6 +31,13 @@ struct Visit {
 
 /// The connections of a listener that are served.
 type Visits = ArrayVec<Option<Visit>, MOST_AT_ONCE>;
+
+/// The connections of a listener: those that are served, and what became of each so far.
+#[derive(Drop)]
+struct Guests {
+    visits: Visits,
+    fates: Fates,
+}
 
 /// The connections whose threads are waited for.
 #[derive(Clone, Copy, Debug, PartialEq, Eq)]
@@ -75,6 +76,7 @@ fn join_visits<R: Wait + Threads, D: Gathering>(
     ensures served { HasServed class own.new }
     ensures promised { ArePromised (λ visit. visit.handle.promise) class own.new result.items }
     ensures outstanding { own.new.outstanding + array_vec_len visits ≡ own.old.outstanding + array_vec_len result }
+    ensures merged { length own.new.merged + array_vec_len result ≡ length own.old.merged + array_vec_len visits }
     ensures none { awaited ≡ All → array_vec_len result ≡ 0 }
 {
     let mut left = Visits::new();
@@ -102,18 +104,24 @@ fn serve_visitor<'s, E: 's, R: Wait + Threads + Log + Sync, D: Gathering + Sync>
     own: &mut Seat,
     class: Class,
     stream: UnixStream,
-    visits: Visits,
-) -> Visits
+    guests: Guests,
+) -> Guests
     requires own { own.old.table ≡ D.table shared.now }
     requires served { HasServed class own.old }
-    requires promised { ArePromised (λ visit. visit.handle.promise) class own.old visits.items }
-    requires room { array_vec_len visits < 64 }
+    requires promised { ArePromised (λ visit. visit.handle.promise) class own.old guests.visits.items }
+    requires room { array_vec_len guests.visits < 64 }
+    requires few { all_of guests.fates + 1 < 2 ^ 64 }
+    requires counted { AreCounted guests.fates (array_vec_len guests.visits) own.old }
     ensures same { Same own.old own.new }
     ensures parent { own.new.parent ≡ own.old.parent }
     ensures served { HasServed class own.new }
-    ensures promised { ArePromised (λ visit. visit.handle.promise) class own.new result.items }
-    ensures outstanding { own.new.outstanding + array_vec_len visits ≡ own.old.outstanding + array_vec_len result }
+    ensures promised { ArePromised (λ visit. visit.handle.promise) class own.new result.visits.items }
+    ensures outstanding { own.new.outstanding + array_vec_len guests.visits ≡ own.old.outstanding + array_vec_len result.visits }
+    ensures one_more { all_of result.fates ≡ all_of guests.fates + 1 }
+    ensures counted { AreCounted result.fates (array_vec_len result.visits) own.new }
+    ensures threads { result.fates.served + array_vec_len guests.visits ≡ guests.fates.served + array_vec_len result.visits }
 {
+    let Guests { visits, fates } = guests;
     let mut visits = visits;
     let open = shared.open();
     let place = open.reserve(rt);
@@ -126,7 +134,11 @@ fn serve_visitor<'s, E: 's, R: Wait + Threads + Log + Sync, D: Gathering + Sync>
     match start_visitor(scope, rt, shared, participant, visitor) {
         Ok(handle) => {
             visits.push(Some(Visit { handle, place }));
-            visits
+            let served = fates.served + 1;
+            Guests {
+                visits,
+                fates: Fates { served, ..fates },
+            }
         }
         Err(served) => {
             open.notes().add_once(rt, Note::Threadless(class));
@@ -136,7 +148,14 @@ fn serve_visitor<'s, E: 's, R: Wait + Threads + Log + Sync, D: Gathering + Sync>
                 participant,
             } = served;
             shared.device().join(own, participant);
-            visits
+            let threadless = fates.threadless + 1;
+            Guests {
+                visits,
+                fates: Fates {
+                    threadless,
+                    ..fates
+                },
+            }
         }
     }
 }
@@ -159,6 +178,7 @@ fn make_room<R: Wait + Threads, D: Gathering>(
     ensures served { HasServed class own.new }
     ensures promised { ArePromised (λ visit. visit.handle.promise) class own.new result.items }
     ensures outstanding { own.new.outstanding + array_vec_len visits ≡ own.old.outstanding + array_vec_len result }
+    ensures merged { length own.new.merged + array_vec_len result ≡ length own.old.merged + array_vec_len visits }
 {
     if visits.len() == MOST_AT_ONCE {
         shared.open().wait_for_leaving(rt);
@@ -174,31 +194,42 @@ fn admit_visitor<'s, E: 's, R: Wait + Threads + Log + Sync, D: Gathering + Sync>
     own: &mut Seat,
     class: Class,
     stream: UnixStream,
-    visits: Visits,
-) -> Visits
+    guests: Guests,
+) -> Guests
     requires own { own.old.table ≡ D.table shared.now }
     requires served { HasServed class own.old }
-    requires promised { ArePromised (λ visit. visit.handle.promise) class own.old visits.items }
-    requires outstanding { array_vec_len visits ≤ own.old.outstanding }
+    requires promised { ArePromised (λ visit. visit.handle.promise) class own.old guests.visits.items }
+    requires outstanding { array_vec_len guests.visits ≤ own.old.outstanding }
+    requires few { all_of guests.fates + 1 < 2 ^ 64 }
+    requires counted { AreCounted guests.fates (array_vec_len guests.visits) own.old }
     ensures same { Same own.old own.new }
     ensures parent { own.new.parent ≡ own.old.parent }
     ensures served { HasServed class own.new }
-    ensures promised { ArePromised (λ visit. visit.handle.promise) class own.new result.items }
-    ensures outstanding { own.new.outstanding + array_vec_len visits ≡ own.old.outstanding + array_vec_len result }
+    ensures promised { ArePromised (λ visit. visit.handle.promise) class own.new result.visits.items }
+    ensures outstanding { own.new.outstanding + array_vec_len guests.visits ≡ own.old.outstanding + array_vec_len result.visits }
+    ensures one_more { all_of result.fates ≡ all_of guests.fates + 1 }
+    ensures counted { AreCounted result.fates (array_vec_len result.visits) own.new }
 {
+    let Guests { visits, fates } = guests;
     let visits = make_room(rt, shared, own, class, visits);
     if visits.len() < MOST_AT_ONCE {
-        return serve_visitor(scope, rt, shared, own, class, stream, visits);
+        let guests = Guests { visits, fates };
+        return serve_visitor(scope, rt, shared, own, class, stream, guests);
     }
     shared.open().notes().add_once(rt, Note::Crowded(class));
-    visits
+    let crowded = fates.crowded + 1;
+    Guests {
+        visits,
+        fates: Fates { crowded, ..fates },
+    }
 }
 
-/// The connections that are served as a listener is closed, and why it was if it was not asked to end.
+/// The connections that are served as a listener is closed, and the account of all that it accepted, or why it was not
+/// asked to end.
 #[derive(Drop)]
 struct Closed {
     visits: Visits,
-    fault: Option<ServeFault>,
+    visitors: Result<Visitors, ServeFault>,
 }
 
 // Accepts connections until all are asked to end, or none can be accepted. Then the listener is closed.
@@ -211,39 +242,56 @@ fn accept_visitors<'s, E: 's, R: Wait + Threads + Log + Sync, D: Gathering + Syn
 ) -> Closed
     requires own { own.old.table ≡ D.table shared.now }
     requires served { HasServed listener.class own.old }
+    requires merged { own.old.merged ≡ [] }
+    requires unused { listener.accepted ≡ 0 }
     ensures same { Same own.old own.new }
     ensures parent { own.new.parent ≡ own.old.parent }
     ensures served { HasServed listener.class own.new }
     ensures promised { ArePromised (λ visit. visit.handle.promise) listener.class own.new result.visits.items }
     ensures outstanding { own.new.outstanding ≡ own.old.outstanding + array_vec_len result.visits }
-    ensures fault { IsFaultIn listener.class result.fault }
+    ensures all { IfOk result.visitors AreAll }
+    ensures sessions { IfOk result.visitors (λ visitors. length own.new.merged + array_vec_len result.visits ≡ attended visitors) }
+    ensures fault { IfErr result.visitors (IsFaultOf listener.class) }
 {
+    let mut listener = listener;
     let class = listener.class;
     let place = shared.open().reserve(rt);
-    let _attendance = shared
+    let attendance = shared
         .open()
         .attend(rt, place, listener.socket.as_raw_fd(), Role::Listener);
-    let mut visits = Visits::new();
+    let mut guests = Guests {
+        visits: Visits::new(),
+        fates: Fates::NONE,
+    };
     for _ in rt.forever() {
-        match accept_unless_ended(rt, shared.open(), &listener.socket, class) {
+        match listener.accept(rt, shared.open()) {
             Ok(Some(stream)) => {
-                visits = admit_visitor(scope, rt, shared, own, class, stream, visits);
+                guests = admit_visitor(scope, rt, shared, own, class, stream, guests);
             }
             Ok(None) => break,
             Err(reason) => {
                 let note = Note::Closed(class, reason.raw_os_error());
                 shared.open().notes().add(rt, note);
                 return Closed {
-                    visits,
-                    fault: Some(ServeFault::Accept(class)),
+                    visits: guests.visits,
+                    visitors: Err(ServeFault::Accept(class)),
                 };
             }
         }
     }
+    drop(attendance);
+    let Guests { visits, fates } = guests;
     Closed {
         visits,
-        fault: None,
+        visitors: Ok(listener.close(fates)),
     }
+}
+
+/// A participant that served a listener until it was asked to end, and the account of the connections.
+#[derive(Drop)]
+pub(crate) struct KeptListener {
+    pub(crate) participant: Seat,
+    pub(crate) visitors: Visitors,
 }
 
 // Serves the connections in threads of the scope.
@@ -253,17 +301,27 @@ fn keep_in_scope<'s, E: 's, R: Wait + Threads + Log + Sync, D: Gathering + Sync>
     shared: &'s D,
     participant: Seat,
     listener: LastingListener,
-) -> Result<Seat, Failed>
-    requires { IsFresh (D.table shared.now) participant }
+) -> Result<KeptListener, Failed>
+    requires fresh { IsFresh (D.table shared.now) participant }
+    requires unused { listener.accepted ≡ 0 }
     ensures { Keeps listener.class participant result }
 {
     let class = listener.class;
     let mut participant = participant;
-    let Closed { visits, fault } = accept_visitors(scope, rt, shared, &mut participant, listener);
+    let Closed { visits, visitors } = accept_visitors(
+        scope,
+        rt,
+        shared,
+        &mut participant,
+        listener,
+    );
     let _none = join_visits(rt, shared, &mut participant, class, visits, Awaited::All);
-    match fault {
-        None => Ok(participant),
-        Some(fault) => Err(Failed { fault, participant }),
+    match visitors {
+        Ok(visitors) => Ok(KeptListener {
+            participant,
+            visitors,
+        }),
+        Err(fault) => Err(Failed { fault, participant }),
     }
 }
 
@@ -277,15 +335,17 @@ pub(crate) fn keep_listener<R: Wait + Threads + Log + Sync, D: Gathering + Sync>
     shared: &D,
     participant: Seat,
     listener: LastingListener,
-) -> Result<Seat, Failed>
-    requires { IsFresh (D.table shared.now) participant }
+) -> Result<KeptListener, Failed>
+    requires fresh { IsFresh (D.table shared.now) participant }
+    requires unused { listener.accepted ≡ 0 }
     ensures { Keeps listener.class participant result }
 {
     thread::scope(
         thread::scope_env(),
         rt,
-        move |scope| -> Result<Seat, Failed>
-            requires { IsFresh (D.table shared.now) participant }
+        move |scope| -> Result<KeptListener, Failed>
+            requires fresh { IsFresh (D.table shared.now) participant }
+            requires unused { listener.accepted ≡ 0 }
             ensures { Keeps listener.class participant result }
         { keep_in_scope(scope, rt, shared, participant, listener) },
     )

@@ -2,29 +2,33 @@
 
 ghost use Rattle.std.specs.Prelude.{◌≡◌, Err, IfOk, IfErr};
 ghost use Rattle.drm_turns.specs.Participants.{ParticipantView};
+ghost use Rattle.drm_sessions.specs.declared.class.Class.TheVariants.{Card, Render, Root};
 ghost use Rattle.drm_listeners.specs.Connections.{IsFresh};
 ghost use Rattle.drm_listeners.specs.Listeners.{AreFresh};
-ghost use Rattle.drm_listeners.specs.UntilEnded.{AreKeeping, AreKept, HasKept, IsFaultIn, IsOutside, Keeps};
+ghost use Rattle.drm_listeners.specs.declared.listeners.ByClass.{ByClass as OfEach};
+ghost use Rattle.drm_listeners.specs.UntilEnded.{AreAccounted, AreKeeping, AreKept, HasKept, IsAccounted, Keeps};
 
+use crate::class_listeners::Listeners;
 use crate::connections::Failed;
 use crate::hall::Gathering;
-use crate::lasting::{LastingListener, keep_listener};
+use crate::lasting::{KeptListener, keep_listener};
 use crate::listeners::{ByClass, start_logging};
 use crate::serve_faults::ServeFault;
+use crate::visitors::{LastingListener, Visitors};
 use drm_sessions::Class;
 use drm_turns::Seat;
 use log::Log;
-use std::os::unix::net::UnixListener;
 use std::snapshot::Snapshot;
 use std::sync::Wait;
 use std::thread;
 use std::thread::{Promise, PromisedHandle, Scope, Threads};
 
-/// The participants of the listeners, each of which took in each that was split off it, and the first fault.
+/// The participants of the listeners, each of which took in each that was split off it, and the account of each listener,
+/// or the first fault.
 #[derive(Drop)]
 pub(crate) struct KeptListeners {
     pub(crate) participants: ByClass<Seat>,
-    pub(crate) fault: Option<ServeFault>,
+    pub(crate) visitors: Result<ByClass<Visitors>, ServeFault>,
 }
 
 /// The job of a thread: it serves a listener of this class through the participant.
@@ -34,45 +38,45 @@ struct ListenerKept {
     participant: Snapshot<Seat>,
 }
 
-impl Promise<Result<Seat, Failed>> for ListenerKept {
+impl Promise<Result<KeptListener, Failed>> for ListenerKept {
     ghost kept_by = { λ promise kept. Keeps promise.class promise.participant.value kept };
 }
 
 /// A thread that serves a listener.
-type KeeperHandle = PromisedHandle<Result<Seat, Failed>, ListenerKept>;
+type KeeperHandle = PromisedHandle<Result<KeptListener, Failed>, ListenerKept>;
 
-/// The participant of a listener, and why the listener was closed if it was not asked to end.
+/// The participant of a listener, and its account, or why the listener was closed if it was not asked to end.
 #[derive(Drop)]
 struct Kept {
     participant: Seat,
-    fault: Option<ServeFault>,
+    visitors: Result<Visitors, ServeFault>,
 }
 
-// Returns the participant of a listener, with its fault if there is one.
-fn kept_of(kept: Result<Seat, Failed>) -> Kept
+// Returns the participant of a listener, with its account, or its fault if there is one.
+fn kept_of(kept: Result<KeptListener, Failed>) -> Kept
     ensures { (class : Class) (participant : ParticipantView) → Keeps class participant kept
-        → HasKept class participant result.participant × IsFaultIn class result.fault }
+        → HasKept class participant result.participant × IsAccounted class result.participant result.visitors }
 {
     match kept {
-        Ok(participant) => Kept {
-            participant,
-            fault: None,
+        Ok(kept) => Kept {
+            participant: kept.participant,
+            visitors: Ok(kept.visitors),
         },
         Err(failed) => Kept {
             participant: failed.participant,
-            fault: Some(failed.fault),
+            visitors: Err(failed.fault),
         },
     }
 }
 
 // Returns the participant of a listener that got no thread.
-fn threadless(kept: Result<Seat, Failed>) -> Failed
+fn threadless(kept: Result<KeptListener, Failed>) -> Failed
     ensures { (class : Class) (participant : ParticipantView) → Keeps class participant kept → Keeps class participant (Err result) }
 {
     Failed {
         fault: ServeFault::NoThread,
         participant: match kept {
-            Ok(participant) => participant,
+            Ok(kept) => kept.participant,
             Err(failed) => failed.participant,
         },
     }
@@ -87,7 +91,8 @@ fn start_keeper<'s, E: 's, R: Wait + Threads + Log + Sync, D: Gathering + Sync>(
     participant: Seat,
     listener: LastingListener,
 ) -> Result<KeeperHandle, Failed>
-    requires { IsFresh (D.table shared.now) participant }
+    requires fresh { IsFresh (D.table shared.now) participant }
+    requires unused { listener.accepted ≡ 0 }
     ensures class { IfOk result (λ handle. handle.promise.class ≡ listener.class) }
     ensures participant { IfOk result (λ handle. handle.promise.participant.value ≡ participant) }
     ensures failed { IfErr result (λ failed. Keeps listener.class participant (Err failed)) }
@@ -98,8 +103,9 @@ fn start_keeper<'s, E: 's, R: Wait + Threads + Log + Sync, D: Gathering + Sync>(
     };
     let kept = scope.spawn_with(
         promise,
-        move || -> Result<Seat, Failed>
-            requires { IsFresh (D.table shared.now) participant }
+        move || -> Result<KeptListener, Failed>
+            requires fresh { IsFresh (D.table shared.now) participant }
+            requires unused { listener.accepted ≡ 0 }
             ensures { Keeps listener.class participant result }
         { keep_listener(rt, shared, participant, listener) },
     );
@@ -114,7 +120,10 @@ fn start_keeper<'s, E: 's, R: Wait + Threads + Log + Sync, D: Gathering + Sync>(
 }
 
 // Waits for the thread of a listener, if there is one.
-fn join_keeper<R: Threads>(rt: &R, started: Result<KeeperHandle, Failed>) -> Result<Seat, Failed>
+fn join_keeper<R: Threads>(
+    rt: &R,
+    started: Result<KeeperHandle, Failed>,
+) -> Result<KeptListener, Failed>
     ensures { (class : Class) (participant : ParticipantView)
         → IfOk started (λ handle. (handle.promise.class ≡ class) × (handle.promise.participant.value ≡ participant))
         → IfErr started (λ failed. Keeps class participant (Err failed)) → Keeps class participant result }
@@ -125,38 +134,42 @@ fn join_keeper<R: Threads>(rt: &R, started: Result<KeeperHandle, Failed>) -> Res
     }
 }
 
-// Returns the first fault.
-fn first_fault(
-    card: Option<ServeFault>,
-    render: Option<ServeFault>,
-    root: Option<ServeFault>,
-) -> Option<ServeFault>
-    ensures { IsOutside card → IsOutside render → IsOutside root → IsOutside result }
+// Returns the accounts of the listeners, or the first fault.
+fn all_accounts(
+    card: Result<Visitors, ServeFault>,
+    render: Result<Visitors, ServeFault>,
+    root: Result<Visitors, ServeFault>,
+) -> Result<ByClass<Visitors>, ServeFault>
+    ensures { (owns : OfEach ParticipantView) → IsAccounted Card owns.card card → IsAccounted Render owns.render render
+        → IsAccounted Root owns.root root → AreAccounted owns result }
 {
     match card {
-        Some(fault) => Some(fault),
-        None => match render {
-            Some(fault) => Some(fault),
-            None => root,
+        Ok(card) => match render {
+            Ok(render) => match root {
+                Ok(root) => Ok(ByClass { card, render, root }),
+                Err(fault) => Err(fault),
+            },
+            Err(fault) => Err(fault),
         },
+        Err(fault) => Err(fault),
     }
 }
 
-// Returns the participants of the listeners, and the first fault.
-fn all_kept(kept: ByClass<Result<Seat, Failed>>) -> KeptListeners
+// Returns the participants of the listeners, and their accounts, or the first fault.
+fn all_kept(kept: ByClass<Result<KeptListener, Failed>>) -> KeptListeners
     ensures { (participants : ByClass ParticipantView) → AreKeeping participants kept → AreKept participants result }
 {
     let card = kept_of(kept.card);
     let render = kept_of(kept.render);
     let root = kept_of(kept.root);
-    let fault = first_fault(card.fault, render.fault, root.fault);
+    let visitors = all_accounts(card.visitors, render.visitors, root.visitors);
     KeptListeners {
         participants: ByClass {
             card: card.participant,
             render: render.participant,
             root: root.participant,
         },
-        fault,
+        visitors,
     }
 }
 
@@ -166,23 +179,14 @@ fn keep_in_scope<'s, E: 's, R: Wait + Threads + Log + Sync, D: Gathering + Sync>
     rt: &'s R,
     shared: &'s D,
     participants: ByClass<Seat>,
-    sockets: ByClass<UnixListener>,
+    listeners: Listeners,
 ) -> KeptListeners
     requires { AreFresh (D.table shared.now) participants }
     ensures { AreKept participants result }
 {
-    let card = LastingListener {
-        socket: sockets.card,
-        class: Class::Card,
-    };
-    let render = LastingListener {
-        socket: sockets.render,
-        class: Class::Render,
-    };
-    let root = LastingListener {
-        socket: sockets.root,
-        class: Class::Root,
-    };
+    let card = listeners.card.lasting();
+    let render = listeners.render.lasting();
+    let root = listeners.root.lasting();
     let card = start_keeper(scope, rt, shared, participants.card, card);
     let render = start_keeper(scope, rt, shared, participants.render, render);
     let root = start_keeper(scope, rt, shared, participants.root, root);
@@ -199,7 +203,7 @@ fn keep_logged<'s, E: 's, R: Wait + Threads + Log + Sync, D: Gathering + Sync>(
     rt: &'s R,
     shared: &'s D,
     participants: ByClass<Seat>,
-    sockets: ByClass<UnixListener>,
+    listeners: Listeners,
 ) -> KeptListeners
     requires { AreFresh (D.table shared.now) participants }
     ensures { AreKept participants result }
@@ -208,10 +212,10 @@ fn keep_logged<'s, E: 's, R: Wait + Threads + Log + Sync, D: Gathering + Sync>(
     let Some(logging) = start_logging(scope, rt, shared) else {
         return KeptListeners {
             participants,
-            fault: Some(ServeFault::NoThread),
+            visitors: Err(ServeFault::NoThread),
         };
     };
-    let kept = keep_in_scope(scope, rt, shared, participants, sockets);
+    let kept = keep_in_scope(scope, rt, shared, participants, listeners);
     shared.open().notes().end(rt);
     logging.join(rt);
     kept
@@ -224,7 +228,7 @@ pub(crate) fn keep_listeners<R: Wait + Threads + Log + Sync, D: Gathering + Sync
     rt: &R,
     shared: &D,
     participants: ByClass<Seat>,
-    sockets: ByClass<UnixListener>,
+    listeners: Listeners,
 ) -> KeptListeners
     requires { AreFresh (D.table shared.now) participants }
     ensures { AreKept participants result }
@@ -235,6 +239,6 @@ pub(crate) fn keep_listeners<R: Wait + Threads + Log + Sync, D: Gathering + Sync
         move |scope| -> KeptListeners
             requires { AreFresh (D.table shared.now) participants }
             ensures { AreKept participants result }
-        { keep_logged(scope, rt, shared, participants, sockets) },
+        { keep_logged(scope, rt, shared, participants, listeners) },
     )
 }

@@ -5,6 +5,7 @@ ghost use Rattle.drm_turns.specs.Participants.{ParticipantView};
 ghost use Rattle.drm_listeners.specs.Connections.{IsFailed, IsFresh, IsRoomFor, Serves, participant_left};
 ghost use Rattle.drm_listeners.specs.Listeners.{AreAllServed, AreFresh, AreRooms, AreServing};
 
+use crate::class_listeners::Listeners;
 use crate::connections::{Failed, Listener, ServedListener, serve_listener};
 use crate::hall::Gathering;
 use crate::serve_faults::ServeFault;
@@ -14,18 +15,20 @@ use drm_turns::Seat;
 use libc::net::{SHUT_RDWR, shutdown};
 use log::Log;
 use std::os::fd::AsRawFd;
-use std::os::unix::net::UnixListener;
 use std::snapshot::Snapshot;
 use std::sync::Wait;
 use std::thread;
 use std::thread::{JoinHandle, Promise, PromisedHandle, Scope, Threads};
 
-/// One for each class of listener.
+/// One for each class of listener (own).
 #[derive(Drop)]
-pub(crate) struct ByClass<T> {
-    pub(crate) card: T,
-    pub(crate) render: T,
-    pub(crate) root: T,
+pub struct ByClass<T> {
+    /// That of `card`.
+    pub card: T,
+    /// That of `render`.
+    pub render: T,
+    /// That of `root`.
+    pub root: T,
 }
 
 /// Why not all listeners were served, and the participant of each, which took in each that was split off it.
@@ -167,7 +170,7 @@ fn serve_in_scope<'s, E: 's, R: Wait + Threads + Log + Sync, D: Gathering + Sync
     rt: &'s R,
     shared: &'s D,
     participants: ByClass<Seat>,
-    sockets: ByClass<UnixListener>,
+    listeners: Listeners,
     counts: Counts,
     rooms: ByClass<Vec<Session>>,
 ) -> Result<ByClass<ServedListener>, FailedListeners>
@@ -175,21 +178,9 @@ fn serve_in_scope<'s, E: 's, R: Wait + Threads + Log + Sync, D: Gathering + Sync
     requires rooms { AreRooms counts rooms }
     ensures { AreAllServed counts participants result }
 {
-    let card = Listener {
-        socket: sockets.card,
-        class: Class::Card,
-        count: counts.cards,
-    };
-    let render = Listener {
-        socket: sockets.render,
-        class: Class::Render,
-        count: counts.renders,
-    };
-    let root = Listener {
-        socket: sockets.root,
-        class: Class::Root,
-        count: counts.roots,
-    };
+    let card = listeners.card.counted(counts.cards);
+    let render = listeners.render.counted(counts.renders);
+    let root = listeners.root.counted(counts.roots);
     let card = start_listener(scope, rt, shared, participants.card, card, rooms.card);
     let render = start_listener(scope, rt, shared, participants.render, render, rooms.render);
     let root = start_listener(scope, rt, shared, participants.root, root, rooms.root);
@@ -224,7 +215,7 @@ fn serve_logged<'s, E: 's, R: Wait + Threads + Log + Sync, D: Gathering + Sync>(
     rt: &'s R,
     shared: &'s D,
     participants: ByClass<Seat>,
-    sockets: ByClass<UnixListener>,
+    listeners: Listeners,
     counts: Counts,
     rooms: ByClass<Vec<Session>>,
 ) -> Result<ByClass<ServedListener>, FailedListeners>
@@ -239,7 +230,7 @@ fn serve_logged<'s, E: 's, R: Wait + Threads + Log + Sync, D: Gathering + Sync>(
             participants,
         });
     };
-    let served = serve_in_scope(scope, rt, shared, participants, sockets, counts, rooms);
+    let served = serve_in_scope(scope, rt, shared, participants, listeners, counts, rooms);
     shared.open().notes().end(rt);
     logging.join(rt);
     served
@@ -253,7 +244,7 @@ pub(crate) fn serve_listeners<R: Wait + Threads + Log + Sync, D: Gathering + Syn
     rt: &R,
     shared: &D,
     participants: ByClass<Seat>,
-    sockets: ByClass<UnixListener>,
+    listeners: Listeners,
     counts: Counts,
     rooms: ByClass<Vec<Session>>,
 ) -> Result<ByClass<ServedListener>, FailedListeners>
@@ -268,6 +259,6 @@ pub(crate) fn serve_listeners<R: Wait + Threads + Log + Sync, D: Gathering + Syn
             requires fresh { AreFresh (D.table shared.now) participants }
             requires rooms { AreRooms counts rooms }
             ensures { AreAllServed counts participants result }
-        { serve_logged(scope, rt, shared, participants, sockets, counts, rooms) },
+        { serve_logged(scope, rt, shared, participants, listeners, counts, rooms) },
     )
 }

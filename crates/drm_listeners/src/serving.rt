@@ -11,6 +11,7 @@ ghost use Rattle.drm_listeners.specs.Connections.{IsSessionOf};
 ghost use Rattle.drm_listeners.specs.Listeners.{AreChildren, AreRooms, participants_of};
 ghost use Rattle.drm_listeners.specs.Serving.{AreSessionsOf, Continues, HaveSat, IsHistoryOf, card_sessions, connections, render_sessions, root_sessions};
 
+use crate::class_listeners::{ClassListener, Listeners};
 use crate::connections::ServedListener;
 use crate::hall::Hall;
 use crate::listeners::{ByClass, serve_listeners};
@@ -132,7 +133,7 @@ fn serve_shared<R: Wait + Threads + Log + Sync>(
     shared: &SharedDevice,
     open: &OpenConnections,
     participant: &mut Seat,
-    sockets: ByClass<UnixListener>,
+    listeners: Listeners,
     counts: Counts,
 ) -> Result<Vec<Session>, ServeFault>
     requires own { participant.old.table ≡ shared.now }
@@ -157,7 +158,7 @@ fn serve_shared<R: Wait + Threads + Log + Sync>(
         device: shared,
         open,
     };
-    match serve_listeners(rt, &hall, participants, sockets, counts, rooms) {
+    match serve_listeners(rt, &hall, participants, listeners, counts, rooms) {
         Ok(served) => Ok(gather(shared, participant, served, sessions)),
         Err(failed) => {
             take_in(shared, participant, failed.participants);
@@ -185,9 +186,7 @@ pub fn serve_keeping<R: Wait + Threads + Log + Sync>(
     rt: &R,
     alloc: Global,
     device: Device,
-    card: UnixListener,
-    render: UnixListener,
-    root: UnixListener,
+    listeners: Listeners,
     counts: Counts,
     open: &OpenConnections,
 ) -> Result<(Device, Vec<Session>), Unserved>
@@ -211,8 +210,15 @@ pub fn serve_keeping<R: Wait + Threads + Log + Sync>(
             });
         }
     };
-    let sockets = ByClass { card, render, root };
-    let served = serve_shared(rt, alloc, &shared, open, &mut participant, sockets, counts);
+    let served = serve_shared(
+        rt,
+        alloc,
+        &shared,
+        open,
+        &mut participant,
+        listeners,
+        counts,
+    );
     let Ok(device) = shared.close(participant) else {
         unreachable!()
     };
@@ -253,9 +259,7 @@ pub fn serve_until_told<R: Wait + Threads + Log + Sync>(
     rt: &R,
     alloc: Global,
     device: Device,
-    card: UnixListener,
-    render: UnixListener,
-    root: UnixListener,
+    listeners: Listeners,
     counts: Counts,
     open: &OpenConnections,
 ) -> Result<(Device, Vec<Session>), ServeFault>
@@ -267,7 +271,7 @@ pub fn serve_until_told<R: Wait + Threads + Log + Sync>(
     ensures journaled { IfOk result (λ served. length served.0.journal ≡ length device.journal + all_steps served.1.items) }
     ensures turn { result ≢ Err TurnOut }
 {
-    match serve_keeping(rt, alloc, device, card, render, root, counts, open) {
+    match serve_keeping(rt, alloc, device, listeners, counts, open) {
         Ok(served) => Ok(served),
         Err(unserved) => Err(unserved.fault),
     }
@@ -293,5 +297,10 @@ pub fn serve_all<R: Wait + Threads + Log + Sync>(
     ensures turn { result ≢ Err TurnOut }
 {
     let open = OpenConnections::new(alloc, counts, None).map_err(|_| ServeFault::NoMemory)?;
-    serve_until_told(rt, alloc, device, card, render, root, counts, &open)
+    let listeners = Listeners {
+        card: ClassListener::new(card),
+        render: ClassListener::new(render),
+        root: ClassListener::new(root),
+    };
+    serve_until_told(rt, alloc, device, listeners, counts, &open)
 }

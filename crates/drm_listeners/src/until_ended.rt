@@ -1,22 +1,24 @@
 //! Serving any number of connections, until asked to end.
 
 ghost use Rattle.std.specs.Prelude.{◌≡◌, ◌≢◌, ◌+◌, [], IfOk, IfErr};
+ghost use Rattle.drm_connections.specs.declared.counts.Counts.{Counts};
 ghost use Rattle.drm_turns.specs.History.{StartsWith};
 ghost use Rattle.drm_turns.specs.Participants.{Same};
 ghost use Rattle.drm_listeners.specs.declared.serve_faults.ServeFault.TheVariants.{NoMemory, TurnOut};
-ghost use Rattle.drm_listeners.specs.UntilEnded.{HasServedAll, HaveAllSat, IsOutside};
+ghost use Rattle.drm_listeners.specs.UntilEnded.{AreAllCounted, HasServedAll, HaveAllSat, counts_of};
 
+use crate::class_listeners::Listeners;
 use crate::hall::Hall;
 use crate::lasting_listeners::keep_listeners;
 use crate::listeners::ByClass;
 use crate::serve_faults::ServeFault;
 use crate::serving::{Unserved, take_in};
+use crate::visitors::Visitors;
 use drm_connections::OpenConnections;
 use drm_device::Device;
 use drm_turns::{Seat, SharedDevice};
 use log::Log;
 use std::alloc::Global;
-use std::os::unix::net::UnixListener;
 use std::sync::Wait;
 use std::thread::Threads;
 
@@ -26,14 +28,17 @@ fn keep_shared<R: Wait + Threads + Log + Sync>(
     shared: &SharedDevice,
     open: &OpenConnections,
     participant: &mut Seat,
-    sockets: ByClass<UnixListener>,
-) -> Option<ServeFault>
+    listeners: Listeners,
+) -> Result<ByClass<Visitors>, ServeFault>
     requires own { participant.old.table ≡ shared.now }
     requires merged { participant.old.merged ≡ [] }
-    ensures served { HaveAllSat participant.old participant.new }
+    ensures counted { IfOk result AreAllCounted }
+    ensures served { IfOk result (λ visitors. HaveAllSat (counts_of visitors) participant.old participant.new) }
+    ensures kept { IfErr result (λ fault. (counts : Counts) × HaveAllSat counts participant.old participant.new) }
     ensures same { Same participant.old participant.new × StartsWith participant.new.seen participant.old.seen }
     ensures outstanding { participant.new.outstanding ≡ participant.old.outstanding }
-    ensures fault { IsOutside result }
+    ensures turn { IfErr result (λ fault. fault ≢ TurnOut) }
+    ensures memory { IfErr result (λ fault. fault ≢ NoMemory) }
 {
     let participants = ByClass {
         card: shared.split(participant),
@@ -44,9 +49,18 @@ fn keep_shared<R: Wait + Threads + Log + Sync>(
         device: shared,
         open,
     };
-    let kept = keep_listeners(rt, &hall, participants, sockets);
+    let kept = keep_listeners(rt, &hall, participants, listeners);
     take_in(shared, participant, kept.participants);
-    kept.fault
+    kept.visitors
+}
+
+/// A device whose server was asked to end, and the account of each listener (own).
+#[derive(Drop)]
+pub struct Attended {
+    /// The device.
+    pub device: Device,
+    /// The connections of each listener.
+    pub visitors: ByClass<Visitors>,
 }
 
 /// Accepts connections on the three listeners and serves each in its own thread, on one device that they share (own).
@@ -56,6 +70,10 @@ fn keep_shared<R: Wait + Threads + Log + Sync>(
 /// which no thread can be started; each is logged once. Each session is one as [`serve_all`](crate::serve_all)
 /// describes it, of the class of its listener. The device has the events of one legal history, which begins with what
 /// it had recorded before and has the steps of each session.
+///
+/// The account of a listener has each connection that it accepted: it was served in a thread, was closed because 64 were
+/// open, or got no thread. There is a session for each of the first and of the last. A session without a thread has what
+/// the client sent before its connection was closed.
 ///
 /// If the system is out of descriptors or memory for a connection, the listener waits. `open` has room for the
 /// connections if it was created by [`OpenConnections::until_ended`]. Does not allocate for a connection.
@@ -73,13 +91,12 @@ pub fn serve_until_ended<R: Wait + Threads + Log + Sync>(
     rt: &R,
     alloc: Global,
     device: Device,
-    card: UnixListener,
-    render: UnixListener,
-    root: UnixListener,
+    listeners: Listeners,
     open: &OpenConnections,
-) -> Result<Device, Unserved>
-    ensures served { IfOk result (λ after. HasServedAll device after) }
-    ensures kept { IfErr result (λ unserved. unserved.fault ≢ NoMemory → HasServedAll device unserved.device) }
+) -> Result<Attended, Unserved>
+    ensures counted { IfOk result (λ attended. AreAllCounted attended.visitors) }
+    ensures served { IfOk result (λ attended. HasServedAll (counts_of attended.visitors) device attended.device) }
+    ensures kept { IfErr result (λ unserved. unserved.fault ≢ NoMemory → (counts : Counts) × HasServedAll counts device unserved.device) }
     ensures memory { IfErr result (λ unserved. unserved.fault ≡ NoMemory → unserved.device ≡ device) }
     ensures turn { IfErr result (λ unserved. unserved.fault ≢ TurnOut) }
 {
@@ -92,13 +109,12 @@ pub fn serve_until_ended<R: Wait + Threads + Log + Sync>(
             });
         }
     };
-    let sockets = ByClass { card, render, root };
-    let fault = keep_shared(rt, &shared, open, &mut participant, sockets);
+    let kept = keep_shared(rt, &shared, open, &mut participant, listeners);
     let Ok(device) = shared.close(participant) else {
         unreachable!()
     };
-    match fault {
-        None => Ok(device),
-        Some(fault) => Err(Unserved { fault, device }),
+    match kept {
+        Ok(visitors) => Ok(Attended { device, visitors }),
+        Err(fault) => Err(Unserved { fault, device }),
     }
 }

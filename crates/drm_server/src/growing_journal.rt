@@ -12,16 +12,8 @@ use std::sync::Wait;
 /// What a journal's thread has written.
 #[derive(Clone, Copy, Debug, PartialEq, Eq)]
 pub(crate) enum Growth {
-    /// This many steps, in this many bytes. Whether each step has a line.
-    Grown {
-        steps: usize,
-        written: usize,
-        has_lines: bool,
-    },
-    /// This many bytes, and then nothing more, for a failed write or lack of memory.
-    Stopped {
-        written: usize,
-    },
+    /// This many bytes. After a failed write or without memory nothing more.
+    Written(usize),
     /// Not all, since the reader took nothing for a second after the last step.
     Untaken,
 }
@@ -77,10 +69,7 @@ pub(crate) fn grow<R: Wait>(rt: &R, watch: &Watch, journal: GrowingJournal) -> G
     for _ in rt.forever() {
         match journal.outlet.put(rt, watch, &journal.text) {
             Put::Whole => written = written.saturating_add(journal.text.len()),
-            Put::Failed(taken) => {
-                let written = written.saturating_add(taken);
-                return Growth::Stopped { written };
-            }
+            Put::Failed(taken) => return Growth::Written(written.saturating_add(taken)),
             Put::Untaken(_) => return Growth::Untaken,
         }
         if !watch.take(rt, steps, false, &mut journal.batch) {
@@ -88,12 +77,8 @@ pub(crate) fn grow<R: Wait>(rt: &R, watch: &Watch, journal: GrowingJournal) -> G
         }
         match journal.make_lines() {
             Ok(more) => steps = steps.saturating_add(more),
-            Err(AllocError) => return Growth::Stopped { written },
+            Err(AllocError) => return Growth::Written(written),
         }
     }
-    Growth::Grown {
-        steps,
-        written,
-        has_lines: journal.writer.is_whole(),
-    }
+    Growth::Written(written)
 }

@@ -20,7 +20,10 @@ pub use drm_commands::{
     Fault, FaultLine, Outcome, outcome_of, outcome_of_checks, outcome_of_fault,
 };
 pub use drm_connections::{Counts, OpenConnections, class_word};
-pub use drm_listeners::{ServeFault, Unserved, serve_all, serve_until_ended, serve_until_told};
+pub use drm_listeners::{
+    Attended, ByClass, CardClass, ClassListener, ListenerClass, Listeners, RenderClass, RootClass,
+    ServeFault, Unserved, Visitors, serve_all, serve_until_ended, serve_until_told,
+};
 pub use drm_runs::{
     Ran, ScriptEnd, Setup, run_on, run_script, run_with_cause, scripts_are_answered,
 };

@@ -4,12 +4,12 @@ use crate::command_line::{Accepts, Serving};
 use crate::controlling::control;
 use crate::ending::end_with_input;
 use crate::growing_journal::{GrowingJournal, Growth, grow};
-use crate::sockets::{Listeners, Socket, SocketFile, Sockets, bind_all, bind_control};
+use crate::sockets::{Socket, SocketFile, Sockets, bind_all, bind_control};
 use crate::tracing::{Trace, write_trace};
 use drm_commands::Fault;
 use drm_connections::{MOST_AT_ONCE, OpenConnections, PROGRAM};
 use drm_device::Device;
-use drm_listeners::{ServeFault, Unserved, serve_keeping, serve_until_ended};
+use drm_listeners::{Listeners, ServeFault, Unserved, serve_keeping, serve_until_ended};
 use drm_plans::Plan;
 use drm_watch::Watch;
 use log::{Log, error, info};
@@ -75,15 +75,12 @@ fn serve_all_of<R: Log + Wait + Threads + Sync>(
         listeners,
         accepts,
     } = task;
-    let Listeners { card, render, root } = listeners;
     match accepts {
         Accepts::Counted(counts) => {
-            let (device, _sessions) = serve_keeping(
-                rt, alloc, device, card, render, root, counts, open,
-            )?;
+            let (device, _sessions) = serve_keeping(rt, alloc, device, listeners, counts, open)?;
             Ok(device)
         }
-        Accepts::AnyNumber => serve_until_ended(rt, alloc, device, card, render, root, open),
+        Accepts::AnyNumber => Ok(serve_until_ended(rt, alloc, device, listeners, open)?.device),
     }
 }
 

@@ -5,6 +5,7 @@ ghost use Rattle.drm_commands.specs.declared.faults.Fault.TheVariants.{Listen};
 
 use drm_commands::Fault;
 use drm_connections::PROGRAM;
+use drm_listeners::{CardClass, ClassListener, ListenerClass, RenderClass, RootClass};
 use drm_sessions::Class;
 use log::{Log, error};
 use std::io::ErrorKind;
@@ -21,6 +22,17 @@ pub(crate) struct Paths<'a> {
     pub(crate) card: &'a str,
     pub(crate) render: &'a str,
     pub(crate) root: &'a str,
+}
+
+impl<'a> Paths<'a> {
+    /// Returns the path of the socket of a class.
+    fn of(self, class: Class) -> &'a str {
+        match class {
+            Class::Card => self.card,
+            Class::Render => self.render,
+            Class::Root => self.root,
+        }
+    }
 }
 
 /// The identity of the file at a path. If the file system stores the time of creation, a reused number is that of
@@ -94,16 +106,6 @@ impl<'a, R: Files + Net + Log> Socket<'a, R> {
             }
         }
     }
-
-    /// Binds the socket of this class.
-    pub(crate) fn bind(rt: &'a R, path: &'a str, class: Class) -> Result<Socket<'a, R>, Fault>
-        ensures { IfErr result (λ fault. fault ≡ Listen class) }
-    {
-        match Socket::bound(rt, path) {
-            Some(socket) => Ok(socket),
-            None => Err(Fault::Listen(class)),
-        }
-    }
 }
 
 /// Binds the socket of control.
@@ -117,20 +119,36 @@ pub(crate) fn bind_control<'a, R: Files + Net + Log>(
     }
 }
 
+/// The bound socket of class `C`.
+#[derive(Drop)]
+pub(crate) struct ClassSocket<'a, R: Files, C: ListenerClass> {
+    pub(crate) listener: ClassListener<C>,
+    pub(crate) file: SocketFile<'a, R>,
+}
+
+/// Binds the socket of class `C` at its path.
+fn bind<'a, R: Files + Net + Log, C: ListenerClass>(
+    rt: &'a R,
+    paths: Paths<'a>,
+) -> Result<ClassSocket<'a, R, C>, Fault>
+    ensures { IfErr result (λ fault. fault ≡ Listen C.of) }
+{
+    let class = C::class();
+    match Socket::bound(rt, paths.of(class)) {
+        Some(Socket { listener, file }) => Ok(ClassSocket {
+            listener: ClassListener::new(listener),
+            file,
+        }),
+        None => Err(Fault::Listen(class)),
+    }
+}
+
 /// The three bound sockets.
 #[derive(Drop)]
 pub(crate) struct Sockets<'a, R: Files> {
-    pub(crate) card: Socket<'a, R>,
-    pub(crate) render: Socket<'a, R>,
-    pub(crate) root: Socket<'a, R>,
-}
-
-/// Their listeners, without their files.
-#[derive(Drop)]
-pub(crate) struct Listeners {
-    pub(crate) card: UnixListener,
-    pub(crate) render: UnixListener,
-    pub(crate) root: UnixListener,
+    pub(crate) card: ClassSocket<'a, R, CardClass>,
+    pub(crate) render: ClassSocket<'a, R, RenderClass>,
+    pub(crate) root: ClassSocket<'a, R, RootClass>,
 }
 
 /// Binds the sockets in the order card, render, root. If one can't be bound, those before it are closed and their files
@@ -141,8 +159,8 @@ pub(crate) fn bind_all<'a, R: Files + Net + Log>(
 ) -> Result<Sockets<'a, R>, Fault>
     ensures { IfErr result (λ fault. (class : Class) × (fault ≡ Listen class)) }
 {
-    let card = Socket::bind(rt, paths.card, Class::Card)?;
-    let render = Socket::bind(rt, paths.render, Class::Render)?;
-    let root = Socket::bind(rt, paths.root, Class::Root)?;
+    let card = bind::<R, CardClass>(rt, paths)?;
+    let render = bind::<R, RenderClass>(rt, paths)?;
+    let root = bind::<R, RootClass>(rt, paths)?;
     Ok(Sockets { card, render, root })
 }

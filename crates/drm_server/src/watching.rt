@@ -9,7 +9,7 @@ use crate::outlet::{Outlet, STANDARD_ERROR};
 use crate::serving::Writers;
 use crate::tracing::Trace;
 use drm_commands::{
-    Fault, JournalFile, TopologyText, asked_device, create_trace, warn_of_comments, write_rest,
+    Fault, JournalFile, TopologyText, asked_device, complete_journal, create_trace,
 };
 use drm_connections::PROGRAM;
 use drm_device::{Device, Limits};
@@ -129,7 +129,7 @@ where
     }))
 }
 
-/// Writes what is missing in the journal of a device that was served.
+/// Writes what is missing in the journal of a device that was served, and compares its file with the journal.
 pub(crate) fn finish_journal<R: Files + AllocGlobal + Log>(
     rt: &R,
     alloc: Global,
@@ -144,30 +144,24 @@ pub(crate) fn finish_journal<R: Files + AllocGlobal + Log>(
     let Some(journal) = journal else {
         return Ok(());
     };
-    let path = journal.path();
-    let events = device.journal();
     let written = match growth {
-        Some(
-            Growth::Grown {
-                steps,
-                has_lines,
-                ..
-            },
-        ) if steps == events.len() => {
-            if !has_lines {
-                warn_of_comments(rt, path);
-            }
-            return Ok(());
-        }
-        Some(Growth::Grown { written, .. }) => written,
+        None => 0,
+        Some(Growth::Written(written)) => written,
         Some(Growth::Untaken) => {
+            let path = journal.path();
             error!(rt; target: PROGRAM, "{path}: the last lines of the journal were not read");
             return Err(Fault::Write);
         }
-        Some(Growth::Stopped { written }) => written,
-        None => 0,
     };
-    write_rest(rt, alloc, journal, topology, limits, events, written)
+    complete_journal(
+        rt,
+        alloc,
+        journal,
+        topology,
+        limits,
+        device.journal(),
+        written,
+    )
 }
 
 /// Logs the number of calls that have no line in the trace, if standard error takes it.

@@ -1,13 +1,15 @@
 //! The examples of `drm_journals`, made by `tools/doc_examples` of its doc comments.
 
 use drm_device::Limits;
-use drm_journals::{Journal, JournalWriter, journal_of, put_words};
+use drm_journals::{Journal, JournalWriter, first_difference, journal_of, put_words};
 use drm_runs::make_device;
 use drm_table::{Call, Event, Opening};
 
 #[test]
 #[tactic(auto, unfolding(drm_table::specs::Limits::are_in_range))]
 fn values(rt: HostRuntime) {
+    assert!(rt; first_difference(b"open a card\n", b"open a card\n").is_none());
+    assert!(rt; first_difference(b"open a card\nclose a", b"open a card\na version") == Some(2));
     let alloc = rt.alloc();
     let journal = Journal {
         text: Vec::new(alloc),

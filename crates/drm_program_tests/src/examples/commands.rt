@@ -3,9 +3,9 @@
 use drm_checks::Totals;
 use drm_commands::{
     AskedDevice, Checking, Explaining, Fault, FaultLine, FilesRead, Outcome, Running, Shrinking,
-    asked_device, asked_limits, check, create_asked, create_trace, explain_script, outcome_by,
-    outcome_of, outcome_of_checks, outcome_of_fault, read_asked, run, shrink, update, write_noted,
-    write_rest,
+    asked_device, asked_limits, check, complete_journal, create_asked, create_trace,
+    explain_script, outcome_by, outcome_of, outcome_of_checks, outcome_of_fault, read_asked, run,
+    shrink, update, write_noted,
 };
 use drm_device::Limits;
 use drm_runs::ScriptEnd;
@@ -124,7 +124,7 @@ fn values_from_explain_script(rt: HostRuntime) {
     let Ok(Some(journal)) = create_asked(&rt, Some("/dev/null"), read) else {
         panic!(rt; "refused")
     };
-    let written = write_rest(&rt, alloc, journal, None, Limits::PROGRAM, &[], 4);
+    let written = complete_journal(&rt, alloc, journal, None, Limits::PROGRAM, &[], 4);
     assert!(rt; written.is_ok());
 }
 

@@ -27,6 +27,8 @@ loop-started-preserved-then-is_awaited g c =
     (by.3.0 ∙ promise.child.parent) (by.3.1 ∙ promise.child.outstanding) in
     let now = c.join.ensures.outstanding ∙ fewer in
     let enough = c.requires.outstanding in
+    let one_more = ap (λ xs. length xs) c.join.ensures.merged ∙ length-append c.loop-started.own.merged (other.number ∷ other.merged) in
+    let alone = ap (λ xs. length xs) by.2 in
     record {
       can = tt;
       ends = tt;
@@ -42,6 +44,7 @@ loop-started-preserved-then-is_awaited g c =
           promised-still (λ visit. visit.handle.promise) c.args.class c.loop-started.own c.join.new.participant _ kept.0
           before.promised;
       outstanding = (let sum = before.outstanding in omega (arith, taken, all, now, enough, sum));
+      merged = (let sum = before.merged in omega (arith, taken, one_more, alone, sum));
       room = (let room = before.room in omega (arith, taken, room));
       none = before.none;
     }
@@ -70,6 +73,7 @@ loop-started-preserved g c =
           _ _ c.push.ensures.items
           (All-push (λ visit. IsSomeAnd visit (λ visit. IsPromised c.args.class c.loop-started.own visit.handle.promise)) c.loop-started.left.items (Some c.in-Some-started.visit) before.promised promise);
       outstanding = (let sum = before.outstanding in omega (arith, taken, longer, sum));
+      merged = (let sum = before.merged in omega (arith, taken, longer, sum));
       room = (let room = before.room in omega (arith, taken, longer, room));
       none = (λ is_all. let met = c.is_awaited.ensures is_all in let not = c.if-is_awaited.false in search rules);
     }

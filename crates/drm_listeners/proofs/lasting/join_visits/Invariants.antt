@@ -16,6 +16,7 @@ invariant-loop-started g l = record {
   waiting : ArePromised (λ visit. visit.handle.promise) l.fn.class l.own l.started-iterator;
   promised : ArePromised (λ visit. visit.handle.promise) l.fn.class l.own l.left.items;
   outstanding : l.own.outstanding + length l.initial.started-iterator ≡ l.initial.own.outstanding + (length l.started-iterator + array_vec_len l.left);
+  merged : length l.own.merged + (length l.started-iterator + array_vec_len l.left) ≡ length l.initial.own.merged + length l.initial.started-iterator;
   room : length l.started-iterator + array_vec_len l.left ≤ 64;
   none : l.awaited ≡ awaited.All → array_vec_len l.left ≡ 0;
 }

@@ -1,7 +1,9 @@
-use Rattle.std.proofs.Common.{ap}
+use Rattle.std.proofs.Common.{ap, sym, ◌∙◌}
+use Rattle.std.proofs.lemmas.List.Elements.{All-push, All-same}
+use Rattle.std.specs.Prelude.{IsSomeAnd, Some}
 use Rattle.drm_turns.specs.Participants.{ParticipantView}
-use Rattle.drm_listeners.specs.UntilEnded.{HasServed}
-use Rattle.drm_listeners.proofs.Visits.{served-more, served-still}
+use Rattle.drm_listeners.specs.UntilEnded.{HasServed, IsPromised}
+use Rattle.drm_listeners.proofs.Visits.{promised-still, served-more, served-still}
 use Rattle.drm_listeners.proofs.lasting.serve_visitor.Goals as goal
 
 pub returns-in-Ok-clause-served : goal.returns-in-Ok-clause-served
@@ -9,6 +11,25 @@ returns-in-Ok-clause-served g c =
     let same = c.split-participant.ensures.same in
     served-still c.args.class c.args.own.now _ (ap (λ (s : ParticipantView). s.seen) same)
     (ap (λ (s : ParticipantView). s.merged) same) (ap (λ (s : ParticipantView). s.journaled) same) c.requires.served
+
+pub returns-in-Ok-clause-promised : goal.returns-in-Ok-clause-promised
+returns-in-Ok-clause-promised g c =
+    let own : ParticipantView = c.split-participant.new.participant in
+    let same = c.split-participant.ensures.same in
+    let table = ap (λ (s : ParticipantView). s.table) same in
+    let number = ap (λ (s : ParticipantView). s.number) same in
+    let is = c.in-Ok.ensures.participant in
+    let promise : IsPromised c.args.class own c.in-Ok.handle.promise = record {
+      of_class = c.in-Ok.ensures.class;
+      table = ap (λ (s : ParticipantView). s.table) is ∙ c.split-participant.ensures.own.0 ∙ sym table;
+      child = record {
+        parent = ap (λ (s : ParticipantView). s.parent) is ∙ c.split-participant.ensures.parent ∙ sym number;
+        outstanding = ap (λ (s : ParticipantView). s.outstanding) is ∙ c.split-participant.ensures.none_outstanding;
+      };
+    } in
+    All-same (λ visit. IsSomeAnd visit (λ visit. IsPromised c.args.class own visit.handle.promise)) _ _ c.push.ensures.items
+    (All-push (λ visit. IsSomeAnd visit (λ visit. IsPromised c.args.class own visit.handle.promise)) c.args.guests.visits.items _
+    (promised-still (λ visit. visit.handle.promise) c.args.class c.args.own.now own _ (table, number, ap (λ (s : ParticipantView). s.origin) same) c.requires.promised) promise)
 
 pub returns-in-Err-clause-served : goal.returns-in-Err-clause-served
 returns-in-Err-clause-served g c =

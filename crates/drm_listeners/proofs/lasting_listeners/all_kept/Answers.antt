@@ -1,5 +1,4 @@
 use Rattle.drm_sessions.specs.declared.class.Class.TheVariants.{Card, Render, Root}
-use Rattle.drm_listeners.proofs.AllVisits.{is-outside}
 use Rattle.drm_listeners.proofs.lasting_listeners.all_kept.Goals as goal
 
 pub returns : goal.returns
@@ -11,7 +10,5 @@ returns c = λ participants h.
       card = card.0;
       render = render.0;
       root = root.0;
-      fault =
-          c.first_fault-fault.ensures (is-outside Card _ card.1) (is-outside Render _ render.1)
-          (is-outside Root _ root.1);
+      accounts = c.all_accounts-visitors.ensures _ card.1 render.1 root.1;
     }

@@ -1,4 +1,6 @@
-use Rattle.drm_sessions.specs.declared.class.Class.TheVariants.{Card, Render, Root}
+use Rattle.std.proofs.Common.{subst}
+use Rattle.drm_sessions.specs.declared.class.Class.{Class}
+use Rattle.drm_listeners.specs.UntilEnded.{Keeps}
 use Rattle.drm_listeners.proofs.Gathering.{if_ok_both}
 use Rattle.drm_listeners.proofs.lasting_listeners.keep_in_scope.Goals as goal
 
@@ -10,12 +12,15 @@ returns g c =
     c.all_kept.ensures c.args.participants
     record {
       card =
-          c.join_keeper.ensures Card c.args.participants.card
-          (if_ok_both _ _ c.start_keeper-card.result card.class card.participant) card.failed;
+          subst (λ (class : Class). Keeps class c.args.participants.card c.join_keeper.result) c.lasting-card.ensures.class
+          (c.join_keeper.ensures c.lasting-card.result.class c.args.participants.card
+          (if_ok_both _ _ c.start_keeper-card.result card.class card.participant) card.failed);
       render =
-          c.join_keeper-2.ensures Render c.args.participants.render
-          (if_ok_both _ _ c.start_keeper-render.result render.class render.participant) render.failed;
+          subst (λ (class : Class). Keeps class c.args.participants.render c.join_keeper-2.result) c.lasting-render.ensures.class
+          (c.join_keeper-2.ensures c.lasting-render.result.class c.args.participants.render
+          (if_ok_both _ _ c.start_keeper-render.result render.class render.participant) render.failed);
       root =
-          c.join_keeper-3.ensures Root c.args.participants.root
-          (if_ok_both _ _ c.start_keeper-root.result root.class root.participant) root.failed;
+          subst (λ (class : Class). Keeps class c.args.participants.root c.join_keeper-3.result) c.lasting-root.ensures.class
+          (c.join_keeper-3.ensures c.lasting-root.result.class c.args.participants.root
+          (if_ok_both _ _ c.start_keeper-root.result root.class root.participant) root.failed);
     }

@@ -9,10 +9,10 @@ use Rattle.std.proofs.result.Result.TheSendSync as result
 use Rattle.drm_turns.proofs.Crossing.{closure_send, participant_send}
 use Rattle.drm_turns.specs.contracts.seat.Seat as participant
 use Rattle.drm_sessions.specs.declared.class.Class.{Class}
-use Rattle.drm_listeners.proofs.lasting.LastingListener.TheSendSync as listener
-use Rattle.drm_listeners.specs.contracts.lasting.LastingListener as listener_type
+use Rattle.drm_listeners.proofs.visitors.LastingListener.TheSendSync as listener
+use Rattle.drm_listeners.specs.contracts.visitors.LastingListener as listener_type
 use Rattle.drm_listeners.specs.UntilEnded.{Keeps}
-use Rattle.drm_listeners.proofs.Crossing.{failed_send}
+use Rattle.drm_listeners.proofs.Crossing.{failed_send, kept_send}
 use Rattle.drm_listeners.proofs.lasting_listeners.start_keeper.Goals as goal
 
 -- what the thread takes along: the runtime and the device by `&`, the participant and the listener
@@ -27,7 +27,7 @@ spawn_with-kept-requires-send-F g c κs within =
 
 pub spawn_with-kept-requires-send-T : goal.spawn_with-kept-requires-send-T
 spawn_with-kept-requires-send-T g c κs within =
-    param_send _ _ (arg_send _ no _ (result.the_send _ _ participant_send failed_send))
+    param_send _ _ (arg_send _ no _ (result.the_send _ _ kept_send failed_send))
 
 pub returns-in-Err-clause-failed : goal.returns-in-Err-clause-failed
 returns-in-Err-clause-failed g c =
