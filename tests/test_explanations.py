@@ -6,6 +6,7 @@ Each test is a function of a folder of its own. The last line is `N passed, M fa
 """
 import json
 import os
+import re
 import string
 import subprocess
 import sys
@@ -22,6 +23,8 @@ from support import (  # noqa: E402
     run_tests,
     want_no_checks,
 )
+
+from told_facts import FACTS, JOURNALS, NOT_IN_SCRIPTS, NOT_WRITTEN, PASSES_IF  # noqa: E402
 
 # What examples leave their clients, and by which steps, which was told by hand. Steps are lines of `run`, counted from 1.
 
@@ -78,6 +81,49 @@ l is current: the owner of its master 2 is 1, the device's master
 l may set CRTC 1 and plane 3: leased by a at step 2 (lessee 1, token 1), redeemed by l at step 3
 lessee 1, master 2, has CRTC 1, plane 3 and connector 7: leased by a at step 2 (lessee 1, token 1), redeemed by l at step 3
 """
+
+# Root, a magic that was named, a client whose label names another one, and each way to publish a buffer.
+OTHERS = """\
+open a root
+open b card
+b get_magic
+a auth_magic 1
+a create_dumb 8 8 32
+a addfb 8 8 32 32 1
+a getfb 9
+a gem_flink 1
+b gem_open 1
+open b card
+close b
+"""
+EXPLAINED_OTHERS = """\
+the device's master is 1: a founded it as it opened at step 1
+a is client 1: a primary client, opened by root at step 1
+a is authenticated: it opened by root at step 1
+a is a master: it founded master 1 as it opened at step 1, when the device had none
+a is current: its master 1 is the device's
+a may set CRTC 1, CRTC 2, plane 3 and plane 4: it is current, and its master is no lessee
+a holds buffer 5 as handle 1: made by a at step 5 (create_dumb)
+a holds buffer 5 as handle 2: made by a at step 5 (create_dumb), added at step 6 (framebuffer 9), returned to a at step 7 (getfb)
+client 2 is without a label: a primary client, opened at step 2
+client 2 is authenticated: a named its magic 1 at step 4 (auth_magic)
+client 2 is no master: it joined master 1 as it opened at step 2
+client 2 is not current: it is no master
+client 2 may set nothing: it is not current
+client 2 holds buffer 5 as handle 1: made by a at step 5 (create_dumb), named at step 8 (name 1), opened by client 2 at step 9
+b was client 10: a primary client, opened at step 10, closed at step 11
+"""
+NOBODY = "the device has no master: no client set one\n"
+UP_TO = "as handle {} of a up to step {}, "
+EXPLAINED = [
+    EXPLAINED_LEASES,
+    EXPLAINED_SHARING,
+    EXPLAINED_LESSEE,
+    EXPLAINED_PLANES,
+    EXPLAINED_OTHERS,
+    NOBODY,
+    UP_TO.format(1, 2),
+]
 
 # Why lines are answered as they are: a script, the number of a line, and what is told of it, by hand. Steps are counted from 1 in each.
 
@@ -513,6 +559,61 @@ it would pass if each id were that of such a mode object, and the caller saw it
 ]
 
 
+# The sources of facts and of their sentences, and the enums of facts in them.
+FACTS_SOURCE = REPOSITORY / "crates/drm_refusals/src/facts.rt"
+REMEDIES_SOURCE = REPOSITORY / "crates/drm_refusals/src/remedies.rt"
+LINES_SOURCE = REPOSITORY / "crates/drm_explanations/src/lines.rt"
+SENTENCES_SOURCE = REPOSITORY / "crates/drm_sentences/src/sentences.rt"
+
+
+def variants(source):
+    """The variants of each enum of a source, by its name, each with what follows its name on its line."""
+    enums = re.findall(r"^pub enum (\w+) \{\n(.*?)^\}", source.read_text(), re.MULTILINE | re.DOTALL)
+    return {name: dict(re.findall(r"^    ([A-Z]\w*)(.*)", body, re.MULTILINE)) for name, body in enums}
+
+
+def texts(source):
+    """The texts that a source writes, without those that have no letter."""
+    code = "".join(line for line in source.read_text().splitlines(True) if not line.lstrip().startswith("//"))
+    found = re.findall(r'"((?:[^"\\]|\\.)*)"', code)
+    return [text.replace("\\n", "\n") for text in found if re.search("[a-z]", re.sub(r"\{\w*\}", "", text))]
+
+
+def is_written(text, lines):
+    """Whether one of the lines has the text, with a value for each name in braces."""
+    return re.search(".+".join(map(re.escape, re.split(r"\{\w*\}", text))), lines) is not None
+
+
+def denial(number):
+    """The answer of a denial by a rule, by docs/RULES.md."""
+    rules = (REPOSITORY / "docs/RULES.md").read_text()
+    name, errno = re.search(rf"^\| {number} (\w+) \| E\w+ \((\d+)\) \|", rules, re.MULTILINE).groups()
+    return f"denied {number} {name} {errno}"
+
+
+def asked(lines):
+    """How the last line of a script is told as a step: its number, its call and its caller."""
+    step = len(lines) - lines[0].startswith("limits ")
+    label, word, *_ = lines[-1].split()
+    if label.startswith("open"):
+        return f"step {step}, open"
+    if label == "close":
+        label, word = word, label
+    if word == "raw":
+        table = (REPOSITORY / "docs/FORMATS.md").read_text()
+        row = re.search(rf"^\| 0x{int(lines[-1].split()[2]):02X} \| .*? \| `(\w+)`", table, re.MULTILINE)
+        word = row.group(1) if row else "a call with an unknown number"
+    is_bound = any(re.match(rf"open2? {label} ", line) for line in lines)
+    return f"step {step}, {word} by {label if is_bound else 'a label that names no client'}"
+
+
+def told_of(script, rule, facts):
+    """The script of a row of facts as a file's text, the number of its last line, and what is told of that."""
+    lines = script.split("; ")
+    told = [f"line {len(lines)} is {asked(lines)}: {denial(rule)}", *facts, f"it would pass if {PASSES_IF[rule]}"]
+    return "\n".join(lines) + "\n", len(lines), "\n".join(told) + "\n"
+
+
 def explain(name, *words):
     return run_program("explain", REPOSITORY / f"examples/{name}.script", *words)
 
@@ -647,7 +748,9 @@ class ExplanationsTests(FolderCase):
             told + "a was client 1: a primary client, opened at step 1, closed at step 4\n",
         )
         script.write_text("# nobody comes\n")
-        expect_end(run_program("explain", script), 0, "", "the device has no master: no client set one\n")
+        expect_end(run_program("explain", script), 0, "", NOBODY)
+        script.write_text(OTHERS)
+        expect_end(run_program("explain", script), 0, "", EXPLAINED_OTHERS)
 
     def test_explanations_agree_with_audits(self):
         """Behind each line of each script of examples/ where one more root client can be opened that asks the audits."""
@@ -723,12 +826,11 @@ a set_client_cap 2 0
         links = [f"named at step {2 * i + 1} (name 1), opened by a at step {2 * i + 2}" for i in range(1, 7)]
         wanted = [f"a holds buffer 2 as handle {i}: " + ", ".join([made, *links[: i - 1]]) for i in range(1, 6)]
         wanted += [
-            f"a holds buffer 2 as handle {i}: as handle {i - 4} of a up to step {2 * (i - 4)}, "
-            + ", ".join(links[i - 5 : i - 1])
+            f"a holds buffer 2 as handle {i}: " + UP_TO.format(i - 4, 2 * (i - 4)) + ", ".join(links[i - 5 : i - 1])
             for i in (6, 7)
         ]
         # the fifth has five links, of which the first is in the line of the first handle
-        wanted[4] = "a holds buffer 2 as handle 5: as handle 1 of a up to step 2, " + ", ".join(links[:4])
+        wanted[4] = "a holds buffer 2 as handle 5: " + UP_TO.format(1, 2) + ", ".join(links[:4])
         expect("the lines", lines, wanted)
         holds = json.loads(run_program("explain", script, "--json").stdout)["clients"][0]["holds"]
         fronts = [held["front"] for held in holds]
@@ -793,6 +895,45 @@ a holds no handle
 it would pass if the caller held the handle
 """
         expect_end(run_program("explain", script, "--line", "2"), 0, "", told)
+
+    def test_each_kind_of_fact_is_told(self):
+        """The rows of the table of facts; all that differ are told."""
+        script, wrong = self.folder / "script", []
+        rows = [told_of(*row[1:]) for row in FACTS]
+        for _, text, fact in JOURNALS:
+            lines = text.split("; ")
+            head = f"line {len(lines)}: apart 50 JournalFull 28\n"
+            rows.append(("\n".join(lines) + "\n", len(lines), f"{head}{fact}\nit would pass if the journal's limit were greater\n"))
+        for text, number, told in rows:
+            script.write_text(text)
+            ran = run_program("explain", script, "--line", str(number))
+            if (ran.returncode, ran.stderr, ran.stdout) != (0, "", told):
+                wrong.append(f"{text}---\n{ran.stdout}{ran.stderr}--- in place of\n{told}")
+        expect(f"rows that differ, of {len(rows)}:\n" + "\n".join(wrong), len(wrong), 0)
+
+    def test_each_kind_of_fact_has_a_row(self):
+        """The variants are read in the source: one that is added needs a row."""
+        enums = variants(FACTS_SOURCE)
+        facts = enums.pop("Fact")
+        inner = [fact.strip("(),") for name, fact in facts.items() if name != "Told"]
+        expect("the kinds of facts", sorted(inner + ["Quantity"]), sorted(enums))
+        enums["Subject"] = variants(LINES_SOURCE)["Subject"]
+        kinds = {f"{enum}::{name}" for enum, names in enums.items() for name in names}
+        rows = {kind for row in FACTS + JOURNALS for kind in row[0].split()}
+        expect("kinds without a row", sorted(kinds - rows - set(NOT_IN_SCRIPTS)), [])
+        expect("rows of no kind", sorted((rows | set(NOT_IN_SCRIPTS)) - kinds), [])
+        remedies = [text for text in texts(REMEDIES_SOURCE) if text not in NOT_WRITTEN]
+        told = {*PASSES_IF.values(), "the journal's limit were greater"}
+        expect("the conditions", sorted(set(remedies)), sorted(told))
+
+    def test_each_sentence_has_a_row(self):
+        """The texts are read in the source: one that is added needs a row that has it."""
+        facts = "\n".join(fact for row in FACTS for fact in row[3]) + "\n" + "\n".join(row[2] for row in JOURNALS)
+        lacking = [text for text in texts(SENTENCES_SOURCE) if not is_written(text, facts)]
+        expect("sentences without a row", [text for text in lacking if text not in NOT_WRITTEN], [])
+        lines = "\n".join([facts, *(told for *_, told in ANSWERS + ANSWERS_OF_EXAMPLES), *EXPLAINED])
+        lacking = [text for text in texts(LINES_SOURCE) if not is_written(text, lines)]
+        expect("lines without a row", [text for text in lacking if text not in NOT_WRITTEN], [])
 
     def test_answers_are_explained_as_json(self):
         folder = self.folder

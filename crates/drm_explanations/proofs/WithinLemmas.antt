@@ -16,17 +16,17 @@ use Rattle.drm_model.specs.ClientCapabilities.{cap_universal_planes}
 use Rattle.drm_model.specs.Rows.{is_option}
 use Rattle.drm_authority.specs.Magics.{is_named_by, is_named_in, is_root_by, is_root_in, magic_in}
 use Rattle.drm_authority.specs.MasterState as standings
-use Rattle.drm_authority.specs.MasterState.{caller_master_in, lease_in}
+use Rattle.drm_authority.specs.MasterState.{caller_master_in, lease_in, owner_in}
 use Rattle.drm_authority.specs.Lessees.{ends}
 use Rattle.drm_rights.specs.Leases.{ended_at, leases_in, new_lease}
-use Rattle.drm_rights.specs.Ledgers.{authenticated_by, authentication_of, authentications_in, capabilities_in, capability_of, capable, is_named_noted, master_state_of, new_authentication, new_capability, new_master_state, noted, opened, standings_in}
+use Rattle.drm_rights.specs.Ledgers.{authenticated_by, authentication_of, authentications_in, capabilities_in, capability_of, capable, is_named_noted, master_state_of, new_authentication, new_capability, new_master_state, noted, opened, owner_since_in, is_same_master, standings_in}
 use Rattle.drm_trails.specs.Steps.{entry_of, followed_by, history_of}
 use Rattle.drm_trails.specs.declared.steps.Step.{Step}
 use Rattle.drm_rights.specs.declared.notes.Authentication.{Authentication}
 use Rattle.drm_rights.specs.declared.notes.Capability.{Capability}
 use Rattle.drm_rights.specs.declared.notes.Lease.{Lease}
 use Rattle.drm_rights.specs.declared.notes.MasterState.{MasterState}
-use Rattle.drm_explanations.specs.Rows.{is_step}
+use Rattle.drm_explanations.specs.Rows.{is_step, owner_since}
 use Rattle.drm_explanations.specs.declared.rows.At.{At}
 
 -- a number is at least 1 and at most the number of steps
@@ -307,3 +307,33 @@ pub step_reported : (steps : List Step) (history : List AnsweredEvent) (n : ℕ)
     → is_some found ≡ (nat_le 1 n && nat_le n (length steps)) → option_map (λ (told : At). told.step) found ≡ Some n
 step_reported steps history n None e h is numbers = absurd (not_missing steps history n e h numbers)
 step_reported steps history n (Some told) e h is numbers = ap Some is
+
+-- ---- the device's master
+
+since_or : (past : List AnsweredEvent) (b : Bool) (older : ℕ) → older ≤ length past
+    → cond b older (next_number past) ≤ length past + 1
+since_or past true older within = omega (arith, within)
+since_or past false older within = omega arith
+
+-- The step since which the device has its master is one of the history, or 0.
+pub owner_within : (history : List AnsweredEvent) → owner_since_in history ≤ length history
+unfolding owner_since_in
+owner_within [] = omega arith
+owner_within (step ∷ past) =
+    let here =
+    since_or past (is_same_master (owner_in past) (owner_in (step ∷ past))) (owner_since_in past) (owner_within past) in
+    subst (λ k. cond (is_same_master (owner_in past) (owner_in (step ∷ past))) (owner_since_in past) (next_number past) ≤ k) (omega arith) here
+
+-- The step since which the device has its master is reported if there is one.
+pub since_reported : (steps : List Step) (history : List AnsweredEvent) (n : ℕ) (found : Option At)
+    → history_of steps ≡ history → n ≡ owner_since_in history → IfSome found (λ (told : At). told.step ≡ n)
+    → is_some found ≡ (nat_le 1 n && nat_le n (length steps))
+    → option_map (λ (told : At). told.step) found ≡ owner_since history
+since_reported steps history n None e n_is is numbers =
+    let size = steps_of steps history e in
+    let within = owner_within history in
+    let zero : (owner_since_in history == 0) ≡ true = grind (arith, nat_tests) in
+    ap (λ b. cond b None (Some (owner_since_in history))) (sym zero)
+since_reported steps history n (Some told) e n_is is numbers =
+    let some : (owner_since_in history == 0) ≡ false = grind (arith, nat_tests) in
+    ap Some (is ∙ n_is) ∙ ap (λ b. cond b None (Some (owner_since_in history))) (sym some)

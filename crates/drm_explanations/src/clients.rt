@@ -1,6 +1,6 @@
 //! Rows of clients.
 
-ghost use Rattle.std.specs.Prelude.{◌≡◌, ◌++◌, [], ◌∷◌, if◌then◌else◌, Some, All, IfOk, IfSome, map, option_to_list};
+ghost use Rattle.std.specs.Prelude.{◌≡◌, ◌++◌, All, IfOk, IfSome, filter, map, option_to_list};
 ghost use Rattle.std.specs.Option.{option_map};
 ghost use Rattle.drm_modes.specs.Topology as fixed;
 ghost use Rattle.drm_trails.specs.Steps.{entry_of};
@@ -51,7 +51,9 @@ fn settable(
     Ok(ids)
 }
 
-fn node_of(opening: &Opening) -> (Node, bool) {
+fn node_of(opening: &Opening) -> (Node, bool)
+    ensures { result ≡ rows.node_of opening.now }
+{
     match opening {
         Opening::Primary { root, .. } => (Node::Primary, *root),
         Opening::Render => (Node::Render, false),
@@ -67,7 +69,8 @@ fn closed_row(
     opening: &Opening,
     closed: Option<u64>,
 ) -> ClientRow
-    ensures client { result.client ≡ client }
+    ensures opening { rows.opening_of_row result ≡ (client, rows.node_of opening.now) }
+    ensures label { result.label ≡ rows.label_of labels.now client }
     ensures closed { result.closed ≡ closed }
     ensures nothing { rows.TellsNothing result }
 {
@@ -96,8 +99,8 @@ fn client_row(
     client: u64,
     opening: &Opening,
 ) -> Result<ClientRow, AllocError>
-    ensures tells { IfOk result (λ row. rows.TellsClient topology.now ledger.now row) }
-    ensures client { IfOk result (λ row. row.client ≡ client) }
+    ensures tells { IfOk result (rows.TellsClient topology.now labels.now ledger.now) }
+    ensures opening { IfOk result (λ row. rows.opening_of_row row ≡ (client, rows.node_of opening.now)) }
 {
     let closed = closed_at(ledger.steps(), client);
     let row = closed_row(alloc, labels, client, opening, closed);
@@ -116,7 +119,7 @@ fn client_row(
 
 /// Returns the client of an accepted opening, and how it was opened.
 fn opened_by(step: &Step) -> Option<(u64, &Opening)>
-    ensures { option_map (λ opened. opened.0) result ≡ rows.opens (entry_of step.now) }
+    ensures { option_map (λ opened. (opened.0, rows.node_of opened.1.now)) result ≡ rows.opening_by (entry_of step.now) }
 {
     match (&step.event, &step.answer) {
         (Event::Open(opening), Answer::Opened { client }) => Some((u64::from(*client), opening)),
@@ -126,7 +129,7 @@ fn opened_by(step: &Step) -> Option<(u64, &Opening)>
 
 /// Returns whether a client has a row. If a client is named, only that one has.
 fn has_row(only: Option<u64>, client: u64) -> bool
-    ensures { rows.with_row only (Some client) ≡ (if result then client ∷ [] else []) }
+    ensures { result ≡ rows.has_row only client }
 {
     match only {
         Some(named) => named == client,
@@ -144,8 +147,8 @@ fn opened_row(
     only: Option<u64>,
     step: &Step,
 ) -> Result<Option<ClientRow>, AllocError>
-    ensures tells { IfOk result (λ row. IfSome row (rows.TellsClient topology.now ledger.now)) }
-    ensures client { IfOk result (λ row. option_to_list (option_map (λ row. row.client) row) ≡ rows.with_row only (rows.opens (entry_of step.now))) }
+    ensures tells { IfOk result (λ row. IfSome row (rows.TellsClient topology.now labels.now ledger.now)) }
+    ensures opening { IfOk result (λ row. option_to_list (option_map rows.opening_of_row row) ≡ filter (λ opened. rows.has_row only opened.0) (option_to_list (rows.opening_by (entry_of step.now)))) }
 {
     let Some((client, opening)) = opened_by(step) else {
         return Ok(None);
@@ -166,8 +169,8 @@ pub(crate) fn client_rows(
     labels: &Labels,
     only: Option<u64>,
 ) -> Result<Vec<ClientRow>, AllocError>
-    ensures tells { IfOk result (λ told. All (rows.TellsClient topology.now ledger.now) told.items) }
-    ensures openings { IfOk result (λ told. map (λ row. row.client) told.items ≡ rows.clients_in only ledger.now) }
+    ensures tells { IfOk result (λ told. All (rows.TellsClient topology.now labels.now ledger.now) told.items) }
+    ensures openings { IfOk result (λ told. map rows.opening_of_row told.items ≡ rows.openings_in only ledger.now) }
 {
     let steps = ledger.steps();
     let mut fronts = Fronts::new(alloc, steps.len())?;

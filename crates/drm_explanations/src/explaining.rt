@@ -1,6 +1,6 @@
 //! The explanation of a history.
 
-ghost use Rattle.std.specs.Prelude.{◌≡◌, IfOk, All, map};
+ghost use Rattle.std.specs.Prelude.{◌≡◌, IfOk, All, map, length};
 ghost use Rattle.drm_authority.specs.MasterState.{owner_in};
 ghost use Rattle.drm_rights.specs.Leases.{leases_in};
 ghost use Rattle.drm_explanations.specs.Rows as rows;
@@ -8,10 +8,17 @@ ghost use Rattle.drm_explanations.specs.Rows as rows;
 use crate::clients::client_rows;
 use crate::leases::lease_rows;
 use crate::names::{Labels, at};
-use crate::rows::{ClientRow, DeviceRow, Explanation, LeaseRow};
+use crate::rows::{At, ClientRow, DeviceRow, Explanation, LeaseRow};
 use drm_modes::Topology;
 use drm_rights::Ledger;
 use std::alloc::{AllocError, Global};
+
+/// Returns the step since which the device has its master, or none.
+fn owner_since(ledger: &Ledger) -> Option<At>
+    ensures { rows.TellsSince ledger.now result }
+{
+    at(ledger.steps(), ledger.owner_since())
+}
 
 /// Returns the rights that a history grants, and the steps that granted them (own).
 ///
@@ -53,17 +60,18 @@ pub fn explain(
     only: Option<u64>,
 ) -> Result<Explanation, AllocError>
     ensures master { IfOk result (λ told. told.device.master ≡ owner_in ledger.now) }
-    ensures clients { IfOk result (λ told. All (rows.TellsClient topology.now ledger.now) told.clients.items) }
-    ensures openings { IfOk result (λ told. map (λ row. row.client) told.clients.items ≡ rows.clients_in only ledger.now) }
+    ensures since { IfOk result (λ told. rows.TellsSince ledger.now told.device.since) }
+    ensures clients { IfOk result (λ told. All (rows.TellsClient topology.now labels.now ledger.now) told.clients.items) }
+    ensures openings { IfOk result (λ told. map rows.opening_of_row told.clients.items ≡ rows.openings_in only ledger.now) }
     ensures leases { IfOk result (λ told. All (rows.TellsLease topology.now ledger.now) told.leases.items) }
     ensures leased { IfOk result (λ told. map rows.names_of_row told.leases.items ≡ map rows.names_of (leases_in ledger.now)) }
+    ensures steps { IfOk result (λ told. told.steps ≡ length ledger.now) }
 {
-    let steps = ledger.steps();
     Ok(Explanation {
-        steps: steps.len() as u64,
+        steps: ledger.steps().len() as u64,
         device: DeviceRow {
             master: ledger.owner(),
-            since: at(steps, ledger.owner_since()),
+            since: owner_since(ledger),
         },
         clients: client_rows(alloc, ledger, topology, labels, only)?,
         leases: lease_rows(alloc, ledger, topology)?,

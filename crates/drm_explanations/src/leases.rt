@@ -5,6 +5,7 @@ ghost use Rattle.std.specs.Option.{option_map};
 ghost use Rattle.drm_authority.specs.Lessees.{has_ended};
 ghost use Rattle.drm_rights.specs.Leases.{ended_at, leases_in};
 ghost use Rattle.drm_explanations.specs.Rows as rows;
+ghost use Rattle.drm_explanations.specs.Steps.{TellsStep};
 
 use crate::names::at;
 use crate::rows::{At, LeaseRow};
@@ -16,6 +17,7 @@ use std::alloc::{AllocError, Global};
 fn ended_row(ledger: &Ledger, master: u64) -> Option<At>
     ensures step { option_map (λ told. told.step) result ≡ ended_at ledger.now master }
     ensures ended { IfSome result (λ _. has_ended ledger.now master ≡ true) }
+    ensures tells { IfSome result (TellsStep ledger.now) }
 {
     let step = ledger.ended(master)?;
     at(ledger.steps(), step)

@@ -7,7 +7,6 @@ ghost use Rattle.drm_rights.specs.Ledgers.{capabilities_in, capability_of, maste
 ghost use Rattle.drm_authority.specs.Closings as closings;
 ghost use Rattle.drm_authority.specs.Closings.{has_closed};
 ghost use Rattle.drm_authority.specs.Effects.{effect};
-ghost use Rattle.drm_authority.specs.Shown.{is_universal_in};
 ghost use Rattle.drm_trails.specs.Steps.{entry_of, history_of};
 ghost use Rattle.drm_explanations.specs.Rows as rows;
 
@@ -94,7 +93,7 @@ pub(crate) fn authenticated(ledger: &Ledger, client: u64) -> Option<Authenticate
 
 /// Returns whether a client has universal planes on, and since which step.
 pub(crate) fn universal_row(ledger: &Ledger, client: u64) -> Option<UniversalRow>
-    ensures tells { IfSome result (λ told. told.on ≡ is_universal_in ledger.now client) }
+    ensures tells { IfSome result (rows.TellsUniversal ledger.now client) }
     ensures noted { is_some result ≡ is_some (capability_of (capabilities_in ledger.now) client) }
 {
     let capability = ledger.capability(client)?;

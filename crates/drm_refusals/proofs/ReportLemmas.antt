@@ -1,5 +1,5 @@
 -- What is reported of the newest step.
-use Rattle.std.proofs.Common.{◌≡◌, ℕ, ◌+◌, ◌-◌, true, false, ◌&&◌, List, [], ◌∷◌, length, get_or, take, Option, None, Some, refl, sym, ◌∙◌, ap, arith}
+use Rattle.std.proofs.Common.{◌≡◌, ℕ, ◌+◌, ◌-◌, true, false, ◌&&◌, List, [], ◌∷◌, length, get_or, take, Option, None, Some, refl, sym, ◌∙◌, ap, subst, arith}
 use Rattle.std.specs.Prelude.{IfSome, nat_le, slice_get}
 use Rattle.std.specs.Option.{is_some, option_map}
 use Rattle.std.proofs.lemmas.List.{take_all}
@@ -19,6 +19,8 @@ use Rattle.drm_trails.specs.declared.steps.Step.{Step}
 use Rattle.drm_trails.proofs.PassingLemmas.{history-more}
 use Rattle.drm_explanations.specs.declared.rows.At.{At}
 use Rattle.drm_explanations.proofs.WithinLemmas.{step_reported, steps_of}
+use Rattle.drm_refusals.specs.Kinds.{Has, HasFor}
+use Rattle.drm_refusals.specs.declared.facts.Fact.{Fact}
 use Rattle.drm_refusals.specs.Reports.{denied_by, last_number, last_rule}
 
 none_at : (found : Option At) (count : ℕ) → count ≡ 0 → is_some found ≡ (nat_le 1 count && nat_le count count)
@@ -53,6 +55,15 @@ pub rule_of_newest : (steps : List Step) (history : List AnsweredEvent) (step : 
     → slice_get steps (length steps - 1) ≡ Some step
     → option_map rule_number (denied_by step.answer) ≡ last_rule history
 rule_of_newest steps history step e there = ap last_rule (sym (newest steps step there) ∙ e)
+
+-- The facts of the newest step are those of the history's last step.
+pub kinds_of_newest : (steps : List Step) (history : List AnsweredEvent) (step : Step) (found : List Fact)
+    → history_of steps ≡ history → slice_get steps (length steps - 1) ≡ Some step
+    → HasFor history step.event step.answer found → Has history found
+kinds_of_newest steps history step found e there has =
+    let is : entry_of step ∷ history_of (take (length steps - 1) steps) ≡ history = sym (newest steps step there) ∙ e in
+    subst (λ (h : List AnsweredEvent). Has h found) is
+    (subst (λ (h : List AnsweredEvent). HasFor h step.event step.answer found) (sym is) has)
 
 -- An event that the model denies is reported with the rule of its verdict.
 pub denial_reported : (h : DeviceValue) (event : Event) (rule : Rule) (history : List AnsweredEvent)

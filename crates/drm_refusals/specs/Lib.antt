@@ -1,4 +1,5 @@
 pub mod Facts
+pub mod Kinds
 pub mod Leases
 pub mod Reports
 pub mod Searches

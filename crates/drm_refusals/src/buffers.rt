@@ -1,7 +1,8 @@
 //! Handles and names that are missing.
 
-ghost use Rattle.std.specs.Prelude.{All, IfOk, IfSome};
+ghost use Rattle.std.specs.Prelude.{◌≡◌, true, All, IfOk, IfSome};
 ghost use Rattle.drm_refusals.specs.Facts as facts;
+ghost use Rattle.drm_refusals.specs.Kinds as kinds;
 
 use crate::collecting::{only, with};
 use crate::facts::{Fact, HandleFact, PublishedFact};
@@ -56,12 +57,23 @@ fn lacked(ledger: &Ledger, client: u64, handle: u32) -> Option<HandleFact>
     Some(HandleFact::GaveBack { client, handle, by })
 }
 
-/// Returns the handles that a client holds.
-fn held(alloc: Global, ledger: &Ledger, client: u64) -> Result<HandleFact, AllocError>
-    ensures { IfOk result (facts.HandleHolds ledger.now) }
+/// Returns the reason a client does not hold the handle of a call.
+fn missing(scene: Scene<'_>, client: u64, call: &Call) -> Option<Fact>
+    ensures { IfSome result (facts.Holds scene.entry.topology.now scene.entry.limits scene.entry.ledger.now) }
 {
-    let held = handles_of(alloc, ledger.steps(), client)?;
-    Ok(HandleFact::Holds { client, held })
+    match lacked(scene.ledger, client, handle_in(call)?) {
+        Some(fact) => Some(Fact::Handle(fact)),
+        None => None,
+    }
+}
+
+/// Returns the handles that a client holds.
+fn held(alloc: Global, scene: Scene<'_>, client: u64) -> Result<Fact, AllocError>
+    ensures is { IfOk result (λ fact. kinds.is_held fact ≡ true) }
+    ensures holds { IfOk result (facts.Holds scene.entry.topology.now scene.entry.limits scene.entry.ledger.now) }
+{
+    let held = handles_of(alloc, scene.ledger.steps(), client)?;
+    Ok(Fact::Handle(HandleFact::Holds { client, held }))
 }
 
 /// Returns the reason a client does not hold the handle of a call, and the handles that it holds.
@@ -71,18 +83,12 @@ pub(crate) fn no_handle(
     client: u64,
     call: &Call,
 ) -> Result<Vec<Fact>, AllocError>
-    ensures { IfOk result (λ found. All (facts.Holds scene.entry.topology.now scene.entry.limits scene.entry.ledger.now) found.items) }
+    ensures has { IfOk result (λ found. kinds.Shows found.items kinds.is_held) }
+    ensures holds { IfOk result (λ found. All (facts.Holds scene.entry.topology.now scene.entry.limits scene.entry.ledger.now) found.items) }
 {
-    let Some(handle) = handle_in(call) else {
-        return Ok(Vec::new(alloc));
-    };
-    let missing = match lacked(scene.ledger, client, handle) {
-        Some(fact) => Some(Fact::Handle(fact)),
-        None => None,
-    };
-    let found = only(alloc, scene, missing)?;
-    let held = held(alloc, scene.ledger, client)?;
-    with(scene, found, Some(Fact::Handle(held)))
+    let found = only(alloc, scene, missing(scene, client, call))?;
+    let held = held(alloc, scene, client)?;
+    with(scene, found, Some(held))
 }
 
 /// Returns whether a step closed a handle of an object, after the first `before` steps.

@@ -1,7 +1,9 @@
 //! Lists of facts.
 
-ghost use Rattle.std.specs.Prelude.{All, IfOk, IfSome};
+ghost use Rattle.std.specs.Prelude.{◌≡◌, Bool, true, All, IfOk, IfSome};
 ghost use Rattle.drm_refusals.specs.Facts as facts;
+ghost use Rattle.drm_refusals.specs.Kinds.{Shows};
+ghost use Rattle.drm_refusals.specs.declared.facts.Fact.{Fact};
 
 use crate::facts::Fact;
 use crate::scene::Scene;
@@ -15,13 +17,18 @@ pub(crate) fn with(
 ) -> Result<Vec<Fact>, AllocError>
     requires found { All (facts.Holds scene.topology.now scene.limits scene.ledger.now) found.items }
     requires fact { IfSome fact (facts.Holds scene.topology.now scene.limits scene.ledger.now) }
-    ensures { IfOk result (λ more. All (facts.Holds scene.entry.topology.now scene.entry.limits scene.entry.ledger.now) more.items) }
+    ensures kept { IfOk result (λ more. (kind : Fact → Bool) → Shows found.items kind → Shows more.items kind) }
+    ensures has { IfOk result (λ more. IfSome fact (λ new. (kind : Fact → Bool) → kind new ≡ true → Shows more.items kind)) }
+    ensures holds { IfOk result (λ more. All (facts.Holds scene.entry.topology.now scene.entry.limits scene.entry.ledger.now) more.items) }
 {
     let mut found = found;
-    if let Some(fact) = fact {
-        found.push(fact)?;
+    match fact {
+        Some(fact) => {
+            found.push(fact)?;
+            Ok(found)
+        }
+        None => Ok(found),
     }
-    Ok(found)
 }
 
 /// Returns the list of one fact, if there is one.
@@ -31,7 +38,8 @@ pub(crate) fn only(
     fact: Option<Fact>,
 ) -> Result<Vec<Fact>, AllocError>
     requires { IfSome fact (facts.Holds scene.topology.now scene.limits scene.ledger.now) }
-    ensures { IfOk result (λ found. All (facts.Holds scene.entry.topology.now scene.entry.limits scene.entry.ledger.now) found.items) }
+    ensures has { IfOk result (λ found. IfSome fact (λ new. (kind : Fact → Bool) → kind new ≡ true → Shows found.items kind)) }
+    ensures holds { IfOk result (λ found. All (facts.Holds scene.entry.topology.now scene.entry.limits scene.entry.ledger.now) found.items) }
 {
     with(scene, Vec::new(alloc), fact)
 }

@@ -1,8 +1,15 @@
 //! The facts that explain a denial.
 
-ghost use Rattle.std.specs.Prelude.{◌≡◌, All, IfOk, IfSome, Some};
+ghost use Rattle.std.specs.Prelude.{◌≡◌, Bool, true, false, All, IfNone, IfOk, IfSome, MatchOption, Some};
+ghost use Rattle.std.specs.List.{AllByRecursion};
+ghost use Rattle.std.specs.Option.{option_map};
+ghost use Rattle.drm_table.specs.declared.events.Event.TheVariants as events;
+ghost use Rattle.drm_table.specs.declared.rules.Rule.TheVariants as rules;
+ghost use Rattle.drm_refusals.specs.declared.facts.Fact.{Fact};
+ghost use Rattle.drm_refusals.specs.declared.facts.Fact.TheVariants as variants;
 ghost use Rattle.drm_authority.specs.Magics.{magic_in};
 ghost use Rattle.drm_refusals.specs.Facts as facts;
+ghost use Rattle.drm_refusals.specs.Kinds as kinds;
 
 use crate::buffers::{no_handle, no_name};
 use crate::collecting::{only, with};
@@ -10,7 +17,7 @@ use crate::facts::{ClientFact, Fact, MagicFact, RequestFact};
 use crate::leasing::{
     bad_shape, leased_out, no_lease_token, no_lessee, not_leasable, other_lessee, repeated,
 };
-use crate::publications::{framebuffer_fact, no_token};
+use crate::publications::{no_framebuffer, no_token};
 use crate::room::{full, full_of_clients};
 use crate::scene::Scene;
 use crate::screens::{bad_route, no_mode_object};
@@ -23,7 +30,8 @@ use std::alloc::{AllocError, Global};
 
 /// Returns the reason a client is not open.
 fn closed_or_never(ledger: &Ledger, client: u64) -> Option<ClientFact>
-    ensures { IfSome result (facts.ClientHolds ledger.now) }
+    ensures open { IfNone result (kinds.is_open ledger.now client ≡ true) }
+    ensures holds { IfSome result (facts.ClientHolds ledger.now) }
 {
     let steps = ledger.steps();
     if let Some(step) = closed_at(steps, client) {
@@ -37,7 +45,8 @@ fn closed_or_never(ledger: &Ledger, client: u64) -> Option<ClientFact>
 
 /// Returns the reason the caller is not open.
 fn absent(scene: Scene<'_>, client: u64) -> Option<Fact>
-    ensures { IfSome result (facts.Holds scene.entry.topology.now scene.entry.limits scene.entry.ledger.now) }
+    ensures open { MatchOption result (kinds.is_open scene.entry.ledger.now client ≡ true) (λ fact. kinds.is_absence fact ≡ true) }
+    ensures holds { IfSome result (facts.Holds scene.entry.topology.now scene.entry.limits scene.entry.ledger.now) }
 {
     if client == 0 {
         return Some(Fact::Request(RequestFact::NoCaller));
@@ -50,7 +59,8 @@ fn absent(scene: Scene<'_>, client: u64) -> Option<Fact>
 
 /// Returns the number or the layout that no call has.
 fn unknown(call: &Call) -> RequestFact
-    ensures { facts.RequestHolds result }
+    ensures is { kinds.is_number (variants.Request result) ≡ true }
+    ensures holds { facts.RequestHolds result }
 {
     let number = call.number();
     match CallKind::of_number(number) {
@@ -99,25 +109,36 @@ fn no_magic(ledger: &Ledger, client: u64, magic: u32) -> MagicFact
 }
 
 /// Returns the fact of a call's magic.
-fn magic_fact(scene: Scene<'_>, client: u64, call: &Call) -> Option<Fact>
-    ensures { IfSome result (facts.Holds scene.entry.topology.now scene.entry.limits scene.entry.ledger.now) }
+fn by_magic(
+    alloc: Global,
+    scene: Scene<'_>,
+    client: u64,
+    call: &Call,
+) -> Result<Vec<Fact>, AllocError>
+    ensures has { IfOk result (λ found. AllByRecursion (kinds.Shows found.items) (kinds.kinds rules.NoMagic call.now)) }
+    ensures holds { IfOk result (λ found. All (facts.Holds scene.entry.topology.now scene.entry.limits scene.entry.ledger.now) found.items) }
 {
     match call {
-        Call::AuthMagic { magic } => { Some(Fact::Magic(no_magic(scene.ledger, client, *magic))) }
-        _ => None,
+        Call::AuthMagic { magic } => only(
+            alloc,
+            scene,
+            Some(Fact::Magic(no_magic(scene.ledger, client, *magic))),
+        ),
+        _ => Ok(Vec::new(alloc)),
     }
 }
 
 /// Returns the reason the framebuffer of a call is missing.
-fn framebuffer_of(scene: Scene<'_>, call: &Call) -> Option<Fact>
-    ensures { IfSome result (facts.Holds scene.entry.topology.now scene.entry.limits scene.entry.ledger.now) }
+fn by_framebuffer(alloc: Global, scene: Scene<'_>, call: &Call) -> Result<Vec<Fact>, AllocError>
+    ensures has { IfOk result (λ found. AllByRecursion (kinds.Shows found.items) (kinds.kinds rules.NoFb call.now)) }
+    ensures holds { IfOk result (λ found. All (facts.Holds scene.entry.topology.now scene.entry.limits scene.entry.ledger.now) found.items) }
 {
     match call {
-        Call::SetCrtc { framebuffer, .. } => framebuffer_fact(scene, *framebuffer),
-        Call::SetPlane { framebuffer, .. } => framebuffer_fact(scene, *framebuffer),
-        Call::GetFb { framebuffer } => framebuffer_fact(scene, *framebuffer),
-        Call::RmFb { framebuffer } => framebuffer_fact(scene, *framebuffer),
-        _ => None,
+        Call::SetCrtc { framebuffer, .. } => no_framebuffer(alloc, scene, *framebuffer),
+        Call::SetPlane { framebuffer, .. } => no_framebuffer(alloc, scene, *framebuffer),
+        Call::GetFb { framebuffer } => no_framebuffer(alloc, scene, *framebuffer),
+        Call::RmFb { framebuffer } => no_framebuffer(alloc, scene, *framebuffer),
+        _ => Ok(Vec::new(alloc)),
     }
 }
 
@@ -127,54 +148,44 @@ fn own_lease(ledger: &Ledger, client: u64) -> Option<Subject> {
     Some(Subject::Lease(master))
 }
 
-/// Returns the facts of the caller's state, for a denial by the flags of the row or by the caller's master.
-fn by_caller(
-    alloc: Global,
-    scene: Scene<'_>,
-    client: u64,
-    rule: Rule,
-) -> Result<Vec<Fact>, AllocError>
-    ensures { IfOk result (λ found. All (facts.Holds scene.entry.topology.now scene.entry.limits scene.entry.ledger.now) found.items) }
+/// Returns the reason the caller is not open.
+fn no_client(alloc: Global, scene: Scene<'_>, client: u64) -> Result<Vec<Fact>, AllocError>
+    ensures has { IfOk result (λ found. kinds.is_open scene.entry.ledger.now client ≡ false → kinds.Shows found.items kinds.is_absence) }
+    ensures holds { IfOk result (λ found. All (facts.Holds scene.entry.topology.now scene.entry.limits scene.entry.ledger.now) found.items) }
 {
-    let subjects = match rule {
-        Rule::NoClient => return only(alloc, scene, absent(scene, client)),
-        Rule::Auth => [Some(Subject::Authentication(client)), None, None],
-        Rule::Master | Rule::NotCurrent => [
-            Some(Subject::Current(client)),
-            Some(Subject::Master(client)),
-            Some(Subject::Device),
-        ],
-        Rule::MasterPerm => [
-            Some(Subject::Client(client)),
-            Some(Subject::Master(client)),
-            None,
-        ],
-        Rule::MasterBusy => [Some(Subject::Current(client)), Some(Subject::Device), None],
-        Rule::IsLessee | Rule::SubLease => [
-            Some(Subject::Master(client)),
-            own_lease(scene.ledger, client),
-            None,
-        ],
-        _ => [Some(Subject::Client(client)), None, None],
-    };
-    told(alloc, scene, subjects)
+    match absent(scene, client) {
+        Some(fact) => only(alloc, scene, Some(fact)),
+        None => Ok(Vec::new(alloc)),
+    }
+}
+
+/// Returns the line of the explanation about a subject, if there is one.
+fn line(scene: Scene<'_>, subject: Option<Subject>) -> Option<Fact>
+    ensures is { result ≡ option_map variants.Told subject }
+    ensures holds { IfSome result (facts.Holds scene.entry.topology.now scene.entry.limits scene.entry.ledger.now) }
+{
+    match subject {
+        Some(subject) => Some(Fact::Told(subject)),
+        None => None,
+    }
 }
 
 /// Returns the lines of the explanation about these subjects.
 fn told(
     alloc: Global,
     scene: Scene<'_>,
-    subjects: [Option<Subject>; 3],
+    first: Subject,
+    second: Option<Subject>,
+    third: Option<Subject>,
 ) -> Result<Vec<Fact>, AllocError>
-    ensures { IfOk result (λ found. All (facts.Holds scene.entry.topology.now scene.entry.limits scene.entry.ledger.now) found.items) }
+    ensures first { IfOk result (λ found. (kind : Fact → Bool) → kind (variants.Told first) ≡ true → kinds.Shows found.items kind) }
+    ensures second { IfOk result (λ found. IfSome second (λ subject. (kind : Fact → Bool) → kind (variants.Told subject) ≡ true → kinds.Shows found.items kind)) }
+    ensures third { IfOk result (λ found. IfSome third (λ subject. (kind : Fact → Bool) → kind (variants.Told subject) ≡ true → kinds.Shows found.items kind)) }
+    ensures holds { IfOk result (λ found. All (facts.Holds scene.entry.topology.now scene.entry.limits scene.entry.ledger.now) found.items) }
 {
-    let mut found = Vec::new(alloc);
-    for subject in subjects {
-        if let Some(subject) = subject {
-            found = with(scene, found, Some(Fact::Told(subject)))?;
-        }
-    }
-    Ok(found)
+    let found = only(alloc, scene, Some(Fact::Told(first)))?;
+    let found = with(scene, found, line(scene, second))?;
+    with(scene, found, line(scene, third))
 }
 
 /// Returns the facts that explain the denial of a lease's creation or revocation.
@@ -196,26 +207,57 @@ fn by_lease(
         (Call::CreateLease { ids }, Rule::LeasedOut) => {
             leased_out(alloc, scene, client, ids.ids())
         }
-        (Call::RevokeLease { lessee }, Rule::NoLessee) => {
-            no_lessee(alloc, scene, client, *lessee)
-        }
         (Call::RevokeLease { lessee }, Rule::NotYourLessee) => {
             other_lessee(alloc, scene, client, *lessee)
         }
-        _ => by_caller(alloc, scene, client, rule),
+        _ => Ok(Vec::new(alloc)),
     }
 }
 
-/// Returns the facts that explain the denial of a call that names a handle, a name or a token.
+/// Returns the reason no lessee has the id of a call.
+fn by_lessee(
+    alloc: Global,
+    scene: Scene<'_>,
+    client: u64,
+    call: &Call,
+) -> Result<Vec<Fact>, AllocError>
+    ensures has { IfOk result (λ found. AllByRecursion (kinds.Shows found.items) (kinds.kinds rules.NoLessee call.now)) }
+    ensures holds { IfOk result (λ found. All (facts.Holds scene.entry.topology.now scene.entry.limits scene.entry.ledger.now) found.items) }
+{
+    match call {
+        Call::RevokeLease { lessee } => no_lessee(alloc, scene, client, *lessee),
+        _ => Ok(Vec::new(alloc)),
+    }
+}
+
+/// Returns the reason no object has the name of a call.
 fn by_name(alloc: Global, scene: Scene<'_>, call: &Call) -> Result<Vec<Fact>, AllocError>
     ensures { IfOk result (λ found. All (facts.Holds scene.entry.topology.now scene.entry.limits scene.entry.ledger.now) found.items) }
 {
     match call {
         Call::GemOpen { name } => no_name(alloc, scene, *name),
+        _ => Ok(Vec::new(alloc)),
+    }
+}
+
+/// Returns the reason the token of a call is not open, or the client that published it.
+fn by_token(alloc: Global, scene: Scene<'_>, call: &Call) -> Result<Vec<Fact>, AllocError>
+    ensures has { IfOk result (λ found. AllByRecursion (kinds.Shows found.items) (kinds.kinds rules.NoToken call.now)) }
+    ensures holds { IfOk result (λ found. All (facts.Holds scene.entry.topology.now scene.entry.limits scene.entry.ledger.now) found.items) }
+{
+    match call {
         Call::PrimeFdToHandle { token } => no_token(alloc, scene, *token),
         Call::TokenClose { token } => no_token(alloc, scene, *token),
         _ => Ok(Vec::new(alloc)),
     }
+}
+
+/// Returns what is wrong with the number or the fields of a call.
+fn by_number(alloc: Global, scene: Scene<'_>, call: &Call) -> Result<Vec<Fact>, AllocError>
+    ensures has { IfOk result (λ found. kinds.Shows found.items kinds.is_number) }
+    ensures holds { IfOk result (λ found. All (facts.Holds scene.entry.topology.now scene.entry.limits scene.entry.ledger.now) found.items) }
+{
+    only(alloc, scene, Some(Fact::Request(unknown(call))))
 }
 
 /// Returns the facts that explain the denial of a call.
@@ -226,20 +268,43 @@ fn by_call(
     call: &Call,
     rule: Rule,
 ) -> Result<Vec<Fact>, AllocError>
-    ensures { IfOk result (λ found. All (facts.Holds scene.entry.topology.now scene.entry.limits scene.entry.ledger.now) found.items) }
+    ensures has { IfOk result (λ found. kinds.HasKinds scene.entry.ledger.now (events.Ask client call.now) rule found.items) }
+    ensures holds { IfOk result (λ found. All (facts.Holds scene.entry.topology.now scene.entry.limits scene.entry.ledger.now) found.items) }
 {
+    let current = Subject::Current(client);
+    let master = Subject::Master(client);
+    let device = Some(Subject::Device);
     match rule {
-        Rule::Unknown | Rule::Layout => { only(alloc, scene, Some(Fact::Request(unknown(call)))) }
-        Rule::NoHandle | Rule::NoHandleToClose => no_handle(alloc, scene, client, call),
-        Rule::NoName | Rule::NoToken => by_name(alloc, scene, call),
-        Rule::NoMagic => only(alloc, scene, magic_fact(scene, client, call)),
+        Rule::Unknown => by_number(alloc, scene, call),
+        Rule::Layout => by_number(alloc, scene, call),
+        Rule::NoClient => no_client(alloc, scene, client),
+        Rule::RootOnly => told(alloc, scene, Subject::Client(client), None, None),
+        Rule::Auth => told(alloc, scene, Subject::Authentication(client), None, None),
+        Rule::Master => told(alloc, scene, current, Some(master), device),
+        Rule::RenderAllow => told(alloc, scene, Subject::Client(client), None, None),
+        Rule::NoHandle => no_handle(alloc, scene, client, call),
+        Rule::NoHandleToClose => no_handle(alloc, scene, client, call),
+        Rule::NoName => by_name(alloc, scene, call),
+        Rule::NoToken => by_token(alloc, scene, call),
+        Rule::NoMagic => by_magic(alloc, scene, client, call),
+        Rule::MasterPerm => told(alloc, scene, Subject::Client(client), Some(master), None),
+        Rule::MasterBusy => told(alloc, scene, current, device, None),
+        Rule::NotCurrent => told(alloc, scene, current, Some(master), device),
+        Rule::IsLessee => told(alloc, scene, master, own_lease(scene.ledger, client), None),
         Rule::NoModeObject => no_mode_object(alloc, scene, client, call),
-        Rule::NoFb => only(alloc, scene, framebuffer_of(scene, call)),
+        Rule::SubLease => told(alloc, scene, master, own_lease(scene.ledger, client), None),
+        Rule::NoLessee => by_lessee(alloc, scene, client, call),
+        Rule::NoFb => by_framebuffer(alloc, scene, call),
         Rule::BadSize => bad_size(alloc, scene, client, call),
         Rule::BadRoute => bad_route(alloc, scene, call),
         Rule::BadCap => bad_cap(alloc, scene, call),
         Rule::Full => full(alloc, scene, client, call),
-        _ => by_lease(alloc, scene, client, call, rule),
+        Rule::NoLeaseToken => Ok(Vec::new(alloc)),
+        Rule::NotLeasable => by_lease(alloc, scene, client, call, rule),
+        Rule::Repeated => by_lease(alloc, scene, client, call, rule),
+        Rule::LeaseShape => by_lease(alloc, scene, client, call, rule),
+        Rule::LeasedOut => by_lease(alloc, scene, client, call, rule),
+        Rule::NotYourLessee => by_lease(alloc, scene, client, call, rule),
     }
 }
 
@@ -250,13 +315,15 @@ fn by_opening(
     opening: &Opening,
     rule: Rule,
 ) -> Result<Vec<Fact>, AllocError>
-    ensures { IfOk result (λ found. All (facts.Holds scene.entry.topology.now scene.entry.limits scene.entry.ledger.now) found.items) }
+    ensures has { IfOk result (λ found. kinds.HasKinds scene.entry.ledger.now (events.Open opening.now) rule found.items) }
+    ensures holds { IfOk result (λ found. All (facts.Holds scene.entry.topology.now scene.entry.limits scene.entry.ledger.now) found.items) }
 {
-    match (opening, rule) {
-        (Opening::Lease { token, .. }, Rule::NoLeaseToken) => {
-            no_lease_token(alloc, scene, *token)
-        }
-        (_, Rule::Full) => full_of_clients(alloc, scene),
+    match rule {
+        Rule::NoLeaseToken => match opening {
+            Opening::Lease { token, .. } => no_lease_token(alloc, scene, *token),
+            _ => Ok(Vec::new(alloc)),
+        },
+        Rule::Full => full_of_clients(alloc, scene),
         _ => Ok(Vec::new(alloc)),
     }
 }
@@ -268,11 +335,12 @@ pub(crate) fn reasons(
     event: &Event,
     rule: Rule,
 ) -> Result<Vec<Fact>, AllocError>
-    ensures { IfOk result (λ found. All (facts.Holds scene.entry.topology.now scene.entry.limits scene.entry.ledger.now) found.items) }
+    ensures has { IfOk result (λ found. kinds.HasKinds scene.entry.ledger.now event.now rule found.items) }
+    ensures holds { IfOk result (λ found. All (facts.Holds scene.entry.topology.now scene.entry.limits scene.entry.ledger.now) found.items) }
 {
     match event {
         Event::Open(opening) => by_opening(alloc, scene, opening, rule),
         Event::Ask(client, call) => by_call(alloc, scene, u64::from(*client), call, rule),
-        Event::Close(client) => only(alloc, scene, absent(scene, u64::from(*client))),
+        Event::Close(client) => no_client(alloc, scene, u64::from(*client)),
     }
 }

@@ -4,6 +4,7 @@ ghost use Rattle.std.specs.Prelude.{◌≡◌, All, IfOk, IfSome};
 ghost use Rattle.drm_rights.specs.Leases as lending;
 ghost use Rattle.drm_rights.specs.Leases.{leases_in};
 ghost use Rattle.drm_refusals.specs.Facts as facts;
+ghost use Rattle.drm_refusals.specs.Kinds as kinds;
 ghost use Rattle.drm_refusals.specs.Leases.{lease_meant};
 
 use crate::collecting::{only, with};
@@ -205,7 +206,8 @@ pub(crate) fn no_lessee(
     client: u64,
     lessee: u32,
 ) -> Result<Vec<Fact>, AllocError>
-    ensures { IfOk result (λ found. All (facts.Holds scene.entry.topology.now scene.entry.limits scene.entry.ledger.now) found.items) }
+    ensures has { IfOk result (λ found. kinds.Shows found.items kinds.is_lessee) }
+    ensures holds { IfOk result (λ found. All (facts.Holds scene.entry.topology.now scene.entry.limits scene.entry.ledger.now) found.items) }
 {
     let fact = match lease_of_id(scene.ledger, client, lessee) {
         Some(lease) => Fact::Told(Subject::Lease(lease.master)),
@@ -263,7 +265,8 @@ pub(crate) fn no_lease_token(
     scene: Scene<'_>,
     token: u32,
 ) -> Result<Vec<Fact>, AllocError>
-    ensures { IfOk result (λ found. All (facts.Holds scene.entry.topology.now scene.entry.limits scene.entry.ledger.now) found.items) }
+    ensures has { IfOk result (λ found. kinds.Shows found.items kinds.is_token) }
+    ensures holds { IfOk result (λ found. All (facts.Holds scene.entry.topology.now scene.entry.limits scene.entry.ledger.now) found.items) }
 {
     match lease_of_token(scene.ledger, token) {
         Some(lease) => {

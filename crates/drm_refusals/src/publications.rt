@@ -1,7 +1,9 @@
 //! PRIME tokens and framebuffers that are missing, or another client's.
 
-ghost use Rattle.std.specs.Prelude.{All, IfOk, IfSome};
+ghost use Rattle.std.specs.Prelude.{◌≡◌, true, All, IfOk, IfSome, MatchOption};
+ghost use Rattle.std.specs.Option.{is_some};
 ghost use Rattle.drm_refusals.specs.Facts as facts;
+ghost use Rattle.drm_refusals.specs.Kinds as kinds;
 
 use crate::collecting::only;
 use crate::facts::{Fact, PublishedFact};
@@ -13,7 +15,8 @@ use std::alloc::{AllocError, Global};
 
 /// Returns the step that published under a key, and the step that withdrew that.
 fn publication(ledger: &Ledger, key: Key) -> Option<PublishedFact>
-    ensures { IfSome result (facts.PublishedHolds ledger.now) }
+    ensures some { is_some result ≡ true }
+    ensures holds { IfSome result (facts.PublishedHolds ledger.now) }
 {
     let steps = ledger.steps();
     let Some(published) = last_publishing(steps, key) else {
@@ -34,7 +37,8 @@ fn publication(ledger: &Ledger, key: Key) -> Option<PublishedFact>
 }
 
 fn publication_fact(scene: Scene<'_>, key: Key) -> Option<Fact>
-    ensures { IfSome result (facts.Holds scene.entry.topology.now scene.entry.limits scene.entry.ledger.now) }
+    ensures is { MatchOption result ⊥ (λ fact. kinds.is_published fact ≡ true) }
+    ensures holds { IfSome result (facts.Holds scene.entry.topology.now scene.entry.limits scene.entry.ledger.now) }
 {
     match publication(scene.ledger, key) {
         Some(fact) => Some(Fact::Published(fact)),
@@ -44,7 +48,8 @@ fn publication_fact(scene: Scene<'_>, key: Key) -> Option<Fact>
 
 /// Returns the reason a PRIME token is not open, or the client that published it.
 pub(crate) fn no_token(alloc: Global, scene: Scene<'_>, token: u32) -> Result<Vec<Fact>, AllocError>
-    ensures { IfOk result (λ found. All (facts.Holds scene.entry.topology.now scene.entry.limits scene.entry.ledger.now) found.items) }
+    ensures has { IfOk result (λ found. kinds.Shows found.items kinds.is_published) }
+    ensures holds { IfOk result (λ found. All (facts.Holds scene.entry.topology.now scene.entry.limits scene.entry.ledger.now) found.items) }
 {
     only(
         alloc,
@@ -55,7 +60,20 @@ pub(crate) fn no_token(alloc: Global, scene: Scene<'_>, token: u32) -> Result<Ve
 
 /// Returns the reason a framebuffer is missing, or the client that created it.
 pub(crate) fn framebuffer_fact(scene: Scene<'_>, framebuffer: u32) -> Option<Fact>
-    ensures { IfSome result (facts.Holds scene.entry.topology.now scene.entry.limits scene.entry.ledger.now) }
+    ensures is { MatchOption result ⊥ (λ fact. kinds.is_published fact ≡ true) }
+    ensures holds { IfSome result (facts.Holds scene.entry.topology.now scene.entry.limits scene.entry.ledger.now) }
 {
     publication_fact(scene, Key::Framebuffer(u64::from(framebuffer)))
+}
+
+/// Returns the reason a framebuffer is missing, or the client that created it.
+pub(crate) fn no_framebuffer(
+    alloc: Global,
+    scene: Scene<'_>,
+    framebuffer: u32,
+) -> Result<Vec<Fact>, AllocError>
+    ensures has { IfOk result (λ found. kinds.Shows found.items kinds.is_published) }
+    ensures holds { IfOk result (λ found. All (facts.Holds scene.entry.topology.now scene.entry.limits scene.entry.ledger.now) found.items) }
+{
+    only(alloc, scene, framebuffer_fact(scene, framebuffer))
 }

@@ -2,6 +2,7 @@
 
 ghost use Rattle.std.specs.Prelude.{All, IfOk, IfSome};
 ghost use Rattle.drm_refusals.specs.Facts as facts;
+ghost use Rattle.drm_refusals.specs.Kinds as kinds;
 
 use crate::collecting::only;
 use crate::facts::{Fact, LimitFact};
@@ -25,7 +26,8 @@ fn open_clients(steps: &[Step]) -> u64 {
 
 /// Returns that the limit of open clients is reached.
 pub(crate) fn full_of_clients(alloc: Global, scene: Scene<'_>) -> Result<Vec<Fact>, AllocError>
-    ensures { IfOk result (λ found. All (facts.Holds scene.entry.topology.now scene.entry.limits scene.entry.ledger.now) found.items) }
+    ensures has { IfOk result (λ found. kinds.Shows found.items kinds.is_client_limit) }
+    ensures holds { IfOk result (λ found. All (facts.Holds scene.entry.topology.now scene.entry.limits scene.entry.ledger.now) found.items) }
 {
     let count = open_clients(scene.ledger.steps());
     let most = scene.limits.clients;
@@ -87,7 +89,8 @@ pub(crate) fn full(
     client: u64,
     call: &Call,
 ) -> Result<Vec<Fact>, AllocError>
-    ensures { IfOk result (λ found. All (facts.Holds scene.entry.topology.now scene.entry.limits scene.entry.ledger.now) found.items) }
+    ensures has { IfOk result (λ found. kinds.Shows found.items kinds.is_limit) }
+    ensures holds { IfOk result (λ found. All (facts.Holds scene.entry.topology.now scene.entry.limits scene.entry.ledger.now) found.items) }
 {
     let limit = limit_of(alloc, scene, client, call)?;
     only(alloc, scene, Some(Fact::Limit(limit)))

@@ -2,6 +2,9 @@
 
 ghost use Rattle.std.specs.Prelude.{All, IfOk, IfSome};
 ghost use Rattle.drm_refusals.specs.Facts as facts;
+ghost use Rattle.drm_refusals.specs.Kinds as kinds;
+ghost use Rattle.std.specs.List.{AllByRecursion};
+ghost use Rattle.drm_table.specs.declared.rules.Rule.TheVariants as rules;
 
 use crate::collecting::{only, with};
 use crate::facts::{Fact, ModeObjectFact, RequestFact};
@@ -164,34 +167,22 @@ fn unseen_of(
     Ok(found)
 }
 
-/// Returns the reason a CRTC can't be shown by a connector or a plane.
-fn route_fact(scene: Scene<'_>, call: &Call) -> Option<Fact>
+/// Returns the reason a CRTC can't be shown by a connector.
+fn connector_route(scene: Scene<'_>, crtc: u32, framebuffer: u32, connector: u32) -> Option<Fact>
     ensures { IfSome result (facts.Holds scene.entry.topology.now scene.entry.limits scene.entry.ledger.now) }
 {
-    match *call {
-        Call::SetCrtc {
-            crtc,
+    if (framebuffer == 0) != (connector == 0) {
+        return Some(Fact::Request(RequestFact::HalfRoute {
             framebuffer,
             connector,
-        } => {
-            if (framebuffer == 0) != (connector == 0) {
-                return Some(Fact::Request(RequestFact::HalfRoute {
-                    framebuffer,
-                    connector,
-                }));
-            }
-            let encoder = scene.topology.encoder_of(connector)?;
-            Some(Fact::ModeObject(ModeObjectFact::EncoderOf {
-                crtc,
-                connector,
-                encoder,
-            }))
-        }
-        Call::SetPlane { plane, crtc, .. } => {
-            Some(Fact::Request(RequestFact::PlaneRoute { crtc, plane }))
-        }
-        _ => None,
+        }));
     }
+    let encoder = scene.topology.encoder_of(connector)?;
+    Some(Fact::ModeObject(ModeObjectFact::EncoderOf {
+        crtc,
+        connector,
+        encoder,
+    }))
 }
 
 /// Returns the reason a CRTC can't be shown by a connector or a plane.
@@ -200,7 +191,24 @@ pub(crate) fn bad_route(
     scene: Scene<'_>,
     call: &Call,
 ) -> Result<Vec<Fact>, AllocError>
-    ensures { IfOk result (λ found. All (facts.Holds scene.entry.topology.now scene.entry.limits scene.entry.ledger.now) found.items) }
+    ensures has { IfOk result (λ found. AllByRecursion (kinds.Shows found.items) (kinds.kinds rules.BadRoute call.now)) }
+    ensures holds { IfOk result (λ found. All (facts.Holds scene.entry.topology.now scene.entry.limits scene.entry.ledger.now) found.items) }
 {
-    only(alloc, scene, route_fact(scene, call))
+    match *call {
+        Call::SetCrtc {
+            crtc,
+            framebuffer,
+            connector,
+        } => only(
+            alloc,
+            scene,
+            connector_route(scene, crtc, framebuffer, connector),
+        ),
+        Call::SetPlane { plane, crtc, .. } => only(
+            alloc,
+            scene,
+            Some(Fact::Request(RequestFact::PlaneRoute { crtc, plane })),
+        ),
+        _ => Ok(Vec::new(alloc)),
+    }
 }

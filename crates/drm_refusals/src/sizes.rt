@@ -2,6 +2,9 @@
 
 ghost use Rattle.std.specs.Prelude.{◌≡◌, All, IfOk, IfSome};
 ghost use Rattle.drm_refusals.specs.Facts as facts;
+ghost use Rattle.drm_refusals.specs.Kinds as kinds;
+ghost use Rattle.std.specs.List.{AllByRecursion};
+ghost use Rattle.drm_table.specs.declared.rules.Rule.TheVariants as rules;
 
 use crate::collecting::{only, with};
 use crate::facts::{Fact, Quantity, RequestFact, SizeFact};
@@ -136,15 +139,23 @@ pub(crate) fn bad_size(
 
 /// Returns the capability that does not exist, or the value of one that does not.
 pub(crate) fn bad_cap(alloc: Global, scene: Scene<'_>, call: &Call) -> Result<Vec<Fact>, AllocError>
-    ensures { IfOk result (λ found. All (facts.Holds scene.entry.topology.now scene.entry.limits scene.entry.ledger.now) found.items) }
+    ensures has { IfOk result (λ found. AllByRecursion (kinds.Shows found.items) (kinds.kinds rules.BadCap call.now)) }
+    ensures holds { IfOk result (λ found. All (facts.Holds scene.entry.topology.now scene.entry.limits scene.entry.ledger.now) found.items) }
 {
-    let fact = match *call {
-        Call::GetCap { cap } => Some(Fact::Request(RequestFact::NoCapability { capability: cap })),
-        Call::SetClientCap { cap, value } => Some(Fact::Request(RequestFact::NoValue {
-            capability: cap,
-            value,
-        })),
-        _ => None,
-    };
-    only(alloc, scene, fact)
+    match *call {
+        Call::GetCap { cap } => only(
+            alloc,
+            scene,
+            Some(Fact::Request(RequestFact::NoCapability { capability: cap })),
+        ),
+        Call::SetClientCap { cap, value } => only(
+            alloc,
+            scene,
+            Some(Fact::Request(RequestFact::NoValue {
+                capability: cap,
+                value,
+            })),
+        ),
+        _ => Ok(Vec::new(alloc)),
+    }
 }

@@ -1,5 +1,6 @@
 use Rattle.std.proofs.Common.{cond, true, false, Some, None, sym, ap}
 use Rattle.drm_explanations.specs.Rows as rows
+use Rattle.drm_explanations.proofs.StepLemmas.{tells_in}
 use Rattle.drm_explanations.proofs.WithinLemmas.{step_found}
 use Rattle.drm_explanations.proofs.leases.row_of.Goals as goal
 
@@ -16,6 +17,9 @@ returns-clause-tells c = record {
   redeemed_by = c.lease_client.ensures;
   ended = c.ended_row.ensures.ended;
   leased = c.in-Some.ensures.step;
+  leased_at =
+      tells_in c.steps.result.now c.args.ledger.now c.in-Some.leased c.steps.ensures c.in-Some.ensures.tells;
+  end_at = c.ended_row.ensures.tells;
   ended_by = c.ended_row.ensures.step;
 }
 

@@ -1,4 +1,4 @@
-use Rattle.std.proofs.Common.{◌≡◌, None, Some, sym, ◌∙◌, ap}
+use Rattle.std.proofs.Common.{◌≡◌, List, None, Some, sym, ◌∙◌, ap, subst}
 use Rattle.std.specs.Option.{option_map}
 use Rattle.std.proofs.lemmas.Result.{IfOk-weaker}
 use Rattle.drm_model.specs.Run.{DeviceValue, journaled_in, rows_of}
@@ -8,9 +8,11 @@ use Rattle.drm_table.specs.declared.apart.Apart.TheVariants.{NoMemory}
 use Rattle.drm_table.specs.declared.events.Event.{Event}
 use Rattle.drm_table.specs.declared.rules.Rule.{Rule}
 use Rattle.drm_history.specs.History as past
+use Rattle.drm_history.specs.History.{AnsweredEvent}
+use Rattle.drm_refusals.specs.Kinds as kinds
 use Rattle.drm_refusals.specs.Reports as reports
 use Rattle.drm_refusals.specs.declared.rows.AnswerRow.{AnswerRow}
-use Rattle.drm_refusals.proofs.ReportLemmas.{denial_reported, none_newest, rule_of_newest}
+use Rattle.drm_refusals.proofs.ReportLemmas.{denial_reported, kinds_of_newest, none_newest, rule_of_newest}
 use Rattle.drm_refusals.proofs.answering.explain_answer.Goals as goal
 
 pub returns-in-Some-last-clause-rule : goal.returns-in-Some-last-clause-rule
@@ -67,4 +69,22 @@ returns-in-None-last-clause-step c =
     IfOk-weaker c.apart_row-in-None-last.result (λ (row : AnswerRow). row.asked ≡ None)
     (λ (row : AnswerRow). option_map (λ told. told.step) row.asked ≡ reports.step_reported c.args.line.apart history)
     (λ row is. ap (option_map (λ told. told.step)) is ∙ ap reports.last_number empty ∙ ap (λ apart. reports.step_reported apart history) (sym c.in-None.is))
+    c.apart_row-in-None-last.ensures.step
+
+pub returns-in-Some-last-clause-has : goal.returns-in-Some-last-clause-has
+returns-in-Some-last-clause-has c =
+    let history = c.args.ledger.now in
+    let step = c.in-Some-last.step.now in
+    IfOk-weaker c.step_row.result (λ (row : AnswerRow). kinds.HasFor history step.event step.answer row.facts.items)
+    (λ (row : AnswerRow). c.args.line.apart ≡ None → kinds.Has history row.facts.items)
+    (λ row has. λ apart. kinds_of_newest c.steps.result.now history step row.facts.items c.steps.ensures (sym c.in-Some-last.ensures.value) has)
+    c.step_row.ensures.has
+
+pub returns-in-None-last-clause-has : goal.returns-in-None-last-clause-has
+returns-in-None-last-clause-has c =
+    let history = c.args.ledger.now in
+    let empty = none_newest c.steps.result.now history c.steps.ensures c.in-None-last.ensures.value in
+    IfOk-weaker c.apart_row-in-None-last.result (λ (row : AnswerRow). row.asked ≡ None)
+    (λ (row : AnswerRow). c.args.line.apart ≡ None → kinds.Has history row.facts.items)
+    (λ row is. λ apart. subst (λ (h : List AnsweredEvent). kinds.Has h row.facts.items) empty tt)
     c.apart_row-in-None-last.ensures.step
