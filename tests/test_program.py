@@ -195,6 +195,8 @@ class ProgramTests(FolderCase):
             [*serve, "--renders", "-1"],
             [*serve, "--roots", "-1"],
             [*serve, "--roots", "few"],
+            *([*serve, option, "+0"] for option in ("--cards", "--renders", "--roots")),
+            *([command, "a", "--line", "+1"] for command in ("explain", "shrink")),
             [*serve, "--cards", "1", "--cards", "1"],
         )
         for words in refused:

@@ -445,7 +445,18 @@ fn running_of<'a>(matches: &ArgMatches<'a>) -> Running<'a> {
     }
 }
 
+/// Returns whether the value of an option begins with a plus sign, which the number of no option has.
+fn is_signed(matches: &ArgMatches<'_>, name: &str) -> bool {
+    match matches.get_str(name) {
+        Some(text) => text.starts_with("+"),
+        None => false,
+    }
+}
+
 fn serving_of<'a>(matches: &ArgMatches<'a>) -> Option<Serving<'a>> {
+    if is_signed(matches, "cards") || is_signed(matches, "renders") || is_signed(matches, "roots") {
+        return None;
+    }
     let paths = Paths {
         card: matches.get_str("card")?,
         render: matches.get_str("render")?,
@@ -513,6 +524,9 @@ fn asked_serving<'a>(
 }
 
 fn explaining_of<'a>(matches: &ArgMatches<'a>) -> Option<Explaining<'a>> {
+    if is_signed(matches, "line") {
+        return None;
+    }
     Some(Explaining {
         path: matches.get_str("FILE")?,
         device: device_of(matches),
@@ -523,6 +537,9 @@ fn explaining_of<'a>(matches: &ArgMatches<'a>) -> Option<Explaining<'a>> {
 }
 
 fn shrinking_of<'a>(matches: &ArgMatches<'a>) -> Option<Shrinking<'a>> {
+    if is_signed(matches, "line") {
+        return None;
+    }
     Some(Shrinking {
         path: matches.get_str("FILE")?,
         device: device_of(matches),
@@ -548,7 +565,7 @@ fn checking_of<'a>(
 }
 
 /// Reads the words of a command line, the program's name first. An error is a mistake, a request for help, or refused
-/// memory.
+/// memory. Returns `None` if a number has a sign.
 pub(crate) fn read_words<'a>(
     alloc: Global,
     words: &'a [String],

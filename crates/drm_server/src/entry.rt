@@ -148,7 +148,10 @@ where
         Ok(Some(Asked::Explain(explaining))) => explain_script(rt, alloc, explaining),
         Ok(Some(Asked::Shrink(shrinking))) => shrink(rt, alloc, shrinking),
         Ok(Some(Asked::Serve(serving, rules))) => serve(rt, alloc, serving, &rules),
-        Ok(None) => outcome_of_fault(Fault::CommandLine),
+        Ok(None) => {
+            error!(rt; target: PROGRAM, "a number has a sign");
+            outcome_of_fault(Fault::CommandLine)
+        }
         Err(error) => stop_at(rt, &error),
     }
 }
