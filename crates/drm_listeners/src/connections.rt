@@ -13,9 +13,7 @@ ghost use Rattle.drm_listeners.specs.Connections.{IsFailed, IsFresh, IsRoomFor, 
 use crate::hall::Gathering;
 use crate::serve_faults::ServeFault;
 use arrayvec::ArrayVec;
-use drm_connections::{
-    Answers, MOST, Note, Reporting, Requests, Role, accept_next, note_beyond,
-};
+use drm_connections::{Answers, MOST, Note, Reporting, Requests, Role, accept_next, note_beyond};
 use drm_sessions::{Class, NoGate, Served, Session, Witness, serve_witnessed};
 use drm_streams::{FromRead, Sink, Source, ToWrite};
 use drm_turns::{Seat, SharedDevice, Sharing};
