@@ -6,7 +6,6 @@
 #![tactic(auto)]
 
 mod commands;
-mod counted;
 mod faults;
 mod plan;
 mod rules;
