@@ -1,9 +1,5 @@
 //! The steps by their places in the history.
 
-ghost use Rattle.std.specs.Prelude.{◌≡◌, IfSome, Some};
-ghost use Rattle.std.specs.List.{slice_get};
-ghost use Rattle.drm_watch.specs.Reports.{HasCopied};
-
 use crate::batch::{BATCH, WatchedCall};
 use crate::trays::{Placed, Tray};
 use std::alloc::{AllocError, Global};
@@ -67,9 +63,7 @@ impl Shelf {
         })
     }
 
-    fn step_at(&self, place: usize) -> Option<&WatchedCall>
-        ensures { IfSome result (λ step. slice_get self.now.steps.items place ≡ Some (Some step.now)) }
-    {
+    fn step_at(&self, place: usize) -> Option<&WatchedCall> {
         match self.steps.get(place) {
             Some(Some(step)) => Some(step),
             _ => None,
@@ -82,9 +76,7 @@ impl Shelf {
     }
 
     /// Copies the steps from this place on to a batch that has room for them.
-    pub(crate) fn copy_steps(&self, place: usize, steps: &mut Vec<WatchedCall>)
-        ensures { HasCopied self.now.steps.items place steps.old.items steps.new.items }
-    {
+    pub(crate) fn copy_steps(&self, place: usize, steps: &mut Vec<WatchedCall>) {
         for at in place..place.saturating_add(BATCH) {
             let Some(step) = self.step_at(at) else {
                 return;
