@@ -175,15 +175,15 @@ class TracesTests(FolderCase):
         expect("the faults, and the closing", numbers[most - 1 :], ["-"] * faults + [str(most)])
 
     def test_client_that_takes_no_answers(self):
-        """Its call has a line while its answer still waits to be taken, and so do the calls of others afterwards."""
+        """The calls whose answers have room have lines, and so do the calls of others afterwards."""
         folder = self.folder
         trace = folder / "trace"
         with lasting_server(folder, "--trace", str(trace)) as started:
             with contextlib.closing(retry(lambda: connect_raw(folder / "card"))) as silent:
-                # the system keeps a few hundred answers for it
+                # there is room for some eighty answers
                 silent.sendall(HELLO + 1_000 * VERSION)
                 wait_until(
-                    "whether an answer waits", lambda: is_still(trace) and trace.read_text().count(" version -> ") > 100
+                    "whether a request waits", lambda: is_still(trace) and trace.read_text().count(" version -> ") > 50
                 )
                 other = connect(folder / "root")
                 other.ask("buf_create 4096")
