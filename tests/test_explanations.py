@@ -592,7 +592,7 @@ def denial(number):
 
 
 def asked(lines):
-    """How the last line of a script is told as a step: its number, its call and its caller."""
+    """Returns the text of the last line of a script as a step: its number, its call and its caller."""
     step = len(lines) - lines[0].startswith("limits ")
     label, word, *_ = lines[-1].split()
     if label.startswith("open"):
@@ -608,7 +608,7 @@ def asked(lines):
 
 
 def told_of(script, rule, facts):
-    """The script of a row of facts as a file's text, the number of its last line, and what is told of that."""
+    """Returns the script of a row of facts as a file's text, the number of its last line, and what `explain` prints of it."""
     lines = script.split("; ")
     told = [f"line {len(lines)} is {asked(lines)}: {denial(rule)}", *facts, f"it would pass if {PASSES_IF[rule]}"]
     return "\n".join(lines) + "\n", len(lines), "\n".join(told) + "\n"
@@ -897,7 +897,7 @@ it would pass if the caller held the handle
         expect_end(run_program("explain", script, "--line", "2"), 0, "", told)
 
     def test_each_kind_of_fact_is_told(self):
-        """The rows of the table of facts; all that differ are told."""
+        """The rows of the table of facts. All that differ are reported."""
         script, wrong = self.folder / "script", []
         rows = [told_of(*row[1:]) for row in FACTS]
         for _, text, fact in JOURNALS:

@@ -251,7 +251,7 @@ class ServingTests(FolderCase):
             expect("status", ran.returncode, 0)
 
     def test_listener_that_fails(self):
-        """Its fault is the end's, with status 1. The other sockets are served until the server is told to end."""
+        """Its fault is the end's, with status 1. The other sockets are served until the server is asked to end."""
         folder = self.folder
         with lasting_server(folder) as started:
             connect(folder / "root").close()

@@ -1,4 +1,4 @@
-"""What `drm_server explain --line` tells of the last line of a script, for each kind of fact: a table, worked out from docs/RULES.md.
+"""What `drm_server explain --line` prints of the last line of a script, for each kind of fact: a table, worked out from docs/RULES.md.
 
 A row has the kinds of its facts, the script, the rule that denies its last line, and the facts. The lines of a script are divided by
 semicolons. The kinds are those of the enums of drm_refusals, and the subjects of drm_explanations. Steps are counted from 1 in each.
@@ -611,7 +611,7 @@ LIMITS = [
     ),
 ]
 
-# What a full journal is told as, which is a fault: J places, and one for the closing of each open client.
+# How a full journal is reported, which is a fault: J places, and one for the closing of each open client.
 JOURNALS = [
     (
         "LimitFact::Journal",
