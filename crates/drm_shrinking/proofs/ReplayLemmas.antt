@@ -13,28 +13,30 @@ use Rattle.drm_checks.specs.Updates.{IsUnfit, UsesLine, with_answer}
 use Rattle.drm_checks.specs.declared.update.UpdateFault.{UpdateFault}
 use Rattle.drm_checks.specs.declared.update.UpdateFault.TheVariants as updates
 use Rattle.drm_checks.proofs.UpdateLemmas.{FirstLine, shorter}
-use Rattle.drm_shrinking.specs.Shrinking.{Selected, LineAt, HasUnfit, HasShrinkFault, fault_of}
+use Rattle.drm_shrinking.specs.Shrinking.{Selected, LineAt, HasUnfit, HasFault, fault_of, keeps}
 use Rattle.drm_shrinking.specs.Shrinking.Selected.{start, used, left_out}
+use Rattle.drm_shrinking.specs.declared.replays.Kept.{Kept}
+use Rattle.drm_shrinking.specs.declared.replays.Kept.TheVariants as variants
 
 -- the lines so far, and what is left of the text
-pub record ReplaySoFar (setting : Setting) (text rest written : List ℕ) (number before count kept : ℕ) (interpreter : InterpreterState) : Type 0 where
+pub record ReplaySoFar (setting : Setting) (text rest written : List ℕ) (number before count : ℕ) (kept : Kept) (interpreter : InterpreterState) : Type 0 where
   pub lines : List (List ℕ)
-  pub selected : Selected setting lines count written interpreter.device interpreter.labels
+  pub selected : Selected setting (keeps kept) lines count written interpreter.device interpreter.labels
   pub whole : lines_of text ≡ lines ++ lines_of rest
   pub counted : before ≡ length lines
   pub bounded : before + length rest ≤ length text
   pub few : count ≤ before
   pub not_yet : (number ≡ 0) ⊎ (before < number)
-  pub all : kept ≡ 0 → count ≡ before
+  pub all : kept ≡ variants.All → count ≡ before
 
 -- A replay that begins has used no line.
-pub none_so_far : (setting : Setting) (text written : List ℕ) (number kept : ℕ) (interpreter : InterpreterState)
+pub none_so_far : (setting : Setting) (text written : List ℕ) (number : ℕ) (kept : Kept) (interpreter : InterpreterState)
     → interpreter ≡ at_start setting → written ≡ [] → ReplaySoFar setting text text written number 0 0 kept interpreter
 none_so_far setting text written number kept interpreter at none = record {
   lines = [];
   selected =
-      subst (λ (i : InterpreterState). Selected setting [] 0 written i.device i.labels) (sym at)
-      (subst (λ (u : List ℕ). Selected setting [] 0 u (at_start setting).device (at_start setting).labels) (sym none) start);
+      subst (λ (i : InterpreterState). Selected setting (keeps kept) [] 0 written i.device i.labels) (sym at)
+      (subst (λ (u : List ℕ). Selected setting (keeps kept) [] 0 u (at_start setting).device (at_start setting).labels) (sym none) start);
   whole = refl;
   counted = refl;
   bounded = omega arith;
@@ -47,7 +49,7 @@ none_so_far setting text written number kept interpreter at none = record {
     begun zero = inl refl
     begun (suc n) = inr (omega arith)
 
-module _ {setting : Setting} {text rest written : List ℕ} {number before count kept : ℕ} {interpreter : InterpreterState} (so : ReplaySoFar setting text rest written number before count kept interpreter) where
+module _ {setting : Setting} {text rest written : List ℕ} {number before count : ℕ} {kept : Kept} {interpreter : InterpreterState} (so : ReplaySoFar setting text rest written number before count kept interpreter) where
   module _ (first behind : List ℕ) (f : FirstLine rest first behind) where
     -- the first line of the rest has the next number
     here : LineAt text (before + 1) so.lines first
@@ -75,14 +77,14 @@ module _ {setting : Setting} {text rest written : List ℕ} {number before count
 
     -- After one more line was used, it is selected.
     pub one_used : (next : InterpreterState) (came : Option (Result Answer Apart)) (grown : List ℕ)
-        → (before + 1 == number) ≡ false → UsesLine interpreter next (before + 1) first (Ok came)
+        → (before + 1 == number) ≡ false → keeps kept before ≡ true → UsesLine interpreter next (before + 1) first (Ok came)
         → grown ≡ written ++ ended (with_answer (script_part first) came)
         → ReplaySoFar setting text behind grown number (before + 1) (count + 1) kept next
-    one_used next came grown e u g = record {
+    one_used next came grown e k u g = record {
       lines = so.lines ++ first ∷ [];
       selected =
-          subst (λ (t : List ℕ). Selected setting (so.lines ++ first ∷ []) (count + 1) t next.device next.labels)
-          (sym g) (used first came so.selected u.0 u.1);
+          subst (λ (t : List ℕ). Selected setting (keeps kept) (so.lines ++ first ∷ []) (count + 1) t next.device next.labels)
+          (sym g) (used first came so.selected (subst (λ (n : ℕ). keeps kept n ≡ true) so.counted k) u.0 u.1);
       whole = whole_next;
       counted = counted_next;
       bounded = bounded_next;
@@ -92,23 +94,23 @@ module _ {setting : Setting} {text rest written : List ℕ} {number before count
     }
 
     -- A line that is left out changes nothing but the number of lines.
-    pub one_left_out : (is_kept : Bool) → (kept ≡ 0 → is_kept ≡ true) → is_kept ≡ false → (before + 1 == number) ≡ false
+    pub one_left_out : keeps kept before ≡ false → (before + 1 == number) ≡ false
         → ReplaySoFar setting text behind written number (before + 1) count kept interpreter
-    one_left_out is_kept always left e = record {
+    one_left_out left e = record {
       lines = so.lines ++ first ∷ [];
-      selected = left_out first so.selected;
+      selected = left_out first so.selected (subst (λ (n : ℕ). keeps kept n ≡ false) so.counted left);
       whole = whole_next;
       counted = counted_next;
       bounded = bounded_next;
       few = (let a = so.few in omega (arith, a));
       not_yet = not_yet_next e;
-      all = λ none. let a = always none in absurd (cc);
+      all = λ all. let no : true ≡ false = subst (λ (x : Kept). keeps x before ≡ false) all left in absurd (cc);
     }
 
     -- A replay stops at a line that can't be used, or without memory.
     pub fault_of_use : (next : InterpreterState) (fault : UpdateFault)
-        → UsesLine interpreter next (before + 1) first (Err fault) → HasShrinkFault setting text number (fault_of fault)
-    fault_of_use next (updates.Malformed told cause) u = subst (HasUnfit setting text) (sym u.0) (record {
+        → UsesLine interpreter next (before + 1) first (Err fault) → HasFault setting (keeps kept) text number (fault_of fault)
+    fault_of_use next (updates.Malformed told cause) u = subst (HasUnfit setting (keeps kept) text) (sym u.0) (record {
       before = so.lines;
       unfit = first;
       at = here;
@@ -122,7 +124,7 @@ module _ {setting : Setting} {text rest written : List ℕ} {number before count
     fault_of_use next updates.NoMemory u = tt
 
 -- The same after values that are equal.
-pub joined_so_far : {setting : Setting} {text rest written written' : List ℕ} {number before count count' kept : ℕ} {interpreter interpreter' : InterpreterState}
+pub joined_so_far : {setting : Setting} {text rest written written' : List ℕ} {number before count count' : ℕ} {kept : Kept} {interpreter interpreter' : InterpreterState}
     → interpreter ≡ interpreter' → written ≡ written' → count ≡ count'
     → ReplaySoFar setting text rest written' number before count' kept interpreter'
     → ReplaySoFar setting text rest written number before count kept interpreter

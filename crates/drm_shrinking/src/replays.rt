@@ -1,9 +1,10 @@
 //! The lines of a script up to one, run on a new device, with some of them left out.
 
-ghost use Rattle.std.specs.Prelude.{◌≡◌, ◌++◌, ◌+◌, ◌<◌, true, length, OnOk, IfOk, IfErr};
+ghost use Rattle.std.specs.Prelude.{◌≡◌, ◌++◌, ◌+◌, ◌<◌, ◌==◌, ◌||◌, OnOk, IfOk, IfErr};
 ghost use Rattle.drm_runs.specs.Lines.{ended};
 ghost use Rattle.drm_checks.specs.Updates.{with_answer};
-ghost use Rattle.drm_shrinking.specs.Shrinking.{HasShrinkFault, IsReplay};
+ghost use Rattle.drm_shrinking.specs.Shrinking.{HasFault, IsReplay, keeps};
+ghost use Rattle.drm_shrinking.specs.declared.replays.Kept.TheVariants as variants;
 
 use crate::faults::ShrinkFault;
 use drm_checks::{put_answered, script_of, use_line};
@@ -23,14 +24,37 @@ pub(crate) struct Replayed {
     pub(crate) answer: Result<Answer, Apart>,
 }
 
-/// Returns whether the line at this place, from 0, is kept. By default it is.
-fn is_kept(kept: &[bool], place: u64) -> bool
-    ensures { length kept.now ≡ 0 → result ≡ true }
+/// The lines that a replay keeps, of those before the last.
+#[derive(Drop)]
+pub(crate) enum Kept {
+    /// All lines.
+    All,
+    /// Those whose place, from 0, is marked, and those without a mark.
+    Marked(Vec<bool>),
+    /// All but the line at this place, from 0.
+    AllBut(u64),
+}
+
+/// Returns whether the line at this place, from 0, is kept.
+fn is_kept(kept: &Kept, place: u64) -> bool
+    ensures { result ≡ keeps kept.now place }
 {
-    match kept.get(place as usize) {
-        Some(is_kept) => *is_kept,
-        None => true,
+    match kept {
+        Kept::All => true,
+        Kept::Marked(marks) => match marks.get(place as usize) {
+            Some(is_marked) => *is_marked,
+            None => true,
+        },
+        Kept::AllBut(left_out) => place != *left_out,
     }
+}
+
+/// Returns whether the line at this place, from 0, is used: it is kept, or is the one with the number.
+fn is_used(kept: &Kept, place: u64, number: u64) -> bool
+    requires { place < 18446744073709551615 }
+    ensures { result ≡ (place + 1 == number || keeps kept.now place) }
+{
+    place + 1 == number || is_kept(kept, place)
 }
 
 /// Appends the line of a script, with its answer if there is one.
@@ -50,19 +74,18 @@ fn put(
     }
 }
 
-/// Runs the kept lines before the line with this number, from 1, and that line. `kept` has a place for each line before
-/// it. A line without a place is kept.
+/// Runs the kept lines before the line with this number, from 1, and that line.
 pub(crate) fn replay(
     alloc: Global,
     setup: &Setup,
     text: &[u8],
     number: u64,
-    kept: &[bool],
+    kept: &Kept,
 ) -> Result<Replayed, ShrinkFault>
-    ensures replay { IfOk result (λ replay. IsReplay setup.now text.now number replay.text.items replay.count replay.answer) }
+    ensures replay { IfOk result (λ replay. IsReplay setup.now (keeps kept.now) text.now number replay.text.items replay.count replay.answer) }
     ensures few { IfOk result (λ replay. replay.count < number) }
-    ensures whole { IfOk result (λ replay. length kept.now ≡ 0 → number ≡ replay.count + 1) }
-    ensures fault { IfErr result (λ fault. HasShrinkFault setup.now text.now number fault) }
+    ensures whole { IfOk result (λ replay. kept.now ≡ variants.All → number ≡ replay.count + 1) }
+    ensures fault { IfErr result (λ fault. HasFault setup.now (keeps kept.now) text.now number fault) }
 {
     let mut interpreter = Interpreter::new(setup.clone()?);
     let mut written = Vec::new(alloc);
@@ -72,7 +95,7 @@ pub(crate) fn replay(
     'lines: while !rest.is_empty() {
         let (line, behind) = first_line(rest);
         let is_last = before + 1 == number;
-        if is_last || is_kept(kept, before) {
+        if is_used(kept, before, number) {
             let came = use_line(&mut interpreter, alloc, before + 1, line)?;
             put(&mut written, script_of(line), &came)?;
             if is_last {

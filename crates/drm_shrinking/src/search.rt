@@ -1,6 +1,6 @@
 //! The search for a shorter script.
 
-ghost use Rattle.std.specs.Prelude.{◌<◌};
+ghost use Rattle.std.specs.Prelude.{◌≡◌, ◌≤◌, ◌<◌, false, IfOk};
 
 use crate::trials::{Fate, Trials, label_in};
 use drm_runs::Setup;
@@ -15,7 +15,7 @@ pub(crate) struct Found {
     pub(crate) kept: Vec<bool>,
     /// The number of lines that were run.
     pub(crate) replayed: u64,
-    /// Whether each kept line was tried to be left out at the end.
+    /// Whether the search has ended before it ran the most lines. It then tried to leave out each kept line.
     pub(crate) is_minimal: bool,
 }
 
@@ -103,7 +103,9 @@ pub(crate) fn search(
     number: u64,
     wanted: &Result<Answer, Apart>,
     most: u64,
-) -> Result<Found, AllocError> {
+) -> Result<Found, AllocError>
+    ensures { IfOk result (λ found. found.is_minimal ≡ false → most ≤ found.replayed) }
+{
     let mut trials = Trials::new(alloc, setup, text, number, wanted, most)?;
     leave_out_clients(&mut trials)?;
     leave_out_lines(&mut trials)?;
@@ -114,6 +116,6 @@ pub(crate) fn search(
     Ok(Found {
         kept,
         replayed: trials.replayed,
-        is_minimal: !trials.is_used_up(),
+        is_minimal: trials.replayed < most,
     })
 }

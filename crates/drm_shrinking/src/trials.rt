@@ -11,7 +11,7 @@ use drm_table::{Answer, Apart};
 use std::alloc::{AllocError, Global};
 
 /// Whether a line is kept.
-#[derive(Clone, Copy, Debug, PartialEq, Eq)]
+#[derive(Clone, Copy, PartialEq, Eq)]
 pub(crate) enum Fate {
     /// It is kept.
     Kept,
@@ -119,7 +119,7 @@ impl<'a> Trials<'a> {
     }
 
     /// Returns whether no further line may be run.
-    pub(crate) fn is_used_up(&self) -> bool {
+    fn is_used_up(&self) -> bool {
         self.replayed >= self.most
     }
 
