@@ -6,6 +6,7 @@
 #![tactic(auto)]
 
 mod commands;
+mod counted;
 mod faults;
 mod plan;
 mod rules;

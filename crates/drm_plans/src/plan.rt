@@ -1,8 +1,9 @@
 //! The rules that are in force, and the calls that they count.
 
 use crate::commands::{Control, put_fault, put_rule, read_control};
+use crate::counted::Counted;
 use crate::faults::{RuleCause, RuleFault};
-use crate::rules::{ADDING, Break, Calls, Fail, Rule, Stall};
+use crate::rules::{ADDING, Calls, Fail, Rule};
 use drm_device::Shortage;
 use drm_table::Event;
 use std::alloc::{AllocError, Global};
@@ -34,82 +35,6 @@ impl Due {
         millis: None,
         breaks: false,
     };
-}
-
-/// The rules that count calls when they are answered.
-#[derive(Drop)]
-struct Counted {
-    stalls: Vec<Stall>,
-    breaks: Vec<Break>,
-}
-
-impl Counted {
-    /// Makes a rule of `stall`, and returns whether there is room.
-    fn add_stall(&mut self, stall: Stall) -> bool {
-        let found = self
-            .stalls
-            .iter()
-            .position(|rule| rule.calls == stall.calls);
-        if let Some(place) = found {
-            if let Some(rule) = self.stalls.get_mut(place) {
-                *rule = stall;
-            }
-            return true;
-        }
-        if self.stalls.len() >= self.stalls.capacity() {
-            return false;
-        }
-        self.stalls.push_reserved(stall);
-        true
-    }
-
-    /// Makes a rule of `break`, and returns whether there is room.
-    fn add_break(&mut self, end: Break) -> bool {
-        let found = self
-            .breaks
-            .iter()
-            .position(|rule| rule.client == end.client);
-        if let Some(place) = found {
-            if let Some(rule) = self.breaks.get_mut(place) {
-                *rule = end;
-            }
-            return true;
-        }
-        if self.breaks.len() >= self.breaks.capacity() {
-            return false;
-        }
-        self.breaks.push_reserved(end);
-        true
-    }
-
-    /// Counts one of these calls. Returns the delay of its answer, if there is one.
-    fn count_call(&mut self, calls: Calls) -> Option<u16> {
-        let place = self.stalls.iter().position(|rule| rule.calls == calls)?;
-        let rule = self.stalls.get_mut(place)?;
-        if rule.nth > 1 {
-            rule.nth -= 1;
-            return None;
-        }
-        let millis = rule.millis;
-        self.stalls.remove(place);
-        Some(millis)
-    }
-
-    /// Counts a request of a client. Returns whether its connection is closed.
-    fn count_request(&mut self, client: u32) -> bool {
-        let Some(place) = self.breaks.iter().position(|rule| rule.client == client) else {
-            return false;
-        };
-        let Some(rule) = self.breaks.get_mut(place) else {
-            return false;
-        };
-        if rule.nth > 1 {
-            rule.nth -= 1;
-            return false;
-        }
-        self.breaks.remove(place);
-        true
-    }
 }
 
 /// The rules that are in force (own). Threads share it: each method locks it for as long as it takes, and never waits
@@ -268,16 +193,7 @@ impl Plan {
     /// assert!(rt; slow.due(&rt, &Event::Open(Opening::Render)).millis == Some(20));
     /// ```
     pub fn due<R: Wait>(&self, rt: &R, event: &Event) -> Due {
-        let mut counted = self.counted.lock(rt);
-        let millis = match Calls::of_event(event) {
-            Some(calls) => counted.count_call(calls),
-            None => None,
-        };
-        let breaks = match event {
-            Event::Ask(client, _) => counted.count_request(*client),
-            _ => false,
-        };
-        Due { millis, breaks }
+        self.counted.lock(rt).due(event)
     }
 
     /// Appends the lines of the rules that refuse memory.

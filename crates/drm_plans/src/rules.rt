@@ -1,6 +1,6 @@
 //! The rules of a plan, and their texts.
 
-ghost use Rattle.std.specs.Prelude.{◌≡◌, ◌≤◌, IfOk};
+ghost use Rattle.std.specs.Prelude.{◌≡◌, ◌≢◌, ◌≤◌, true, false, IfOk};
 ghost use Rattle.drm_plans.specs.Rules.{IsInRange, calls_of_event, calls_of_word, kind_of, word_of};
 
 use crate::faults::{RuleCause, RuleFault, Wanted};
@@ -120,9 +120,21 @@ impl Calls {
         }
     }
 
+    /// Returns whether these are the same calls.
+    pub(crate) fn are(self, other: Calls) -> bool
+        ensures same { result ≡ true → self ≡ other }
+        ensures other { result ≡ false → self ≢ other }
+    {
+        match (self, other) {
+            (Calls::Openings, Calls::Openings) => true,
+            (Calls::OfKind(kind), Calls::OfKind(other)) => kind == other,
+            _ => false,
+        }
+    }
+
     /// Returns the place among the calls that can add a row.
     pub(crate) fn place(self) -> Option<usize> {
-        ADDING.iter().position(|calls| *calls == self)
+        ADDING.iter().position(|calls| calls.are(self))
     }
 }
 

@@ -1,5 +1,8 @@
 //! What a reader takes at once.
 
+ghost use Rattle.std.specs.Prelude.{◌≡◌, ◌<◌, ◌++◌, ◌∷◌, [], false, vec_len};
+ghost use Rattle.std.specs.Vec.{vec_capacity};
+
 use drm_sessions::Class;
 use drm_table::{Apart, Event};
 use std::alloc::{AllocError, Global};
@@ -12,7 +15,9 @@ pub(crate) const MOST_FAULTS: usize = 1_024;
 pub(crate) const BATCH: usize = 256;
 
 /// Returns the same event.
-pub(crate) fn copy_of(event: &Event) -> Event {
+pub(crate) fn copy_of(event: &Event) -> Event
+    ensures { result ≡ event.now }
+{
     match event.clone() {
         Ok(copy) => copy,
         Err(_) => unreachable!(),
@@ -32,7 +37,9 @@ pub struct WatchedCall {
 
 impl WatchedCall {
     /// Returns the same call. Does not allocate.
-    pub fn copy(&self) -> WatchedCall {
+    pub fn copy(&self) -> WatchedCall
+        ensures { result ≡ self.now }
+    {
         WatchedCall {
             since: self.since,
             class: self.class,
@@ -80,14 +87,18 @@ impl Batch {
         self.steps.is_empty() && self.faults.is_empty() && self.left_out == 0
     }
 
-    /// Adds a fault, if there is room.
-    pub(crate) fn add_fault(&mut self, fault: WatchedFault) {
-        if self.faults.len() < self.faults.capacity() {
-            self.faults.push_reserved(fault);
-        }
+    /// Returns whether there is no room for a fault.
+    pub(crate) fn has_all_faults(&self) -> bool
+        ensures { result ≡ false → vec_len self.now.faults < vec_capacity self.now.faults }
+    {
+        self.faults.len() == self.faults.capacity()
     }
 
-    pub(crate) fn clear(&mut self) {
+    pub(crate) fn clear(&mut self)
+        ensures steps { self.new.steps.items ≡ [] }
+        ensures faults { self.new.faults.items ≡ [] }
+        ensures left_out { self.new.left_out ≡ 0 }
+    {
         self.steps.clear();
         self.faults.clear();
         self.left_out = 0;

@@ -1,5 +1,8 @@
 //! The calls that no reader took yet.
 
+ghost use Rattle.std.specs.Prelude.{◌≡◌, ◌+◌, ◌++◌, ◌∷◌, [], List};
+ghost use Rattle.drm_watch.specs.Reports.{HasMoved, IsAddedOrCounted};
+
 use crate::batch::{Batch, MOST_FAULTS, WatchedFault};
 use crate::trays::{Tray, add_tray, empty_trays};
 use std::alloc::{AllocError, Global};
@@ -38,7 +41,10 @@ impl Inbox {
         }
     }
 
-    pub(crate) fn add_fault(&mut self, fault: WatchedFault) {
+    /// Adds a fault, or counts it if there is no room.
+    pub(crate) fn add_fault(&mut self, fault: WatchedFault)
+        ensures { IsAddedOrCounted self.old.faults.items self.old.left_out fault self.new.faults.items self.new.left_out }
+    {
         if self.faults.len() < self.faults.capacity() {
             self.faults.push_back_reserved(fault);
         } else {
@@ -54,15 +60,22 @@ impl Inbox {
         }
     }
 
-    /// Moves the faults after at most this many steps to a batch, in the order of their reports. If a fault waits for an earlier
-    /// one, no step of its connection overtakes it: the earlier fault was reported before that step was made.
-    pub(crate) fn move_faults(&mut self, steps: u64, batch: &mut Batch) {
+    /// Moves the faults after at most this many steps to a batch, in the order of their reports, and their count if none is
+    /// left. If a fault waits for an earlier one, no step of its connection overtakes it: the earlier fault was reported
+    /// before that step was made.
+    pub(crate) fn move_faults(&mut self, steps: u64, batch: &mut Batch)
+        requires uncounted { batch.old.left_out ≡ 0 }
+        ensures moved { HasMoved self.old.faults.items batch.old.faults.items self.new.faults.items batch.new.faults.items }
+        ensures counted { batch.new.left_out + self.new.left_out ≡ self.old.left_out }
+        ensures all { self.new.faults.items ≡ [] → self.new.left_out ≡ 0 }
+        ensures steps { batch.new.steps ≡ batch.old.steps }
+    {
         for _ in 0..self.faults.len() {
-            if !self.is_due(steps) {
+            if !self.is_due(steps) || batch.has_all_faults() {
                 return;
             }
             if let Some(fault) = self.faults.pop_front() {
-                batch.add_fault(fault);
+                batch.faults.push_reserved(fault);
             }
         }
         batch.left_out = mem::replace(&mut self.left_out, 0);

@@ -1,6 +1,7 @@
 //! The calls of all connections, for threads that show or write them in the order of the history.
 //!
-//! Nothing here is in a contract: no clause says what is shown.
+//! What a reader takes at once is what was reported, in the order of the history or of the reports, each once. No clause
+//! says that a report is taken.
 #![tactic(auto)]
 
 mod batch;

@@ -1,5 +1,9 @@
 //! The steps by their places in the history.
 
+ghost use Rattle.std.specs.Prelude.{◌≡◌, IfSome, Some};
+ghost use Rattle.std.specs.List.{slice_get};
+ghost use Rattle.drm_watch.specs.Reports.{HasCopied};
+
 use crate::batch::{BATCH, WatchedCall};
 use crate::trays::{Placed, Tray};
 use std::alloc::{AllocError, Global};
@@ -63,7 +67,9 @@ impl Shelf {
         })
     }
 
-    fn step_at(&self, place: usize) -> Option<&WatchedCall> {
+    fn step_at(&self, place: usize) -> Option<&WatchedCall>
+        ensures { IfSome result (λ step. slice_get self.now.steps.items place ≡ Some (Some step.now)) }
+    {
         match self.steps.get(place) {
             Some(Some(step)) => Some(step),
             _ => None,
@@ -76,7 +82,9 @@ impl Shelf {
     }
 
     /// Copies the steps from this place on to a batch that has room for them.
-    pub(crate) fn copy_steps(&self, place: usize, steps: &mut Vec<WatchedCall>) {
+    pub(crate) fn copy_steps(&self, place: usize, steps: &mut Vec<WatchedCall>)
+        ensures { HasCopied self.now.steps.items place steps.old.items steps.new.items }
+    {
         for at in place..place.saturating_add(BATCH) {
             let Some(step) = self.step_at(at) else {
                 return;

@@ -30,7 +30,7 @@ fn now() -> Duration {
 }
 
 /// What a reader saw when it took the steps.
-#[derive(Clone, Copy, Debug)]
+#[derive(Clone, Copy)]
 struct Seen {
     /// The number of reports before it took them: it has all of these.
     reports: u64,
@@ -177,9 +177,10 @@ impl Watch {
         }
     }
 
-    /// Fills a batch that is empty. If the step at this place is not on the shelf, it takes all steps that were reported. The
+    /// Clears a batch and fills it. If the step at this place is not on the shelf, it takes all steps that were reported. The
     /// reports are counted before, so that none of them is missed.
     fn fill<R: Wait>(&self, rt: &R, place: usize, takes_faults: bool, batch: &mut Batch) -> Seen {
+        batch.clear();
         let mut locked = self.shelf.lock(rt);
         let shelf = &mut *locked;
         let seen = self.seen(rt);
@@ -204,7 +205,6 @@ impl Watch {
         takes_faults: bool,
         batch: &mut Batch,
     ) -> bool {
-        batch.clear();
         for _ in rt.forever() {
             let seen = self.fill(rt, place, takes_faults, batch);
             if seen.has_ended || !batch.is_empty() {
