@@ -1,2 +1,1 @@
 mod Routes
-mod WholeViews

@@ -12,7 +12,7 @@ ghost use Rattle.drm_state.specs.Places.{outcome};
 ghost use Rattle.drm_state.specs.Refinement.{RefinesCall, RefinesReply};
 
 use drm_modes::{AddFbFault, Shape};
-use drm_state::{PrimaryCaller, State, bytes_per_pixel, is_dumb_shape, new_handle};
+use drm_state::{Memory, PrimaryCaller, State, bytes_per_pixel, is_dumb_shape, new_handle};
 use drm_table::{Answer, Rule};
 use std::alloc::AllocError;
 
@@ -22,6 +22,7 @@ use std::alloc::AllocError;
 pub fn get_fb(
     state: &mut State,
     step_number: u32,
+    memory: Memory,
     caller: PrimaryCaller,
     framebuffer: u32,
     answer: &mut Answer,
@@ -39,7 +40,8 @@ pub fn get_fb(
         *answer = framebuffer_answer(row.shape, 0);
         return Ok(());
     }
-    let Some(handle) = new_handle(state, step_number, caller.client, row.object, None)? else {
+    let Some(handle) = new_handle(state, step_number, memory, caller.client, row.object, None)?
+    else {
         answer.set_denied(Rule::Full);
         return Ok(());
     };
@@ -55,6 +57,7 @@ pub fn get_fb(
 pub fn add_fb(
     state: &mut State,
     step_number: u32,
+    memory: Memory,
     client: u32,
     shape: Shape,
     handle: u32,
@@ -72,6 +75,9 @@ pub fn add_fb(
     if !is_shape_over(shape, state.objects.size(object)) {
         answer.set_denied(Rule::BadSize);
         return Ok(());
+    }
+    if memory.is_refused() && !state.modes.is_full() {
+        return Err(AllocError);
     }
     let framebuffer = match state.modes.addfb(client, shape, object) {
         Ok(framebuffer) => framebuffer,

@@ -6,7 +6,7 @@ ghost use Rattle.drm_state.specs.Callers.{IsPrimaryCaller};
 ghost use Rattle.drm_state.specs.Invariants.{MeetsInvariants};
 ghost use Rattle.drm_state.specs.Refinement.{RefinesReply};
 
-use crate::seeing::{sees_object, visible_mask};
+use crate::seeing::{view_with, visible_mask};
 use drm_modes::Kind;
 use drm_state::{PrimaryCaller, State};
 use drm_table::{Answer, Rule};
@@ -18,10 +18,10 @@ pub fn get_crtc(state: &State, caller: PrimaryCaller, crtc: u32, answer: &mut An
     requires caller { IsPrimaryCaller state.now caller }
     ensures { RefinesReply state.now caller.client (GetCrtc crtc) answer.new state.now }
 {
-    if !sees_object(state, caller, Kind::Crtc, crtc) {
+    let Some(_seen) = view_with(state, caller, Kind::Crtc, crtc) else {
         answer.set_denied(Rule::NoModeObject);
         return;
-    }
+    };
     answer.set_number(state.modes.shown(crtc) as u64);
 }
 
@@ -32,11 +32,11 @@ pub fn get_encoder(state: &State, caller: PrimaryCaller, encoder: u32, answer: &
     requires caller { IsPrimaryCaller state.now caller }
     ensures { RefinesReply state.now caller.client (GetEncoder encoder) answer.new state.now }
 {
-    if !sees_object(state, caller, Kind::Encoder, encoder) {
+    let Some(seen) = view_with(state, caller, Kind::Encoder, encoder) else {
         answer.set_denied(Rule::NoModeObject);
         return;
-    }
-    answer.set_number(visible_mask(state, caller, encoder) as u64);
+    };
+    answer.set_number(visible_mask(&state.modes, seen, encoder) as u64);
 }
 
 /// Returns the encoder of a connector (MODE_GETCONNECTOR; drm-uapi, mode setting). That a connector has one encoder is
@@ -46,10 +46,10 @@ pub fn get_connector(state: &State, caller: PrimaryCaller, connector: u32, answe
     requires caller { IsPrimaryCaller state.now caller }
     ensures { RefinesReply state.now caller.client (GetConnector connector) answer.new state.now }
 {
-    if !sees_object(state, caller, Kind::Connector, connector) {
+    let Some(_seen) = view_with(state, caller, Kind::Connector, connector) else {
         answer.set_denied(Rule::NoModeObject);
         return;
-    }
+    };
     answer.set_number(state.modes.encoder_of(connector).unwrap_or(0) as u64);
 }
 
@@ -60,12 +60,12 @@ pub fn get_plane(state: &State, caller: PrimaryCaller, plane: u32, answer: &mut 
     requires caller { IsPrimaryCaller state.now caller }
     ensures { RefinesReply state.now caller.client (GetPlane plane) answer.new state.now }
 {
-    if !sees_object(state, caller, Kind::Plane, plane) {
+    let Some(seen) = view_with(state, caller, Kind::Plane, plane) else {
         answer.set_denied(Rule::NoModeObject);
         return;
-    }
+    };
     *answer = Answer::Plane {
         framebuffer: state.modes.shown(plane),
-        mask: visible_mask(state, caller, plane),
+        mask: visible_mask(&state.modes, seen, plane),
     };
 }

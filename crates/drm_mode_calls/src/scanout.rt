@@ -8,7 +8,7 @@ ghost use Rattle.drm_state.specs.Invariants.{MeetsInvariants};
 ghost use Rattle.drm_state.specs.Refinement.{RefinesReply};
 ghost use Rattle.drm_mode_calls.specs.Scanout as scanned;
 
-use crate::seeing::sees_object;
+use crate::seeing::{is_seen, view_with};
 use drm_modes::Kind;
 use drm_state::{PrimaryCaller, State};
 use drm_table::{Answer, Rule};
@@ -121,8 +121,10 @@ fn plane_refusal(
 fn sees_route(state: &State, caller: PrimaryCaller, crtc: u32, connector: u32) -> bool
     ensures { result ≡ scanned.sees_route state.now caller crtc connector }
 {
-    sees_object(state, caller, Kind::Crtc, crtc)
-        && (connector == 0 || sees_object(state, caller, Kind::Connector, connector))
+    let Some(seen) = view_with(state, caller, Kind::Crtc, crtc) else {
+        return false;
+    };
+    connector == 0 || is_seen(&state.modes, seen, Kind::Connector, connector)
 }
 
 /// Returns whether there is a framebuffer with a connector that a CRTC reaches, or neither.
@@ -145,8 +147,10 @@ fn sees_plane_route(
 ) -> bool
     ensures { result ≡ scanned.sees_plane_route state.now caller plane crtc framebuffer }
 {
-    sees_object(state, caller, Kind::Plane, plane)
-        && (framebuffer == 0 || sees_object(state, caller, Kind::Crtc, crtc))
+    let Some(seen) = view_with(state, caller, Kind::Plane, plane) else {
+        return false;
+    };
+    framebuffer == 0 || is_seen(&state.modes, seen, Kind::Crtc, crtc)
 }
 
 /// Returns whether a plane can be shown on a CRTC, or becomes dark.

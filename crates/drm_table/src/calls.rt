@@ -538,8 +538,9 @@ impl Call {
         }
     }
 
-    /// Returns the flags of the call's row, which say which client may make the call (`drm_ioctl_permit`). A call
-    /// without a row has none.
+    /// Returns the flags of the row that has the call's number. They say which client may make the call
+    /// (`drm_ioctl_permit`). A call whose fields are not its row's has the row's flags, too. If no row has the number,
+    /// there are none.
     ///
     /// # Examples
     ///

@@ -1,5 +1,6 @@
 use Rattle.std.proofs.Common.{◌≡◌, ℕ, Bool, ◌++◌, [], ◌∷◌, ◌&&◌, true, List, find, Some, None, refl, sym, ap, ◌∙◌, subst, inr, arith, length-append}
 use Rattle.std.specs.Prelude.{unwrap_or}
+use Rattle.std.proofs.lemmas.Bool.{false≢true}
 use Rattle.std.specs.Option.{is_some, option_map}
 use Rattle.drm_lists.proofs.Numbers.{among-left}
 use Rattle.drm_table.specs.declared.answers.Answer.TheVariants.{Number}
@@ -133,6 +134,24 @@ returns-in-Err-NoMemory-clause-refines c = λ w r a.
     (call_verdict w c.args.client (asks c.args.shape c.args.handle) a ∙ rw (it.has, it.object, good, free) refl)
     (rw it.object (longer w c.args.client (step_number_at s.objects.objects c.in-Some.object) c.args.shape))
     (subst (λ ms. Represents (record s { modes = ms }) w) (sym c.in-Err-NoMemory.ensures.err) r.rows)
+
+pub returns-then-not-is_full-clause-refines : goal.returns-then-not-is_full-clause-refines
+unfolding RefinesCall meaning changed
+returns-then-not-is_full-clause-refines c = λ w r a.
+    let s = c.args.state.now in
+    let it =
+    tested c.args.state.now c.args.client c.args.handle c.in-Some.object c.requires.precondition.invariants
+    (sym c.in-Some.is ∙ c.object_of.ensures.object) c.args.shape c.size.result c.is_shape_over.result c.size.ensures
+    c.is_shape_over.ensures w r.rows in
+    let good = it.lies ∙ c.if-not-is_shape_over.false in
+    let free =
+    ap is_some (free_framebuffer_is s w c.requires.precondition.invariants r.rows)
+    ∙ some_free (modes.free_framebuffer s.modes)
+    (λ e. false≢true (sym c.if-not-is_full.true ∙ c.is_full.ensures.1 e)) in
+    refused s w (Ask c.args.client (asks c.args.shape c.args.handle)) (record {})
+    (call_verdict w c.args.client (asks c.args.shape c.args.handle) a ∙ rw (it.has, it.object, good, free) refl)
+    (rw it.object (longer w c.args.client (step_number_at s.objects.objects c.in-Some.object) c.args.shape))
+    r.rows
 
 pub refer-requires : goal.refer-requires
 refer-requires c =

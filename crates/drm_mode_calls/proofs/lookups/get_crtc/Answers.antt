@@ -1,4 +1,5 @@
 use Rattle.std.proofs.Common.{◌≡◌, true, false, [], ◌∷◌, sym, ap, ◌∙◌}
+use Rattle.std.specs.Option.{is_some}
 use Rattle.drm_table.specs.declared.answers.Answer.TheVariants.{Number}
 use Rattle.drm_table.specs.declared.calls.Call.TheVariants.{GetCrtc}
 use Rattle.drm_table.specs.declared.events.Event.TheVariants.{Ask}
@@ -14,13 +15,13 @@ use Rattle.drm_state.proofs.Seeing.{crtc_seen}
 use Rattle.drm_state.proofs.Scanouts.{shown_is}
 use Rattle.drm_mode_calls.proofs.lookups.get_crtc.Goals as goal
 
-pub returns-then-not-sees_object : goal.returns-then-not-sees_object
+pub returns-in_default : goal.returns-in_default
 unfolding RefinesReply meaning
-returns-then-not-sees_object c = rw c.set_denied.ensures.denied (λ w h a.
+returns-in_default c = rw c.set_denied.ensures.denied (λ w h a.
     let s = c.args.state.now in
     let x = c.args.crtc in
     let unseen : model.sees_crtc w c.args.caller.client x ≡ false =
-    crtc_seen s w c.args.caller c.requires.caller h x ∙ sym c.sees_object.ensures ∙ c.if-not-sees_object.true in
+    crtc_seen s w c.args.caller c.requires.caller h x ∙ sym c.view_with.ensures.object ∙ ap is_some c.in_default.is in
     denied s w (Ask c.args.caller.client (GetCrtc x)) NoModeObject (call_verdict w c.args.caller.client (GetCrtc x) a ∙ ap (λ b. first_failing (check NoModeObject b ∷ [])) unseen) h)
 
 pub returns : goal.returns
@@ -29,7 +30,7 @@ returns c = rw c.set_number.ensures.number (λ w h a.
     let s = c.args.state.now in
     let x = c.args.crtc in
     let seen : model.sees_crtc w c.args.caller.client x ≡ true =
-    crtc_seen s w c.args.caller c.requires.caller h x ∙ sym c.sees_object.ensures ∙ c.if-not-sees_object.false in
+    crtc_seen s w c.args.caller c.requires.caller h x ∙ sym c.view_with.ensures.object ∙ ap is_some c.in-Some.is in
     carried_on s w (Ask c.args.caller.client (GetCrtc x)) (Number c.shown.result) c.requires.invariants
     (call_verdict w c.args.caller.client (GetCrtc x) a ∙ ap (λ b. first_failing (check NoModeObject b ∷ [])) seen)
     (ap Number (c.shown.ensures ∙ sym (shown_is s w h x))) h)

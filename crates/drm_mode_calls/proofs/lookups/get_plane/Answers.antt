@@ -1,4 +1,5 @@
 use Rattle.std.proofs.Common.{◌≡◌, true, false, [], ◌∷◌, sym, ap, ◌∙◌}
+use Rattle.std.specs.Option.{is_some}
 use Rattle.drm_table.specs.declared.answers.Answer.TheVariants.{Plane}
 use Rattle.drm_table.specs.declared.calls.Call.TheVariants.{GetPlane}
 use Rattle.drm_table.specs.declared.events.Event.TheVariants.{Ask}
@@ -8,19 +9,24 @@ use Rattle.drm_model.specs.Sees as model
 use Rattle.drm_model.specs.Calls.{meaning}
 use Rattle.drm_model.specs.Change.{changed}
 use Rattle.drm_model.specs.Reply.{answer_of}
+use Rattle.std.proofs.lemmas.List.Elements.{filter_agree}
+use Rattle.drm_modes.specs.declared.kinds.Kind.TheVariants.{Crtc}
+use Rattle.drm_modes.specs.Topology.{ids_of_kind, mask_over}
+use Rattle.drm_leases.specs.Views.{is_in_view}
+use Rattle.drm_state.specs.Seeing.{sees}
 use Rattle.drm_state.specs.Refinement.{RefinesReply}
 use Rattle.drm_state.proofs.Refinements.{denied, carried_on, call_verdict}
 use Rattle.drm_state.proofs.Seeing.{plane_seen, mask_visible}
 use Rattle.drm_state.proofs.Scanouts.{shown_is}
 use Rattle.drm_mode_calls.proofs.lookups.get_plane.Goals as goal
 
-pub returns-then-not-sees_object : goal.returns-then-not-sees_object
+pub returns-in_default : goal.returns-in_default
 unfolding RefinesReply meaning
-returns-then-not-sees_object c = rw c.set_denied.ensures.denied (λ w h a.
+returns-in_default c = rw c.set_denied.ensures.denied (λ w h a.
     let s = c.args.state.now in
     let x = c.args.plane in
     let unseen : model.sees_plane w c.args.caller.client x ≡ false =
-    plane_seen s w c.args.caller c.requires.caller h x ∙ sym c.sees_object.ensures ∙ c.if-not-sees_object.true in
+    plane_seen s w c.args.caller c.requires.caller h x ∙ sym c.view_with.ensures.object ∙ ap is_some c.in_default.is in
     denied s w (Ask c.args.caller.client (GetPlane x)) NoModeObject (call_verdict w c.args.caller.client (GetPlane x) a ∙ ap (λ b. first_failing (check NoModeObject b ∷ [])) unseen) h)
 
 pub returns : goal.returns
@@ -29,9 +35,9 @@ returns c = λ w h a.
     let s = c.args.state.now in
     let x = c.args.plane in
     let seen : model.sees_plane w c.args.caller.client x ≡ true =
-    plane_seen s w c.args.caller c.requires.caller h x ∙ sym c.sees_object.ensures ∙ c.if-not-sees_object.false in
+    plane_seen s w c.args.caller c.requires.caller h x ∙ sym c.view_with.ensures.object ∙ ap is_some c.in-Some.is in
     carried_on s w (Ask c.args.caller.client (GetPlane x)) (Plane c.shown.result c.visible_mask.result)
     c.requires.invariants
     (call_verdict w c.args.caller.client (GetPlane x) a ∙ ap (λ b. first_failing (check NoModeObject b ∷ [])) seen)
-    (λ i. Plane ((c.shown.ensures ∙ sym (shown_is s w h x)) i) ((c.visible_mask.ensures ∙ sym (mask_visible s w c.args.caller c.requires.caller h x)) i))
+    (λ i. Plane ((c.shown.ensures ∙ sym (shown_is s w h x)) i) ((c.visible_mask.ensures ∙ ap (mask_over s.modes.topology x) (filter_agree (is_in_view s.modes.topology c.in-Some.seen) (sees s c.args.caller) c.in-Some.ensures.view (ids_of_kind s.modes.topology Crtc)) ∙ sym (mask_visible s w c.args.caller c.requires.caller h x)) i))
     h

@@ -1,0 +1,10 @@
+use Rattle.std.proofs.Common.{◌==◌, ◌&&◌, ◌||◌, sym, ap, ◌∙◌}
+use Rattle.std.specs.Option.{is_some}
+use Rattle.drm_modes.specs.declared.kinds.Kind.TheVariants.{Crtc}
+use Rattle.drm_state.specs.Seeing.{sees_object}
+use Rattle.drm_mode_calls.proofs.scanout.sees_plane_route.Goals as goal
+
+pub returns-in_default : goal.returns-in_default
+returns-in_default c =
+    sym
+    (ap (λ b. b && ((c.args.framebuffer == 0) || sees_object c.args.state.now c.args.caller Crtc c.args.crtc)) (sym c.view_with.ensures.object ∙ ap is_some c.in_default.is))
