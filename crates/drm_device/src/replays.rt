@@ -31,7 +31,7 @@ pub enum ReplayFault {
 }
 
 /// The first event that a device did not note: its number, from 1, and why.
-#[derive(Clone, Copy, PartialEq, Eq, Debug)]
+#[derive(Clone, Copy)]
 struct Unnoted {
     at: usize,
     apart: Apart,

@@ -40,7 +40,7 @@ struct Guests {
 }
 
 /// The connections whose threads are waited for.
-#[derive(Clone, Copy, Debug, PartialEq, Eq)]
+#[derive(Clone, Copy)]
 enum Awaited {
     /// Those whose sessions have ended.
     Ended,

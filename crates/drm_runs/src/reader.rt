@@ -14,7 +14,7 @@ const CHUNK: usize = 256;
 const LINE: usize = 255;
 
 /// The result of a scan of the pending bytes.
-#[derive(Clone, Copy, Debug, PartialEq, Eq)]
+#[derive(Clone, Copy)]
 enum Scan {
     Line,
     Wanting,
@@ -22,7 +22,7 @@ enum Scan {
 }
 
 /// The result of reading the next line.
-#[derive(Clone, Copy, Debug, PartialEq, Eq)]
+#[derive(Clone, Copy)]
 pub(crate) enum NextLine {
     /// The reader holds the line, and its end was read.
     Line,

@@ -91,7 +91,7 @@ Examples:
   drm_server serve --card card --render render --root root --cards 2 --until-input-ends --verbose";
 
 /// The number of connections that a server accepts.
-#[derive(Clone, Copy, Debug, PartialEq, Eq)]
+#[derive(Clone, Copy)]
 pub(crate) enum Accepts {
     /// These numbers on each listener.
     Counted(Counts),
@@ -100,7 +100,7 @@ pub(crate) enum Accepts {
 }
 
 /// The sockets to listen on, and the number of connections to accept on each.
-#[derive(Clone, Copy, Debug, PartialEq, Eq)]
+#[derive(Clone, Copy)]
 pub(crate) struct Serving<'a> {
     pub(crate) paths: Paths<'a>,
     pub(crate) accepts: Accepts,
@@ -118,7 +118,7 @@ pub(crate) struct Serving<'a> {
 }
 
 /// The faults on purpose of a command line, by their options.
-#[derive(Debug, PartialEq, Eq, Drop)]
+#[derive(Drop)]
 pub(crate) struct AskedRules<'a> {
     pub(crate) fails: Vec<&'a str>,
     pub(crate) stalls: Vec<&'a str>,
@@ -133,7 +133,7 @@ impl AskedRules<'_> {
 }
 
 /// A command with its arguments.
-#[derive(Debug, PartialEq, Eq, Drop)]
+#[derive(Drop)]
 pub(crate) enum Asked<'a> {
     /// To run a script.
     Run(Running<'a>),

@@ -10,7 +10,7 @@ use std::alloc::{AllocError, Global};
 use std::sync::Wait;
 
 /// What a journal's thread has written.
-#[derive(Clone, Copy, Debug, PartialEq, Eq)]
+#[derive(Clone, Copy)]
 pub(crate) enum Growth {
     /// This many bytes. After a failed write or without memory nothing more.
     Written(usize),

@@ -44,13 +44,13 @@ pub(crate) fn count_lines(text: &[u8]) -> u64 {
 }
 
 /// An open file that a thread writes lines to. Its owner keeps it open.
-#[derive(Clone, Copy, Debug, PartialEq, Eq)]
+#[derive(Clone, Copy)]
 pub(crate) struct Outlet {
     pub(crate) descriptor: RawFd,
 }
 
 /// What became of a text.
-#[derive(Clone, Copy, Debug, PartialEq, Eq)]
+#[derive(Clone, Copy)]
 pub(crate) enum Put {
     /// It is written.
     Whole,

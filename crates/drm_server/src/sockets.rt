@@ -17,7 +17,7 @@ use std::time::SystemTime;
 use std::{fs, io};
 
 /// The paths of the three sockets.
-#[derive(Clone, Copy, Debug, PartialEq, Eq)]
+#[derive(Clone, Copy)]
 pub(crate) struct Paths<'a> {
     pub(crate) card: &'a str,
     pub(crate) render: &'a str,

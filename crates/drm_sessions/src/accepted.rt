@@ -7,7 +7,7 @@ ghost use Rattle.drm_sessions.specs.Accepting.{outcome_of};
 use drm_table::{Answer, Apart, Rule};
 
 /// The three answers to an opening.
-#[derive(Clone, Copy, Debug, PartialEq, Eq)]
+#[derive(Clone, Copy)]
 pub(crate) enum Accepted {
     Client(u32),
     Denied(Rule),

@@ -17,14 +17,14 @@ use drm_streams::{Sink, Source};
 use drm_table::{Answer, Apart, Call, Event};
 
 /// The end of the requests, and the number of those that were recorded.
-#[derive(Clone, Copy, Debug)]
+#[derive(Clone, Copy)]
 pub(crate) struct Stopped {
     pub(crate) end: SessionEnd,
     pub(crate) steps: u64,
 }
 
 /// Whether a request was recorded, and what resulted from writing its answer.
-#[derive(Clone, Copy, Debug)]
+#[derive(Clone, Copy)]
 struct Answered {
     steps: u64,
     wrote: Result<(), SessionEnd>,

@@ -13,7 +13,7 @@ use crate::steps::{self, Giving, Key, Publishing, Source, Step};
 use drm_table::{Call, Event};
 
 /// The last step that assigned a handle: the number of steps before it, and the source of the object.
-#[derive(Clone, Copy, PartialEq, Eq, Debug)]
+#[derive(Clone, Copy)]
 pub(crate) struct LastGiving {
     pub(crate) past: usize,
     pub(crate) source: Source,
@@ -40,7 +40,7 @@ pub struct LastPublishing {
 }
 
 /// A step that published: the number of steps before it, the key, the client and its handle.
-#[derive(Clone, Copy, PartialEq, Eq, Debug)]
+#[derive(Clone, Copy)]
 pub(crate) struct Publication {
     pub(crate) past: usize,
     pub(crate) key: Key,
@@ -99,7 +99,7 @@ pub(crate) fn publication_before(
 
 /// A step that assigns or takes handles of a client: the number of steps before it, and the handle, or `None` for all
 /// handles.
-#[derive(Clone, Copy, PartialEq, Eq, Debug)]
+#[derive(Clone, Copy)]
 pub(crate) struct Touch {
     pub(crate) past: usize,
     pub(crate) client: u64,

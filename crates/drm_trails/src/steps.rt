@@ -127,7 +127,7 @@ pub struct Publishing {
 }
 
 /// The handles that a step takes from a client.
-#[derive(Clone, Copy, PartialEq, Eq, Debug)]
+#[derive(Clone, Copy)]
 pub(crate) enum Taken {
     Nothing,
     One(u64),
