@@ -9,7 +9,7 @@ ghost use Rattle.drm_state.specs.Places.{outcome};
 ghost use Rattle.drm_state.specs.Refinement.{RefinesCall, RefinesReply, MakesBuffer};
 
 use drm_gem::CreateFault;
-use drm_state::{State, bytes_per_pixel, is_dumb_shape, release};
+use drm_state::{Memory, State, add_handle, bytes_per_pixel, is_dumb_shape, release};
 use drm_table::{Answer, Rule};
 use std::alloc::AllocError;
 
@@ -28,6 +28,7 @@ pub struct Pixels {
 pub fn create_dumb(
     state: &mut State,
     step_number: u32,
+    memory: Memory,
     client: u32,
     pixels: Pixels,
     answer: &mut Answer,
@@ -43,7 +44,7 @@ pub fn create_dumb(
     }
     let pitch = dumb_pitch(pixels.width, pixels.bpp);
     let size = dumb_size(pitch, pixels.height);
-    let Some(handle) = new_buffer(state, step_number, client, size)? else {
+    let Some(handle) = new_buffer(state, step_number, memory, client, size)? else {
         answer.set_denied(Rule::Full);
         return Ok(());
     };
@@ -60,6 +61,7 @@ pub fn create_dumb(
 pub fn buf_create(
     state: &mut State,
     step_number: u32,
+    memory: Memory,
     client: u32,
     size: u64,
     answer: &mut Answer,
@@ -74,7 +76,7 @@ pub fn buf_create(
         return Ok(());
     }
     let size = buffer_size(size);
-    let Some(handle) = new_buffer(state, step_number, client, size)? else {
+    let Some(handle) = new_buffer(state, step_number, memory, client, size)? else {
         answer.set_denied(Rule::Full);
         return Ok(());
     };
@@ -87,6 +89,7 @@ pub fn buf_create(
 fn new_buffer(
     state: &mut State,
     step_number: u32,
+    memory: Memory,
     client: u32,
     size: u64,
 ) -> Result<Option<u32>, AllocError>
@@ -103,7 +106,7 @@ fn new_buffer(
         Err(CreateFault::Full) => return Ok(None),
         Err(CreateFault::NoMemory) => return Err(AllocError),
     };
-    let Ok(handle) = state.files.add_handle(client, made, None) else {
+    let Ok(handle) = add_handle(&mut state.files, memory, client, made, None) else {
         // the object is freed again, since nothing names it
         let _dead = state.objects.unhold(made);
         return Err(AllocError);

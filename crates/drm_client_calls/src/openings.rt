@@ -11,7 +11,7 @@ ghost use Rattle.drm_state.specs.Refinement.{Refines};
 
 use drm_files::Files;
 use drm_masters::NoMemory;
-use drm_state::State;
+use drm_state::{Memory, State};
 use drm_table::{Answer, Opening, Rule};
 use std::alloc::AllocError;
 
@@ -19,6 +19,7 @@ use std::alloc::AllocError;
 pub fn open(
     state: &mut State,
     step_number: u32,
+    memory: Memory,
     opening: Opening,
     answer: &mut Answer,
 ) -> Result<(), AllocError>
@@ -28,14 +29,14 @@ pub fn open(
 {
     match opening {
         Opening::Primary { root, universal } => {
-            open_primary(state, step_number, root, universal, answer)
+            open_primary(state, step_number, memory, root, universal, answer)
         }
-        Opening::Render => open_render(state, step_number, answer),
+        Opening::Render => open_render(state, step_number, memory, answer),
         Opening::Lease {
             token,
             root,
             universal,
-        } => open_lease(state, step_number, token, root, universal, answer),
+        } => open_lease(state, step_number, memory, token, root, universal, answer),
     }
 }
 
@@ -43,6 +44,7 @@ pub fn open(
 fn open_primary(
     state: &mut State,
     step_number: u32,
+    memory: Memory,
     root: bool,
     universal: bool,
     answer: &mut Answer,
@@ -58,6 +60,7 @@ fn open_primary(
     let opener = state.masters.device_master().is_none();
     open_file(
         &mut state.files,
+        memory,
         step_number,
         false,
         root,
@@ -76,7 +79,12 @@ fn open_primary(
 }
 
 /// Returns a render client, which has no master, and universal planes on (own).
-fn open_render(state: &mut State, step_number: u32, answer: &mut Answer) -> Result<(), AllocError>
+fn open_render(
+    state: &mut State,
+    step_number: u32,
+    memory: Memory,
+    answer: &mut Answer,
+) -> Result<(), AllocError>
     requires { StepPrecondition state.old step_number }
     ensures refines { Refines state.old step_number (Open Render) (outcome result answer.new) state.new }
     ensures invariants { MeetsInvariants state.new }
@@ -85,7 +93,15 @@ fn open_render(state: &mut State, step_number: u32, answer: &mut Answer) -> Resu
         answer.set_denied(Rule::Full);
         return Ok(());
     }
-    open_file(&mut state.files, step_number, true, false, true, false)?;
+    open_file(
+        &mut state.files,
+        memory,
+        step_number,
+        true,
+        false,
+        true,
+        false,
+    )?;
     *answer = Answer::Opened {
         client: step_number,
     };
@@ -97,6 +113,7 @@ fn open_render(state: &mut State, step_number: u32, answer: &mut Answer) -> Resu
 fn open_lease(
     state: &mut State,
     step_number: u32,
+    memory: Memory,
     token: u32,
     root: bool,
     universal: bool,
@@ -114,7 +131,15 @@ fn open_lease(
         answer.set_denied(Rule::Full);
         return Ok(());
     }
-    open_file(&mut state.files, step_number, false, root, universal, true)?;
+    open_file(
+        &mut state.files,
+        memory,
+        step_number,
+        false,
+        root,
+        universal,
+        true,
+    )?;
     if let Err(NoMemory) = state.masters.on_redeem(step_number, lessee) {
         let _rest = state.files.close(step_number);
         return Err(AllocError);
@@ -132,6 +157,7 @@ fn open_lease(
 /// memory is refused, nothing changes.
 fn open_file(
     files: &mut Files,
+    memory: Memory,
     number: u32,
     render: bool,
     root: bool,
@@ -143,6 +169,9 @@ fn open_file(
     ensures ok { OnOk result (files.new ≡ record files.old { clients = files.old.clients ++ client number (record (new_flags render root universal) { authenticated = if opener then true else root }) ∷ [] }) }
     ensures err { OnErr result (files.new ≡ files.old) }
 {
+    if memory.is_refused() {
+        return Err(AllocError);
+    }
     if let Err(_fault) = files.open(number, render, root, universal) {
         return Err(AllocError);
     }

@@ -13,7 +13,7 @@ ghost use Rattle.drm_state.specs.Places.{outcome};
 use crate::families::{
     buffer_call, device_call, framebuffer_call, lease_call, master_call, mode_call, share_call,
 };
-use drm_state::{Caller, State};
+use drm_state::{Caller, Memory, State};
 use drm_table::{Answer, Call, Family, Rule, permit};
 use std::alloc::AllocError;
 
@@ -21,6 +21,7 @@ use std::alloc::AllocError;
 pub fn ask(
     state: &mut State,
     step_number: u32,
+    memory: Memory,
     client: u32,
     call: &Call,
     answer: &mut Answer,
@@ -30,7 +31,7 @@ pub fn ask(
     ensures invariants { MeetsInvariants state.new }
 {
     match admission(state, client, call) {
-        Ok(caller) => carry_out(state, step_number, caller, call, answer),
+        Ok(caller) => carry_out(state, step_number, memory, caller, call, answer),
         Err(rule) => {
             answer.set_denied(rule);
             Ok(())
@@ -80,6 +81,7 @@ fn is_laid_out(call: &Call) -> bool
 fn carry_out(
     state: &mut State,
     step_number: u32,
+    memory: Memory,
     caller: Caller,
     call: &Call,
     answer: &mut Answer,
@@ -92,18 +94,47 @@ fn carry_out(
 {
     match call.family() {
         Some(Family::Device) => device_call(state, step_number, caller.client, call, answer),
-        Some(Family::Masters) => master_call(state, step_number, caller.primary(), call, answer),
-        Some(Family::Buffers) => buffer_call(state, step_number, caller.client, call, answer),
-        Some(Family::Sharing) => share_call(state, step_number, caller.client, call, answer),
-        Some(Family::Modes) => mode_call(state, step_number, caller.primary(), call, answer),
-        Some(Family::Framebuffers) => framebuffer_call(
+        Some(Family::Masters) => master_call(
             state,
             step_number,
+            memory,
             caller.primary(),
             call,
             answer,
         ),
-        Some(Family::Leases) => lease_call(state, step_number, caller.primary(), call, answer),
+        Some(Family::Buffers) => buffer_call(
+            state,
+            step_number,
+            memory,
+            caller.client,
+            call,
+            answer,
+        ),
+        Some(Family::Sharing) => share_call(
+            state,
+            step_number,
+            memory,
+            caller.client,
+            call,
+            answer,
+        ),
+        Some(Family::Modes) => mode_call(state, step_number, caller.primary(), call, answer),
+        Some(Family::Framebuffers) => framebuffer_call(
+            state,
+            step_number,
+            memory,
+            caller.primary(),
+            call,
+            answer,
+        ),
+        Some(Family::Leases) => lease_call(
+            state,
+            step_number,
+            memory,
+            caller.primary(),
+            call,
+            answer,
+        ),
         None => {
             answer.set_denied(Rule::Unknown);
             Ok(())

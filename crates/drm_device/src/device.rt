@@ -17,7 +17,7 @@ use drm_leases::Leases;
 use drm_masters::Masters;
 use drm_modes::{Modes, Topology};
 use drm_share::{Names, Tokens};
-use drm_state::State;
+use drm_state::{Memory, State};
 use drm_table::{Answer, Apart, AuditKind, AuditPage, Event, Limits, are_in_range};
 use std::alloc::{AllocError, Global};
 use std::marker::Model;
@@ -190,6 +190,20 @@ impl Device {
         ensures within { length self.new.journal ≤ self.new.limits.journal }
         ensures bounded { self.new.limits.journal ≤ 100000 }
     {
+        self.step_with(Memory::Ample, event, outcome);
+    }
+
+    /// Answers one event, with memory for its rows or without.
+    fn step_with(&mut self, memory: Memory, event: &Event, outcome: &mut Result<Answer, Apart>)
+        ensures step { Step (rows_of self.old) event.now outcome.new (rows_of self.new) }
+        ensures few { FitsOneFrame outcome.new }
+        ensures ok { OnOk outcome.new (self.new ≡ journaled_in self.old event.now) }
+        ensures err { OnErr outcome.new (self.new ≡ self.old) }
+        ensures in_range { are_in_range self.new.limits ≡ true }
+        ensures found_room { FoundRoom (start_of self.new) self.new.journal }
+        ensures within { length self.new.journal ≤ self.new.limits.journal }
+        ensures bounded { self.new.limits.journal ≤ 100000 }
+    {
         if !self.has_room(event) {
             Apart::JournalFull.replace(outcome);
             return;
@@ -199,7 +213,7 @@ impl Device {
         self.journal.provide(places);
         // The event is recorded before the call is carried out. The processor fetches the journal's memory meanwhile.
         self.journal.record(event);
-        if let Err(AllocError) = advance_at(&mut self.state, step_number, event, outcome) {
+        if let Err(AllocError) = advance_at(&mut self.state, step_number, memory, event, outcome) {
             self.journal.take_back();
             Apart::NoMemory.replace(outcome);
         }
@@ -281,19 +295,10 @@ impl Device {
         ensures within { length self.new.journal ≤ self.new.limits.journal }
         ensures bounded { self.new.limits.journal ≤ 100000 }
     {
-        self.refuse_memory(true);
-        self.step_at(event, outcome);
-        self.refuse_memory(false);
+        self.step_with(Memory::Refused, event, outcome);
         if is_refused(outcome) && !shortage.ends_here() {
-            self.step_at(event, outcome);
+            self.step_with(Memory::Ample, event, outcome);
         }
-    }
-
-    /// Makes events that need memory for a row answer as where it is refused, or ends that. Nothing else changes.
-    fn refuse_memory(&mut self, refuses: bool)
-        ensures { self.new ≡ self.old }
-    {
-        self.state.refuse_memory(refuses);
     }
 
     /// Returns whether the journal has a place for the event next to those kept for closings.

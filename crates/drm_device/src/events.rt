@@ -8,7 +8,7 @@ ghost use Rattle.drm_table.specs.declared.answers.Answer.TheVariants.{Done};
 
 use crate::calls::ask;
 use drm_client_calls::{close, open};
-use drm_state::State;
+use drm_state::{Memory, State};
 use drm_table::{Answer, Apart, Event};
 use std::alloc::AllocError;
 
@@ -17,6 +17,7 @@ use std::alloc::AllocError;
 pub fn advance(
     state: &mut State,
     step_number: u32,
+    memory: Memory,
     event: &Event,
     answer: &mut Answer,
 ) -> Result<(), AllocError>
@@ -25,8 +26,8 @@ pub fn advance(
     ensures refines { Refines state.old step_number event.now (outcome result answer.new) state.new }
 {
     match event {
-        Event::Open(opening) => open(state, step_number, *opening, answer),
-        Event::Ask(client, call) => ask(state, step_number, *client, call, answer),
+        Event::Open(opening) => open(state, step_number, memory, *opening, answer),
+        Event::Ask(client, call) => ask(state, step_number, memory, *client, call, answer),
         Event::Close(client) => {
             close(state, *client, answer);
             Ok(())
@@ -46,6 +47,7 @@ fn make_answered(outcome: &mut Result<Answer, Apart>)
 pub fn advance_at(
     state: &mut State,
     step_number: u32,
+    memory: Memory,
     event: &Event,
     outcome: &mut Result<Answer, Apart>,
 ) -> Result<(), AllocError>
@@ -59,7 +61,7 @@ pub fn advance_at(
         make_answered(outcome);
     }
     match outcome {
-        Ok(answer) => advance(state, step_number, event, answer),
+        Ok(answer) => advance(state, step_number, memory, event, answer),
         Err(_) => unreachable!(),
     }
 }

@@ -23,7 +23,7 @@ use drm_mode_calls::{
 };
 use drm_modes::Shape;
 use drm_share_calls::{gem_flink, gem_open, prime_export, prime_import, token_close};
-use drm_state::{PrimaryCaller, State};
+use drm_state::{Memory, PrimaryCaller, State};
 use drm_table::{Answer, Call};
 use std::alloc::AllocError;
 
@@ -68,6 +68,7 @@ pub fn device_call(
 pub fn master_call(
     state: &mut State,
     step_number: u32,
+    memory: Memory,
     caller: PrimaryCaller,
     call: &Call,
     answer: &mut Answer,
@@ -87,7 +88,7 @@ pub fn master_call(
             auth_magic(state, caller, *magic, answer);
             Ok(())
         }
-        Call::SetMaster => set_master(state, step_number, caller, answer),
+        Call::SetMaster => set_master(state, step_number, memory, caller, answer),
         Call::DropMaster => {
             drop_master(state, caller, answer);
             Ok(())
@@ -101,6 +102,7 @@ pub fn master_call(
 pub fn buffer_call(
     state: &mut State,
     step_number: u32,
+    memory: Memory,
     client: u32,
     call: &Call,
     answer: &mut Answer,
@@ -120,14 +122,14 @@ pub fn buffer_call(
             gem_close(state, client, *handle, answer);
             Ok(())
         }
-        Call::BufCreate { size } => buf_create(state, step_number, client, *size, answer),
+        Call::BufCreate { size } => buf_create(state, step_number, memory, client, *size, answer),
         Call::CreateDumb { width, height, bpp } => {
             let pixels = Pixels {
                 width: *width,
                 height: *height,
                 bpp: *bpp,
             };
-            create_dumb(state, step_number, client, pixels, answer)
+            create_dumb(state, step_number, memory, client, pixels, answer)
         }
         Call::StampWrite { handle, stamp } => {
             stamp_write(state, client, *handle, *stamp, answer);
@@ -150,6 +152,7 @@ pub fn buffer_call(
 pub fn share_call(
     state: &mut State,
     step_number: u32,
+    memory: Memory,
     client: u32,
     call: &Call,
     answer: &mut Answer,
@@ -161,13 +164,13 @@ pub fn share_call(
     ensures invariants { MeetsInvariants state.new }
 {
     match call {
-        Call::GemFlink { handle } => gem_flink(state, step_number, client, *handle, answer),
-        Call::GemOpen { name } => gem_open(state, step_number, client, *name, answer),
+        Call::GemFlink { handle } => gem_flink(state, step_number, memory, client, *handle, answer),
+        Call::GemOpen { name } => gem_open(state, step_number, memory, client, *name, answer),
         Call::PrimeHandleToFd { handle } => {
-            prime_export(state, step_number, client, *handle, answer)
+            prime_export(state, step_number, memory, client, *handle, answer)
         }
         Call::PrimeFdToHandle { token } => {
-            prime_import(state, step_number, client, *token, answer)
+            prime_import(state, step_number, memory, client, *token, answer)
         }
         Call::TokenClose { token } => {
             token_close(state, client, *token, answer);
@@ -242,6 +245,7 @@ pub fn mode_call(
 pub fn framebuffer_call(
     state: &mut State,
     step_number: u32,
+    memory: Memory,
     caller: PrimaryCaller,
     call: &Call,
     answer: &mut Answer,
@@ -253,7 +257,14 @@ pub fn framebuffer_call(
     ensures invariants { MeetsInvariants state.new }
 {
     match *call {
-        Call::GetFb { framebuffer } => get_fb(state, step_number, caller, framebuffer, answer),
+        Call::GetFb { framebuffer } => get_fb(
+            state,
+            step_number,
+            memory,
+            caller,
+            framebuffer,
+            answer,
+        ),
         Call::AddFb {
             width,
             height,
@@ -267,7 +278,15 @@ pub fn framebuffer_call(
                 pitch,
                 bpp,
             };
-            add_fb(state, step_number, caller.client, shape, handle, answer)
+            add_fb(
+                state,
+                step_number,
+                memory,
+                caller.client,
+                shape,
+                handle,
+                answer,
+            )
         }
         Call::RmFb { framebuffer } => {
             rm_fb(state, caller.client, framebuffer, answer);
@@ -282,6 +301,7 @@ pub fn framebuffer_call(
 pub fn lease_call(
     state: &mut State,
     step_number: u32,
+    memory: Memory,
     caller: PrimaryCaller,
     call: &Call,
     answer: &mut Answer,
@@ -293,7 +313,7 @@ pub fn lease_call(
     ensures invariants { MeetsInvariants state.new }
 {
     match call {
-        Call::CreateLease { ids } => create_lease(state, step_number, caller, ids, answer),
+        Call::CreateLease { ids } => create_lease(state, step_number, memory, caller, ids, answer),
         Call::ListLessees => {
             list_lessees(state, caller, answer);
             Ok(())

@@ -42,7 +42,7 @@ inside_send =
     _
     _
     inside.the_type.to_one
-    (struct_send (shape inside.the_type) (search sendable depth 20, (search (array_send, record_send, sendable) depth 20, (search sendable depth 20, (search sendable depth 20, (search sendable depth 20, tt))))))
+    (struct_send (shape inside.the_type) (search sendable depth 20, (search (array_send, record_send, sendable) depth 20, (search sendable depth 20, (search sendable depth 20, tt)))))
 
 -- A set of files may cross threads.
 pub files_send : IsSend files.the_row

@@ -74,8 +74,6 @@ pub struct Files {
     pub(crate) clients: IndexArray<FileRecord>,
     open_limit: u32,
     last_handle: u32,
-    // whether calls that need memory answer as where it is refused
-    refuses_memory: bool,
 }
 
 // Written out, so that it is proved once: a derived one is proved again in each crate that drops such a value.
@@ -86,7 +84,6 @@ impl Drop for Files {
             clients,
             open_limit: _,
             last_handle: _,
-            refuses_memory: _,
         } = self;
         drop(clients);
     }
@@ -124,27 +121,7 @@ impl Files {
             clients: IndexArray::new(alloc),
             open_limit: clients,
             last_handle: handles,
-            refuses_memory: false,
         }
-    }
-
-    /// Makes calls that need memory answer as where it is refused, or ends that (own). Contracts never say that there is
-    /// memory, so they say nothing of it. Nothing else changes. Does not allocate.
-    ///
-    /// # Examples
-    ///
-    /// ```rust
-    /// use drm_files::{FileFault, Files};
-    ///
-    /// let alloc = rt.alloc();
-    /// let mut files = Files::new(alloc, 4, 100);
-    /// files.refuse_memory(true);
-    /// assert!(rt; files.open(1, false, false, true) == Err(FileFault::NoMemory));
-    /// ```
-    pub fn refuse_memory(&mut self, refuses: bool)
-        ensures { self.new ≡ self.old }
-    {
-        self.refuses_memory = refuses;
     }
 
     /// Opens a client that is not open, without handles, with universal planes on or off (drm-uapi). A root client is
@@ -179,9 +156,6 @@ impl Files {
     {
         if self.clients.len() >= self.open_limit as usize {
             return Err(FileFault::Full);
-        }
-        if self.refuses_memory {
-            return Err(FileFault::NoMemory);
         }
         let record = FileRecord {
             flags: FileFlags {
@@ -324,9 +298,6 @@ impl Files {
         ensures err { OnErr result (self.new ≡ self.old) }
         ensures full { IfErr result (λ fault. IsFull fault ↔ (free_handle self.old client ≡ None)) }
     {
-        if self.refuses_memory && self.has_room(client) {
-            return Err(FileFault::NoMemory);
-        }
         let Some(record) = self.clients.get_mut(client) else {
             unreachable!();
         };

@@ -21,7 +21,7 @@ slab_send = slab.the_send object.the_row heap.the_row heap_impl.ghosts object_se
 
 inside_send : IsSend inside.the_row
 inside_send =
-    recorded_send inside.the_field.row _ _ inside.the_type.to_one (struct_send (shape inside.the_type) (search (array_send, sendable) depth 20, (search (slab_send, sendable) depth 20, (search sendable depth 20, (search sendable depth 20, tt)))))
+    recorded_send inside.the_field.row _ _ inside.the_type.to_one (struct_send (shape inside.the_type) (search (array_send, sendable) depth 20, (search (slab_send, sendable) depth 20, (search sendable depth 20, tt))))
 
 -- A set of objects may cross threads.
 pub objects_send : IsSend objects.the_row

@@ -52,8 +52,6 @@ pub struct Objects {
     keys: IndexArray<u32>,
     kept: Slab<Object>,
     limit: u32,
-    // whether calls that need memory answer as where it is refused
-    refuses_memory: bool,
 }
 
 // Written out, so that it is proved once: a derived one is proved again in each crate that drops such a value.
@@ -63,7 +61,6 @@ impl Drop for Objects {
             keys,
             kept,
             limit: _,
-            refuses_memory: _,
         } = self;
         drop(keys);
         drop(kept);
@@ -100,27 +97,7 @@ impl Objects {
             keys: IndexArray::new(alloc),
             kept: Slab::new(alloc),
             limit,
-            refuses_memory: false,
         }
-    }
-
-    /// Makes calls that need memory answer as where it is refused, or ends that (own). Contracts never say that there is
-    /// memory, so they say nothing of it. Nothing else changes. Does not allocate.
-    ///
-    /// # Examples
-    ///
-    /// ```rust
-    /// use drm_gem::{CreateFault, Objects};
-    ///
-    /// let alloc = rt.alloc();
-    /// let mut objects = Objects::new(alloc, 2);
-    /// objects.refuse_memory(true);
-    /// assert!(rt; objects.create(1, 4096) == Err(CreateFault::NoMemory));
-    /// ```
-    pub fn refuse_memory(&mut self, refuses: bool)
-        ensures { self.new ≡ self.old }
-    {
-        self.refuses_memory = refuses;
     }
 
     /// Creates an object of `size` bytes with stamp 0 and one handle (drm-mm). `birth` is the number of the step, which
@@ -151,9 +128,6 @@ impl Objects {
     {
         if self.keys.len() >= self.limit as usize {
             return Err(CreateFault::Full);
-        }
-        if self.refuses_memory {
-            return Err(CreateFault::NoMemory);
         }
         // A slab returns low keys, but its contract does not say so. Keys of 32 bits are exhausted long after the
         // memory.

@@ -1,7 +1,10 @@
 //! Leases that are made and revoked.
 
 ghost use Rattle.std.specs.Prelude.{◌≡◌, true};
+ghost use Rattle.drm_leases.specs.Agreed.{AreAgreed};
+ghost use Rattle.drm_leases.specs.Rules.{lease_checks};
 ghost use Rattle.drm_masters.specs.Masters.{is_option};
+ghost use Rattle.drm_table.specs.Permit.{first_failing};
 ghost use Rattle.drm_table.specs.declared.calls.Call.TheVariants.{CreateLease, RevokeLease};
 ghost use Rattle.drm_state.specs.Callers.{IsPrimaryCaller};
 ghost use Rattle.drm_state.specs.Invariants.{MeetsInvariants, StepPrecondition};
@@ -9,7 +12,7 @@ ghost use Rattle.drm_state.specs.Places.{outcome};
 ghost use Rattle.drm_state.specs.Refinement.{RefinesCall, RefinesReply};
 
 use drm_leases::LeaseFault;
-use drm_state::{PrimaryCaller, State};
+use drm_state::{Memory, PrimaryCaller, State};
 use drm_table::{Answer, IdList, Rule};
 use std::alloc::AllocError;
 
@@ -21,6 +24,7 @@ use std::alloc::AllocError;
 pub fn create_lease(
     state: &mut State,
     step_number: u32,
+    memory: Memory,
     caller: PrimaryCaller,
     ids: &IdList,
     answer: &mut Answer,
@@ -30,12 +34,16 @@ pub fn create_lease(
     ensures refines { RefinesCall state.old step_number caller.client (CreateLease ids.now) (outcome result answer.new) state.new }
     ensures invariants { MeetsInvariants state.new }
 {
+    let listed = ids.ids();
+    if memory.is_refused() && refusal(state, caller, listed).is_none() {
+        return Err(AllocError);
+    }
     match state.leases.create(
         &mut state.masters,
         &state.modes,
         caller.client,
         caller.flags.universal,
-        ids.ids(),
+        listed,
         step_number,
     ) {
         Ok(made) => {
@@ -53,6 +61,21 @@ pub fn create_lease(
         }
         Err(LeaseFault::NoMemory) => Err(AllocError),
     }
+}
+
+/// Returns the first rule that denies a lease of these mode objects to the caller. Does not allocate.
+fn refusal(state: &State, caller: PrimaryCaller, listed: &[u32]) -> Option<Rule>
+    requires agreed { AreAgreed state.now.leases state.now.masters }
+    requires caller { IsPrimaryCaller state.now caller }
+    ensures { result ≡ first_failing (lease_checks state.now.leases state.now.masters state.now.modes caller.member.master caller.flags.universal listed.now) }
+{
+    state.leases.create_refusal(
+        &state.masters,
+        &state.modes,
+        caller.client,
+        caller.flags.universal,
+        listed,
+    )
 }
 
 /// Ends the lease of a direct lessee of the caller's master, and all that was lent from it (MODE_REVOKE_LEASE;

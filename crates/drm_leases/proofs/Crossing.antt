@@ -31,7 +31,7 @@ lent_send = struct_send (shape lent.the_type) (search (array_send, sendable) dep
 granted_inside_send : IsSend granted_inside.the_row
 granted_inside_send =
     recorded_send granted_inside.the_field.row _ _ granted_inside.the_type.to_one
-    (struct_send (shape granted_inside.the_type) (search (array_send, kept_send, sendable) depth 20, (search (array_send, sendable) depth 20, (lent_send, (search sendable depth 20, tt)))))
+    (struct_send (shape granted_inside.the_type) (search (array_send, kept_send, sendable) depth 20, (search (array_send, sendable) depth 20, (lent_send, tt))))
 
 granted_send : IsSend granted.the_row
 granted_send = view_send granted_inside.the_row _ _ _ _ granted_inside_send

@@ -25,8 +25,6 @@ pub struct Granted {
     // the step numbers of the lessees, by their keys
     lessees: IndexArray<u32>,
     lent: Lent,
-    // whether calls that need memory answer as where it is refused
-    refuses_memory: bool,
 }
 
 impl Model for Granted {
@@ -50,15 +48,7 @@ impl Granted {
             leases: IndexArray::new(alloc),
             lessees: IndexArray::new(alloc),
             lent: Lent::new(alloc),
-            refuses_memory: false,
         }
-    }
-
-    /// Makes each addition answer as where memory is refused, or ends that. Nothing else changes.
-    pub fn refuse_memory(&mut self, refuses: bool)
-        ensures { self.new ≡ self.old }
-    {
-        self.refuses_memory = refuses;
     }
 
     /// States the facts that always hold for leases. Calling it does nothing.
@@ -139,9 +129,6 @@ impl Granted {
         ensures ok { OnOk result (self.new.rows ≡ placed lease_before (lease lessee lessor key objects) self.old.rows) }
         ensures err { OnErr result (self.new ≡ self.old) }
     {
-        if self.refuses_memory {
-            return Err(NoMemory);
-        }
         if let Err(NoMemory) = self.lent.lend(lessor, objects) {
             return Err(NoMemory);
         }

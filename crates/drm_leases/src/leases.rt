@@ -100,32 +100,6 @@ impl Leases {
         }
     }
 
-    /// Makes CREATE_LEASE answer as where memory is refused, or ends that (own). Contracts never say that there is memory, so
-    /// they say nothing of it. Nothing else changes. Does not allocate.
-    ///
-    /// # Examples
-    ///
-    /// ```rust
-    /// use drm_leases::{LeaseFault, Leases};
-    /// use drm_masters::Masters;
-    /// use drm_modes::{Modes, Topology};
-    ///
-    /// let alloc = rt.alloc();
-    /// let Some(topology) = Topology::new(2, &[1, 2], &[3, 2], &[5, 6]) else { return };
-    /// let modes = Modes::new(alloc, topology, 4);
-    /// let mut masters = Masters::new(alloc, 4, 4);
-    /// let Ok(_first) = masters.on_open(1, 1) else { return };
-    /// let mut leases = Leases::new(alloc, 8);
-    /// leases.refuse_memory(true);
-    /// let Err(fault) = leases.create(&mut masters, &modes, 1, true, &[1, 3, 7], 2) else { return };
-    /// assert!(rt; fault == LeaseFault::NoMemory);
-    /// ```
-    pub fn refuse_memory(&mut self, refuses: bool)
-        ensures { self.new ≡ self.old }
-    {
-        self.granted.refuse_memory(refuses);
-    }
-
     /// States the facts that always hold for leases. Calling it does nothing.
     pub fn laws(&self)
         ensures { sets.AreLeases self.now }
@@ -195,6 +169,52 @@ impl Leases {
             Err(LesseeFault::Full) => Err(LeaseFault::Denied(Rule::Full)),
             Err(LesseeFault::NoMemory) => Err(LeaseFault::NoMemory),
         }
+    }
+
+    /// Returns the first rule that denies [`create`](Leases::create), or `None` if it creates a lease, for which it
+    /// needs memory. Returns `None` too if the client belongs to no master. Does not allocate.
+    ///
+    /// # Examples
+    ///
+    /// ```rust
+    /// use drm_leases::Leases;
+    /// use drm_masters::Masters;
+    /// use drm_modes::{Modes, Topology};
+    /// use drm_table::Rule;
+    ///
+    /// let alloc = rt.alloc();
+    /// let Some(topology) = Topology::new(2, &[1, 2], &[3, 2], &[5, 6]) else { return };
+    /// let modes = Modes::new(alloc, topology, 4);
+    /// let mut masters = Masters::new(alloc, 4, 4);
+    /// let Ok(_first) = masters.on_open(1, 1) else { return };
+    /// let mut leases = Leases::new(alloc, 8);
+    /// let Ok(leased) = leases.create(&mut masters, &modes, 1, true, &[1, 3, 7], 2) else { return };
+    /// assert!(rt; leases.create_refusal(&masters, &modes, 1, true, &[2, 4, 8]).is_none());
+    /// assert!(rt; leases.create_refusal(&masters, &modes, 1, true, &[1, 3, 7]) == Some(Rule::LeasedOut));
+    /// ```
+    pub fn create_refusal(
+        &self,
+        masters: &Masters,
+        modes: &Modes,
+        client: u32,
+        universal: bool,
+        ids: &[u32],
+    ) -> Option<Rule>
+        requires { AreAgreed self.now masters.now }
+        ensures { result ≡ option_and_then (λ x. first_failing (rules.lease_checks self.now masters.now modes.now x.master universal ids.now)) (masters_sets.member_of masters.now.members client) }
+    {
+        let Some(member) = masters.member(client) else {
+            return None;
+        };
+        let planes = self.brought_along(masters, modes, member.master, universal, ids);
+        let along = planes.ids();
+        if let Some(rule) = self.denied(masters, modes, member.master, universal, ids, along) {
+            return Some(rule);
+        }
+        let Some(_id) = masters.free_lessee(member.master) else {
+            return Some(Rule::Full);
+        };
+        None
     }
 
     /// Returns whether the lease of a lessee has a mode object. Returns `false` if no lessee with a lease has the key.

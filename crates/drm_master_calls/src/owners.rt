@@ -8,7 +8,7 @@ ghost use Rattle.drm_state.specs.Places.{outcome};
 ghost use Rattle.drm_state.specs.Refinement.{RefinesCall, RefinesReply};
 
 use drm_masters::{SetDone, SetFault};
-use drm_state::{PrimaryCaller, State};
+use drm_state::{Memory, PrimaryCaller, State};
 use drm_table::Answer;
 use std::alloc::AllocError;
 
@@ -17,6 +17,7 @@ use std::alloc::AllocError;
 pub fn set_master(
     state: &mut State,
     step_number: u32,
+    memory: Memory,
     caller: PrimaryCaller,
     answer: &mut Answer,
 ) -> Result<(), AllocError>
@@ -25,6 +26,9 @@ pub fn set_master(
     ensures refines { RefinesCall state.old step_number caller.client SetMaster (outcome result answer.new) state.new }
     ensures invariants { MeetsInvariants state.new }
 {
+    if memory.is_refused() && state.masters.sets_new(caller.client, caller.flags.root) {
+        return Err(AllocError);
+    }
     match state
         .masters
         .set(caller.client, caller.flags.root, step_number)

@@ -64,7 +64,7 @@ inside_send =
     _
     _
     inside.the_type.to_one
-    (struct_send (shape inside.the_type) (members_send, (table_send, (search sendable depth 20, (search sendable depth 20, (search sendable depth 20, (search sendable depth 20, tt)))))))
+    (struct_send (shape inside.the_type) (members_send, (table_send, (search sendable depth 20, (search sendable depth 20, (search sendable depth 20, tt))))))
 
 -- A set of masters may cross threads.
 pub masters_send : IsSend masters.the_row

@@ -1,7 +1,7 @@
 -- The effect of each call on masters and clients (drm(7); drm-uapi, leases).
 use Rattle.std.specs.Prelude.{◌≡◌, ℕ, ◌<◌, Bool, true, false, not, ◌&&◌, ◌||◌, List, [], ◌∷◌, Option, None, Some, Result, Ok, Err, find, map, filter, if◌then◌else◌}
 use Rattle.std.specs.List.{AllByRecursion}
-use Rattle.std.specs.Option.{is_some}
+use Rattle.std.specs.Option.{is_some, is_none}
 use Rattle.drm_index_array.specs.Rows.{placed}
 use Rattle.drm_table.specs.declared.rules.Rule.{Rule}
 use Rattle.drm_table.specs.declared.rules.Rule.TheVariants.{MasterPerm, MasterBusy, IsLessee, NotCurrent, NoMagic}
@@ -133,6 +133,10 @@ abbrev pub remade : ℕ → ℕ → ℕ → MasterSet → MasterSet
 remade c key step_number v =
     swept
     (with_device (Some step_number) (changed_member (owner c step_number) (with_master (founded_master key step_number) v)))
+
+-- SET_MASTER makes a new master: no rule denies it, and the client is no master
+unfoldable pub sets_new : MasterSet → Member → Bool → Bool
+sets_new v x root = not x.is_master && is_none (first_failing (set_checks v x root))
 
 -- who is current is done, who is no master gets a new one, and any other has its own set again
 abbrev pub SetBy : MasterSet → Member → ℕ → SetDone → MasterSet → Type 0

@@ -45,8 +45,6 @@ pub struct Masters {
     device_master: Option<u32>,
     last_magic: u32,
     last_lessee: u32,
-    // whether calls that need memory answer as where it is refused
-    refuses_memory: bool,
 }
 
 // Written out, so that it is proved once: a derived one is proved again in each crate that drops such a value.
@@ -58,7 +56,6 @@ impl Drop for Masters {
             device_master: _,
             last_magic: _,
             last_lessee: _,
-            refuses_memory: _,
         } = self;
         drop(members);
         drop(masters);
@@ -101,32 +98,7 @@ impl Masters {
             device_master: None,
             last_magic: clients,
             last_lessee: lessees,
-            refuses_memory: false,
         }
-    }
-
-    /// Makes SET_MASTER answer as where memory is refused, or ends that (own). Contracts never say that there is memory, so
-    /// they say nothing of it. Nothing else changes. Does not allocate.
-    ///
-    /// # Examples
-    ///
-    /// ```rust
-    /// use drm_masters::{Masters, SetFault};
-    ///
-    /// let alloc = rt.alloc();
-    /// let mut masters = Masters::new(alloc, 4, 4);
-    /// let Ok(_first) = masters.on_open(1, 1) else { return };
-    /// let Ok(_second) = masters.on_open(2, 2) else { return };
-    /// let Ok(()) = masters.drop_master(1, false) else { return };
-    /// masters.refuse_memory(true);
-    /// if masters.member(2).is_some() {
-    ///     assert!(rt; masters.set(2, true, 3) == Err(SetFault::NoMemory));
-    /// }
-    /// ```
-    pub fn refuse_memory(&mut self, refuses: bool)
-        ensures { self.new ≡ self.old }
-    {
-        self.refuses_memory = refuses;
     }
 
     /// States the facts that always hold for the clients and the masters. Calling it does nothing.
@@ -479,6 +451,36 @@ impl Masters {
         }
         self.device_master = Some(member.master);
         Ok(SetDone::Again)
+    }
+
+    /// Returns whether [`set`](Masters::set) creates a master for a client, which is what it needs memory for. Returns
+    /// `false` if the client belongs to no master. Does not allocate.
+    ///
+    /// # Examples
+    ///
+    /// ```rust
+    /// use drm_masters::Masters;
+    ///
+    /// let alloc = rt.alloc();
+    /// let mut masters = Masters::new(alloc, 4, 4);
+    /// let Ok(_first) = masters.on_open(1, 1) else { return };
+    /// let Ok(_second) = masters.on_open(2, 2) else { return };
+    /// let Ok(()) = masters.drop_master(1, false) else { return };
+    /// assert!(rt; masters.sets_new(2, true) && !masters.sets_new(2, false) && !masters.sets_new(1, true));
+    /// ```
+    pub fn sets_new(&self, client: u32, root: bool) -> bool
+        ensures { result ≡ option_map_or (λ x. calls.sets_new self.now x root) (sets.member_of self.now.members client) false }
+    {
+        let Some(member) = self.members.get(client) else {
+            return false;
+        };
+        if member.is_master {
+            return false;
+        }
+        if self.device_master.is_some() {
+            return false;
+        }
+        is_permitted(member, root)
     }
 
     /// Leaves the device without a master (DROP_MASTER, drm-uapi). The client keeps its own master.
@@ -902,9 +904,6 @@ impl Masters {
         ensures free { IfOk result (λ key. calls.IsFreeKey self.old key) }
         ensures err { OnErr result (self.new ≡ self.old) }
     {
-        if self.refuses_memory {
-            return Err(NoMemory);
-        }
         let Some(old) = self.members.get(client) else {
             unreachable!()
         };

@@ -24,7 +24,7 @@ pixels_send =
 modes_inside_send : IsSend modes_inside.the_row
 modes_inside_send =
     recorded_send modes_inside.the_field.row _ _ modes_inside.the_type.to_one
-    (struct_send (shape modes_inside.the_type) (topology_send, (search (table_send, pixels_send, sendable) depth 20, (groups_send, (search (list.the_send, sendable) depth 20, (search sendable depth 20, tt))))))
+    (struct_send (shape modes_inside.the_type) (topology_send, (search (table_send, pixels_send, sendable) depth 20, (groups_send, (search (list.the_send, sendable) depth 20, tt)))))
 
 -- A set of modes may cross threads.
 pub modes_send : IsSend modes.the_row

@@ -49,8 +49,6 @@ pub struct Modes {
     owned: Groups,
     // The framebuffer of each CRTC and then of each plane, 0 for a dark one.
     scanouts: ArrayVec<u32, 64>,
-    // whether calls that need memory answer as where it is refused
-    refuses_memory: bool,
 }
 
 impl Model for Modes {
@@ -96,30 +94,7 @@ impl Modes {
             framebuffers: IdTable::new(alloc, objects + 1, objects + framebuffers),
             owned: Groups::new(alloc),
             scanouts: scanouts::dark(count),
-            refuses_memory: false,
         }
-    }
-
-    /// Makes calls that need memory answer as where it is refused, or ends that (own). Contracts never say that there is
-    /// memory, so they say nothing of it. Nothing else changes. Does not allocate.
-    ///
-    /// # Examples
-    ///
-    /// ```rust
-    /// use drm_gem::ObjectKey;
-    /// use drm_modes::{AddFbFault, Modes, Shape, Topology};
-    ///
-    /// let alloc = rt.alloc();
-    /// let Some(topology) = Topology::new(2, &[1, 2], &[3, 2], &[5, 6]) else { return };
-    /// let mut modes = Modes::new(alloc, topology, 4);
-    /// let shape = Shape { width: 640, height: 480, pitch: 2560, bpp: 32 };
-    /// modes.refuse_memory(true);
-    /// assert!(rt; modes.addfb(1, shape, ObjectKey::from_number(7)) == Err(AddFbFault::NoMemory));
-    /// ```
-    pub fn refuse_memory(&mut self, refuses: bool)
-        ensures { self.new ≡ self.old }
-    {
-        self.refuses_memory = refuses;
     }
 
     /// States the facts that always hold. Calling it does nothing.
@@ -463,9 +438,6 @@ impl Modes {
         ensures err { OnErr result (self.new ≡ self.old) }
         ensures full { IfErr result (λ fault. IsFull fault ↔ (free_framebuffer self.old ≡ None)) }
     {
-        if self.refuses_memory && !self.is_full() {
-            return Err(AddFbFault::NoMemory);
-        }
         let framebuffer = match self.framebuffers.add(Fb {
             client,
             shape,

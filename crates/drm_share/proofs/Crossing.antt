@@ -11,7 +11,7 @@ use Rattle.drm_share.specs.contracts.tokens.Tokens.TheInside as tokens_inside
 
 names_inside_send : IsSend names_inside.the_row
 names_inside_send =
-    recorded_send names_inside.the_field.row _ _ names_inside.the_type.to_one (struct_send (shape names_inside.the_type) (search (table_send, sendable) depth 20, (search (array_send, sendable) depth 20, (search sendable depth 20, tt))))
+    recorded_send names_inside.the_field.row _ _ names_inside.the_type.to_one (struct_send (shape names_inside.the_type) (search (table_send, sendable) depth 20, (search (array_send, sendable) depth 20, tt)))
 
 -- Names may cross threads.
 pub names_send : IsSend names.the_row
@@ -24,7 +24,7 @@ export_send =
 
 tokens_inside_send : IsSend tokens_inside.the_row
 tokens_inside_send =
-    recorded_send tokens_inside.the_field.row _ _ tokens_inside.the_type.to_one (struct_send (shape tokens_inside.the_type) (search (table_send, export_send, sendable) depth 20, (groups_send, (search sendable depth 20, tt))))
+    recorded_send tokens_inside.the_field.row _ _ tokens_inside.the_type.to_one (struct_send (shape tokens_inside.the_type) (search (table_send, export_send, sendable) depth 20, (groups_send, tt)))
 
 -- Tokens may cross threads.
 pub tokens_send : IsSend tokens.the_row

@@ -33,18 +33,12 @@ pub struct Names {
     objects: IdTable<ObjectKey>,
     // The names, by the numbers of their objects' keys.
     names: IndexArray<u32>,
-    // whether calls that need memory answer as where it is refused
-    refuses_memory: bool,
 }
 
 // Written out, so that it is proved once: a derived one is proved again in each crate that drops such a value.
 impl Drop for Names {
     fn drop(self) {
-        let Names {
-            objects,
-            names,
-            refuses_memory: _,
-        } = self;
+        let Names { objects, names } = self;
         drop(objects);
         drop(names);
     }
@@ -79,28 +73,7 @@ impl Names {
         Names {
             objects: IdTable::new(alloc, 1, last),
             names: IndexArray::new(alloc),
-            refuses_memory: false,
         }
-    }
-
-    /// Makes calls that need memory answer as where it is refused, or ends that (own). Contracts never say that there is
-    /// memory, so they say nothing of it. Nothing else changes. Does not allocate.
-    ///
-    /// # Examples
-    ///
-    /// ```rust
-    /// use drm_gem::ObjectKey;
-    /// use drm_share::{Names, ShareFault};
-    ///
-    /// let alloc = rt.alloc();
-    /// let mut names = Names::new(alloc, 100);
-    /// names.refuse_memory(true);
-    /// assert!(rt; names.give(ObjectKey::from_number(4)) == Err(ShareFault::NoMemory));
-    /// ```
-    pub fn refuse_memory(&mut self, refuses: bool)
-        ensures { self.new ≡ self.old }
-    {
-        self.refuses_memory = refuses;
     }
 
     /// Returns the name of an object, if it has one. Does not allocate.
@@ -152,9 +125,6 @@ impl Names {
         ensures err { OnErr result (self.new ≡ self.old) }
         ensures full { IfErr result (λ fault. IsFull fault ↔ (free_name self.old ≡ None)) }
     {
-        if self.refuses_memory && !self.is_full() {
-            return Err(ShareFault::NoMemory);
-        }
         let name = match self.objects.add(object) {
             Ok(name) => name,
             Err(AddFault::Full(_)) => return Err(ShareFault::Full),

@@ -40,18 +40,12 @@ pub struct Tokens {
     exports: IdTable<Export>,
     // the tokens, by the clients that exported them
     owned: Groups,
-    // whether calls that need memory answer as where it is refused
-    refuses_memory: bool,
 }
 
 // Written out, so that it is proved once: a derived one is proved again in each crate that drops such a value.
 impl Drop for Tokens {
     fn drop(self) {
-        let Tokens {
-            exports,
-            owned,
-            refuses_memory: _,
-        } = self;
+        let Tokens { exports, owned } = self;
         drop(exports);
         drop(owned);
     }
@@ -86,28 +80,7 @@ impl Tokens {
         Tokens {
             exports: IdTable::new(alloc, 1, last),
             owned: Groups::new(alloc),
-            refuses_memory: false,
         }
-    }
-
-    /// Makes calls that need memory answer as where it is refused, or ends that (own). Contracts never say that there is
-    /// memory, so they say nothing of it. Nothing else changes. Does not allocate.
-    ///
-    /// # Examples
-    ///
-    /// ```rust
-    /// use drm_gem::ObjectKey;
-    /// use drm_share::{ShareFault, Tokens};
-    ///
-    /// let alloc = rt.alloc();
-    /// let mut tokens = Tokens::new(alloc, 100);
-    /// tokens.refuse_memory(true);
-    /// assert!(rt; tokens.export(9, ObjectKey::from_number(4)) == Err(ShareFault::NoMemory));
-    /// ```
-    pub fn refuse_memory(&mut self, refuses: bool)
-        ensures { self.new ≡ self.old }
-    {
-        self.refuses_memory = refuses;
     }
 
     /// Exports an object of a client: allocates a token and returns it (drm-mm, PRIME).
@@ -143,9 +116,6 @@ impl Tokens {
         let Some(token) = self.exports.next_in_turn() else {
             return Err(ShareFault::Full);
         };
-        if self.refuses_memory {
-            return Err(ShareFault::NoMemory);
-        }
         if let Err(_fault) = self.owned.note(client, token) {
             return Err(ShareFault::NoMemory);
         }

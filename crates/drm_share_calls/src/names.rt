@@ -8,7 +8,7 @@ ghost use Rattle.drm_state.specs.Places.{outcome};
 ghost use Rattle.drm_state.specs.Refinement.{RefinesCall};
 
 use drm_share::ShareFault;
-use drm_state::{State, new_handle};
+use drm_state::{Memory, State, new_handle};
 use drm_table::{Answer, Rule};
 use std::alloc::AllocError;
 
@@ -17,6 +17,7 @@ use std::alloc::AllocError;
 pub fn gem_flink(
     state: &mut State,
     step_number: u32,
+    memory: Memory,
     client: u32,
     handle: u32,
     answer: &mut Answer,
@@ -34,6 +35,9 @@ pub fn gem_flink(
         answer.set_number(name as u64);
         return Ok(());
     }
+    if memory.is_refused() && !state.names.is_full() {
+        return Err(AllocError);
+    }
     let given = match state.names.give(object) {
         Ok(given) => given,
         Err(ShareFault::Full) => {
@@ -50,6 +54,7 @@ pub fn gem_flink(
 pub fn gem_open(
     state: &mut State,
     step_number: u32,
+    memory: Memory,
     client: u32,
     name: u32,
     answer: &mut Answer,
@@ -64,7 +69,7 @@ pub fn gem_open(
         return Ok(());
     };
     let size = state.objects.size(object);
-    let Some(handle) = new_handle(state, step_number, client, object, None)? else {
+    let Some(handle) = new_handle(state, step_number, memory, client, object, None)? else {
         answer.set_denied(Rule::Full);
         return Ok(());
     };

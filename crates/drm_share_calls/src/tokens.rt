@@ -8,7 +8,7 @@ ghost use Rattle.drm_state.specs.Places.{outcome};
 ghost use Rattle.drm_state.specs.Refinement.{RefinesCall, RefinesReply};
 
 use drm_share::ShareFault;
-use drm_state::{State, new_handle};
+use drm_state::{Memory, State, new_handle};
 use drm_table::{Answer, Rule};
 use std::alloc::AllocError;
 
@@ -17,6 +17,7 @@ use std::alloc::AllocError;
 pub fn prime_export(
     state: &mut State,
     step_number: u32,
+    memory: Memory,
     client: u32,
     handle: u32,
     answer: &mut Answer,
@@ -30,6 +31,9 @@ pub fn prime_export(
         answer.set_denied(Rule::NoHandle);
         return Ok(());
     };
+    if memory.is_refused() && !state.tokens.is_full() {
+        return Err(AllocError);
+    }
     let token = match state.tokens.export(client, object) {
         Ok(token) => token,
         Err(ShareFault::Full) => {
@@ -49,6 +53,7 @@ pub fn prime_export(
 pub fn prime_import(
     state: &mut State,
     step_number: u32,
+    memory: Memory,
     client: u32,
     token: u32,
     answer: &mut Answer,
@@ -67,7 +72,15 @@ pub fn prime_import(
         answer.set_buffer(handle, size);
         return Ok(());
     }
-    let Some(fresh) = new_handle(state, step_number, client, object, Some(step_number))? else {
+    let Some(fresh) = new_handle(
+        state,
+        step_number,
+        memory,
+        client,
+        object,
+        Some(step_number),
+    )?
+    else {
         answer.set_denied(Rule::Full);
         return Ok(());
     };

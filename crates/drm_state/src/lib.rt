@@ -3,12 +3,14 @@
 
 mod caller;
 mod handles;
+mod memory;
 mod releases;
 mod shapes;
 mod state;
 
 pub use caller::{Caller, PrimaryCaller};
-pub use handles::new_handle;
+pub use handles::{add_handle, new_handle};
+pub use memory::Memory;
 pub use releases::release;
 pub use shapes::{bytes_per_pixel, is_dumb_shape};
 pub use state::State;

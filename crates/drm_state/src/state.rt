@@ -1,7 +1,5 @@
 //! What the device keeps.
 
-ghost use Rattle.std.specs.Prelude.{◌≡◌};
-
 use drm_files::Files;
 use drm_gem::Objects;
 use drm_leases::Leases;
@@ -24,22 +22,6 @@ pub struct State {
     pub tokens: Tokens,
     /// The fixed mode objects, framebuffers, and what CRTCs and planes show.
     pub modes: Modes,
-}
-
-impl State {
-    /// Makes calls that need memory for a row answer as where it is refused, or ends that (own). Nothing else changes. Does
-    /// not allocate.
-    pub fn refuse_memory(&mut self, refuses: bool)
-        ensures { self.new ≡ self.old }
-    {
-        self.files.refuse_memory(refuses);
-        self.masters.refuse_memory(refuses);
-        self.leases.refuse_memory(refuses);
-        self.objects.refuse_memory(refuses);
-        self.names.refuse_memory(refuses);
-        self.tokens.refuse_memory(refuses);
-        self.modes.refuse_memory(refuses);
-    }
 }
 
 // Written out, so that it is proved once: a derived one is proved again in each crate that drops such a value.

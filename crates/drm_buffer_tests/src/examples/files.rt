@@ -48,13 +48,6 @@ fn files(rt: HostRuntime) {
         panic!(rt; "refused")
     };
     assert!(rt; Files::new(alloc, 4, 100).len() == 0);
-    let mut files = Files::new(alloc, 4, 100);
-    files.refuse_memory(true);
-    assert!(rt; files.open(1, false, false, true) == Err(FileFault::NoMemory));
-    let mut files = Files::new(alloc, 4, 100);
-    let Ok(()) = files.open(1, false, false, true) else {
-        panic!(rt; "refused")
-    };
     assert!(rt; files.flags_of(1).is_some() && files.flags_of(2).is_none());
     let Ok(()) = files.open(2, true, false, false) else {
         panic!(rt; "refused")
@@ -81,24 +74,6 @@ fn files(rt: HostRuntime) {
     assert!(rt; files.drop_handle(1, handle) == Some(object));
     assert!(rt; files.object_of(1, handle).is_none());
     assert!(rt; matches!(files.flags_of(1), Some(flags) if flags.universal && !flags.render));
-}
-
-#[test]
-fn files_from_set_authenticated(rt: HostRuntime) {
-    let alloc = rt.alloc();
-    let mut files = Files::new(alloc, 4, 100);
-    let Ok(()) = files.open(1, false, false, true) else {
-        panic!(rt; "refused")
-    };
-    let Ok(()) = files.open(2, true, false, false) else {
-        panic!(rt; "refused")
-    };
-    let mut rest = files.close(2);
-    let object = ObjectKey::from_number(7);
-    let Ok(handle) = files.add_handle(1, object, None) else {
-        panic!(rt; "refused")
-    };
-    assert!(rt; files.drop_handle(1, handle) == Some(object));
     files.set_authenticated(1);
     assert!(rt; matches!(files.flags_of(1), Some(flags) if flags.authenticated));
     files.set_universal(1, false);

@@ -37,13 +37,6 @@ fn objects(rt: HostRuntime) {
         panic!(rt; "refused")
     };
     assert!(rt; Objects::new(alloc, 2).nth_object(0).is_none());
-    let mut objects = Objects::new(alloc, 2);
-    objects.refuse_memory(true);
-    assert!(rt; objects.create(1, 4096) == Err(CreateFault::NoMemory));
-    let mut objects = Objects::new(alloc, 2);
-    let Ok(key) = objects.create(1, 4096) else {
-        panic!(rt; "refused")
-    };
     let Ok(other) = objects.create(2, 8192) else {
         panic!(rt; "refused")
     };

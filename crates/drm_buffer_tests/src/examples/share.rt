@@ -43,14 +43,6 @@ fn names(rt: HostRuntime) {
         panic!(rt; "refused")
     };
     assert!(rt; Names::new(alloc, 100).nth_name(0).is_none());
-    let mut names = Names::new(alloc, 100);
-    names.refuse_memory(true);
-    assert!(rt; names.give(ObjectKey::from_number(4)) == Err(ShareFault::NoMemory));
-    let mut names = Names::new(alloc, 100);
-    let object = ObjectKey::from_number(4);
-    let Ok(name) = names.give(object) else {
-        panic!(rt; "refused")
-    };
     assert!(rt; names.name_of(object) == Some(name));
     assert!(rt; name == 1);
     assert!(rt; !names.is_full());
@@ -70,14 +62,6 @@ fn tokens(rt: HostRuntime) {
         panic!(rt; "refused")
     };
     assert!(rt; Tokens::new(alloc, 100).last_given().is_none());
-    let mut tokens = Tokens::new(alloc, 100);
-    tokens.refuse_memory(true);
-    assert!(rt; tokens.export(9, ObjectKey::from_number(4)) == Err(ShareFault::NoMemory));
-    let mut tokens = Tokens::new(alloc, 100);
-    let object = ObjectKey::from_number(4);
-    let Ok(token) = tokens.export(9, object) else {
-        panic!(rt; "refused")
-    };
     let Ok(other) = tokens.export(9, object) else {
         panic!(rt; "refused")
     };

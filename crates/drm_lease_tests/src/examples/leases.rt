@@ -53,45 +53,18 @@ fn leases(rt: HostRuntime) {
         panic!(rt; "refused")
     };
     assert!(rt; Leases::new(alloc, 8).last_given().is_none());
-    let mut masters = Masters::new(alloc, 4, 4);
-    let Ok(_first) = masters.on_open(1, 1) else {
-        panic!(rt; "refused")
-    };
-    let mut leases = Leases::new(alloc, 8);
-    leases.refuse_memory(true);
-    let Err(fault) = leases.create(&mut masters, &modes, 1, true, &[1, 3, 7], 2) else {
-        panic!(rt; "refused")
-    };
-    assert!(rt; fault == LeaseFault::NoMemory);
-    let mut masters = Masters::new(alloc, 4, 4);
-    let Ok(_first) = masters.on_open(1, 1) else {
-        panic!(rt; "refused")
-    };
-    let mut leases = Leases::new(alloc, 8);
-    let Ok(leased) = leases.create(&mut masters, &modes, 1, true, &[1, 3, 7], 2) else {
-        panic!(rt; "refused")
-    };
     assert!(rt; leased.id == 1 && leased.token == 1);
+    assert!(rt;
+        leases
+            .create_refusal(&masters, &modes, 1, true, &[2, 4, 8])
+            .is_none()
+    );
+    assert!(rt;
+        leases.create_refusal(&masters, &modes, 1, true, &[1, 3, 7]) == Some(Rule::LeasedOut)
+    );
     assert!(rt; leases.holds(leased.m, 1) && !leases.holds(leased.m, 2));
     let lessee = leases.view(&masters, 2, true);
     assert!(rt; leases.view(&masters, 1, true).sees(&modes, 2) && !lessee.sees(&modes, 2));
-}
-
-#[test]
-fn leases_from_leased_out(rt: HostRuntime) {
-    let alloc = rt.alloc();
-    let Some(topology) = Topology::new(2, &[1, 2], &[3, 2], &[5, 6]) else {
-        panic!(rt; "refused")
-    };
-    let modes = Modes::new(alloc, topology, 4);
-    let mut masters = Masters::new(alloc, 4, 4);
-    let Ok(_first) = masters.on_open(1, 1) else {
-        panic!(rt; "refused")
-    };
-    let mut leases = Leases::new(alloc, 8);
-    let Ok(leased) = leases.create(&mut masters, &modes, 1, true, &[1, 3, 7], 2) else {
-        panic!(rt; "refused")
-    };
     let Some(owner) = masters.master(1) else {
         panic!(rt; "refused")
     };
@@ -106,6 +79,27 @@ fn leases_from_leased_out(rt: HostRuntime) {
         leases.revoke(&mut masters, leased.m);
     }
     assert!(rt; leases.objects_of(leased.m).ids().is_empty());
+}
+
+#[test]
+fn leases_from_revoke_below(rt: HostRuntime) {
+    let alloc = rt.alloc();
+    let Some(topology) = Topology::new(2, &[1, 2], &[3, 2], &[5, 6]) else {
+        panic!(rt; "refused")
+    };
+    let modes = Modes::new(alloc, topology, 4);
+    let mut masters = Masters::new(alloc, 4, 4);
+    let Ok(_first) = masters.on_open(1, 1) else {
+        panic!(rt; "refused")
+    };
+    let mut leases = Leases::new(alloc, 8);
+    let Ok(leased) = leases.create(&mut masters, &modes, 1, true, &[1, 3, 7], 2) else {
+        panic!(rt; "refused")
+    };
+    assert!(rt; leases.redeem(leased.token) == Some(leased.m));
+    if masters.of_key(leased.m).is_some() {
+        leases.revoke(&mut masters, leased.m);
+    }
     let Some(owner) = masters.master(1) else {
         panic!(rt; "refused")
     };

@@ -84,24 +84,6 @@ fn masters(rt: HostRuntime) {
         panic!(rt; "refused")
     };
     assert!(rt; Masters::new(alloc, 4, 4).device_master().is_none());
-    let mut masters = Masters::new(alloc, 4, 4);
-    let Ok(_first) = masters.on_open(1, 1) else {
-        panic!(rt; "refused")
-    };
-    let Ok(_second) = masters.on_open(2, 2) else {
-        panic!(rt; "refused")
-    };
-    let Ok(()) = masters.drop_master(1, false) else {
-        panic!(rt; "refused")
-    };
-    masters.refuse_memory(true);
-    if masters.member(2).is_some() {
-        assert!(rt; masters.set(2, true, 3) == Err(SetFault::NoMemory));
-    }
-    let mut masters = Masters::new(alloc, 4, 4);
-    let Ok(is_first) = masters.on_open(1, 1) else {
-        panic!(rt; "refused")
-    };
     assert!(rt; matches!(masters.member(1), Some(row) if row.is_master && row.master == 1));
     assert!(rt; masters.master_of(1).is_some() && masters.master_of(2).is_none());
     assert!(rt; matches!(masters.master(1), Some(row) if row.lessor.is_none() && !row.kept));
@@ -117,15 +99,6 @@ fn masters(rt: HostRuntime) {
         panic!(rt; "refused")
     };
     assert!(rt; masters.is_current_member(member));
-}
-
-#[test]
-fn masters_from_on_open(rt: HostRuntime) {
-    let alloc = rt.alloc();
-    let mut masters = Masters::new(alloc, 4, 4);
-    let Ok(is_first) = masters.on_open(1, 1) else {
-        panic!(rt; "refused")
-    };
     assert!(rt; is_first);
     let mut masters = Masters::new(alloc, 4, 4);
     let Ok(_first) = masters.on_open(1, 1) else {
@@ -144,6 +117,70 @@ fn masters_from_on_open(rt: HostRuntime) {
     if masters.member(1).is_some() {
         assert!(rt; masters.set(1, false, 9) == Ok(SetDone::Already));
     }
+}
+
+#[test]
+fn masters_from_sets_new(rt: HostRuntime) {
+    let alloc = rt.alloc();
+    let mut masters = Masters::new(alloc, 4, 4);
+    let Ok(_first) = masters.on_open(1, 1) else {
+        panic!(rt; "refused")
+    };
+    let Ok(_second) = masters.on_open(2, 2) else {
+        panic!(rt; "refused")
+    };
+    let Ok(()) = masters.drop_master(1, false) else {
+        panic!(rt; "refused")
+    };
+    assert!(rt;
+        masters.sets_new(2, true) && !masters.sets_new(2, false) && !masters.sets_new(1, true)
+    );
+    let mut masters = Masters::new(alloc, 4, 4);
+    let Ok(_first) = masters.on_open(1, 1) else {
+        panic!(rt; "refused")
+    };
+    let Some(owner) = masters.master(1) else {
+        panic!(rt; "refused")
+    };
+    let Ok((lessee, _id)) = masters.make_lessee(owner.key, 2) else {
+        panic!(rt; "refused")
+    };
+    let Ok(()) = masters.on_redeem(3, lessee) else {
+        panic!(rt; "refused")
+    };
+    if masters.member(1).is_some() {
+        assert!(rt; masters.set(1, false, 9) == Ok(SetDone::Already));
+    }
+    if masters.member(1).is_some() {
+        assert!(rt; masters.drop_master(1, false) == Ok(()));
+    }
+    if masters.member(1).is_some() {
+        assert!(rt; masters.magic(1) == Ok(1));
+    }
+    if masters.member(1).is_some() {
+        assert!(rt; masters.auth(1, 7) == Err(Rule::NoMagic));
+    }
+}
+
+#[test]
+fn masters_from_on_close(rt: HostRuntime) {
+    let alloc = rt.alloc();
+    let mut masters = Masters::new(alloc, 4, 4);
+    let Ok(_first) = masters.on_open(1, 1) else {
+        panic!(rt; "refused")
+    };
+    let Some(owner) = masters.master(1) else {
+        panic!(rt; "refused")
+    };
+    let Ok((lessee, _id)) = masters.make_lessee(owner.key, 2) else {
+        panic!(rt; "refused")
+    };
+    let Ok(()) = masters.on_redeem(3, lessee) else {
+        panic!(rt; "refused")
+    };
+    if masters.member(1).is_some() {
+        assert!(rt; masters.set(1, false, 9) == Ok(SetDone::Already));
+    }
     if masters.member(1).is_some() {
         assert!(rt; masters.drop_master(1, false) == Ok(()));
     }
@@ -155,11 +192,6 @@ fn masters_from_on_open(rt: HostRuntime) {
     }
     assert!(rt; masters.on_close(1).is_some());
     assert!(rt; masters.member(1).is_none());
-}
-
-#[test]
-fn masters_from_make_lessee(rt: HostRuntime) {
-    let alloc = rt.alloc();
     let mut masters = Masters::new(alloc, 4, 4);
     let Ok(_first) = masters.on_open(1, 1) else {
         panic!(rt; "refused")
@@ -171,6 +203,21 @@ fn masters_from_make_lessee(rt: HostRuntime) {
         panic!(rt; "refused")
     };
     assert!(rt; id == 1);
+}
+
+#[test]
+fn masters_from_lessee(rt: HostRuntime) {
+    let alloc = rt.alloc();
+    let mut masters = Masters::new(alloc, 4, 4);
+    let Ok(_first) = masters.on_open(1, 1) else {
+        panic!(rt; "refused")
+    };
+    let Some(owner) = masters.master(1) else {
+        panic!(rt; "refused")
+    };
+    let Ok((lessee, id)) = masters.make_lessee(owner.key, 2) else {
+        panic!(rt; "refused")
+    };
     let Some(owner) = masters.master(1) else {
         panic!(rt; "refused")
     };

@@ -131,37 +131,6 @@ fn modes(rt: HostRuntime) {
         panic!(rt; "refused")
     };
     assert!(rt; modes.object_count() == 8);
-    let Some(topology) = Topology::new(2, &[1, 2], &[3, 2], &[5, 6]) else {
-        panic!(rt; "refused")
-    };
-    let mut modes = Modes::new(alloc, topology, 4);
-    let shape = Shape {
-        width: 640,
-        height: 480,
-        pitch: 2560,
-        bpp: 32,
-    };
-    modes.refuse_memory(true);
-    assert!(rt; modes.addfb(1, shape, ObjectKey::from_number(7)) == Err(AddFbFault::NoMemory));
-}
-
-#[test]
-fn modes_from_kind(rt: HostRuntime) {
-    let alloc = rt.alloc();
-    let Some(topology) = Topology::new(2, &[1, 2], &[3, 2], &[5, 6]) else {
-        panic!(rt; "refused")
-    };
-    let mut modes = Modes::new(alloc, topology, 4);
-    let shape = Shape {
-        width: 640,
-        height: 480,
-        pitch: 2560,
-        bpp: 32,
-    };
-    let object = ObjectKey::from_number(7);
-    let Ok(framebuffer) = modes.addfb(1, shape, object) else {
-        panic!(rt; "refused")
-    };
     assert!(rt; modes.kind(3) == Some(Kind::Plane));
     assert!(rt; framebuffer > modes.object_count());
     assert!(rt; modes.is_of_kind(Kind::Crtc, 2));

@@ -109,7 +109,7 @@ returns-clause-makes c = λ w s.
     c.requires.precondition.later.objects in
     let free = free_handle_is c.args.state.now w s.rows c.args.client in
     let number = ap (λ o. unwrap_or o 0) (sym (free ∙ c.in-Ok-add_handle.ensures.given)) in
-    let state : State = record c.args.state.now { files = c.add_handle.new.self; objects = c.create.new.self } in
+    let state : State = record c.args.state.now { files = c.add_handle.new.files; objects = c.create.new.self } in
     let more : Represents state (with_object w c.args.client c.args.size) =
     subst
     (λ fs. Represents (record c.args.state.now { files = fs; objects = c.create.new.self }) (with_object w c.args.client c.args.size))

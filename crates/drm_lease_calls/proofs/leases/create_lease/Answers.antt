@@ -1,9 +1,11 @@
-use Rattle.std.proofs.Common.{◌≡◌, ℕ, ◌≤◌, Bool, List, [], ◌∷◌, Option, Some, Result, Err, refl, sym, ap, subst, ◌∙◌, inl, inr, arith, length-append}
+use Rattle.std.proofs.Common.{◌≡◌, ℕ, ◌≤◌, Bool, not, List, [], ◌∷◌, Option, None, Some, Result, Err, refl, sym, ap, subst, ◌∙◌, inl, inr, arith, length-append}
 use Rattle.std.specs.Prelude.{IfSome, unwrap_or}
 use Rattle.drm_table.specs.declared.answers.Answer.TheVariants.{Lease}
 use Rattle.drm_table.specs.declared.calls.Call.TheVariants.{CreateLease}
 use Rattle.drm_table.specs.declared.events.Event.TheVariants.{Ask}
 use Rattle.drm_lists.specs.Orders.{SameRows}
+use Rattle.drm_lists.proofs.FoundInLists.{is_some-false}
+use Rattle.drm_table.specs.Permit.{first_failing}
 use Rattle.drm_modes.specs.Topology.{object_count}
 use Rattle.drm_masters.specs.declared.rows.Member.{Member}
 use Rattle.drm_masters.specs.Masters.{MasterSet, AreMasters}
@@ -15,7 +17,7 @@ use Rattle.drm_leases.specs.Leases.{LeaseSet, AreLeases}
 use Rattle.drm_leases.specs.Agreed.{AreAgreed}
 use Rattle.drm_leases.specs.Calls.{Created, with_lease, listed_objects}
 use Rattle.drm_leases.proofs.NewestLease.{newest_last, with_last_lease}
-use Rattle.drm_leases.specs.Rules.{leased}
+use Rattle.drm_leases.specs.Rules.{lease_checks, leased}
 use Rattle.drm_model.specs.Magics.{caller_master}
 use Rattle.drm_model.specs.Leases as model
 use Rattle.drm_model.specs.Leases.{new_lessee, new_lessee_id, new_lease_token}
@@ -71,7 +73,7 @@ returns-in-Ok-clause-invariants c =
     listed_objects s.modes.topology (leased s.leases s.masters s.modes x.master c.args.caller.flags.universal ids)
     in
     let by =
-    came s x step c.create.new.self c.create.new.masters (sym c.requires.caller.member) c.in-Ok.is c.ids.ensures.ids
+    came s x step c.create.new.self c.create.new.masters (sym c.requires.caller.member) c.in-Ok.is c.ids-listed.ensures.ids
     refl c.create.ensures.created in
     let later = c.requires.precondition.later in
     let masters_are_now = by.4.2 ∙ newest_master s.masters (lessee by.4.0 step x.master made.id) later.masters in
@@ -100,7 +102,7 @@ returns-in-Ok-clause-refines c = λ w r admitted.
     listed_objects s.modes.topology (leased s.leases s.masters s.modes x.master c.args.caller.flags.universal ids)
     in
     let by =
-    came s x step c.create.new.self c.create.new.masters look c.in-Ok.is c.ids.ensures.ids refl
+    came s x step c.create.new.self c.create.new.masters look c.in-Ok.is c.ids-listed.ensures.ids refl
     c.create.ensures.created in
     let file = caller_file s (as_caller c.args.caller) c.requires.caller in
     let own = own_master_is s w client c.args.caller.flags x h file look in
@@ -132,7 +134,7 @@ returns-in-Err-Denied-clause-refines c = rw c.set_denied.ensures.denied (λ w r 
     let look = sym c.requires.caller.member in
     let by =
     came s x c.args.step_number c.create.new.self c.create.new.masters look
-    (c.in-Err-Denied.is ∙ ap Err c.in-Err-Denied.field-0-is) c.ids.ensures.ids refl c.create.ensures.created in
+    (c.in-Err-Denied.is ∙ ap Err c.in-Err-Denied.field-0-is) c.ids-listed.ensures.ids refl c.create.ensures.created in
     let file = caller_file s (as_caller c.args.caller) c.requires.caller in
     let own = own_master_is s w client c.args.caller.flags x r.rows file look in
     denied (record s { masters = c.create.new.masters; leases = c.create.new.self }) w (Ask client (CreateLease ids))
@@ -150,10 +152,30 @@ returns-in-Err-NoMemory-clause-refines c = λ w r admitted.
     let look = sym c.requires.caller.member in
     let by =
     came s x c.args.step_number c.create.new.self c.create.new.masters look
-    (c.in-Err-NoMemory.is ∙ ap Err c.in-Err-NoMemory.field-0-is) c.ids.ensures.ids refl c.create.ensures.created in
+    (c.in-Err-NoMemory.is ∙ ap Err c.in-Err-NoMemory.field-0-is) c.ids-listed.ensures.ids refl c.create.ensures.created in
     let file = caller_file s (as_caller c.args.caller) c.requires.caller in
     let own = own_master_is s w client c.args.caller.flags x r.rows file look in
     refused (record s { masters = c.create.new.masters; leases = c.create.new.self }) w (Ask client (CreateLease ids)) _
     (create_verdict s w c.requires.precondition.invariants r.rows c.args.caller c.requires.caller ids own admitted ∙ by.0)
     (inr (inl (omega (arith, length-append w.masters (new_lessee w (caller_master w client) ∷ [])))))
     (subst (λ (l : LeaseSet). Represents (record s { masters = c.create.new.masters; leases = l }) w) (sym by.1) (subst (λ (v : MasterSet). Represents (record s { masters = v }) w) (sym by.2) r.rows))
+
+pub refusal-requires-clause-agreed : goal.refusal-requires-clause-agreed
+refusal-requires-clause-agreed c = leases_agree c.args.state.now c.requires.precondition.invariants
+
+pub returns-then-is_none-clause-refines : goal.returns-then-is_none-clause-refines
+unfolding RefinesCall meaning changed
+returns-then-is_none-clause-refines c = λ w r admitted.
+    let s = c.args.state.now in
+    let ids = c.args.ids.now in
+    let client = c.args.caller.client in
+    let x = c.args.caller.member in
+    let look = sym c.requires.caller.member in
+    let file = caller_file s (as_caller c.args.caller) c.requires.caller in
+    let own = own_master_is s w client c.args.caller.flags x r.rows file look in
+    let none : first_failing (lease_checks s.leases s.masters s.modes x.master c.args.caller.flags.universal ids) ≡ None =
+    ap (λ ids. first_failing (lease_checks s.leases s.masters s.modes x.master c.args.caller.flags.universal ids)) (sym c.ids-listed.ensures.ids)
+    ∙ sym c.refusal.ensures ∙ is_some-false c.refusal.result (c.is_none.ensures ∙ ap not c.if-is_none.true) in
+    refused s w (Ask client (CreateLease ids)) _
+    (create_verdict s w c.requires.precondition.invariants r.rows c.args.caller c.requires.caller ids own admitted ∙ none)
+    (inr (inl (omega (arith, length-append w.masters (new_lessee w (caller_master w client) ∷ []))))) r.rows

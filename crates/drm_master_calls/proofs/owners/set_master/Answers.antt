@@ -1,14 +1,17 @@
-use Rattle.std.proofs.Common.{◌≡◌, ℕ, Bool, true, false, Option, Some, Result, Ok, Err, refl, sym, ap, subst, ◌∙◌, inl, inr, arith, length-append, [], ◌∷◌}
+use Rattle.std.proofs.Common.{◌≡◌, ℕ, Bool, true, false, not, ◌&&◌, Option, None, Some, Result, Ok, Err, refl, sym, ap, subst, ◌∙◌, inl, inr, arith, length-append, [], ◌∷◌}
 use Rattle.std.specs.Prelude.{IfSome}
+use Rattle.std.specs.Option.{is_none, option_map_or}
+use Rattle.std.proofs.lemmas.Bool.{and_parts, not-true}
+use Rattle.drm_table.specs.Permit.{first_failing}
 use Rattle.drm_table.specs.declared.answers.Answer.TheVariants.{Done}
 use Rattle.drm_table.specs.declared.calls.Call.TheVariants.{SetMaster}
 use Rattle.drm_table.specs.declared.events.Event.TheVariants.{Ask}
-use Rattle.drm_masters.specs.Masters.{MasterSet, AreMasters}
+use Rattle.drm_masters.specs.Masters.{MasterSet, AreMasters, is_current_member, is_option, owner_of}
 use Rattle.drm_masters.specs.declared.faults.SetDone.{SetDone}
 use Rattle.drm_masters.specs.declared.faults.SetFault.{SetFault}
 use Rattle.drm_masters.specs.declared.rows.Member.{Member}
 use Rattle.drm_state.specs.declared.state.State.{State}
-use Rattle.drm_masters.specs.Calls.{SetOf}
+use Rattle.drm_masters.specs.Calls.{SetOf, set_checks, sets_new}
 use Rattle.drm_masters.proofs.NewestMember.{newest_unused}
 use Rattle.drm_model.specs.Rows.{step_number}
 use Rattle.drm_model.specs.Magics.{is_current, is_master, mastered}
@@ -206,3 +209,40 @@ returns-in-Err-NoMemory-clause-refines c = λ w r admitted.
     refused (record s { masters = c.set.new.self }) w (Ask c.args.caller.client SetMaster) _ checks
     (subst (λ b. IsLonger w (mastered w c.args.caller.client b (is_master w c.args.caller.client))) (sym current) (subst (λ b. IsLonger w (mastered w c.args.caller.client false b)) (sym own) (inr (inl (omega (arith, length-append w.masters (new_master (step_number w) ∷ [])))))))
     (subst (λ v. Represents (record s { masters = v }) w) (sym by.3) r.rows)
+
+-- an option without a value is `None`
+none : {X : Type 0} (o : Option X) → is_none o ≡ true → o ≡ None
+none None h = refl
+none (Some x) h = absurd (let e : false ≡ true = h in cc)
+
+-- a new master is made only for who is no master, and if no rule denies it
+allowed : (v : MasterSet) (x : Member) (root : Bool) → sets_new v x root ≡ true
+    → (first_failing (set_checks v x root) ≡ None) × (is_current_member v x ≡ false) × (x.is_master ≡ false)
+unfolding sets_new
+allowed v x root h =
+    let both = and_parts (not x.is_master) (is_none (first_failing (set_checks v x root))) h in
+    let own = not-true x.is_master both.0 in
+    (none _ both.1, ap (λ b. b && is_option (owner_of v.masters x.master) v.device_master) own, own)
+
+pub returns-then-sets_new-clause-refines : goal.returns-then-sets_new-clause-refines
+unfolding RefinesCall meaning changed
+returns-then-sets_new-clause-refines c = λ w r admitted.
+    let s = c.args.state.now in
+    let look = sym c.requires.caller.member in
+    let x = c.args.caller.member in
+    let makes : sets_new s.masters x c.args.caller.flags.root ≡ true =
+    ap (λ o. option_map_or (λ (y : Member). sets_new s.masters y c.args.caller.flags.root) o false) c.requires.caller.member
+    ∙ sym c.sets_new.ensures ∙ c.if-sets_new.true in
+    let by = allowed s.masters x c.args.caller.flags.root makes in
+    let file = caller_file s (as_caller c.args.caller) c.requires.caller in
+    let checks =
+    set_verdict s w c.args.caller.client c.args.caller.flags x r.rows file look c.args.caller.flags.root
+    (caller_root s (as_caller c.args.caller) c.requires.caller) admitted
+    ∙ by.0 in
+    let current : is_current w c.args.caller.client ≡ false =
+    current_is s w c.args.caller.client c.args.caller.flags x r.rows file look ∙ by.1 in
+    let own : is_master w c.args.caller.client ≡ false =
+    master_is s w c.args.caller.client c.args.caller.flags x r.rows file look ∙ by.2 in
+    refused s w (Ask c.args.caller.client SetMaster) _ checks
+    (subst (λ b. IsLonger w (mastered w c.args.caller.client b (is_master w c.args.caller.client))) (sym current) (subst (λ b. IsLonger w (mastered w c.args.caller.client false b)) (sym own) (inr (inl (omega (arith, length-append w.masters (new_master (step_number w) ∷ [])))))))
+    r.rows

@@ -1,5 +1,6 @@
 use Rattle.std.proofs.Common.{ℕ, ◌++◌, [], ◌∷◌, None, refl, sym, ap, ◌∙◌, subst, inl, inr, arith, length-append}
 use Rattle.std.specs.Prelude.{unwrap_or}
+use Rattle.std.proofs.lemmas.Bool.{false≢true}
 use Rattle.std.specs.Option.{is_some}
 use Rattle.drm_table.specs.declared.answers.Answer.TheVariants.{Number}
 use Rattle.drm_table.specs.declared.calls.Call.TheVariants.{GemFlink}
@@ -94,6 +95,27 @@ returns-in-Err-NoMemory-clause-refines c = λ w r a.
     (call_verdict w c.args.client (GemFlink c.args.handle) a ∙ rw (one, number, had, free) refl)
     (rw (number, had) (longer w (step_number_at s.objects.objects c.in-Some.object)))
     (subst (λ ns. Represents (record s { names = ns }) w) (sym c.in-Err-NoMemory.ensures.err) r.rows)
+
+pub returns-then-not-is_full-clause-refines : goal.returns-then-not-is_full-clause-refines
+unfolding RefinesCall meaning changed
+returns-then-not-is_full-clause-refines c = λ w r a.
+    let s = c.args.state.now in
+    let found = sym c.in-Some.is ∙ c.object_of.ensures.object in
+    let one = has_it s c.args.client c.args.handle c.in-Some.object c.requires.precondition.invariants found w r.rows in
+    let number =
+    object_is s c.args.client c.args.handle c.in-Some.object c.requires.precondition.invariants found w r.rows in
+    let had =
+    name_is s c.args.client c.args.handle c.in-Some.object c.requires.precondition.invariants found w r.rows
+    c.name_of.ensures.names
+    ∙ sym c.name_of.ensures.name ∙ c.in_default-name_of.is in
+    let free =
+    ap is_some (free_name_found s w r.rows)
+    ∙ some_free (names.free_name s.names)
+    (λ e. false≢true (sym c.if-not-is_full.true ∙ c.is_full.ensures.1 e)) in
+    refused s w (Ask c.args.client (GemFlink c.args.handle)) (record {})
+    (call_verdict w c.args.client (GemFlink c.args.handle) a ∙ rw (one, number, had, free) refl)
+    (rw (number, had) (longer w (step_number_at s.objects.objects c.in-Some.object)))
+    r.rows
 
 pub returns-clause-invariants : goal.returns-clause-invariants
 returns-clause-invariants c =

@@ -1,5 +1,6 @@
 use Rattle.std.proofs.Common.{ℕ, ◌++◌, [], ◌∷◌, None, refl, sym, ap, ◌∙◌, subst, inl, inr, arith, length-append}
 use Rattle.std.specs.Prelude.{unwrap_or}
+use Rattle.std.proofs.lemmas.Bool.{false≢true}
 use Rattle.std.specs.Option.{is_some}
 use Rattle.drm_table.specs.declared.answers.Answer.TheVariants.{Number}
 use Rattle.drm_table.specs.declared.calls.Call.TheVariants.{PrimeHandleToFd}
@@ -68,6 +69,23 @@ returns-in-Err-NoMemory-clause-refines c = λ w r a.
     (call_verdict w c.args.client (PrimeHandleToFd c.args.handle) a ∙ rw (one, free) refl)
     (rw number (longer w c.args.client c.args.handle (step_number_at s.objects.objects c.in-Some.object)))
     (subst (λ ts. Represents (record s { tokens = ts }) w) (sym c.in-Err-NoMemory.ensures.err) r.rows)
+
+pub returns-then-not-is_full-clause-refines : goal.returns-then-not-is_full-clause-refines
+unfolding RefinesCall meaning changed
+returns-then-not-is_full-clause-refines c = λ w r a.
+    let s = c.args.state.now in
+    let found = sym c.in-Some.is ∙ c.object_of.ensures.object in
+    let one = has_it s c.args.client c.args.handle c.in-Some.object c.requires.precondition.invariants found w r.rows in
+    let number =
+    object_is s c.args.client c.args.handle c.in-Some.object c.requires.precondition.invariants found w r.rows in
+    let free =
+    ap is_some (next_token_found s w r.rows)
+    ∙ some_free (tokens.next_token s.tokens)
+    (λ e. false≢true (sym c.if-not-is_full.true ∙ c.is_full.ensures.1 e)) in
+    refused s w (Ask c.args.client (PrimeHandleToFd c.args.handle)) (record {})
+    (call_verdict w c.args.client (PrimeHandleToFd c.args.handle) a ∙ rw (one, free) refl)
+    (rw number (longer w c.args.client c.args.handle (step_number_at s.objects.objects c.in-Some.object)))
+    r.rows
 
 pub refer-requires : goal.refer-requires
 refer-requires c =

@@ -11,13 +11,6 @@ returns-then-len-self-clause-full c =
     let count = length_clients inside.open_limit inside.last_handle inside.clients.items c.args.client in
     rw (← c.self.view_is) ((λ _. omega (arith, c.if-len-self.true, c.len.ensures.len, count)), λ _. tt)
 
-pub returns-then-self-clause-full : goal.returns-then-self-clause-full
-returns-then-self-clause-full c =
-    let inside = c.self.inside in
-    let count = length_clients inside.open_limit inside.last_handle inside.clients.items c.args.client in
-    rw (← c.self.view_is)
-    ((λ none. absurd none), λ full. omega (arith, full, c.if-len-self.false, c.len.ensures.len, count))
-
 pub returns-in-Err-clause-full : goal.returns-in-Err-clause-full
 returns-in-Err-clause-full c =
     let inside = c.self.inside in

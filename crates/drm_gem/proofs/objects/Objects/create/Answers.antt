@@ -12,12 +12,6 @@ returns-then-len-self-clause-full c =
     let counted = many key_of step_number_of nothing c.self.inside.keys.items c.self.inside.kept c.self.invariant in
     rw (← c.self.view_is) ((λ full. omega (arith, counted, c.if-len-self.true, c.len.ensures.len)), λ le. refl)
 
-pub returns-then-self-clause-full : goal.returns-then-self-clause-full
-returns-then-self-clause-full c =
-    let counted = many key_of step_number_of nothing c.self.inside.keys.items c.self.inside.kept c.self.invariant in
-    rw (← c.self.view_is)
-    ((λ e. absurd (let same : fault.NoMemory ≡ fault.Full = e in cc)), λ le. absurd (omega (arith, counted, c.if-len-self.false, c.len.ensures.len, le)))
-
 pub returns-then-number-clause-full : goal.returns-then-number-clause-full
 returns-then-number-clause-full c =
     let counted = many key_of step_number_of nothing c.self.inside.keys.items c.self.inside.kept c.self.invariant in

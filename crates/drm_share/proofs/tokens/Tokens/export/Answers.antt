@@ -21,12 +21,6 @@ invariant_of-self c = record {
       (has c.note.new.self) c.self.invariant.owners (λ d u. ap (λ (m : GroupMap). has m d u) c.in-Err.ensures.err);
 }
 
-pub returns-then-self-clause-full : goal.returns-then-self-clause-full
-returns-then-self-clause-full c =
-    let next = next_token_is c.self.inside.exports c.self.invariant.numbered.first_is in
-    rw (← c.self.view_is)
-    ((λ none. absurd none), λ none. none-some c.in-Some.token (sym none ∙ next ∙ sym c.in-Some.ensures.next))
-
 pub returns-in-Err-clause-full : goal.returns-in-Err-clause-full
 returns-in-Err-clause-full c =
     let next = next_token_is c.self.inside.exports c.self.invariant.numbered.first_is in

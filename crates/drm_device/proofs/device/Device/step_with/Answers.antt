@@ -10,7 +10,7 @@ use Rattle.drm_device.specs.Journals.{JournalValue}
 use Rattle.drm_state.specs.Refinement.{Refines}
 use Rattle.drm_device.proofs.Devices.{stands, precondition, has_room_for, next_history, next_rows, same_history, topology_same, topology_after, few_answer, next_device, same_device, taken_back, within_after}
 use Rattle.drm_device.proofs.Places.{opened}
-use Rattle.drm_device.proofs.device.Device.step_at.Goals as goal
+use Rattle.drm_device.proofs.device.Device.step_with.Goals as goal
 
 pub returns-then-not-has_room-clause-step : goal.returns-then-not-has_room-clause-step
 unfolding Step
