@@ -20,8 +20,7 @@ from typing import Dict, List, NamedTuple, Set, Tuple
 
 sys.dont_write_bytecode = True
 from command_line import parser_of  # noqa: E402  (it is in this folder)
-
-CRATES = pathlib.Path(__file__).resolve().parent.parent / "crates.txt"
+from crates import CRATES, read_crates  # noqa: E402  (likewise)
 
 MARGIN, GAP_X, GAP_Y, PAD, LINE = 24.0, 22.0, 40.0, 10.0, 18.0
 # how wide a letter is at most, on the average of a line
@@ -48,13 +47,6 @@ class Node(NamedTuple):
 
     def height(self) -> float:
         return 2 * PAD + LINE * len(self.names[0]) - 6
-
-
-def read_crates(text: str) -> Dict[str, List[str]]:
-    """Each crate, with those of its libraries that are crates here."""
-    lines = [line.split(":") for line in text.splitlines() if line.strip() and not line.startswith("#")]
-    named = {head.split()[0]: libraries.split() for head, libraries in lines}
-    return {name: [library for library in libraries if library in named] for name, libraries in named.items()}
 
 
 class Layer(NamedTuple):
