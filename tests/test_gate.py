@@ -56,6 +56,10 @@ def write_script(path, text):
     path.chmod(0o755)
 
 
+def printed_by(toolchain):
+    return "".join(f"{line}\n" for line in re.findall(r"^echo '(.*)'$", toolchain, re.MULTILINE))
+
+
 def repository(folder, toolchain):
     """A repository of five crates with the tools, in which this script is the toolchain, and the environment for it."""
     root = folder / "repository"
@@ -157,8 +161,7 @@ class GateTests(FolderCase):
             "crate 4 of 5, low_tests, some 10 minutes left\n"
             "crate 5 of 5, top_tests, less than a minute left\n"
         )
-        printed = "".join(re.findall(r"^echo '(.*\n?)'$", PROVES, re.MULTILINE)[i] + "\n" for i in range(9))
-        expect_end(ran, 1, told, printed)
+        expect_end(ran, 1, told, printed_by(PROVES))
 
     def test_forecast_by_the_lines(self):
         """A crate without times takes a fifth of a minute, and a minute for 600 lines of code. A broken file has no times."""
@@ -180,16 +183,19 @@ class GateTests(FolderCase):
         expect("minutes of proofs", found, {"low": 0, "middle": 7, "top": 0, "low_tests": 0, "top_tests": 10})
 
     def test_terminal_has_one_line_that_is_rewritten(self):
+        """It is below the output, if that is on the terminal too."""
         root, environment = repository(self.folder, PROVES)
-        master, terminal = pty.openpty()
-        with open(self.folder / "output", "w", encoding="utf-8") as output:
+        for has_output, times in ((True, 2), (False, 1)):
+            master, terminal = pty.openpty()
+            output = terminal if has_output else subprocess.DEVNULL
             ran = subprocess.run([root / "tools/prove"], env=environment, stdout=output, stderr=terminal, check=False)
-        os.close(terminal)
-        shown = os.read(master, 1 << 16).decode()
-        os.close(master)
-        expect("status", ran.returncode, 1)
-        expect("lines", (shown.count("\n"), shown.count("\rcrate 3 of 5, top, ")), (0, 2))
-        expect("whether it is removed at the end", shown.endswith("\r\033[K"), True)
+            os.close(terminal)
+            shown = os.read(master, 1 << 16).decode()
+            os.close(master)
+            expect("status", ran.returncode, 1)
+            lines = len(printed_by(PROVES).splitlines()) if has_output else 0
+            expect("lines", (shown.count("\n"), shown.count("\rcrate 3 of 5, top, ")), (lines, times))
+            expect("whether it is removed at the end", shown.endswith("\r\033[K"), True)
 
     def test_program_is_built_over_its_libraries_alone(self):
         """On a copy without edits and without other crates."""
