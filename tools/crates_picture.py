@@ -13,7 +13,6 @@ Examples:
   tools/crates_picture.py > docs/crates.svg
   tools/crates_picture.py --layers
 """
-import pathlib
 import re
 import sys
 from typing import Dict, List, NamedTuple, Set, Tuple
