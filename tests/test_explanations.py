@@ -903,7 +903,13 @@ it would pass if the caller held the handle
         for _, text, fact in JOURNALS:
             lines = text.split("; ")
             head = f"line {len(lines)}: apart 50 JournalFull 28\n"
-            rows.append(("\n".join(lines) + "\n", len(lines), f"{head}{fact}\nit would pass if the journal's limit were greater\n"))
+            rows.append(
+                (
+                    "\n".join(lines) + "\n",
+                    len(lines),
+                    f"{head}{fact}\nit would pass if the journal's limit were greater\n",
+                )
+            )
         for text, number, told in rows:
             script.write_text(text)
             ran = run_program("explain", script, "--line", str(number))

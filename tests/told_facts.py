@@ -60,9 +60,7 @@ TWO = CARD + "open b card; "
 DUMB = CARD + "a create_dumb 8 8 32; "
 SHOWN = DUMB + "a addfb 8 8 32 32 1; "
 LESSEE = CARD + "a create_lease 2 4 8; open l lease 1; "
-ITS_LEASE = (
-    "lessee 1, master 2, has CRTC 2, plane 4 and connector 8: leased by a at step 2 (lessee 1, token 1), redeemed by l at step 3"
-)
+ITS_LEASE = "lessee 1, master 2, has CRTC 2, plane 4 and connector 8: leased by a at step 2 (lessee 1, token 1), redeemed by l at step 3"
 FOUNDED = "a is a master: it founded master 1 as it opened at step 1, when the device had none"
 JOINED = "b is no master: it joined master 1 as it opened at step 2"
 BY_A = "the device's master is 1: a founded it as it opened at step 1"
@@ -108,7 +106,12 @@ CALLS = [
     ("ClientFact::Closed", TWO + "close b; b version", 3, ["b is not open: it closed at step 3"]),
     ("ClientFact::Closed", TWO + "close b; a version; close b", 3, ["b is not open: it closed at step 3"]),
     # a label names the last client that it opened
-    ("ClientFact::Closed", CARD + "close a; open a card; close a; a version", 3, ["a is not open: it closed at step 4"]),
+    (
+        "ClientFact::Closed",
+        CARD + "close a; open a card; close a; a version",
+        3,
+        ["a is not open: it closed at step 4"],
+    ),
     ("RequestFact::NoCapability", CARD + "a get_cap 2", 41, ["capability 2 cannot be read: only 1 and 5 can"]),
     (
         "RequestFact::NoValue",
@@ -126,7 +129,12 @@ CALLS = [
 
 STATES = [
     ("Subject::Client", CARD + "a audit 1 0", 11, ["a is client 1: a primary client, opened at step 1"]),
-    ("Subject::Client", CARD + "open r render; r create_dumb 1 1 8", 14, ["r is client 2: a render client, opened at step 2"]),
+    (
+        "Subject::Client",
+        CARD + "open r render; r create_dumb 1 1 8",
+        14,
+        ["r is client 2: a render client, opened at step 2"],
+    ),
     (
         "Subject::Client Subject::Master",
         LESSEE + "l set_master",
@@ -221,7 +229,10 @@ STATES = [
 ]
 
 HANDLES = [
-    *(of_handle(call, 21) for call in ("gem_flink 7", "prime_export 7", "stamp_write 7 1", "stamp_read 7", "addfb 8 8 32 32 7")),
+    *(
+        of_handle(call, 21)
+        for call in ("gem_flink 7", "prime_export 7", "stamp_write 7 1", "stamp_read 7", "addfb 8 8 32 32 7")
+    ),
     *(of_handle(call, 22) for call in ("gem_close 7", "destroy_dumb 7")),
     ("HandleFact::Holds", CARD + "a gem_close 1", 22, ["a does not hold handle 1: no step assigned it", NO_HANDLE]),
     (
@@ -265,9 +276,12 @@ PUBLISHED = [
     # the last handle is another client's, which closes it or is closed
     (
         "PublishedFact::Named",
-        CARD + "open b root; a buf_create 1; a gem_flink 1; b gem_open 1; a gem_close 1; b destroy_dumb 1; a gem_open 1",
+        CARD
+        + "open b root; a buf_create 1; a gem_flink 1; b gem_open 1; a gem_close 1; b destroy_dumb 1; a gem_open 1",
         23,
-        ["no buffer has name 1: a named buffer 3 at step 4, and its last handle was closed at step 7 (destroy_dumb by b)"],
+        [
+            "no buffer has name 1: a named buffer 3 at step 4, and its last handle was closed at step 7 (destroy_dumb by b)"
+        ],
     ),
     (
         "PublishedFact::Named",
@@ -278,7 +292,8 @@ PUBLISHED = [
     # a name that is free again is given to another buffer
     (
         "PublishedFact::Named",
-        CARD + "a buf_create 1; a gem_flink 1; a gem_close 1; a buf_create 1; a gem_flink 1; a gem_close 1; a gem_open 1",
+        CARD
+        + "a buf_create 1; a gem_flink 1; a gem_close 1; a buf_create 1; a gem_flink 1; a gem_close 1; a gem_open 1",
         23,
         ["no buffer has name 1: a named buffer 5 at step 6, and its last handle was closed at step 7 (gem_close by a)"],
     ),
@@ -522,7 +537,12 @@ MODE_OBJECTS = [
 
 SIZES = [
     *(
-        ("SizeFact::OutOfRange Quantity::Size", f"{CARD}a buf_create {size}", 39, [f"the size is {size} bytes, and not 1 to 68719476736"])
+        (
+            "SizeFact::OutOfRange Quantity::Size",
+            f"{CARD}a buf_create {size}",
+            39,
+            [f"the size is {size} bytes, and not 1 to 68719476736"],
+        )
         for size in (0, 68_719_476_737)
     ),
     (
@@ -535,10 +555,25 @@ SIZES = [
             "the number of bits per pixel is 65, and not 1 to 64",
         ],
     ),
-    ("SizeFact::OutOfRange Quantity::Height", CARD + "a create_dumb 1 0 64", 39, ["the height is 0, and not 1 to 65535"]),
+    (
+        "SizeFact::OutOfRange Quantity::Height",
+        CARD + "a create_dumb 1 0 64",
+        39,
+        ["the height is 0, and not 1 to 65535"],
+    ),
     # 8 pixels of 4 bytes, and 8 of 9 bits, which take 2 bytes each
-    ("SizeFact::ShortPitch", DUMB + "a addfb 8 8 31 32 1", 39, ["the pitch is 31 bytes, and the pixels of a line take 32"]),
-    ("SizeFact::ShortPitch", DUMB + "a addfb 8 8 15 9 1", 39, ["the pitch is 15 bytes, and the pixels of a line take 16"]),
+    (
+        "SizeFact::ShortPitch",
+        DUMB + "a addfb 8 8 31 32 1",
+        39,
+        ["the pitch is 31 bytes, and the pixels of a line take 32"],
+    ),
+    (
+        "SizeFact::ShortPitch",
+        DUMB + "a addfb 8 8 15 9 1",
+        39,
+        ["the pitch is 15 bytes, and the pixels of a line take 16"],
+    ),
     (
         "SizeFact::OutOfRange SizeFact::ShortPitch SizeFact::ShortBuffer",
         DUMB + "a addfb 65536 3000 2 8 1",
@@ -553,7 +588,12 @@ SIZES = [
     of_buffer(CARD + "a buf_create 5000; ", 8192, 1, 129),
     of_buffer(DUMB, 4096, 1, 65),
     of_buffer(CARD + "a buf_create 5000; a gem_flink 1; a gem_open 1; ", 8192, 2, 129),
-    of_buffer("open b card; open a card; b create_dumb 8 8 32; b prime_export 1; a buf_create 9000; a prime_import 1; ", 4096, 2, 65),
+    of_buffer(
+        "open b card; open a card; b create_dumb 8 8 32; b prime_export 1; a buf_create 9000; a prime_import 1; ",
+        4096,
+        2,
+        65,
+    ),
     of_buffer(SHOWN + "a getfb 9; ", 4096, 2, 65),
 ]
 
@@ -577,7 +617,9 @@ LIMITS = [
     full_of_handles("getfb 9", "a addfb 8 8 32 32 1; "),
     (
         "LimitFact::Objects",
-        "limits 4 8 8 8 2 4 4 100; " + CARD + "a buf_create 1; a prime_export 1; a gem_close 1; a buf_create 1; a create_dumb 8 8 32",
+        "limits 4 8 8 8 2 4 4 100; "
+        + CARD
+        + "a buf_create 1; a prime_export 1; a gem_close 1; a buf_create 1; a create_dumb 8 8 32",
         43,
         ["2 buffers exist, which is the limit; those that only a token or a framebuffer keeps count too"],
     ),
