@@ -4,7 +4,9 @@ from typing import List, NamedTuple
 
 from support import REPOSITORY
 
-from worked_rows import read_rows  # the tool, which stands in tools
+from worked_rows import read_groups, read_rows  # the tool, which stands in tools
+
+FURTHER_ROWS = REPOSITORY / "tests/rows.txt"
 
 # what a document says of a block that no test runs, in the paragraph before it or behind it
 NOT_RUN = "not run by `./test`"
@@ -103,9 +105,20 @@ def tables_of(path):
     return [[[cell.strip() for cell in row.strip("|").split("|")] for row in part[2:]] for part in tables]
 
 
+def rows_of(rows):
+    """The lines and the answers of rows, by their names."""
+    return [(f"row {row.name}", row.asked(), [line.answer for line in row.lines]) for row in rows]
+
+
 def worked_rows():
     """The lines and the answers of the worked rows, by their names."""
-    return [(f"row {row.name}", row.asked(), [line.answer for line in row.lines]) for row in read_rows()]
+    return rows_of(read_rows())
+
+
+def further_rows():
+    """The same of the rows of tests/rows.txt."""
+    groups = read_groups(FURTHER_ROWS.read_text())
+    return rows_of(row for group in groups for row in group.rows)
 
 
 def is_answer(found, wanted):

@@ -40,7 +40,7 @@ from support import (  # noqa: E402
     want_no_checks,
 )
 
-from blocks import worked_rows  # noqa: E402
+from blocks import further_rows, worked_rows  # noqa: E402
 
 APART = "apart 51 NoMemory 12"
 
@@ -221,8 +221,8 @@ def lines_of(path):
 
 @functools.lru_cache(maxsize=None)
 def scripts():
-    """The lines of each worked row and of each example, by its name."""
-    found = {name: lines for name, lines, _ in worked_rows()}
+    """The lines of each row and of each example, by its name."""
+    found = {name: lines for name, lines, _ in (*worked_rows(), *further_rows())}
     for folder in ("examples", "examples/linux", "examples/tutorial"):
         for path in sorted((REPOSITORY / folder).glob("*.script")):
             found[f"{folder}/{path.name}"] = lines_of(path)
