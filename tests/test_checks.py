@@ -65,6 +65,54 @@ a gem_close 7               -> denied 22
 """
 
 
+# scripts that check themselves, what is told of them, and how many expectations were met and not met
+CHECKED = (
+    (
+        """# open a card -> nothing
+limits 2 8 8 8 8 4 4 7
+open a card  -> client 1
+a version
+a raw 65535 -> denied 1
+b version -> denied 3 NoClient 22
+open b render -> client 5
+b version -> apart 50
+close a -> closed""",
+        "",
+        (6, 0),
+    ),
+    (
+        "open a card -> client 2\na gem_close 7 -> done\nclose a -> closed\n",
+        "-:1: expected client 2, got client 1\n-:2: expected done, got denied 22 NoHandleToClose 22\n",
+        (1, 2),
+    ),
+    (
+        "limits 2 8 8 8 8 4 4 6 -> done\n  -> client 1",
+        "-:1: expected done, got nothing\n-:2: expected client 1, got nothing\n",
+        (0, 2),
+    ),
+    (
+        "open a card -> client 1\na gem_close 7 -> denied 2\na gem_close 7 -> denied 22 \na gem_close 7 -> denied 22\r\na gem_close 7 -> denied\n",
+        "-:2: expected denied 2, got denied 22 NoHandleToClose 22\n"
+        "-:3: expected denied 22\\x20, got denied 22 NoHandleToClose 22\n"
+        "-:4: expected denied 22\\r, got denied 22 NoHandleToClose 22\n"
+        "-:5: expected denied, got denied 22 NoHandleToClose 22\n",
+        (1, 4),
+    ),
+    (
+        "open a card -> client 1 -> client 1\n",
+        "-:1: expected client 1 -> client 1, got client 1\n",
+        (0, 1),
+    ),
+    (
+        "open a card -> client 2\na fly -> done\nclose a -> closed\n",
+        "-:1: expected client 2, got client 1\n-:2: malformed\n",
+        (0, 1),
+    ),
+    ("open a card ->client 1\n", "-:1: malformed\n", (0, 0)),
+    ("", "-: no expected answers\n", (0, 1)),
+)
+
+
 def want_mounts():
     """Skips the test if the system allows no mounts in a namespace."""
     if shutil.which("unshare") is None or run("unshare", "--map-root-user", "--mount", "true").returncode != 0:
@@ -97,6 +145,13 @@ class ChecksTests(FolderCase):
             "",
             "a:1: expected \\x00\\x1b[31m\\x07\\x09a\\x0db\\x7f\\r, got client 1\n    drm_server explain a --line 1\n0 passed, 1 failed\n",
         )
+
+    def test_what_is_told_of_expectations(self):
+        for script, told, (passed, failed) in CHECKED:
+            ran = run_program("check", "-", script=script)
+            output = f"{told}{passed} passed, {failed} failed\n"
+            status = 2 if "malformed" in told else 4 if failed else 0
+            expect(f"the check of {script!r}", (ran.returncode, ran.stdout), (status, output))
 
     def test_standard_input_is_checked(self):
         folder = self.folder

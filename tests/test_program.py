@@ -138,6 +138,22 @@ def without_descriptors(folder, name, other, count):
         yield started, opened, waiting
 
 
+# scripts that end early or ask nothing: the number of the malformed line, if any, and the output
+ENDS_OF_SCRIPTS = (
+    ("open a card\nfoo", 2, "client 1\n"),
+    ("# a comment\n\n  \nfoo\n", 4, ""),
+    ("open a card\nlimits 2 2 1 8 8 4 4 40\n", 2, "client 1\n"),
+    (2 * "limits 2 2 1 8 8 4 4 40\n", 2, ""),
+    ("limits 0 2 1 8 8 4 4 40\n", 1, ""),
+    ("# caf\N{LATIN SMALL LETTER E WITH ACUTE}\n", 1, ""),
+    ("open a card\na\tversion\n", 2, "client 1\n"),
+    ("\n# only a comment", 0, ""),
+    ("", 0, ""),
+    (255 * " ", 0, ""),
+    (256 * " ", 1, ""),
+)
+
+
 class ProgramTests(FolderCase):
     """Tests of the built program: what it prints, how it ends, and what clients on its sockets see."""
 
@@ -448,6 +464,13 @@ denied 42 NoLeaseToken 2
         expect_told(
             ran, 2, ["ERROR line 3: column 3: `fly` is not a call", "fault: script line 3"], "client 1\nversion 1 0 0\n"
         )
+
+    def test_ends_of_scripts(self):
+        for script, bad, output in ENDS_OF_SCRIPTS:
+            ran = run_program("run", script=script)
+            faults = [line for line in ran.stderr.splitlines() if line.startswith("fault")]
+            wanted = (2, [f"fault: script line {bad}"], output) if bad else (0, [], output)
+            expect(f"the end of {script!r}", (ran.returncode, faults, ran.stdout), wanted)
 
     def test_line_that_is_too_long(self):
         ran = run_program("run", script="open a card\n# " + 254 * "-" + "\n")

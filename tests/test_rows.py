@@ -1,5 +1,7 @@
 #!/usr/bin/env python3
-"""Tests of the rows of tests/rows.txt: scripts with the answers that the rules give, on the built program and on a second device.
+"""Tests of rows: scripts with the answers that the rules give, on the built program and on the device of plain_device.py.
+
+The rows are those of tests/rows.txt, and the worked rows.
 
 Each test has a folder of its own. The last line is `N passed, M failed`. Standard library only.
 """
@@ -8,7 +10,7 @@ import sys
 sys.dont_write_bytecode = True
 from support import FolderCase, expect, expect_end, run_program, run_tests  # noqa: E402
 
-from blocks import further_rows, is_answer  # noqa: E402
+from blocks import further_rows, is_answer, worked_rows  # noqa: E402
 from plain_device import Plain  # noqa: E402
 
 # how many owners come and go while one lessee stays
@@ -50,12 +52,15 @@ class RowsTests(FolderCase):
         wanted = sum(len(answers) for _, _, answers in further_rows())
         expect_end(run_program("check", *files), 0, "", f"{wanted} passed, 0 failed\n")
 
-    def test_rows_are_those_of_a_plain_device(self):
-        for name, asked, answers in further_rows():
+    def test_answers_are_those_of_a_plain_device(self):
+        """Whole lines, with the names and the errnos of rules, also of the worked rows."""
+        for name, asked, answers in (*worked_rows(), *further_rows()):
             plain = Plain()
             found = [answer for answer in map(plain.line, asked) if answer is not None]
             wrong = [pair for pair in zip(found, answers) if not is_answer(*pair)]
             expect(f"the answers of {name}", (len(found), wrong), (len(answers), []))
+            ran = run_program("run", script="".join(f"{line}\n" for line in asked))
+            expect(f"what is written for {name}", ran.stdout.splitlines(), found)
 
     def test_journals_of_rows(self):
         """The journal of a row passes its check, and has each step that was recorded."""

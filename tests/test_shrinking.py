@@ -39,6 +39,40 @@ open a card -> client 1
 a gem_close 1 -> denied 22 NoHandleToClose 22
 """
 
+# scripts, a line of each, and what is left
+SHORTER = (
+    # other clients, later lines, comments and expected answers are left out
+    ("# a comment\nopen a card -> client 9\nopen b card\n\nb get_magic\na version\na gem_close 7 -> done\na version\n", 7, SHRUNK.replace("close 1", "close 7")),
+    # lines that cancel each other out
+    (
+        "open a card\n" + 2 * "a buf_create 4096\n" + "a gem_close 1\na gem_close 2\na buf_create 4096\na gem_close 1\n",
+        7,
+        "open a card -> client 1\na buf_create 4096 -> buffer 1 4096\na gem_close 1 -> done\n",
+    ),
+    # the answer depends on another client
+    (
+        "open c render\nopen a card\nopen b card\na version\nb set_master\n",
+        5,
+        "open a card -> client 1\nopen b card -> client 2\nb set_master -> denied 26 MasterPerm 13\n",
+    ),
+    # the limits and each step are needed
+    (
+        "limits 2 8 8 8 8 4 4 7\nopen a card\na version\na raw 65535\nb version\nopen b render\nb version",
+        7,
+        """limits 2 8 8 8 8 4 4 7
+open a card -> client 1
+a version -> version 1 0 0
+a raw 65535 -> denied 1 Unknown 22
+b version -> denied 3 NoClient 22
+open b render -> client 5
+b version -> apart 50 JournalFull 28
+""",
+    ),
+    # nothing but the line is needed, and the first line
+    ("open a card\nb version\n", 2, "b version -> denied 3 NoClient 22\n"),
+    ("open a card\nb version\n", 1, "open a card -> client 1\n"),
+)
+
 # what a long session asks again and again
 ROUND = "a buf_create 4096\nb get_magic\na gem_flink 1\nc version\na gem_close 1\nb get_cap 1\nc list_handles 0\nb version\n"
 # with the openings and the closings that a journal keeps room for, 100,000 steps
@@ -70,6 +104,12 @@ class ShrinkingTests(FolderCase):
         again = run_program("shrink", script, "--line", "8")
         expect("a second time", (again.stderr, again.stdout), (ran.stderr, ran.stdout))
         expect("standard input", run_program("shrink", "-", "--line", "8", script=SCRIPT).stdout, SHRUNK)
+
+    def test_what_is_left_of_scripts(self):
+        for script, number, left in SHORTER:
+            ran = run_program("shrink", "-", "--line", str(number), script=script)
+            expect(f"status and what is left of {script!r}", (ran.returncode, ran.stdout), (0, left))
+            expect("the number of lines in the log", lines_left(ran), left.count("\n"))
 
     def test_device_is_the_described_one(self):
         """The topology and the limits decide what the line is answered."""
@@ -126,6 +166,8 @@ class ShrinkingTests(FolderCase):
         ]:
             ran = run_program("shrink", script, "--line", str(number))
             expect_told(ran, 3, [f"ERROR {script}: {reason}", "fault: command line"], "")
+        ran = run_program("shrink", "-", "--line", "1")
+        expect_told(ran, 3, ["ERROR -: there is no line 1: the script has 0 lines", "fault: command line"], "")
         script.write_text("open a card\nfly away\na version\n")
         cause = f"ERROR {script}:2: column 1: `fly` is not a label from a to z, limits, open, open2 or close"
         expect_told(run_program("shrink", script, "--line", "3"), 2, [cause, "fault: script line 2"], "")

@@ -1,9 +1,8 @@
 #!/usr/bin/env python3
-"""Writes what is made from the worked rows: lemmas of drm_model, files of examples/rows, and tables of drm_device_tests.
+"""Writes what is made from the worked rows: lemmas of drm_model, and files of examples/rows.
 
 tools/worked_rows.txt has the rows, and describes their form. From each row the tool makes a lemma, which the check of
-drm_model refuses if the definitions give other answers; a file for `drm_server check`; and a row of a table that
-drm_device_tests runs, with the names and the errnos of denials.
+drm_model refuses if the definitions give other answers, and a file for `drm_server check`.
 
 Exit status:
   0  the files were written, or are up to date
@@ -25,10 +24,9 @@ REPOSITORY = pathlib.Path(__file__).resolve().parent.parent
 SOURCE = REPOSITORY / "tools/worked_rows.txt"
 CRATES = REPOSITORY / "crates"
 PROOFS = CRATES / "drm_model/proofs"
-TABLES = CRATES / "drm_device_tests/src/rows"
 SCRIPTS = REPOSITORY / "examples/rows"
 # all files that are made
-MADE = ((PROOFS, "Worked*.antt"), (TABLES, "*.rt"), (SCRIPTS, "*.script"))
+MADE = ((PROOFS, "Worked*.antt"), (SCRIPTS, "*.script"))
 # the word of each answer that is told by numbers, and the variant that stands for it
 ANSWERS = {
     "done": "Done",
@@ -102,7 +100,6 @@ class Refusal(NamedTuple):
 
     name: str
     number: int
-    error: int
 
 
 class Definitions(NamedTuple):
@@ -144,9 +141,8 @@ def read_rows() -> List[Row]:
 
 def read_refusals(text: str, table: str) -> Dict[int, Refusal]:
     """A table of drm_table's rules, by number."""
-    errors = {name: int(number) for name, number in re.findall(r"^(e\w+) = (\d+)$", text, re.M)}
-    rows = re.findall(rf"^{table} (\w+) = refusal_row (\d+) (\w+) ", text, re.M)
-    return {int(number): Refusal(name, int(number), errors[error]) for name, number, error in rows}
+    rows = re.findall(rf"^{table} (\w+) = refusal_row (\d+) \w+ ", text, re.M)
+    return {int(number): Refusal(name, int(number)) for name, number in rows}
 
 
 def read_calls(text: str) -> Dict[str, Tuple[str, int]]:
@@ -348,44 +344,6 @@ def library(groups: List[Group], text: str) -> str:
     return "".join(f"{line}\n" for line in [*kept, *(f"pub mod {module_of(group)}" for group in groups)])
 
 
-# tables
-
-
-def whole_answer(text: str, known: Definitions) -> str:
-    """The whole line of an answer."""
-    word, *rest = text.split()
-    refusals = {"denied": known.rules, "apart": known.aparts}
-    if word not in refusals:
-        return text
-    refusal = refusals[word][int(rest[0])]
-    return f"{text} {refusal.name} {refusal.error}"
-
-
-def table_row(row: Row, known: Definitions) -> str:
-    whole = row._replace(lines=[Line(asked, whole_answer(answer, known)) for asked, answer in row.lines])
-    script = "\\n\\\n".join(f"            {line}" for line in whole.text().splitlines())
-    return f"""    Row {{
-        name: "{row.name}",
-        answers: {len(row.lines)},
-        script: "\\
-{script}",
-    }},
-"""
-
-
-def table(group: Group, known: Definitions) -> str:
-    """The table of a group's rows for drm_device_tests."""
-    rows = "".join(table_row(row, known) for row in group.rows)
-    return f"""//! Made by tools/worked_rows.py: worked rows with their answers.
-
-use crate::rows::Row;
-
-/// {group.about}
-pub(crate) const {group.name}: [Row; {len(group.rows)}] = [
-{rows}];
-"""
-
-
 # what is written
 
 
@@ -396,7 +354,6 @@ def made_files(groups: List[Group]) -> Dict[pathlib.Path, str]:
     files = {library_path: library(groups, library_path.read_text())}
     files.update((PROOFS / f"{module_of(group)}.antt", lemmas(group, known)) for group in groups)
     files.update((SCRIPTS / f"{row.name}.script", row.text()) for group in groups for row in group.rows)
-    files.update((TABLES / f"{group.name.lower()}.rt", table(group, known)) for group in groups)
     return files
 
 

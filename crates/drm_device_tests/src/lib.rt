@@ -1,5 +1,5 @@
-//! The tests of the device, and of scripts that it runs or checks: tables of cases, run by few functions. A function that owns a device
-//! takes long to prove, so `drm_test_devices` has one that lends it.
+//! The tests of a device by its own calls, and of scripts over streams that fail. Scripts show the rest. A function that owns a
+//! device takes long to prove, so `drm_test_devices` has one that lends it.
 #![tactic(auto)]
 
 #[cfg(test)]
@@ -11,16 +11,8 @@ mod devices;
 #[cfg(test)]
 mod examples;
 #[cfg(test)]
-mod journals;
-#[cfg(test)]
 mod replays;
-#[cfg(test)]
-mod rounds;
-#[cfg(test)]
-mod rows;
 #[cfg(test)]
 mod runs;
 #[cfg(test)]
 mod shrinking;
-#[cfg(test)]
-mod steps;
