@@ -1,2 +1,0 @@
-mod KeysOfMasters
-mod Older
