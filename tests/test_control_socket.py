@@ -89,6 +89,22 @@ WRONG: Dict[str, Optional[str]] = {
     "break 1:65536": "error: `65536` is out of range: 1 to 65535",
     "break 1=memory": None,
     "break 99999999999999999999": None,
+    "fail close=memory": "error: `close` is no call",
+    "fail OPEN=memory": "error: `OPEN` is no call",
+    "fail gem_close=memory": "error: `gem_close` adds no row",
+    "fail addfb:1:1=memory": "error: `1:1` is no number",
+    "fail addfb:=memory": "error: missing number",
+    "fail addfb=": "error: missing `=memory`",
+    "fail addfb=memory=": "error: `memory=` can't be refused: only memory can",
+    "fail\tx": "error: `fail?x` is no command: fail, stall, break, clear or list",
+    "stall version=1s": "error: `1s` is no number",
+    "break a": "error: `a` is no number",
+    "break :1": "error: missing client",
+    "break 7:2 8": "error: `8` is an extra word",
+    "  ": "error: missing fail, stall, break, clear or list",
+    "stop": "error: `stop` is no command: fail, stall, break, clear or list",
+    "List": "error: `List` is no command: fail, stall, break, clear or list",
+    "clear now": "error: `now` is an extra word",
     "clear all": "error: `all` is an extra word",
     "list all": "error: `all` is an extra word",
     "FAIL create_dumb=memory": None,
@@ -96,6 +112,18 @@ WRONG: Dict[str, Optional[str]] = {
     "ok": None,
     "\0": None,
     "fail \u00e9=memory": None,
+}
+
+# plans that are sent one after the other, and how they are listed: by their kinds, openings first, with their counts
+LISTED = {
+    "break 7": "break 7:1",
+    "  stall  open=20  ": "stall open:1=20",
+    "stall version=60000": "stall version:1=60000",
+    "fail gem_flink:002=memory": "fail gem_flink:2=memory",
+    "fail create_dumb:65535=memory": "fail create_dumb:65535=memory",
+    "break 4294967295:65535": "break 4294967295:65535",
+    "fail open=memory": "fail open:1=memory",
+    **{f"fail {word}=memory": f"fail {word}:1=memory" for word in GROWING if word not in ("gem_flink", "create_dumb")},
 }
 
 # the words of command lines that are refused
@@ -144,6 +172,16 @@ class ControlSocketTests(FolderCase):
                 expect("a call", clients.ask("q create_dumb 64 64 32").split()[0], "dumb")
             expect_well(started)
 
+    def test_how_plans_are_listed(self):
+        with controlled(self.folder) as started, Control(self.folder) as control:
+            for line in LISTED:
+                expect(line, control.ask(line), "ok\n")
+            listed = control.list()
+            expect("the plans", sorted(listed), sorted(LISTED.values()))
+            expect("their kinds", [line.split()[0] for line in listed], 11 * ["fail"] + 2 * ["stall"] + 2 * ["break"])
+            expect("the first plan", listed[0], "fail open:1=memory")
+            expect_well(started)
+
     def test_listed_plans_can_be_sent_again(self):
         lines = ["break 4294967295", "fail open:3=memory", "stall open=1"]
         with controlled(self.folder) as started, Control(self.folder) as control:
@@ -175,7 +213,10 @@ class ControlSocketTests(FolderCase):
             lines = [f"break {number}:2" for number in range(1, 1 + MOST_BREAKS)]
             for line in lines:
                 expect(line, control.ask(line), "ok\n")
-            expect("one too many", control.ask("break 999:2")[:7], "error: ")
+            expect("one too many", control.ask("break 999:2"), "error: there is room for 64 rules of a kind\n")
+            expect("one of another kind", (control.ask("stall open=1"), control.ask("clear")), ("ok\n", "ok\n"))
+            for line in lines:
+                expect(line, control.ask(line), "ok\n")
             expect("one that replaces another", control.ask("break 2:3"), "ok\n")
             lines[1] = "break 2:3"
             expect("the plans", control.listed(), sorted(lines))
@@ -205,15 +246,14 @@ class ControlSocketTests(FolderCase):
     def test_line_that_is_too_long(self):
         """It gets an error, and the connection is closed. The next one is served."""
         with controlled(self.folder) as started, Clients(self.folder) as clients:
-            longest = "x" * (MOST_LINE - 1)
             with Control(self.folder) as control:
-                expect("the longest line", control.ask(longest)[:7], "error: ")
+                expect("the longest line", control.ask("clear".ljust(MOST_LINE)), "ok\n")
                 expect("a line after it", control.ask("clear"), "ok\n")
             for text in (b"x" * 200 + b"\n", b"x" * 129, b"list" + b" " * 4096 + b"\n", b"x" * 100_000):
                 with Control(self.folder) as control:
                     with contextlib.suppress(BrokenPipeError, ConnectionResetError):
                         control.send(text)
-                    expect(f"the answer to {len(text)} bytes", control.next()[:7], "error: ")
+                    expect(f"the answer to {len(text)} bytes", control.next(), "error: the line has more than 128 bytes\n")
                     expect("what follows", control.next(), "")
                 clients.expect("a version -> version 1 0 0")
                 with Control(self.folder) as control:

@@ -28,6 +28,7 @@ from support import (  # noqa: E402
     expect_end,
     expect_no_sockets,
     refusal_of,
+    retry,
     run,
     run_tests,
     wait_until,
@@ -446,6 +447,24 @@ class FaultsTests(FolderCase):
                         answer += data
                 expect("its answers", answer, bytes.fromhex("0e000000 0210 01000000 00000000 00000000"))
             expect("the listing", expect_well(started), "device 0 0 0 4\n")
+
+    def test_requests_without_a_call_are_counted_for_a_break(self):
+        """A number without a row, and a layout that is none, are requests. They are no calls, which a delay counts."""
+        with controlled(self.folder) as started:
+            plan(self.folder, "break 1:3", "stall gem_close=60000")
+            with contextlib.closing(retry(lambda: connect_raw(self.folder / "card"))) as client:
+                hello = bytes.fromhex("0e000000 0001 01000000 00000000 00000000")
+                client.sendall(hello + bytes.fromhex("04000000 0900 0000 02000000 7f00 02000000 7f00"))
+                answers = bytes.fromhex("06000000 0110 01000000 0a000000 0020 02000000 16000000")
+                answers += bytes.fromhex("0a000000 0020 01000000 16000000")
+                found = b""
+                with contextlib.suppress(ConnectionResetError):
+                    for more in iter(lambda: client.recv(64), b""):
+                        found += more
+                expect("the answers", found, answers)
+            with Control(self.folder) as control:
+                expect("the plans", control.listed(), ["stall gem_close=60000"])
+            expect_well(started)
 
     def test_requests_before_the_plan_are_not_counted(self):
         with controlled(self.folder) as started, Clients(self.folder) as clients:

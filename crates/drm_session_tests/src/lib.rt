@@ -1,4 +1,5 @@
-//! The tests of a device that is shared by threads, and of their sessions: tables of cases, run by few functions.
+//! The tests of a device that is shared by threads, and of sessions over streams that fail: tables of cases, run by few functions.
+//! `tests/test_frames.py` and `tests/test_streams.py` show sessions of the built program.
 #![tactic(auto)]
 
 #[cfg(test)]
@@ -6,22 +7,12 @@ mod comparing;
 #[cfg(test)]
 mod examples;
 #[cfg(test)]
-mod exchanges;
-#[cfg(test)]
 mod jobs;
 #[cfg(test)]
-mod lease_frames;
-#[cfg(test)]
 mod many;
-#[cfg(test)]
-mod mode_frames;
-#[cfg(test)]
-mod plans;
 #[cfg(test)]
 mod sessions;
 #[cfg(test)]
 mod traces;
 #[cfg(test)]
 mod turns;
-#[cfg(test)]
-mod witnesses;

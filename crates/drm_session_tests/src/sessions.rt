@@ -1,4 +1,4 @@
-//! Whole sessions, byte for byte, over sources and sinks that end, fail and interrupt.
+//! Sessions over sources and sinks that end, fail and interrupt, with few turns. `tests/test_streams.py` cuts them at each byte.
 
 use crate::comparing::same;
 use drm_device::Device;
@@ -9,13 +9,8 @@ use drm_test_devices::{Trial, try_on_new};
 use drm_test_streams::{Cut, sink_of, source_of};
 use std::alloc::{AllocError, Global};
 use std::cell::Cell;
-use std::io::{self, Read, Write};
-use std::net::{Net, Shutdown};
-use std::os::unix::net::UnixStream;
 use std::process::Abort;
 use std::test::Fail;
-use std::thread;
-use std::thread::Threads;
 
 /// A hello for a node, and VERSION.
 const HELLO_VERSION: &[u8] = b"\x0e\0\0\0\0\x01\x01\0\0\0\0\0\0\0\0\0\0\0\x02\0\0\0\0\0";
@@ -26,30 +21,13 @@ const ANSWERS: &[u8] = b"\x06\0\0\0\x01\x10\x01\0\0\0\x0e\0\0\0\x02\x10\x01\0\0\
 /// The answer to the hello alone.
 const OPENED: &[u8] = b"\x06\0\0\0\x01\x10\x01\0\0\0";
 
-/// Client 1 was opened, and the journal is full.
-const OPENED_AND_FULL: &[u8] =
-    b"\x06\0\0\0\x01\x10\x01\0\0\0\x0a\0\0\0\x01\x20\x32\0\0\0\x1c\0\0\0";
-
 /// A hello by the lease token 0, which no lease has, and then VERSION.
 const BY_TOKEN: &[u8] = b"\x0e\0\0\0\0\x01\x01\0\0\0\x01\0\0\0\0\0\0\0\x02\0\0\0\0\0";
 
 /// The answer to that hello.
 const NO_LEASE_TOKEN: &[u8] = b"\x0a\0\0\0\0\x20\x2a\0\0\0\x02\0\0\0";
 
-/// A hello of version 2 for a node, and SET_CLIENT_CAP of universal planes.
-const HELLO_2_AND_CAPABILITY: &[u8] =
-    b"\x0e\0\0\0\0\x01\x02\0\0\0\0\0\0\0\0\0\0\0\x12\0\0\0\x0d\0\x02\0\0\0\0\0\0\0\x01\0\0\0\0\0\0\0";
-
-/// Client 1 was opened, and the capability is set.
-const OPENED_AND_DONE: &[u8] = b"\x06\0\0\0\x01\x10\x01\0\0\0\x02\0\0\0\0\x10";
-
-/// The same with a version that there is not.
-const HELLO_3: &[u8] =
-    b"\x0e\0\0\0\0\x01\x03\0\0\0\0\0\0\0\0\0\0\0\x12\0\0\0\x0d\0\x02\0\0\0\0\0\0\0\x01\0\0\0\0\0\0\0";
-
 const MANY_TURNS: u64 = 1_000_000;
-
-const PIECES: [usize; 4] = [1, 2, 3, 7];
 
 /// The bytes that a client sends, in pieces of a given size, and the end and the steps of its session. Then the bytes
 /// that are written, of which the sink takes a given number at once.
@@ -100,42 +78,7 @@ const NOTHING: Case<'static> = Case {
     ..WHOLE
 };
 
-const CASES: [Case<'static>; 26] = [
-    WHOLE,
-    Case {
-        input: HELLO_2_AND_CAPABILITY,
-        written: OPENED_AND_DONE,
-        ..WHOLE
-    },
-    Case {
-        input: HELLO_3,
-        end: SessionEnd::BadHello,
-        ..NOTHING
-    },
-    Case {
-        class: Class::Render,
-        ..WHOLE
-    },
-    Case {
-        class: Class::Root,
-        ..WHOLE
-    },
-    REFUSED,
-    Case {
-        class: Class::Root,
-        ..REFUSED
-    },
-    Case {
-        class: Class::Render,
-        input: BY_TOKEN,
-        end: SessionEnd::BadHello,
-        ..NOTHING
-    },
-    Case {
-        input: b"",
-        end: SessionEnd::Ended,
-        ..NOTHING
-    },
+const CASES: [Case<'static>; 16] = [
     // both frames come by one take, and the next take finds the end
     Case {
         piece: 64,
@@ -246,75 +189,6 @@ const CASES: [Case<'static>; 26] = [
         takes: Some(4),
         ..NOTHING
     },
-    Case {
-        input: b"\xff\x03\0",
-        end: SessionEnd::Truncated,
-        ..NOTHING
-    },
-];
-
-/// Bytes in place of the hello, and the end of the session.
-const IN_PLACE_OF_HELLO: [(&[u8], SessionEnd); 5] = [
-    (b"\x02\0\0\0\0\0", SessionEnd::BadHello),
-    (b"\0\0\0\0", SessionEnd::TooLong),
-    (b"\x01\0\0\0", SessionEnd::TooLong),
-    (b"\x01\x04\0\0", SessionEnd::TooLong),
-    (b"\xff\xff\xff\xff", SessionEnd::TooLong),
-];
-
-/// The bytes after the hello, the end and the steps of the session, and the bytes that are written after the hello's
-/// answer.
-const AFTER_HELLO: [(&[u8], SessionEnd, u64, &[u8]); 12] = [
-    (b"\x02\0\0\0\0", SessionEnd::Truncated, 2, b""),
-    (b"\0\0\0\0", SessionEnd::TooLong, 2, b""),
-    (b"\x01\0\0\0", SessionEnd::TooLong, 2, b""),
-    (b"\x01\x04\0\0", SessionEnd::TooLong, 2, b""),
-    (b"\xff\xff\xff\xff", SessionEnd::TooLong, 2, b""),
-    (
-        b"\x04\0\0\0\0\0\0\0",
-        SessionEnd::Ended,
-        3,
-        b"\x0a\0\0\0\0\x20\x02\0\0\0\x16\0\0\0",
-    ),
-    // GEM_CLOSE with two bytes too many
-    (
-        b"\x08\0\0\0\x09\0\x01\0\0\0\0\0",
-        SessionEnd::Ended,
-        3,
-        b"\x0a\0\0\0\0\x20\x02\0\0\0\x16\0\0\0",
-    ),
-    // MODE_CREATE_LEASE of more ids than there are
-    (
-        b"\x06\0\0\0\xc6\0\xff\xff\xff\xff",
-        SessionEnd::Ended,
-        3,
-        b"\x0a\0\0\0\0\x20\x02\0\0\0\x16\0\0\0",
-    ),
-    // MODE_CREATE_LEASE of 33 ids
-    (
-        b"\x8a\0\0\0\xc6\0\x21\0\0\0\
-            \x01\0\0\0\x01\0\0\0\x01\0\0\0\x01\0\0\0\x01\0\0\0\x01\0\0\0\x01\0\0\0\x01\0\0\0\x01\0\0\0\x01\0\0\0\x01\0\0\0\
-            \x01\0\0\0\x01\0\0\0\x01\0\0\0\x01\0\0\0\x01\0\0\0\x01\0\0\0\x01\0\0\0\x01\0\0\0\x01\0\0\0\x01\0\0\0\x01\0\0\0\
-            \x01\0\0\0\x01\0\0\0\x01\0\0\0\x01\0\0\0\x01\0\0\0\x01\0\0\0\x01\0\0\0\x01\0\0\0\x01\0\0\0\x01\0\0\0\x01\0\0\0",
-        SessionEnd::Ended,
-        3,
-        b"\x0a\0\0\0\0\x20\x02\0\0\0\x16\0\0\0",
-    ),
-    // AUDIT of a kind that there is not
-    (
-        b"\x0a\0\0\0\x45\0\x0b\0\0\0\0\0\0\0",
-        SessionEnd::Ended,
-        3,
-        b"\x0a\0\0\0\0\x20\x02\0\0\0\x16\0\0\0",
-    ),
-    // a hello as a later frame is a number without a row
-    (
-        b"\x0e\0\0\0\0\x01\x01\0\0\0\0\0\0\0\0\0\0\0",
-        SessionEnd::Ended,
-        3,
-        b"\x0a\0\0\0\0\x20\x01\0\0\0\x16\0\0\0",
-    ),
-    (b"", SessionEnd::Ended, 2, b""),
 ];
 
 /// Sessions that are served one after the other.
@@ -366,19 +240,6 @@ fn serves(rt: &impl Abort, alloc: Global, limits: Limits, cases: &[Case<'_>]) ->
     try_on_new(rt, alloc, limits, &Sessions(cases))
 }
 
-/// Serves this session in pieces of several sizes.
-fn serves_in_pieces(rt: &impl Abort, alloc: Global, case: Case<'_>) -> Result<(), Fail> {
-    for piece in PIECES {
-        let case = Case {
-            piece,
-            taken: piece,
-            ..case
-        };
-        serves(rt, alloc, Limits::PROGRAM, &[case])?;
-    }
-    Ok(())
-}
-
 /// Serves each on a new device.
 fn serves_each(rt: &impl Abort, alloc: Global, cases: &[Case<'_>]) -> Result<(), Fail> {
     for case in cases {
@@ -392,108 +253,12 @@ fn sessions_and_their_ends(rt: HostRuntime) -> Result<(), Fail> {
     serves_each(&rt, rt.alloc(), &CASES)
 }
 
-/// An opening that a full journal refuses ends its session, and the device continues.
-#[test]
-fn sessions_of_a_full_journal(rt: HostRuntime) -> Result<(), Fail> {
-    let limits = Limits {
-        journal: 2,
-        ..Limits::PROGRAM
-    };
-    let first = Case {
-        steps: 2,
-        written: OPENED_AND_FULL,
-        ..WHOLE
-    };
-    let full = Case {
-        end: SessionEnd::Apart(Apart::JournalFull),
-        steps: 0,
-        written: &OPENED_AND_FULL[10..],
-        ..WHOLE
-    };
-    serves(&rt, rt.alloc(), limits, &[first, full])
-}
-
 /// Returns two texts, one after the other.
 fn joined(alloc: Global, front: &[u8], back: &[u8]) -> Result<Vec<u8>, AllocError> {
     let mut text = Vec::new(alloc);
     text.extend_from_slice(front)?;
     text.extend_from_slice(back)?;
     Ok(text)
-}
-
-#[test]
-fn frames_in_place_of_the_hello(rt: HostRuntime) -> Result<(), Fail> {
-    for (input, end) in IN_PLACE_OF_HELLO {
-        let case = Case {
-            input,
-            end,
-            ..NOTHING
-        };
-        serves_in_pieces(&rt, rt.alloc(), case)?;
-    }
-    Ok(())
-}
-
-#[test]
-fn frames_after_the_hello(rt: HostRuntime) -> Result<(), Fail> {
-    for (more, end, steps, written) in AFTER_HELLO {
-        let input = joined(rt.alloc(), &HELLO_VERSION[..18], more)?;
-        let written = joined(rt.alloc(), OPENED, written)?;
-        let case = Case {
-            input: input.as_slice(),
-            end,
-            steps,
-            written: written.as_slice(),
-            ..WHOLE
-        };
-        serves_in_pieces(&rt, rt.alloc(), case)?;
-    }
-    Ok(())
-}
-
-/// A session whose input is cut at this byte.
-fn cut_at(at: usize) -> Case<'static> {
-    let (steps, written) = match at {
-        0..18 => (0, b"".as_slice()),
-        18..24 => (2, OPENED),
-        _ => (3, ANSWERS),
-    };
-    let end = match at {
-        0 | 18 | 24 => SessionEnd::Ended,
-        _ => SessionEnd::Truncated,
-    };
-    Case {
-        source: Cut::End(at),
-        end,
-        steps,
-        written,
-        ..WHOLE
-    }
-}
-
-#[test]
-fn sessions_are_cut_at_each_byte(rt: HostRuntime) -> Result<(), Fail> {
-    for at in 0..25usize {
-        let ended = cut_at(at);
-        serves_in_pieces(&rt, rt.alloc(), ended)?;
-        let failed = Case {
-            source: Cut::Fault(at),
-            end: SessionEnd::ReadFault,
-            ..ended
-        };
-        serves_in_pieces(&rt, rt.alloc(), failed)?;
-    }
-    for at in 0..28usize {
-        let unwritten = Case {
-            sink: Cut::Fault(at),
-            end: SessionEnd::WriteFault,
-            steps: if at < 10 { 2 } else { 3 },
-            written: &ANSWERS[..at],
-            ..WHOLE
-        };
-        serves_in_pieces(&rt, rt.alloc(), unwritten)?;
-    }
-    Ok(())
 }
 
 /// The calls of a session, a digit each. 1 is the gate before a request of client 1, 2 an opening, 3 a request, 4 a
@@ -594,82 +359,10 @@ fn gates_and_closings(rt: HostRuntime) -> Result<(), Fail> {
     Ok(())
 }
 
-/// Sends the hello and VERSION, closes its writing side, and returns the answer.
-fn client(alloc: Global, mut stream: UnixStream) -> io::Result<Vec<u8>> {
-    stream.write_all(HELLO_VERSION)?;
-    stream.shutdown(Shutdown::Write)?;
-    let mut answers = Vec::new(alloc);
-    stream.read_to_end(&mut answers)?;
-    Ok(answers)
-}
-
-/// Serves one client over the stream, which is closed at the end.
-fn serves_stream(device: &mut Device, stream: UnixStream) -> Session {
-    let mut source = FromRead::new(&stream);
-    let mut sink = ToWrite::new(&stream);
-    serve_alone(
-        device,
-        &mut NoGate,
-        Class::Card,
-        &mut source,
-        &mut sink,
-        MANY_TURNS,
-    )
-}
-
-/// A client and its server, each in an own thread.
-#[derive(Drop)]
-struct Streamed<'a, R> {
-    rt: &'a R,
-}
-
-impl<A: Abort, R: Net + Threads> Trial<A> for Streamed<'_, R> {
-    fn run(&self, rt: &A, alloc: Global, device: &mut Device) -> Result<(), Fail> {
-        let (ours, theirs) = UnixStream::pair(self.rt)?;
-        let (answers, session) = thread::join(
-            self.rt,
-            || client(alloc, theirs),
-            || serves_stream(device, ours),
-        );
-        same(
-            rt,
-            &(session.end, session.steps),
-            &(SessionEnd::Ended, 3),
-            "session",
-        );
-        same(rt, &answers?.as_slice(), &ANSWERS, "answers");
-        Ok(())
-    }
-}
-
-#[test]
-fn stream_is_served(rt: HostRuntime) -> Result<(), Fail> {
-    try_on_new(&rt, rt.alloc(), Limits::PROGRAM, &Streamed { rt: &rt })
-}
-
-/// The words of the ends of sessions.
-const ENDS: [(SessionEnd, &str); 9] = [
+/// The words of ends that no server logs: one without a fault, and one after a million reads.
+const ENDS: [(SessionEnd, &str); 2] = [
     (SessionEnd::Ended, "the input ended between frames"),
-    (SessionEnd::Truncated, "the input ended inside a frame"),
-    (SessionEnd::TooLong, "a frame's length is out of range"),
-    (
-        SessionEnd::BadHello,
-        "the first frame is not a hello that this listener allows",
-    ),
-    (
-        SessionEnd::OpenRefused(Rule::NoLeaseToken),
-        "the opening was denied: 42 NoLeaseToken",
-    ),
-    (SessionEnd::ReadFault, "the connection could not be read"),
-    (
-        SessionEnd::WriteFault,
-        "the connection could not be written",
-    ),
     (SessionEnd::TurnsUsed, "all reads and writes were used up"),
-    (
-        SessionEnd::Apart(Apart::JournalFull),
-        "the opening or the closing ended in a fault: 50 JournalFull",
-    ),
 ];
 
 #[test]

@@ -1,12 +1,11 @@
-//! The lines of a trace.
+//! The lines of a trace, also after more than a day. `tests/test_traces.py` has those of a server.
 
 use drm_device::Device;
 use drm_sessions::Class;
-use drm_table::{Apart, Call, Event, Limits, Opening};
+use drm_table::{Call, Event, Limits, Opening};
 use drm_test_devices::new_device;
 use drm_traces::{Palette, Tracer};
-use drm_watch::{WatchedCall, WatchedFault};
-use std::alloc::Global;
+use drm_watch::WatchedCall;
 use std::test::Fail;
 use std::time::Duration;
 
@@ -63,11 +62,6 @@ fn call_of(case: &Case) -> Result<WatchedCall, Fail> {
     })
 }
 
-/// Returns what writes the trace of a new device.
-fn tracer(alloc: Global, palette: Palette) -> Result<Tracer, Fail> {
-    Ok(Tracer::new(new_device(alloc, Limits::PROGRAM)?, palette))
-}
-
 fn expect_text(text: &[u8], wanted: &str) -> Result<(), Fail> {
     if text == wanted.as_bytes() {
         return Ok(());
@@ -78,7 +72,7 @@ fn expect_text(text: &[u8], wanted: &str) -> Result<(), Fail> {
 #[test]
 fn each_step_has_its_line(rt: HostRuntime) -> Result<(), Fail> {
     let alloc = rt.alloc();
-    let mut tracer = tracer(alloc, Palette::Red)?;
+    let mut tracer = Tracer::new(new_device(alloc, Limits::PROGRAM)?, Palette::Red);
     let mut text = Vec::new(alloc);
     for case in &STEPS {
         text.clear();
@@ -86,27 +80,4 @@ fn each_step_has_its_line(rt: HostRuntime) -> Result<(), Fail> {
         expect_text(&text, case.line)?;
     }
     Ok(())
-}
-
-#[test]
-fn faults_are_no_steps(rt: HostRuntime) -> Result<(), Fail> {
-    let alloc = rt.alloc();
-    let tracer = tracer(alloc, Palette::Plain)?;
-    let mut text = Vec::new(alloc);
-    let call = call_of(&STEPS[1])?;
-    tracer.put_fault(
-        &mut text,
-        &WatchedFault {
-            call,
-            fault: Apart::NoMemory,
-            after: 1,
-        },
-    )?;
-    expect_text(
-        &text,
-        "    1.500000      - card   client 1 buf_create 1 -> apart 51 NoMemory 12\n",
-    )?;
-    text.clear();
-    tracer.put_left_out(&mut text, 7)?;
-    expect_text(&text, "# 7 faults are left out here\n")
 }

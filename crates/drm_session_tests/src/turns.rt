@@ -60,33 +60,6 @@ type Turn = (bool, Event, Result<Answer, Apart>);
 
 const OPENING: Turn = (false, CARD, OPENED);
 
-const MAKING: Turn = (
-    false,
-    Event::Ask(1, Call::BufCreate { size: 1 }),
-    Ok(Answer::Buffer {
-        handle: 1,
-        size: 4096,
-    }),
-);
-
-const WRITING: Turn = (
-    false,
-    Event::Ask(
-        1,
-        Call::StampWrite {
-            handle: 1,
-            stamp: 9,
-        },
-    ),
-    Ok(Answer::Done),
-);
-
-const READING: Turn = (
-    true,
-    Event::Ask(1, Call::StampRead { handle: 1 }),
-    Ok(Answer::Number { value: 9 }),
-);
-
 const VERSION: Turn = (
     true,
     Event::Ask(1, Call::Version),
@@ -96,41 +69,6 @@ const VERSION: Turn = (
         patch: 0,
     }),
 );
-
-/// A buffer that one participant makes and writes, and the other reads.
-const BUFFER: [Turn; 4] = [OPENING, MAKING, WRITING, READING];
-
-/// A buffer that is written before the other participant is split off.
-const WRITTEN: [Turn; 3] = [OPENING, MAKING, WRITING];
-
-const READ: [Turn; 1] = [READING];
-
-/// A buffer that the other participant closes.
-const CLOSED_BUFFER: [Turn; 4] = [
-    OPENING,
-    (
-        false,
-        Event::Ask(
-            1,
-            Call::CreateDumb {
-                width: 64,
-                height: 64,
-                bpp: 32,
-            },
-        ),
-        Ok(Answer::Dumb {
-            handle: 1,
-            pitch: 256,
-            size: 16384,
-        }),
-    ),
-    VERSION,
-    (
-        true,
-        Event::Ask(1, Call::GemClose { handle: 1 }),
-        Ok(Answer::Done),
-    ),
-];
 
 /// A journal of two steps, of which one is kept for the closing.
 const FULL_JOURNAL: [Turn; 3] = [
@@ -318,7 +256,7 @@ fn check_meeting(
     lend_back(rt, alloc, played, meeting)
 }
 
-/// A participant that is split off after a write reads it. A device that is shared again continues with its count.
+/// A participant that is split off knows what was before. A device that is shared again continues with its count.
 #[test]
 fn seats_share_one_device(rt: HostRuntime) -> Result<(), Fail> {
     let limits = Limits {
@@ -329,11 +267,8 @@ fn seats_share_one_device(rt: HostRuntime) -> Result<(), Fail> {
         limits,
         ..Meeting::new(&[], &FULL_JOURNAL, &[])
     };
-    let buffer = Meeting::new(&[], &BUFFER, &[]);
-    let closed = Meeting::new(&[], &CLOSED_BUFFER, &[]);
-    let behind = Meeting::new(&WRITTEN, &READ, &[]);
-    let again = Meeting::new(&OPENED_ONCE, &[], &ONE_VERSION);
-    for meeting in [short, buffer, closed, behind, again] {
+    let behind = Meeting::new(&OPENED_ONCE, &ONE_VERSION, &ONE_VERSION);
+    for meeting in [short, behind] {
         check_meeting(&rt, rt.alloc(), &meeting)?;
     }
     Ok(())

@@ -1,4 +1,4 @@
-//! Frames against their bytes as the table of calls and answers has them.
+//! Frames and what is read of them, and frames that no server sends.
 
 ghost use Rattle.std.specs.Prelude.{◌≡◌, true};
 ghost use Rattle.drm_frames.specs.Hellos.{is_version};
@@ -8,9 +8,9 @@ use drm_frames::{
     Decoded, Frame, FrameBytes, Hello, answer_of, call_of, decode, encode_answer, encode_call,
     encode_hello, hello_of,
 };
-use drm_table::{Answer, Apart, AuditKind, AuditRow, Call, Rule};
-use drm_test_cases::{list_of, named, page_of, resources_of, row};
-use std::process::Abort;
+use drm_script::line_of;
+use drm_table::{Answer, Apart, Call};
+use drm_test_cases::{list_of, page_of, resources_of, row};
 
 /// The frame that is all of the bytes.
 fn frame_in(bytes: &[u8]) -> Option<Frame<'_>> {
@@ -22,14 +22,6 @@ fn frame_in(bytes: &[u8]) -> Option<Frame<'_>> {
 
 fn hello_in(bytes: &[u8]) -> Option<Hello> {
     hello_of(&frame_in(bytes)?)
-}
-
-/// Returns whether the bytes are a frame of this call.
-fn asks(bytes: &[u8], call: &Call) -> bool {
-    match frame_in(bytes) {
-        Some(frame) => call_of(&frame) == *call,
-        None => false,
-    }
 }
 
 /// Returns whether the bytes are a frame, and no answer's.
@@ -154,16 +146,6 @@ const HELLOS: [(&[u8], u32, Option<u32>); 5] = [
     ),
 ];
 
-/// Other versions, a node with a token, neither a node nor a lease, too short a frame, and VERSION.
-const NO_HELLOS: [&[u8]; 6] = [
-    &[14, 0, 0, 0, 0, 1, 0, 0, 0, 0, 0, 0, 0, 0, 0, 0, 0, 0],
-    &[14, 0, 0, 0, 0, 1, 3, 0, 0, 0, 0, 0, 0, 0, 0, 0, 0, 0],
-    &[14, 0, 0, 0, 0, 1, 1, 0, 0, 0, 0, 0, 0, 0, 7, 0, 0, 0],
-    &[14, 0, 0, 0, 0, 1, 1, 0, 0, 0, 2, 0, 0, 0, 0, 0, 0, 0],
-    &[10, 0, 0, 0, 0, 1, 1, 0, 0, 0, 0, 0, 0, 0],
-    &[2, 0, 0, 0, 0, 0],
-];
-
 /// Returns whether the bytes are the hello's, and are read as it.
 fn is_hello(bytes: &[u8], hello: Hello) -> bool
     requires { is_version hello.version ≡ true }
@@ -176,464 +158,179 @@ fn hellos_have_their_bytes(rt: HostRuntime) {
     for (bytes, version, lease) in HELLOS {
         assert!(rt; is_hello(bytes, Hello { version, lease }), "{bytes:?}");
     }
-    for bytes in NO_HELLOS {
-        assert!(rt; hello_in(bytes).is_none(), "{bytes:?}");
-    }
 }
 
-/// Calls with their bytes.
-const CALLS: [(&[u8], Call); 35] = [
-    (&[2, 0, 0, 0, 0, 0], Call::Version),
-    (
-        &[6, 0, 0, 0, 9, 0, 5, 0, 0, 0],
-        Call::GemClose { handle: 5 },
-    ),
-    (
-        &[14, 0, 0, 0, 178, 0, 128, 2, 0, 0, 224, 1, 0, 0, 32, 0, 0, 0],
-        Call::CreateDumb {
-            width: 640,
-            height: 480,
-            bpp: 32,
-        },
-    ),
-    (
-        &[10, 0, 0, 0, 0x45, 0, 1, 0, 0, 0, 0, 0, 0, 0],
-        Call::Audit {
-            kind: AuditKind::Client,
-            from: 0,
-        },
-    ),
-    (
-        &[10, 0, 0, 0, 0x45, 0, 10, 0, 0, 0, 2, 1, 0, 0],
-        Call::Audit {
-            kind: AuditKind::Device,
-            from: 258,
-        },
-    ),
-    (
-        &[10, 0, 0, 0, 0x0C, 0, 5, 0, 0, 0, 0, 0, 0, 1],
-        Call::GetCap {
-            cap: 72_057_594_037_927_941,
-        },
-    ),
-    (
-        &[
-            18, 0, 0, 0, 0x0D, 0, 2, 0, 0, 0, 0, 0, 0, 0, 1, 0, 0, 0, 0, 0, 0, 0,
-        ],
-        Call::SetClientCap { cap: 2, value: 1 },
-    ),
-    (
-        &[10, 0, 0, 0, 0x40, 0, 1, 16, 0, 0, 0, 0, 0, 0],
-        Call::BufCreate { size: 4097 },
-    ),
-    (
-        &[14, 0, 0, 0, 0x41, 0, 1, 0, 0, 0, 77, 0, 0, 0, 0, 0, 0, 1],
-        Call::StampWrite {
-            handle: 1,
-            stamp: 72_057_594_037_928_013,
-        },
-    ),
-    (
-        &[6, 0, 0, 0, 0x42, 0, 1, 0, 0, 0],
-        Call::StampRead { handle: 1 },
-    ),
-    (
-        &[6, 0, 0, 0, 0x44, 0, 2, 1, 0, 0],
-        Call::ListHandles { from: 258 },
-    ),
-    (
-        &[6, 0, 0, 0, 0xB4, 0, 1, 0, 0, 0],
-        Call::DestroyDumb { handle: 1 },
-    ),
-    (
-        &[6, 0, 0, 0, 0x0A, 0, 1, 0, 0, 0],
-        Call::GemFlink { handle: 1 },
-    ),
-    (
-        &[6, 0, 0, 0, 0x0B, 0, 255, 255, 255, 255],
-        Call::GemOpen {
-            name: 4_294_967_295,
-        },
-    ),
-    (
-        &[6, 0, 0, 0, 0x2D, 0, 2, 1, 0, 0],
-        Call::PrimeHandleToFd { handle: 258 },
-    ),
-    (
-        &[6, 0, 0, 0, 0x2E, 0, 0, 0, 1, 0],
-        Call::PrimeFdToHandle { token: 65_536 },
-    ),
-    (
-        &[6, 0, 0, 0, 0x43, 0, 0, 0, 0, 1],
-        Call::TokenClose { token: 16_777_216 },
-    ),
-    (&[2, 0, 0, 0, 0x02, 0], Call::GetMagic),
-    (
-        &[6, 0, 0, 0, 0x11, 0, 1, 2, 0, 4],
-        Call::AuthMagic { magic: 67_109_377 },
-    ),
-    (&[2, 0, 0, 0, 0x1E, 0], Call::SetMaster),
-    (&[2, 0, 0, 0, 0x1F, 0], Call::DropMaster),
-    (&[2, 0, 0, 0, 0xA0, 0], Call::GetResources),
-    (
-        &[6, 0, 0, 0, 0xA1, 0, 1, 0, 0, 0],
-        Call::GetCrtc { crtc: 1 },
-    ),
-    (
-        &[6, 0, 0, 0, 0xA6, 0, 5, 0, 0, 0],
-        Call::GetEncoder { encoder: 5 },
-    ),
-    (
-        &[6, 0, 0, 0, 0xA7, 0, 255, 255, 255, 255],
-        Call::GetConnector {
-            connector: 4_294_967_295,
-        },
-    ),
-    (
-        &[6, 0, 0, 0, 0xAD, 0, 0, 0, 1, 0],
-        Call::GetFb {
-            framebuffer: 65_536,
-        },
-    ),
-    (&[2, 0, 0, 0, 0xB5, 0], Call::GetPlaneResources),
-    (
-        &[6, 0, 0, 0, 0xB6, 0, 3, 0, 0, 1],
-        Call::GetPlane { plane: 16_777_219 },
-    ),
-    (
-        &[14, 0, 0, 0, 0xA2, 0, 1, 0, 0, 0, 2, 1, 0, 0, 7, 0, 0, 0],
-        Call::SetCrtc {
-            crtc: 1,
-            framebuffer: 258,
-            connector: 7,
-        },
-    ),
-    (
-        &[
-            22, 0, 0, 0, 0xAE, 0, 64, 0, 0, 0, 32, 0, 0, 0, 0, 1, 0, 0, 24, 0, 0, 0, 9, 0, 0, 0,
-        ],
-        Call::AddFb {
-            width: 64,
-            height: 32,
-            pitch: 256,
-            bpp: 24,
-            handle: 9,
-        },
-    ),
-    (
-        &[6, 0, 0, 0, 0xAF, 0, 2, 1, 0, 0],
-        Call::RmFb { framebuffer: 258 },
-    ),
-    (
-        &[14, 0, 0, 0, 0xB7, 0, 3, 0, 0, 0, 1, 0, 0, 0, 2, 1, 0, 0],
-        Call::SetPlane {
-            plane: 3,
-            crtc: 1,
-            framebuffer: 258,
-        },
-    ),
-    (&[2, 0, 0, 0, 0xC7, 0], Call::ListLessees),
-    (&[2, 0, 0, 0, 0xC8, 0], Call::GetLease),
-    (
-        &[6, 0, 0, 0, 0xC9, 0, 2, 1, 0, 4],
-        Call::RevokeLease { lessee: 67_109_122 },
-    ),
+/// Frames of calls, which `tests/test_frames.py` has with their lines.
+const CALLS: [&[u8]; 38] = [
+    b"\x02\0\0\0\0\0",
+    b"\x06\0\0\0\x09\0\x05\0\0\0",
+    b"\x0e\0\0\0\xb2\0\x80\x02\0\0\xe0\x01\0\0\x20\0\0\0",
+    b"\x0a\0\0\0\x45\0\x01\0\0\0\0\0\0\0",
+    b"\x0a\0\0\0\x45\0\x0a\0\0\0\x02\x01\0\0",
+    b"\x0a\0\0\0\x0c\0\x05\0\0\0\0\0\0\x01",
+    b"\x12\0\0\0\x0d\0\x02\0\0\0\0\0\0\0\x01\0\0\0\0\0\0\0",
+    b"\x0a\0\0\0\x40\0\x01\x10\0\0\0\0\0\0",
+    b"\x0e\0\0\0\x41\0\x01\0\0\0\x4d\0\0\0\0\0\0\x01",
+    b"\x06\0\0\0\x42\0\x01\0\0\0",
+    b"\x06\0\0\0\x44\0\x02\x01\0\0",
+    b"\x06\0\0\0\xb4\0\x01\0\0\0",
+    b"\x06\0\0\0\x0a\0\x01\0\0\0",
+    b"\x06\0\0\0\x0b\0\xff\xff\xff\xff",
+    b"\x06\0\0\0\x2d\0\x02\x01\0\0",
+    b"\x06\0\0\0\x2e\0\0\0\x01\0",
+    b"\x06\0\0\0\x43\0\0\0\0\x01",
+    b"\x02\0\0\0\x02\0",
+    b"\x06\0\0\0\x11\0\x01\x02\0\x04",
+    b"\x02\0\0\0\x1e\0",
+    b"\x02\0\0\0\x1f\0",
+    b"\x02\0\0\0\xa0\0",
+    b"\x06\0\0\0\xa1\0\x01\0\0\0",
+    b"\x06\0\0\0\xa6\0\x05\0\0\0",
+    b"\x06\0\0\0\xa7\0\xff\xff\xff\xff",
+    b"\x06\0\0\0\xad\0\0\0\x01\0",
+    b"\x02\0\0\0\xb5\0",
+    b"\x06\0\0\0\xb6\0\x03\0\0\x01",
+    b"\x0e\0\0\0\xa2\0\x01\0\0\0\x02\x01\0\0\x07\0\0\0",
+    b"\x16\0\0\0\xae\0\x40\0\0\0\x20\0\0\0\0\x01\0\0\x18\0\0\0\x09\0\0\0",
+    b"\x06\0\0\0\xaf\0\x02\x01\0\0",
+    b"\x0e\0\0\0\xb7\0\x03\0\0\0\x01\0\0\0\x02\x01\0\0",
+    b"\x02\0\0\0\xc7\0",
+    b"\x02\0\0\0\xc8\0",
+    b"\x06\0\0\0\xc9\0\x02\x01\0\x04",
+    b"\x12\0\0\0\xc6\0\x03\0\0\0\x02\0\0\0\x04\0\0\0\x08\0\0\0",
+    b"\x06\0\0\0\xc6\0\0\0\0\0",
+    b"\x86\0\0\0\xc6\0\x20\0\0\0\x01\0\0\0\x02\0\0\0\x03\0\0\0\x04\0\0\0\x05\0\0\0\x06\0\0\0\x07\0\0\0\x08\0\0\0\x09\0\0\0\x0a\0\0\0\x0b\0\0\0\x0c\0\0\0\x0d\0\0\0\x0e\0\0\0\x0f\0\0\0\x10\0\0\0\x11\0\0\0\x12\0\0\0\x13\0\0\0\x14\0\0\0\x15\0\0\0\x16\0\0\0\x17\0\0\0\x18\0\0\0\x19\0\0\0\x1a\0\0\0\x1b\0\0\0\x1c\0\0\0\x1d\0\0\0\x1e\0\0\0\x1f\0\0\0\x20\0\0\0",
 ];
 
-/// Returns whether the bytes are the call's, and are read as it.
-fn is_call(bytes: &[u8], call: &Call) -> bool {
-    match call_bytes(call) {
-        Some(written) => written.as_slice() == bytes && asks(bytes, call),
+/// Returns whether the call of a frame has the same frame.
+fn is_call(bytes: &[u8]) -> bool {
+    let Some(frame) = frame_in(bytes) else {
+        return false;
+    };
+    match call_bytes(&call_of(&frame)) {
+        Some(written) => written.as_slice() == bytes,
         None => false,
     }
 }
-
-/// Leases of mode objects with their bytes.
-const LEASES: [(&[u8], &[u32]); 3] = [
-    (
-        &[
-            18, 0, 0, 0, 0xC6, 0, 3, 0, 0, 0, 2, 0, 0, 0, 4, 0, 0, 0, 8, 0, 0, 0,
-        ],
-        &[2, 4, 8],
-    ),
-    (&[6, 0, 0, 0, 0xC6, 0, 0, 0, 0, 0], &[]),
-    (
-        &[
-            134, 0, 0, 0, 0xC6, 0, 32, 0, 0, 0, 1, 0, 0, 0, 2, 0, 0, 0, 3, 0, 0, 0, 4, 0, 0, 0, 5,
-            0, 0, 0, 6, 0, 0, 0, 7, 0, 0, 0, 8, 0, 0, 0, 9, 0, 0, 0, 10, 0, 0, 0, 11, 0, 0, 0, 12,
-            0, 0, 0, 13, 0, 0, 0, 14, 0, 0, 0, 15, 0, 0, 0, 16, 0, 0, 0, 17, 0, 0, 0, 18, 0, 0, 0,
-            19, 0, 0, 0, 20, 0, 0, 0, 21, 0, 0, 0, 22, 0, 0, 0, 23, 0, 0, 0, 24, 0, 0, 0, 25, 0, 0,
-            0, 26, 0, 0, 0, 27, 0, 0, 0, 28, 0, 0, 0, 29, 0, 0, 0, 30, 0, 0, 0, 31, 0, 0, 0, 32, 0,
-            0, 0,
-        ],
-        &[
-            1, 2, 3, 4, 5, 6, 7, 8, 9, 10, 11, 12, 13, 14, 15, 16, 17, 18, 19, 20, 21, 22, 23, 24,
-            25, 26, 27, 28, 29, 30, 31, 32,
-        ],
-    ),
-];
 
 #[test]
 fn calls_have_their_bytes(rt: HostRuntime) {
-    for (place, (bytes, call)) in CALLS.iter().enumerate() {
-        assert!(rt; is_call(bytes, call), "call {place}");
-    }
-    for (bytes, ids) in LEASES {
-        assert!(rt; is_call(bytes, &Call::CreateLease { ids: named(ids) }));
+    for bytes in CALLS {
+        assert!(rt; is_call(bytes), "{bytes:?}");
     }
 }
 
-/// The numbers of calls that have no fields.
-const WITHOUT_FIELDS: [u16; 8] = [0x00, 0x02, 0x1E, 0x1F, 0xA0, 0xB5, 0xC7, 0xC8];
-
-/// The numbers of the other calls, each with sizes of fields that it hasn't.
-const OTHER_SIZES: [(u16, [usize; 2]); 25] = [
-    (0x09, [3, 5]),
-    (0xB2, [11, 13]),
-    (0x0A, [3, 5]),
-    (0x0B, [3, 5]),
-    (0x0C, [7, 9]),
-    (0x0D, [15, 17]),
-    (0x11, [3, 5]),
-    (0x2D, [3, 5]),
-    (0x2E, [3, 5]),
-    (0x40, [7, 9]),
-    (0x41, [11, 13]),
-    (0x42, [3, 5]),
-    (0x43, [3, 5]),
-    (0x44, [3, 5]),
-    (0xA1, [3, 5]),
-    (0xA2, [11, 13]),
-    (0xA6, [3, 5]),
-    (0xA7, [3, 5]),
-    (0xAD, [3, 5]),
-    (0xAE, [19, 21]),
-    (0xAF, [3, 5]),
-    (0xB4, [3, 5]),
-    (0xB6, [3, 5]),
-    (0xB7, [11, 13]),
-    (0xC9, [3, 5]),
-];
-
-/// Frames of a call's number that have another layout: lists of ids, and kinds of audits that aren't.
-const BAD_LAYOUTS: [(u16, &[u8]); 12] = [
-    (0xC6, &[2, 0, 0, 0, 0xC6, 0]),
-    (0xC6, &[5, 0, 0, 0, 0xC6, 0, 0, 0, 0]),
-    (0xC6, &[7, 0, 0, 0, 0xC6, 0, 0, 0, 0, 0, 0]),
-    (0xC6, &[6, 0, 0, 0, 0xC6, 0, 1, 0, 0, 0]),
-    (0xC6, &[9, 0, 0, 0, 0xC6, 0, 1, 0, 0, 0, 2, 0, 0]),
-    (0xC6, &[11, 0, 0, 0, 0xC6, 0, 1, 0, 0, 0, 2, 0, 0, 0, 0]),
-    (0xC6, &[6, 0, 0, 0, 0xC6, 0, 255, 255, 255, 255]),
-    (0x45, &[10, 0, 0, 0, 0x45, 0, 0, 0, 0, 0, 0, 0, 0, 0]),
-    (0x45, &[10, 0, 0, 0, 0x45, 0, 11, 0, 0, 0, 0, 0, 0, 0]),
-    (0x45, &[10, 0, 0, 0, 0x45, 0, 1, 1, 0, 0, 0, 0, 0, 0]),
-    (0x45, &[9, 0, 0, 0, 0x45, 0, 1, 0, 0, 0, 0, 0, 0]),
-    (0x45, &[11, 0, 0, 0, 0x45, 0, 1, 0, 0, 0, 0, 0, 0, 0, 0]),
-];
-
-/// Returns whether with fields of each of these sizes the call has another layout.
-fn have_another_layout(number: u16, sizes: &[usize]) -> bool {
-    let zeros = [0; 21];
-    sizes.iter().all(|size| {
-        let frame = Frame::new(number, &zeros[..(*size).min(21)]);
-        call_of(&frame) == Call::BadLayout(number)
-    })
-}
-
-const TO_EIGHT: [usize; 8] = [1, 2, 3, 4, 5, 6, 7, 8];
-
-#[test]
-fn other_sizes_have_another_layout(rt: HostRuntime) {
-    for number in WITHOUT_FIELDS {
-        assert!(rt; have_another_layout(number, &TO_EIGHT), "{number}");
-    }
-    for (number, sizes) in &OTHER_SIZES {
-        assert!(rt; have_another_layout(*number, sizes), "{number}");
-    }
-}
-
-/// Lists and kinds, among them a lease of 33 ids; and a number that has no row.
-#[test]
-fn lists_and_kinds_have_another_layout(rt: HostRuntime) {
-    for (number, bytes) in BAD_LAYOUTS {
-        assert!(rt; asks(bytes, &Call::BadLayout(number)), "{bytes:?}");
-    }
-    let mut many = [0; 142];
-    many[0] = 138;
-    many[4] = 0xC6;
-    many[6] = 33;
-    assert!(rt; asks(&many, &Call::BadLayout(0xC6)));
-    assert!(rt; asks(&[6, 0, 0, 0, 8, 0, 255, 255, 255, 255], &Call::Unknown(8)));
-}
-
-/// Answers with their bytes.
-const ANSWERS: [(&[u8], Result<Answer, Apart>); 13] = [
-    (&[2, 0, 0, 0, 0, 16], Ok(Answer::Done)),
+/// Frames of answers, and their lines.
+const ANSWERS: [(&[u8], &[u8]); 26] = [
+    (b"\x02\0\0\0\0\x10", b"done\n"),
+    (b"\x06\0\0\0\x01\x10\x01\0\0\0", b"client 1\n"),
     (
-        &[6, 0, 0, 0, 1, 16, 1, 0, 0, 0],
-        Ok(Answer::Opened { client: 1 }),
+        b"\x0e\0\0\0\x02\x10\x01\0\0\0\0\0\0\0\0\0\0\0",
+        b"version 1 0 0\n",
     ),
     (
-        &[14, 0, 0, 0, 2, 16, 1, 0, 0, 0, 0, 0, 0, 0, 0, 0, 0, 0],
-        Ok(Answer::Version {
-            major: 1,
-            minor: 0,
-            patch: 0,
-        }),
+        b"\x12\0\0\0\x04\x10\x01\0\0\0\0\x0a\0\0\0\xc0\x12\0\0\0\0\0",
+        b"dumb 1 2560 1228800\n",
+    ),
+    (b"\x02\0\0\0\x0c\x10", b"closed\n"),
+    (
+        b"\x0a\0\0\0\0\x20\x02\0\0\0\x16\0\0\0",
+        b"denied 2 Layout 22\n",
     ),
     (
-        &[
-            18, 0, 0, 0, 4, 16, 1, 0, 0, 0, 0, 10, 0, 0, 0, 192, 18, 0, 0, 0, 0, 0,
-        ],
-        Ok(Answer::Dumb {
-            handle: 1,
-            pitch: 2560,
-            size: 1_228_800,
-        }),
-    ),
-    (&[2, 0, 0, 0, 12, 16], Ok(Answer::Closed)),
-    (
-        &[10, 0, 0, 0, 0, 32, 2, 0, 0, 0, 22, 0, 0, 0],
-        Ok(Answer::Denied(Rule::Layout)),
+        b"\x0a\0\0\0\0\x20\x2b\0\0\0\x1c\0\0\0",
+        b"denied 43 Full 28\n",
     ),
     (
-        &[10, 0, 0, 0, 0, 32, 43, 0, 0, 0, 28, 0, 0, 0],
-        Ok(Answer::Denied(Rule::Full)),
+        b"\x0a\0\0\0\x01\x20\x33\0\0\0\x0c\0\0\0",
+        b"apart 51 NoMemory 12\n",
     ),
     (
-        &[10, 0, 0, 0, 1, 32, 51, 0, 0, 0, 12, 0, 0, 0],
-        Err(Apart::NoMemory),
+        b"\x0a\0\0\0\x01\x20\x34\0\0\0\x1c\0\0\0",
+        b"apart 52 Worn 28\n",
     ),
     (
-        &[10, 0, 0, 0, 3, 16, 77, 0, 0, 0, 0, 0, 0, 1],
-        Ok(Answer::Number {
-            value: 72_057_594_037_928_013,
-        }),
+        b"\x0a\0\0\0\x03\x10\x4d\0\0\0\0\0\0\x01",
+        b"number 72057594037928013\n",
     ),
     (
-        &[14, 0, 0, 0, 5, 16, 1, 0, 0, 0, 0, 32, 0, 0, 0, 0, 0, 0],
-        Ok(Answer::Buffer {
-            handle: 1,
-            size: 8192,
-        }),
+        b"\x0a\0\0\0\x03\x10\xff\xff\xff\xff\xff\xff\xff\xff",
+        b"number 18446744073709551615\n",
     ),
     (
-        &[10, 0, 0, 0, 8, 16, 2, 1, 0, 0, 3, 0, 0, 0],
-        Ok(Answer::Plane {
-            framebuffer: 258,
-            mask: 3,
-        }),
+        b"\x0e\0\0\0\x05\x10\x01\0\0\0\0\x20\0\0\0\0\0\0",
+        b"buffer 1 8192\n",
     ),
     (
-        &[
-            22, 0, 0, 0, 9, 16, 64, 0, 0, 0, 32, 0, 0, 0, 0, 1, 0, 0, 24, 0, 0, 0, 255, 255, 255,
-            255,
-        ],
-        Ok(Answer::Framebuffer {
-            width: 64,
-            height: 32,
-            pitch: 256,
-            bpp: 24,
-            handle: 4_294_967_295,
-        }),
+        b"\x0a\0\0\0\x08\x10\x02\x01\0\0\x03\0\0\0",
+        b"plane 258 3\n",
     ),
     (
-        &[10, 0, 0, 0, 10, 16, 1, 0, 0, 0, 2, 1, 0, 0],
-        Ok(Answer::Lease { id: 1, token: 258 }),
+        b"\x0a\0\0\0\x08\x10\0\0\0\0\xff\xff\xff\xff",
+        b"plane 0 4294967295\n",
+    ),
+    (
+        b"\x16\0\0\0\x09\x10\x40\0\0\0\x20\0\0\0\0\x01\0\0\x18\0\0\0\xff\xff\xff\xff",
+        b"framebuffer 64 32 256 24 4294967295\n",
+    ),
+    (
+        b"\x0a\0\0\0\x0a\x10\x01\0\0\0\x02\x01\0\0",
+        b"lease 1 258\n",
+    ),
+    (
+        b"\x0a\0\0\0\x0a\x10\x03\0\0\0\xff\xff\xff\xff",
+        b"lease 3 4294967295\n",
+    ),
+    (b"\x06\0\0\0\x07\x10\0\0\0\0", b"list -\n"),
+    (
+        b"\x0e\0\0\0\x07\x10\x02\0\0\0\x01\0\0\0\xff\xff\xff\xff",
+        b"list 1,4294967295\n",
+    ),
+    (
+        b"\x12\0\0\0\x06\x10\0\0\0\0\0\0\0\0\0\0\0\0\0\0\0\0",
+        b"crtcs - connectors - encoders - framebuffers -\n",
+    ),
+    (
+        b"\x2a\0\0\0\x06\x10\x02\0\0\0\x01\0\0\0\x02\0\0\0\x02\0\0\0\x07\0\0\0\x08\0\0\0\x02\0\0\0\x05\0\0\0\x06\0\0\0\0\0\0\0",
+        b"crtcs 1,2 connectors 7,8 encoders 5,6 framebuffers -\n",
+    ),
+    (
+        b"\x1e\0\0\0\x06\x10\0\0\0\0\x01\0\0\0\x08\0\0\0\0\0\0\0\x02\0\0\0\x02\x01\0\0\xff\xff\0\0",
+        b"crtcs - connectors 8 encoders - framebuffers 258,65535\n",
+    ),
+    (
+        b"\x16\0\0\0\x06\x10\0\0\0\0\0\0\0\0\0\0\0\0\x01\0\0\0\0\0\x01\0",
+        b"crtcs - connectors - encoders - framebuffers 65536\n",
+    ),
+    (
+        b"\x22\0\0\0\x06\x10\x01\0\0\0\xff\xff\xff\xff\x01\0\0\0\xff\xff\xff\xff\x01\0\0\0\xff\xff\xff\xff\x01\0\0\0\xff\xff\xff\xff",
+        b"crtcs 4294967295 connectors 4294967295 encoders 4294967295 framebuffers 4294967295\n",
+    ),
+    (b"\x06\0\0\0\x0b\x10\0\0\0\0", b"rows 0\n"),
+    (
+        b"\x26\0\0\0\x0b\x10\x01\0\0\0\x01\0\0\0\0\0\0\0\x1c\0\0\0\0\0\0\0\x02\x01\0\0\0\0\0\0\xff\xff\xff\xff\xff\xff\xff\xff",
+        b"rows 1 | 1 28 258 18446744073709551615\n",
     ),
 ];
 
-/// Returns whether the bytes are the answer's, and are read as it.
-fn is_answer(bytes: &[u8], outcome: &Result<Answer, Apart>) -> bool {
-    match answer_bytes(outcome) {
-        Some(written) => written.as_slice() == bytes && answers(bytes, outcome),
+/// Returns whether the answer of a frame has the same frame, and this line.
+fn is_answer(bytes: &[u8], line: &[u8]) -> bool {
+    let Some(frame) = frame_in(bytes) else {
+        return false;
+    };
+    let Some(outcome) = answer_of(&frame) else {
+        return false;
+    };
+    match answer_bytes(&outcome) {
+        Some(written) => written.as_slice() == bytes && line_of(&outcome).as_bytes() == line,
         None => false,
     }
 }
 
-/// Lists with their bytes.
-const LISTS: [(&[u8], &[u32]); 2] = [
-    (&[6, 0, 0, 0, 7, 16, 0, 0, 0, 0], &[]),
-    (
-        &[
-            14, 0, 0, 0, 7, 16, 2, 0, 0, 0, 1, 0, 0, 0, 255, 255, 255, 255,
-        ],
-        &[1, 4_294_967_295],
-    ),
-];
-
-/// Resources with their bytes, their ids up to the greatest of 32 bits.
-const RESOURCES: [(&[u8], [&[u32]; 4]); 5] = [
-    (
-        &[
-            18, 0, 0, 0, 6, 16, 0, 0, 0, 0, 0, 0, 0, 0, 0, 0, 0, 0, 0, 0, 0, 0,
-        ],
-        [&[], &[], &[], &[]],
-    ),
-    (
-        &[
-            42, 0, 0, 0, 6, 16, 2, 0, 0, 0, 1, 0, 0, 0, 2, 0, 0, 0, 2, 0, 0, 0, 7, 0, 0, 0, 8, 0,
-            0, 0, 2, 0, 0, 0, 5, 0, 0, 0, 6, 0, 0, 0, 0, 0, 0, 0,
-        ],
-        [&[1, 2], &[7, 8], &[5, 6], &[]],
-    ),
-    (
-        &[
-            30, 0, 0, 0, 6, 16, 0, 0, 0, 0, 1, 0, 0, 0, 8, 0, 0, 0, 0, 0, 0, 0, 2, 0, 0, 0, 2, 1,
-            0, 0, 255, 255, 0, 0,
-        ],
-        [&[], &[8], &[], &[258, 65_535]],
-    ),
-    (
-        &[
-            22, 0, 0, 0, 6, 16, 0, 0, 0, 0, 0, 0, 0, 0, 0, 0, 0, 0, 1, 0, 0, 0, 0, 0, 1, 0,
-        ],
-        [&[], &[], &[], &[65_536]],
-    ),
-    (
-        &[
-            34, 0, 0, 0, 6, 16, 1, 0, 0, 0, 255, 255, 255, 255, 1, 0, 0, 0, 255, 255, 255, 255, 1,
-            0, 0, 0, 255, 255, 255, 255, 1, 0, 0, 0, 255, 255, 255, 255,
-        ],
-        [
-            &[4_294_967_295],
-            &[4_294_967_295],
-            &[4_294_967_295],
-            &[4_294_967_295],
-        ],
-    ),
-];
-
-/// Pages with their bytes.
-const PAGES: [(&[u8], &[AuditRow]); 2] = [
-    (&[6, 0, 0, 0, 0x0B, 0x10, 0, 0, 0, 0], &[]),
-    (
-        &[
-            38, 0, 0, 0, 0x0B, 0x10, 1, 0, 0, 0, 1, 0, 0, 0, 0, 0, 0, 0, 28, 0, 0, 0, 0, 0, 0, 0,
-            2, 1, 0, 0, 0, 0, 0, 0, 255, 255, 255, 255, 255, 255, 255, 255,
-        ],
-        &[AuditRow {
-            a: 1,
-            b: 28,
-            c: 258,
-            d: u64::MAX,
-        }],
-    ),
-];
-
 #[test]
-fn answers_have_their_bytes(rt: HostRuntime) {
-    for (place, (bytes, outcome)) in ANSWERS.iter().enumerate() {
-        assert!(rt; is_answer(bytes, outcome), "answer {place}");
-    }
-    for (bytes, ids) in LISTS {
-        assert!(rt; is_answer(bytes, &list_of(ids)), "{ids:?}");
-    }
-    for (place, (bytes, ids)) in RESOURCES.iter().enumerate() {
-        assert!(rt; is_answer(bytes, &resources_of(*ids)), "resources {place}");
-    }
-    for (bytes, rows) in PAGES {
-        assert!(rt; is_answer(bytes, &page_of(rows)));
+fn answers_have_their_bytes_and_lines(rt: HostRuntime) {
+    for (bytes, line) in ANSWERS {
+        assert!(rt; is_answer(bytes, line), "{line:?}");
     }
 }
 

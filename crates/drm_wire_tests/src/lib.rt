@@ -1,5 +1,5 @@
-//! The tests of calls and answers as values, frames and lines, and of streams: tables of cases, run by few functions. A crate with tests
-//! is proved twice, so that they are apart from what they test; they wait for no part of a device.
+//! The tests of the table of calls, of frames and lines of answers by their own calls, and of streams that fail. Scripts and
+//! sessions show the rest: `tests/test_lines.py`, `tests/test_frames.py`.
 #![tactic(auto)]
 
 #[cfg(test)]
@@ -7,15 +7,9 @@ mod answer_lines;
 #[cfg(test)]
 mod comparing;
 #[cfg(test)]
-mod first_at_fault;
-#[cfg(test)]
 mod frames;
 #[cfg(test)]
 mod interruptions;
-#[cfg(test)]
-mod lines;
-#[cfg(test)]
-mod malformed_lines;
 #[cfg(test)]
 mod streams;
 #[cfg(test)]
