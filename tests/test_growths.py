@@ -117,30 +117,13 @@ class GrowthsTests(FolderCase):
         folder = self.folder
         expect_each(folder, "drm_array_tests", "arrays", "number_tables", "number_groups")
 
-    def test_files_and_objects(self):
-        """`Files::open` and `add_handle`; `Objects::create`."""
-        folder = self.folder
-        expect_each(folder, "drm_buffer_tests", "handles", "objects")
+    def test_parts(self):
+        """`Files::open` and `add_handle`; `Objects::create`; `Masters::on_open` and `make_lessee`.
 
-    def test_names_and_tokens(self):
-        """`Names::give`; `Tokens::export`."""
+        `tests/test_memory.py` has the other calls, by rows.
+        """
         folder = self.folder
-        expect_each(folder, "drm_buffer_tests", "sharing")
-
-    def test_masters(self):
-        """`Masters::on_open`, `on_redeem`, `set`, `magic` and `make_lessee`."""
-        folder = self.folder
-        expect_each(folder, "drm_lease_tests", "masters")
-
-    def test_framebuffers(self):
-        """`Modes::addfb`."""
-        folder = self.folder
-        expect_each(folder, "drm_lease_tests", "modes")
-
-    def test_leases(self):
-        """`Leases::create`, and `Masters::on_redeem` by its tokens."""
-        folder = self.folder
-        expect_each(folder, "drm_lease_tests", "leases")
+        expect_each(folder, "drm_part_tests", "handles", "objects", "masters")
 
     def test_shared_devices(self):
         """`SharedDevice::new` and `call`."""

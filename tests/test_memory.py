@@ -1,7 +1,7 @@
 #!/usr/bin/env python3
 """Tests of the built program with one of its requests for memory refused: the first, the second, and so on, until none is.
 
-`tests/refuse.c` is loaded into the program and refuses it. Each worked row and each example is tried so, and a server with
+`tests/refuse.c` is loaded into the program and refuses it. Each row and each example is tried so, and a server with
 sessions on its sockets. It wants a C compiler and glibc. A line near the end tells how many requests were refused, and the last
 one is `N passed, M failed`. Standard library only.
 """
