@@ -79,6 +79,13 @@ class RowsTests(FolderCase):
             script.write_text(LEASES.format(*leased))
             expect_end(run_program("check", "--topology", topology, script), 0, "", "8 passed, 0 failed\n")
 
+    def test_topology_of_64_objects(self):
+        """It has as many as there may be."""
+        script, topology = self.folder / "script", self.folder / "topology"
+        topology.write_text("crtcs 8\n" + 56 * "plane 1\n")
+        script.write_text(f"open a card -> client 1\na getplaneresources -> list {','.join(map(str, range(9, 65)))}\n")
+        expect_end(run_program("check", "--topology", topology, script), 0, "", "2 passed, 0 failed\n")
+
     def test_lessee_stays_through_a_thousand_owners(self):
         """Its lease ended with the first of them, and stays empty however often another makes the same lease."""
         lines = [

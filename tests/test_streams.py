@@ -237,6 +237,26 @@ class ScriptsTests(FolderCase):
             for at in range(len(BUFFER_ANSWERS)):
                 expect_cut_run(1, "fault: write\n", BUFFER_ANSWERS[:at], write=f"{piece} {fault} {at} {times}")
 
+    def test_script_that_ends_at_each_byte(self):
+        """What is left of a line at the end is a line."""
+        whole = BUFFER_ANSWERS.splitlines(keepends=True)
+        for at in range(len(BUFFER) + 1):
+            count = BUFFER[:at].count("\n")
+            last = BUFFER[:at].rsplit("\n", 1)[-1]
+            ran = run_program("run", script=BUFFER[:at])
+            expect("the first answers", ran.stdout.startswith("".join(whole[:count])), True)
+            is_whole = ran.returncode == 0
+            expect(f"the answers after {last!r}", len(ran.stdout.splitlines()), count + (is_whole and last.strip() != ""))
+            told = "" if is_whole else f"fault: script line {count + 1}\n"
+            expect("the end", (ran.returncode, ran.stderr[-len(told) :] if told else ran.stderr), (0 if is_whole else 2, told))
+
+    def test_malformed_line_in_pieces(self):
+        for piece in PIECES:
+            env = cutting(read=f"{piece} none 0 0")
+            ran = run_program("run", script="open a card\na gem_close x\na version\n", env=env)
+            cause = "ERROR line 2: column 13: `x` is not a number from 0 to 4294967295"
+            expect_told(ran, 2, [cause, "fault: script line 2"], "client 1\n")
+
     def test_script_with_interruptions(self):
         expect_cut_run(0, "", BUFFER_ANSWERS, read="1 eintr -1 999", write="1 eintr -1 999")
         expect_cut_run(1, "fault: read\n", "client 1\n", read="1 eintr 12 1000")

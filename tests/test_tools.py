@@ -22,6 +22,11 @@ from zirkoshe.protocol import CALLS  # noqa: E402
 from blocks import tables_of  # noqa: E402
 
 CONSTANTS = REPOSITORY / "tools/constants"
+# a function and a derive cost the gate some two seconds each, and a test in Rust more: how many lines of tests in Rust, tests,
+# and functions and derives of all crates there are at most, and how many there should be
+MOST = {"lines of tests": (10_340, 6_000), "tests": (200, 150), "functions and derives": (3_620, 2_700)}
+FUNCTION = re.compile(r"^\s*(?:pub(?:\(\w+\))? )?(?:const )?fn \w+", re.MULTILINE)
+DERIVES = re.compile(r"#\[derive\(([^)]*)\)\]")
 # what the constants are read from
 SOURCES = ("drm_table", "drm_frames", "drm_device", "drm_client_calls")
 # what the Python client calls a field in its own way
@@ -280,6 +285,20 @@ class ToolsTests(FolderCase):
         counts = [(int(row.split()[0]), int(row.split()[1])) for row in rows]
         sums = [str(sum(column)) for column in zip(*counts)]
         expect("sums", last.split(), [*sums, "in", "all"])
+
+    def test_what_is_proved_does_not_grow(self):
+        """What a script can show is a row of a table. A limit is what was reached, and goes down with the next change."""
+        sources = {path: path.read_text() for path in (REPOSITORY / "crates").glob("*/src/**/*.rt")}
+        tests = [text for path, text in sources.items() if re.search(r"/drm_(\w+_tests|test_\w+)/src/", str(path))]
+        derived = [words.split(",") for text in sources.values() for words in DERIVES.findall(text)]
+        found = {
+            "lines of tests": sum(text.count("\n") for text in tests),
+            "tests": sum(text.count("#[test]") for text in tests),
+            "functions and derives": sum(len(FUNCTION.findall(text)) for text in sources.values())
+            + sum(bool(word.strip()) for words in derived for word in words),
+        }
+        for what, (most, goal) in MOST.items():
+            expect(f"whether {found[what]} {what} are at most {most} (the goal is {goal})", found[what] <= most, True)
 
     def test_error_numbers_are_those_of_this_system(self):
         found = table()["errnos"]

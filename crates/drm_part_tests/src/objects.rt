@@ -47,15 +47,29 @@ fn created(objects: &mut Objects, birth: u32, size: u64) -> Told {
     }
 }
 
+fn told_birth(object: Option<Object>) -> Told {
+    match object {
+        Some(object) => Told::Number(object.step_number),
+        None => Told::Nothing,
+    }
+}
+
+fn told_gone(gone: Option<Dead>) -> Told {
+    match gone {
+        Some(Dead { birth, size }) => Told::Gone { birth, size },
+        None => Told::Nothing,
+    }
+}
+
 /// Removes a handle, if an object has one. An object that is created has one.
 fn unheld(objects: &mut Objects, key: ObjectKey) -> Told {
-    match objects.get(key) {
-        Some(object) if 1 <= object.holds => match objects.unhold(key) {
-            Some(Dead { birth, size }) => Told::Gone { birth, size },
-            None => Told::Nothing,
-        },
-        _ => Told::Unasked,
+    let Some(object) = objects.get(key) else {
+        return Told::Unasked;
+    };
+    if 1 <= object.holds {
+        return told_gone(objects.unhold(key));
     }
+    Told::Unasked
 }
 
 impl Call<Objects> for Ask {
@@ -63,7 +77,7 @@ impl Call<Objects> for Ask {
         match self {
             Ask::Create(step_number, size) => created(objects, step_number, size),
             Ask::Unhold(number) => unheld(objects, ObjectKey::from_number(number)),
-            Ask::Nth(place) => Told::of(objects.nth_object(place).map(|object| object.step_number)),
+            Ask::Nth(place) => told_birth(objects.nth_object(place)),
         }
     }
 }
