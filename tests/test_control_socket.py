@@ -253,7 +253,9 @@ class ControlSocketTests(FolderCase):
                 with Control(self.folder) as control:
                     with contextlib.suppress(BrokenPipeError, ConnectionResetError):
                         control.send(text)
-                    expect(f"the answer to {len(text)} bytes", control.next(), "error: the line has more than 128 bytes\n")
+                    expect(
+                        f"the answer to {len(text)} bytes", control.next(), "error: the line has more than 128 bytes\n"
+                    )
                     expect("what follows", control.next(), "")
                 clients.expect("a version -> version 1 0 0")
                 with Control(self.folder) as control:

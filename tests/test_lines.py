@@ -97,9 +97,11 @@ class LinesTests(FolderCase):
         said = [line.partition(" -> ")[0] for line in journal.read_text().splitlines() if not line.startswith("limits")]
         # labels are those of the journal, and a client that was not opened is none of its
         expect("lines of the first client", said[1 : 1 + 43], list(CALLS.values())[:43])
-        expect("openings", [line.split()[2:] for line in said[44:] if line.startswith("open")], [
-            line.split()[2:] for line in CALLS.values() if line.startswith("open")
-        ])
+        expect(
+            "openings",
+            [line.split()[2:] for line in said[44:] if line.startswith("open")],
+            [line.split()[2:] for line in CALLS.values() if line.startswith("open")],
+        )
 
     def test_numbers_of_calls(self):
         for numbers, answer in ((NUMBERS, "denied 2 Layout 22\n"), (OTHERS, "denied 1 Unknown 22\n")):

@@ -42,10 +42,16 @@ a gem_close 1 -> denied 22 NoHandleToClose 22
 # scripts, a line of each, and what is left
 SHORTER = (
     # other clients, later lines, comments and expected answers are left out
-    ("# a comment\nopen a card -> client 9\nopen b card\n\nb get_magic\na version\na gem_close 7 -> done\na version\n", 7, SHRUNK.replace("close 1", "close 7")),
+    (
+        "# a comment\nopen a card -> client 9\nopen b card\n\nb get_magic\na version\na gem_close 7 -> done\na version\n",
+        7,
+        SHRUNK.replace("close 1", "close 7"),
+    ),
     # lines that cancel each other out
     (
-        "open a card\n" + 2 * "a buf_create 4096\n" + "a gem_close 1\na gem_close 2\na buf_create 4096\na gem_close 1\n",
+        "open a card\n"
+        + 2 * "a buf_create 4096\n"
+        + "a gem_close 1\na gem_close 2\na buf_create 4096\na gem_close 1\n",
         7,
         "open a card -> client 1\na buf_create 4096 -> buffer 1 4096\na gem_close 1 -> done\n",
     ),

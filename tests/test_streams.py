@@ -246,9 +246,15 @@ class ScriptsTests(FolderCase):
             ran = run_program("run", script=BUFFER[:at])
             expect("the first answers", ran.stdout.startswith("".join(whole[:count])), True)
             is_whole = ran.returncode == 0
-            expect(f"the answers after {last!r}", len(ran.stdout.splitlines()), count + (is_whole and last.strip() != ""))
+            expect(
+                f"the answers after {last!r}", len(ran.stdout.splitlines()), count + (is_whole and last.strip() != "")
+            )
             told = "" if is_whole else f"fault: script line {count + 1}\n"
-            expect("the end", (ran.returncode, ran.stderr[-len(told) :] if told else ran.stderr), (0 if is_whole else 2, told))
+            expect(
+                "the end",
+                (ran.returncode, ran.stderr[-len(told) :] if told else ran.stderr),
+                (0 if is_whole else 2, told),
+            )
 
     def test_malformed_line_in_pieces(self):
         for piece in PIECES:

@@ -102,21 +102,6 @@ const CALLS: [(Ask, Told); 33] = [
     (Ask::NextVacant(63), Told::Number(63)),
 ];
 
-/// Marks go with their entry.
-const MARKS_GO: [(Ask, Told); 11] = [
-    (Ask::Insert(5, 1), Told::Done),
-    (Ask::Insert(5, 2), Told::Back(2)),
-    (Ask::SetMark(5, Mark::M1), Told::Whether(true)),
-    (Ask::NextMarked(0, Mark::M1), Told::Number(5)),
-    (Ask::NextMarked(0, Mark::M0), Told::Nothing),
-    (Ask::NextVacant(5), Told::Number(6)),
-    (Ask::Remove(5), Told::Number(1)),
-    (Ask::Insert(5, 2), Told::Done),
-    (Ask::Marked(5, Mark::M1), Told::Whether(false)),
-    (Ask::Insert(4_294_967_295, 3), Told::Done),
-    (Ask::Next(6), Told::Number(4_294_967_295)),
-];
-
 /// 0 to 63, a whole node, at each index that number.
 fn whole_node() -> [(Ask, Told); 64] {
     let mut cases = [(Ask::Len, Told::Done); 64];
@@ -164,7 +149,7 @@ const FAR: [(Ask, Told); 13] = [
 
 #[test]
 fn calls_of_an_array(rt: HostRuntime) {
-    for cases in [MARKS_GO.as_slice(), CALLS.as_slice(), FAR.as_slice()] {
+    for cases in [CALLS.as_slice(), FAR.as_slice()] {
         assert_eq!(rt; check(&mut IndexArray::new(rt.alloc()), cases), None);
     }
     assert_eq!(rt; InsertFault::Taken('c').into_value(), 'c');

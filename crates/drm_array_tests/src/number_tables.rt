@@ -89,23 +89,9 @@ const CALLS: [(Ask, Told); 27] = [
     (Ask::Nth(2), Told::Nothing),
 ];
 
-/// Calls of a table of the numbers 1 to 3, allocated in rotation until it is full.
-const FROM_ONE: [(Ask, Told); 9] = [
-    (Ask::AddCyclic(10), Told::Number(1)),
-    (Ask::AddCyclic(11), Told::Number(2)),
-    (Ask::Remove(1), Told::Number(10)),
-    (Ask::AddCyclic(12), Told::Number(3)),
-    (Ask::AddCyclic(13), Told::Number(1)),
-    (Ask::AddCyclic(14), Told::Back(14)),
-    (Ask::Remove(2), Told::Number(11)),
-    (Ask::Add(15), Told::Number(2)),
-    (Ask::Add(16), Told::Back(16)),
-];
-
 #[test]
 fn calls_of_a_table(rt: HostRuntime) {
     assert_eq!(rt; check(&mut IdTable::new(rt.alloc(), 4, 6), &CALLS), None);
-    assert_eq!(rt; check(&mut IdTable::new(rt.alloc(), 1, 3), &FROM_ONE), None);
 }
 
 /// A random edit. Of `kinds` kinds of edit the last are removals.

@@ -1,7 +1,5 @@
 //! Calls of a part as data, which are made one after the other.
 
-use drm_table::Rule;
-
 /// A call of a part.
 pub trait Call<P> {
     /// Makes the call, and returns the part's answer.
@@ -17,13 +15,10 @@ pub enum Told {
     Whether(bool),
     Number(u32),
     Length(usize),
-    Two(u32, u32),
-    Three(u32, u32, u32),
     /// A value that the call returns.
     Back(u32),
     /// An object that the call destroys.
     Gone { birth: u32, size: u64 },
-    Denied(Rule),
     Full,
     NoMemory,
 }

@@ -5,4 +5,4 @@ mod calls;
 mod lists;
 
 pub use calls::{Call, Difference, Told, check, compare};
-pub use lists::{list_of, named, page_of, resources_of, row, shown};
+pub use lists::{list_of, page_of, resources_of, row};

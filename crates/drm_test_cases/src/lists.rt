@@ -1,20 +1,9 @@
 //! Lists of calls and answers.
 
-use drm_table::{Answer, Apart, AuditPage, AuditRow, IdList, ShownList};
-
-/// Returns the first 32 of these ids.
-pub fn named(ids: &[u32]) -> IdList {
-    let mut list = IdList::new();
-    for id in ids {
-        if list.ids().len() < 32 {
-            list.push(*id);
-        }
-    }
-    list
-}
+use drm_table::{Answer, Apart, AuditPage, AuditRow, ShownList};
 
 /// Returns the first 64 of these ids.
-pub fn shown(ids: &[u32]) -> ShownList {
+fn shown(ids: &[u32]) -> ShownList {
     let mut list = ShownList::new();
     for id in ids {
         if list.ids().len() < 64 {
