@@ -1,4 +1,4 @@
-//! The common parts of tables of cases: lists in calls and answers, and the calls of a part as data.
+//! The common parts of tables of cases: lists in answers, and the calls of a part as data.
 #![tactic(auto)]
 
 mod calls;

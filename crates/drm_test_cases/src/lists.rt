@@ -1,4 +1,4 @@
-//! Lists of calls and answers.
+//! Lists of answers.
 
 use drm_table::{Answer, Apart, AuditPage, AuditRow, ShownList};
 
