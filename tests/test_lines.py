@@ -66,8 +66,11 @@ CALLS = {
     "open e lease 1": "open e lease 1",
     "open e rootlease 4294967295": "open e rootlease 4294967295",
     "open f render": "open f render",
+    # universal planes are nothing of a render client's
     "open2 g render": "open g render",
 }
+# how many of them are calls
+MADE = 43
 
 # the numbers of calls, which a line `raw` makes with another layout
 NUMBERS = (0, 2, 9, 10, 11, 12, 13, 17, 30, 31, 45, 46, 64, 65, 66, 67, 68, 69)
@@ -95,13 +98,11 @@ class LinesTests(FolderCase):
         expect("status and errors", (ran.returncode, ran.stderr), (0, ""))
         expect("the number of answers", len(ran.stdout.splitlines()), 1 + len(CALLS))
         said = [line.partition(" -> ")[0] for line in journal.read_text().splitlines() if not line.startswith("limits")]
-        # labels are those of the journal, and a client that was not opened is none of its
-        expect("lines of the first client", said[1 : 1 + 43], list(CALLS.values())[:43])
-        expect(
-            "openings",
-            [line.split()[2:] for line in said[44:] if line.startswith("open")],
-            [line.split()[2:] for line in CALLS.values() if line.startswith("open")],
-        )
+        expect("lines of the first client", said[1 : 1 + MADE], list(CALLS.values())[:MADE])
+        # labels are those of the journal
+        unlabelled = [[words[0], *words[2:]] for words in map(str.split, said[1 + MADE :])]
+        wanted = [[words[0], *words[2:]] for words in map(str.split, list(CALLS.values())[MADE:])]
+        expect("openings and closings", unlabelled, wanted)
 
     def test_numbers_of_calls(self):
         for numbers, answer in ((NUMBERS, "denied 2 Layout 22\n"), (OTHERS, "denied 1 Unknown 22\n")):
