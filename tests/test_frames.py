@@ -211,7 +211,8 @@ class FramesTests(FolderCase):
                 session = "\n".join(OWNER.splitlines()[:4])
                 owner.sendall(frames_of(session, ">"))
                 answers = frames_of(session, "<")
-                expect("the lease", owner.recv(len(answers), socket.MSG_WAITALL), answers)
+                with owner.makefile("rb") as read:
+                    expect("the lease", read.read(len(answers)), answers)
                 self.expect_session(self.folder / name, LESSEE)
                 self.expect_session(self.folder / name, LATE)
                 owner.close()

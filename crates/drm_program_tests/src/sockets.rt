@@ -11,6 +11,7 @@ use std::alloc::Global;
 use std::io::{Read, Write};
 use std::net::{Net, Shutdown};
 use std::os::unix::net::{UnixListener, UnixStream};
+use std::process::Abort;
 use std::sync::Wait;
 use std::test::Fail;
 use std::thread::Threads;
@@ -112,6 +113,19 @@ fn serve<R: Wait + Threads + Log + Sync>(
 /// The clients by class, and in each class in the order of their openings.
 const CLIENTS: [u32; 9] = [1, 6, 8, 2, 5, 7, 3, 4, 9];
 
+/// Compares the sessions, each of which ended between frames.
+fn check_sessions(rt: &impl Abort, sessions: &[Session]) {
+    same(rt, &sessions.len(), &CLIENTS.len(), "sessions");
+    for (session, client) in sessions.iter().zip(&CLIENTS) {
+        let wanted = Session {
+            end: SessionEnd::Ended,
+            client: *client,
+            steps: 2,
+        };
+        same(rt, session, &wanted, *client);
+    }
+}
+
 /// The device serves in one thread while clients talk in another.
 #[test]
 fn sessions_are_returned_by_class(rt: HostRuntime) -> Result<(), Fail> {
@@ -125,17 +139,9 @@ fn sessions_are_returned_by_class(rt: HostRuntime) -> Result<(), Fail> {
     );
     remove(&rt, &places)?;
     opened?;
-    let Some(Ok(sessions)) = served else {
-        return Err("no sessions".into());
-    };
-    same(&rt, &sessions.len(), &9, "sessions");
-    for (session, client) in sessions.iter().zip(&CLIENTS) {
-        let wanted = Session {
-            end: SessionEnd::Ended,
-            client: *client,
-            steps: 2,
-        };
-        same(&rt, session, &wanted, *client);
+    match served {
+        Some(Ok(sessions)) => check_sessions(&rt, &sessions),
+        _ => return Err("no sessions".into()),
     }
     Ok(())
 }
