@@ -17,9 +17,6 @@
 
 typedef int answer(struct connection *connection, void *argument);
 
-/* The same, if the connection is not held yet, but is this descriptor. */
-typedef int free_answer(struct connection *connection, int fd, void *argument);
-
 /* core_calls.c: the driver, its capabilities, masters and magics */
 answer answer_version, answer_get_unique, answer_get_client, answer_nothing, answer_set_version,
     answer_get_cap, answer_set_client_cap, answer_get_magic, answer_auth_magic, answer_set_master,
@@ -42,16 +39,14 @@ answer answer_get_object_properties, answer_get_property, answer_set_object_prop
 int give_connector_properties(struct connection *connection,
                               struct drm_mode_get_connector *connector);
 
-/* atomic_calls.c; a commit holds the connection itself, and not while it waits */
-free_answer answer_atomic;
+/* atomic_calls.c */
+answer answer_atomic;
 
 /* lease_calls.c; the making of a lease holds the connection itself, since it opens another one */
-answer answer_list_lessees, answer_get_lease, answer_revoke_lease;
-free_answer answer_create_lease;
+answer answer_list_lessees, answer_get_lease, answer_revoke_lease, answer_create_lease;
 
-/* vblank_calls.c; a wait holds the connection itself, and not while it waits */
-answer answer_get_sequence, answer_queue_sequence;
-free_answer answer_wait_vblank;
+/* vblank_calls.c */
+answer answer_get_sequence, answer_queue_sequence, answer_wait_vblank;
 
 /* flip_calls.c */
 answer answer_page_flip, answer_cursor;

@@ -3,11 +3,7 @@
 
 #include "commits.h"
 #include "crtcs.h"
-
-#include <time.h>
-
-/* How long a commit waits for earlier ones at most, as the core does for each of them */
-#define MOST_WAIT ((int64_t)10 * SECOND)
+#include "ioctls.h"
 
 /* What is wrong with a commit before its objects are looked at. */
 static int refuse(const struct connection *connection, const struct drm_mode_atomic *asked)
@@ -155,41 +151,20 @@ static int carry_out_commit(struct connection *connection, const struct drm_mode
     return 0;
 }
 
-/* Waits for a time, as the core does in a commit that blocks: until a signal is handled. */
-static int wait_until(int64_t time)
-{
-    struct timespec until = {(time_t)(time / SECOND), (long)(time % SECOND)};
-    int cancel_state, failed;
-
-    pthread_setcancelstate(PTHREAD_CANCEL_DISABLE, &cancel_state);
-    failed = clock_nanosleep(CLOCK_MONOTONIC, TIMER_ABSTIME, &until, NULL);
-    pthread_setcancelstate(cancel_state, NULL);
-    return failed ? -EINTR : 0;
-}
-
-/* A commit that does not block is refused while an earlier one is not complete. One that does waits
- * for that, and then until it is complete itself. */
-int answer_atomic(struct connection *connection, int fd, void *argument)
+/* A commit that does not block is refused while an earlier one is not complete. The caller of one that
+ * does waits for that and asks again, and then waits until it is complete itself. */
+int answer_atomic(struct connection *connection, void *argument)
 {
     const struct drm_mode_atomic *asked = argument;
-    bool blocks = !(asked->flags & DRM_MODE_ATOMIC_NONBLOCK), is_early;
-    int64_t due, most = time_now() + MOST_WAIT;
-    int failed;
+    bool blocks = !(asked->flags & DRM_MODE_ATOMIC_NONBLOCK);
+    int64_t due = 0;
+    int failed = permit_master(connection);
 
-    do {
-        due = 0;
-        failed = connection_hold(connection, fd);
-        if (failed)
-            return failed;
-        failed = permit_master(connection);
-        if (!failed)
-            failed = carry_out_commit(connection, asked, &due);
-        failed = connection_let_go(connection, fd, failed);
-        is_early = failed == -EBUSY && blocks && due > time_now() && due < most;
-        if (is_early && wait_until(due))
-            return -EINTR;
-    } while (is_early);
-    if (!failed && blocks)
-        wait_until(due);
+    if (!failed)
+        failed = carry_out_commit(connection, asked, &due);
+    if (!blocks || due <= time_now() || (failed && failed != -EBUSY))
+        return failed;
+    outcome()->until = due;
+    outcome()->is_again = failed != 0;
     return failed;
 }

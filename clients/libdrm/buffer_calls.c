@@ -7,7 +7,7 @@ int answer_gem_close(struct connection *connection, void *argument)
     int failed = zirkoshe_drmCloseBufferHandle(&connection->client, closing->handle);
 
     if (!failed)
-        buffers_forget(&connection->buffers, closing->handle);
+        buffers_forget(connection, closing->handle);
     return failed;
 }
 
@@ -15,7 +15,11 @@ int answer_gem_flink(struct connection *connection, void *argument)
 {
     struct drm_gem_flink *flink = argument;
 
-    return zirkoshe_gem_flink(&connection->client, flink->handle, &flink->name);
+    int failed = zirkoshe_gem_flink(&connection->client, flink->handle, &flink->name);
+
+    if (!failed)
+        buffers_name(connection, flink->handle, flink->name);
+    return failed;
 }
 
 int answer_gem_open(struct connection *connection, void *argument)
@@ -26,7 +30,7 @@ int answer_gem_open(struct connection *connection, void *argument)
 
     if (failed)
         return failed;
-    buffers_note(&connection->buffers, buffer.handle, buffer.size);
+    buffers_note_named(connection, buffer.handle, buffer.size, opening->name);
     opening->handle = buffer.handle;
     opening->size = buffer.size;
     return 0;
@@ -42,11 +46,11 @@ int answer_prime_export(struct connection *connection, void *argument)
 
     if (prime->flags & ~(uint32_t)(DRM_CLOEXEC | DRM_RDWR))
         return -EINVAL;
-    buffers_close_tokens(connection, true);
+    buffers_close_tokens(connection);
     failed = zirkoshe_drmPrimeHandleToFD(&connection->client, prime->handle, &token);
     if (failed)
         return failed;
-    fd = buffers_export(&connection->buffers, prime->handle, token, (int)prime->flags);
+    fd = buffers_export(connection, prime->handle, token, (int)prime->flags);
     if (fd < 0) {
         zirkoshe_token_close(&connection->client, token);
         return fd;
@@ -68,12 +72,12 @@ int answer_create_dumb(struct connection *connection, void *argument)
     struct zirkoshe_dumb made;
     int failed;
 
-    buffers_close_tokens(connection, true);
+    buffers_close_tokens(connection);
     failed = zirkoshe_drmModeCreateDumbBuffer(&connection->client, dumb->width, dumb->height,
                                               dumb->bpp, &made);
     if (failed)
         return failed;
-    buffers_note(&connection->buffers, made.handle, made.size);
+    buffers_note(connection, made.handle, made.size);
     dumb->handle = made.handle;
     dumb->pitch = made.pitch;
     dumb->size = made.size;
@@ -91,7 +95,7 @@ int answer_map_dumb(struct connection *connection, void *argument)
 
     if (failed)
         return failed;
-    memory = buffers_memory(&connection->buffers, map->handle, &size);
+    memory = buffers_memory(connection, map->handle, &size);
     if (memory < 0)
         return memory;
     map->offset = offset_of(map->handle);
@@ -104,6 +108,6 @@ int answer_destroy_dumb(struct connection *connection, void *argument)
     int failed = zirkoshe_drmModeDestroyDumbBuffer(&connection->client, destroyed->handle);
 
     if (!failed)
-        buffers_forget(&connection->buffers, destroyed->handle);
+        buffers_forget(connection, destroyed->handle);
     return failed;
 }

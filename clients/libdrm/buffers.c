@@ -1,4 +1,4 @@
-/* The memory of handles, and the descriptors that represent PRIME tokens. */
+/* The memory of objects, and the descriptors that represent PRIME tokens. */
 #include "connections.h"
 
 #include <limits.h>
@@ -7,43 +7,68 @@
 #include <sys/mman.h>
 #include <sys/stat.h>
 
-#define NAME "zirkoshe-buffer"
 /* how long a buffer may be, which is the server's own limit, as a power of two */
 #define LENGTH_BITS 36
-/* the byte that represents token 0, and the number of tokens */
-#define TOKENS ((off_t)1 << 62)
-#define MOST_TOKENS ((off_t)1 << 32)
+/* the byte that represents export 0 */
+#define EXPORTS ((off_t)1 << 62)
 
-static atomic_bool any_memory;
-static atomic_uint closed_descriptors;
-static const struct memory no_memory = {-1, 0};
+/* What handles of any connections, framebuffers and exports have in common */
+struct object {
+    struct object *next;
+    unsigned uses;
+    uint64_t size;
+    uint32_t name; /* 0 if it has none */
+    int fd;        /* -1 if its memory is not needed yet */
+    dev_t device;
+    ino_t file;
+};
 
-/* Whether the descriptor is still the file that it was. */
-static bool is_there(struct memory memory)
+struct buffer {
+    struct buffer *next;
+    uint32_t handle;
+    struct object *object;
+};
+
+/* A token whose descriptor may be open */
+struct export
 {
-    struct stat status;
+    struct export *next;
+    uint32_t number, token;
+    struct connection *owner;
+    struct object *object;
+};
 
-    return memory.fd >= 0 && REAL(fstat)(memory.fd, &status) == 0 && status.st_ino == memory.file
-           && S_ISREG(status.st_mode);
+static pthread_mutex_t turn = PTHREAD_MUTEX_INITIALIZER;
+static struct object *objects;
+static struct export *exports;
+static uint32_t last_export;
+
+static struct object *make_object(uint64_t size)
+{
+    struct object *made = calloc(1, sizeof *made);
+
+    if (made == NULL)
+        return NULL;
+    made->size = size;
+    made->fd = -1;
+    made->uses = 1;
+    made->next = objects;
+    objects = made;
+    return made;
 }
 
-static void let_go(struct memory memory)
+static void drop(struct object *object)
 {
-    if (is_there(memory))
-        libc_close(memory.fd);
-}
+    struct object **place = &objects;
 
-/* Keeps a descriptor of memory, at a high number if possible. */
-static struct memory keep(int fd)
-{
-    struct memory kept = {libc_duplicate(fd), 0};
-    struct stat status;
-
-    if (kept.fd < 0 || REAL(fstat)(kept.fd, &status) != 0)
-        return no_memory;
-    kept.file = status.st_ino;
-    atomic_store(&any_memory, true);
-    return kept;
+    if (object == NULL || --object->uses > 0)
+        return;
+    while (*place != object)
+        place = &(*place)->next;
+    *place = object->next;
+    if (object->fd >= 0)
+        close(object->fd);
+    free(object);
 }
 
 static struct buffer *find(const struct buffers *buffers, uint32_t handle)
@@ -55,87 +80,160 @@ static struct buffer *find(const struct buffers *buffers, uint32_t handle)
     return found;
 }
 
-/* What is known of a handle, or is known from now on; NULL where memory is wanting. */
-static struct buffer *find_or_add(struct buffers *buffers, uint32_t handle, uint64_t size)
+static void forget(struct buffers *buffers, uint32_t handle)
 {
-    struct buffer *found = find(buffers, handle);
+    struct buffer **place = &buffers->first, *found;
 
-    if (found != NULL)
-        return found;
-    found = malloc(sizeof *found);
-    if (found == NULL)
-        return NULL;
-    found->handle = handle;
-    found->size = size;
-    found->memory = no_memory;
-    found->next = buffers->first;
-    buffers->first = found;
-    return found;
-}
-
-void buffers_note(struct buffers *buffers, uint32_t handle, uint64_t size)
-{
-    buffers_forget(buffers, handle);
-    find_or_add(buffers, handle, size);
-}
-
-void buffers_forget(struct buffers *buffers, uint32_t handle)
-{
-    struct buffer **place = &buffers->first;
-    struct buffer *found = find(buffers, handle);
-
+    while (*place != NULL && (*place)->handle != handle)
+        place = &(*place)->next;
+    found = *place;
     if (found == NULL)
         return;
-    while (*place != found)
-        place = &(*place)->next;
     *place = found->next;
-    let_go(found->memory);
+    drop(found->object);
     free(found);
 }
 
-void buffers_forget_exports(struct buffers *buffers)
+/* Notes a handle of an object, of which this is a new use; without memory it stays unknown. */
+static void note(struct buffers *buffers, uint32_t handle, struct object *object)
 {
-    while (buffers->exports != NULL) {
-        struct export *first = buffers->exports;
+    struct buffer *made = object == NULL ? NULL : malloc(sizeof *made);
 
-        buffers->exports = first->next;
-        let_go(first->memory);
-        free(first);
+    if (made == NULL) {
+        drop(object);
+        return;
     }
+    made->handle = handle;
+    made->object = object;
+    made->next = buffers->first;
+    buffers->first = made;
 }
 
-void buffers_clear(struct buffers *buffers)
+void buffers_note_object(struct connection *connection, uint32_t handle, uint64_t size,
+                         struct object *object)
 {
-    while (buffers->first != NULL)
-        buffers_forget(buffers, buffers->first->handle);
-    buffers_forget_exports(buffers);
+    pthread_mutex_lock(&turn);
+    if (object != NULL)
+        object->uses++;
+    else
+        object = make_object(size);
+    forget(&connection->buffers, handle);
+    note(&connection->buffers, handle, object);
+    pthread_mutex_unlock(&turn);
 }
 
-static struct memory make_memory(uint64_t size)
+void buffers_note(struct connection *connection, uint32_t handle, uint64_t size)
 {
-    struct memory made = no_memory;
-    int fd = memfd_create(NAME, MFD_CLOEXEC);
+    buffers_note_object(connection, handle, size, NULL);
+}
 
+void buffers_note_named(struct connection *connection, uint32_t handle, uint64_t size,
+                        uint32_t name)
+{
+    struct object *found;
+
+    pthread_mutex_lock(&turn);
+    for (found = objects; found != NULL && found->name != name; found = found->next)
+        ;
+    pthread_mutex_unlock(&turn);
+    buffers_note_object(connection, handle, size, found);
+}
+
+void buffers_name(struct connection *connection, uint32_t handle, uint32_t name)
+{
+    struct buffer *buffer;
+    struct object *each;
+
+    pthread_mutex_lock(&turn);
+    buffer = find(&connection->buffers, handle);
+    for (each = objects; each != NULL; each = each->next)
+        each->name = each->name == name ? 0 : each->name;
+    if (buffer != NULL)
+        buffer->object->name = name;
+    pthread_mutex_unlock(&turn);
+}
+
+struct object *buffers_use(struct connection *connection, uint32_t handle)
+{
+    struct buffer *buffer;
+
+    pthread_mutex_lock(&turn);
+    buffer = find(&connection->buffers, handle);
+    if (buffer != NULL)
+        buffer->object->uses++;
+    pthread_mutex_unlock(&turn);
+    return buffer == NULL ? NULL : buffer->object;
+}
+
+void object_drop(struct object *object)
+{
+    pthread_mutex_lock(&turn);
+    drop(object);
+    pthread_mutex_unlock(&turn);
+}
+
+void buffers_forget(struct connection *connection, uint32_t handle)
+{
+    pthread_mutex_lock(&turn);
+    forget(&connection->buffers, handle);
+    pthread_mutex_unlock(&turn);
+}
+
+void buffers_clear(struct connection *connection)
+{
+    struct export **place = &exports, *each;
+
+    pthread_mutex_lock(&turn);
+    while (connection->buffers.first != NULL)
+        forget(&connection->buffers, connection->buffers.first->handle);
+    while ((each = *place) != NULL) {
+        if (each->owner != connection) {
+            place = &each->next;
+            continue;
+        }
+        *place = each->next;
+        drop(each->object);
+        free(each);
+    }
+    pthread_mutex_unlock(&turn);
+}
+
+/* Makes the memory of an object, if it has none yet; its descriptor, or a negative errno. */
+static int memory_of(struct object *object)
+{
+    struct stat status;
+    int fd;
+
+    if (object->fd >= 0)
+        return object->fd;
+    fd = memfd_create(MEMORY_NAME, MFD_CLOEXEC | MFD_ALLOW_SEALING);
     if (fd < 0)
-        return made;
-    if (ftruncate(fd, (off_t)size) == 0)
-        made = keep(fd);
-    libc_close(fd);
-    return made;
+        return -ENOMEM;
+    /* no holder can make it shorter, which would end another one */
+    if (ftruncate(fd, (off_t)object->size) != 0 || fstat(fd, &status) != 0
+        || fcntl(fd, F_ADD_SEALS, F_SEAL_SHRINK | F_SEAL_GROW | F_SEAL_SEAL) != 0) {
+        close(fd);
+        return -ENOMEM;
+    }
+    object->fd = fd;
+    object->device = status.st_dev;
+    object->file = status.st_ino;
+    return fd;
 }
 
-int buffers_memory(struct buffers *buffers, uint32_t handle, uint64_t *size)
+int buffers_memory(struct connection *connection, uint32_t handle, uint64_t *size)
 {
-    struct buffer *buffer = find(buffers, handle);
+    struct buffer *buffer;
+    int fd = -EINVAL;
 
-    if (buffer == NULL)
-        return -EINVAL;
-    if (!is_there(buffer->memory))
-        buffer->memory = make_memory(buffer->size);
-    if (buffer->memory.fd < 0)
-        return -ENOMEM;
-    *size = buffer->size;
-    return buffer->memory.fd;
+    pthread_mutex_lock(&turn);
+    buffer = find(&connection->buffers, handle);
+    if (buffer != NULL) {
+        *size = buffer->object->size;
+        fd = memory_of(buffer->object);
+    }
+    pthread_mutex_unlock(&turn);
+    return fd;
 }
 
 /* Opens the file of a descriptor anew, so that the two have locks of their own. */
@@ -145,175 +243,133 @@ static int open_anew(int fd, int flags)
     int opened;
 
     snprintf(path, sizeof path, "/proc/self/fd/%d", fd);
-    opened = REAL(open)(path, flags);
+    opened = open(path, flags);
     return opened < 0 ? -errno : opened;
 }
 
-static struct flock bytes_of(short kind, off_t first, off_t length)
+static struct flock byte_of(short kind, uint32_t number)
 {
-    struct flock bytes;
+    struct flock byte;
 
-    memset(&bytes, 0, sizeof bytes);
-    bytes.l_type = kind;
-    bytes.l_whence = SEEK_SET;
-    bytes.l_start = first;
-    bytes.l_len = length;
-    return bytes;
+    memset(&byte, 0, sizeof byte);
+    byte.l_type = kind;
+    byte.l_whence = SEEK_SET;
+    byte.l_start = EXPORTS + number;
+    byte.l_len = 1;
+    return byte;
 }
 
-/* Notes the token, and puts it on the descriptor. */
-static int put_token(struct buffers *buffers, int fd, int memory, uint32_t token)
+static int export_object(struct connection *connection, struct object *object, uint32_t token,
+                         int flags)
 {
-    struct flock byte = bytes_of(F_RDLCK, TOKENS + token, 1);
-    struct export *made = malloc(sizeof *made);
+    int memory = memory_of(object), fd = memory < 0 ? memory : open_anew(memory, flags);
+    struct export *made = fd < 0 ? NULL : calloc(1, sizeof *made);
+    struct flock byte = byte_of(F_RDLCK, ++last_export);
 
-    if (made == NULL)
-        return -ENOMEM;
-    made->token = token;
-    made->memory = keep(memory);
-    if (made->memory.fd < 0 || fcntl(fd, F_OFD_SETLK, &byte) != 0) {
-        let_go(made->memory);
+    if (made == NULL || fcntl(fd, F_OFD_SETLK, &byte) != 0) {
+        if (fd >= 0)
+            close(fd);
         free(made);
-        return -ENOMEM;
+        return fd < 0 ? fd : -ENOMEM;
     }
-    made->next = buffers->exports;
-    buffers->exports = made;
-    return 0;
+    *made = (struct export){exports, last_export, token, connection, object};
+    object->uses++;
+    exports = made;
+    return fd;
 }
 
-int buffers_export(struct buffers *buffers, uint32_t handle, uint32_t token, int flags)
+int buffers_export(struct connection *connection, uint32_t handle, uint32_t token, int flags)
 {
-    uint64_t size;
-    int memory, fd, failed;
+    struct buffer *buffer;
+    int fd = -EINVAL;
 
-    if (find_or_add(buffers, handle, 0) == NULL)
-        return -ENOMEM;
-    memory = buffers_memory(buffers, handle, &size);
-    if (memory < 0)
-        return memory;
-    fd = open_anew(memory, flags);
-    if (fd < 0)
-        return fd;
-    failed = put_token(buffers, fd, memory, token);
-    if (!failed)
-        return fd;
-    libc_close(fd);
-    return failed;
+    pthread_mutex_lock(&turn);
+    buffer = find(&connection->buffers, handle);
+    if (buffer != NULL)
+        fd = export_object(connection, buffer->object, token, flags);
+    pthread_mutex_unlock(&turn);
+    return fd;
 }
 
-/* The least token from `first` on that a descriptor of this memory has, or -1. */
-static off_t next_token(int memory, off_t first)
+/* The object whose memory a descriptor is, of which this is a new use, or NULL. */
+static struct object *object_of(int fd)
 {
-    off_t least = -1, end = MOST_TOKENS;
+    struct object *found = NULL;
+    struct stat status;
 
-    /* each answer is one of the locks, and not always the first */
-    while (first < end) {
-        struct flock bytes = bytes_of(F_WRLCK, TOKENS + first, end - first);
-
-        if (fcntl(memory, F_OFD_GETLK, &bytes) != 0 || bytes.l_type == F_UNLCK)
+    if (fstat(fd, &status) != 0)
+        return NULL;
+    pthread_mutex_lock(&turn);
+    for (found = objects; found != NULL; found = found->next) {
+        if (found->fd >= 0 && found->device == status.st_dev && found->file == status.st_ino)
             break;
-        least = end = bytes.l_start - TOKENS;
     }
-    return least;
+    if (found != NULL)
+        found->uses++;
+    pthread_mutex_unlock(&turn);
+    return found;
 }
 
-static bool has_token(int memory, uint32_t token)
+/* Redeems the first open token of an object. All its tokens represent the same. */
+static int redeem(struct zirkoshe_client *client, const struct object *object,
+                  struct zirkoshe_buffer *buffer)
 {
-    struct flock byte = bytes_of(F_WRLCK, TOKENS + token, 1);
-
-    return fcntl(memory, F_OFD_GETLK, &byte) == 0 && byte.l_type != F_UNLCK;
-}
-
-/* Redeems the lowest open token of this memory. All its tokens represent one object. */
-static int redeem(struct zirkoshe_client *client, int memory, struct zirkoshe_buffer *buffer)
-{
+    const struct export *each;
     int failed = -EINVAL;
-    off_t token = next_token(memory, 0);
 
-    while (failed && token >= 0) {
-        failed = zirkoshe_drmPrimeFDToHandle(client, (uint32_t)token, buffer);
-        token = next_token(memory, token + 1);
+    pthread_mutex_lock(&turn);
+    for (each = exports; failed && each != NULL; each = each->next) {
+        if (each->object == object)
+            failed = zirkoshe_drmPrimeFDToHandle(client, each->token, buffer);
     }
+    pthread_mutex_unlock(&turn);
     return failed;
-}
-
-/* Sets the memory of an imported handle, if it has none yet. */
-static void adopt(struct buffers *buffers, const struct zirkoshe_buffer *imported, int memory)
-{
-    struct buffer *buffer = find_or_add(buffers, imported->handle, imported->size);
-
-    if (buffer != NULL && !is_there(buffer->memory))
-        buffer->memory = keep(memory);
 }
 
 int buffers_import(struct connection *connection, int fd, uint32_t *handle)
 {
-    struct zirkoshe_buffer imported;
-    int memory, failed;
+    struct zirkoshe_buffer imported = {0, 0};
+    struct object *object;
+    int failed;
 
     if (fcntl(fd, F_GETFD) < 0)
         return -EBADF;
-    if (!is_memory(fd))
+    object = object_of(fd);
+    if (object == NULL)
         return -EINVAL;
-    memory = open_anew(fd, O_RDWR | O_CLOEXEC);
-    if (memory < 0)
-        return memory;
-    failed = redeem(&connection->client, memory, &imported);
+    failed = redeem(&connection->client, object, &imported);
     if (!failed) {
-        adopt(&connection->buffers, &imported, memory);
+        if (find(&connection->buffers, imported.handle) == NULL)
+            buffers_note_object(connection, imported.handle, imported.size, object);
         *handle = imported.handle;
     }
-    libc_close(memory);
+    object_drop(object);
     return failed;
 }
 
-void buffers_close_tokens(struct connection *connection, bool is_to_look)
+static bool is_open(const struct export *export)
 {
-    struct export **place = &connection->buffers.exports;
-    unsigned closed = atomic_load(&closed_descriptors);
+    struct flock byte = byte_of(F_WRLCK, export->number);
 
-    if (!is_to_look && closed == connection->buffers.closed)
-        return;
-    connection->buffers.closed = closed;
-    while (*place != NULL) {
-        struct export *export = *place;
+    return fcntl(export->object->fd, F_OFD_GETLK, &byte) == 0 && byte.l_type != F_UNLCK;
+}
 
-        if (is_there(export->memory) && has_token(export->memory.fd, export->token)) {
-            place = &export->next;
+void buffers_close_tokens(struct connection *connection)
+{
+    struct export **place = &exports, *each;
+
+    pthread_mutex_lock(&turn);
+    while ((each = *place) != NULL) {
+        if (each->owner != connection || is_open(each)) {
+            place = &each->next;
             continue;
         }
-        zirkoshe_token_close(&connection->client, export->token);
-        *place = export->next;
-        let_go(export->memory);
-        free(export);
+        zirkoshe_token_close(&connection->client, each->token);
+        *place = each->next;
+        drop(each->object);
+        free(each);
     }
-}
-
-bool memory_exists(void)
-{
-    return atomic_load(&any_memory);
-}
-
-bool is_memory(int fd)
-{
-    static const char wanted[] = "/memfd:" NAME;
-    char path[32], name[sizeof wanted + 1];
-    struct stat status;
-    bool is_one = false;
-    int error = errno;
-
-    if (REAL(fstat)(fd, &status) == 0 && S_ISREG(status.st_mode) && status.st_nlink == 0) {
-        snprintf(path, sizeof path, "/proc/self/fd/%d", fd);
-        is_one = REAL(readlink)(path, name, sizeof name) >= (ssize_t)sizeof wanted - 1
-                 && memcmp(name, wanted, sizeof wanted - 1) == 0;
-    }
-    errno = error;
-    return is_one;
-}
-
-void memory_was_closed(void)
-{
-    atomic_fetch_add(&closed_descriptors, 1);
+    pthread_mutex_unlock(&turn);
 }
 
 uint64_t offset_of(uint32_t handle)

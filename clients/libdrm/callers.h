@@ -1,17 +1,20 @@
-/* The caller of a request: its memory, where the addresses of a request lead, and its process. The
- * preloaded library is in the caller; the supervisor is another process. */
+/* The caller of a request: its memory, where the addresses of a request lead, and its process. Each
+ * front end has its own functions. */
 #ifndef ZIRKOSHE_LIBDRM_CALLERS_H
 #define ZIRKOSHE_LIBDRM_CALLERS_H
 
 #include "libc.h"
 
+#include <stdbool.h>
 #include <stdint.h>
 
 /* Copies the caller's memory at an address, or to an address; 0, or -EFAULT. */
 int copy_from_caller(void *to, uint64_t address, size_t size);
 int copy_to_caller(uint64_t address, const void *from, size_t size);
 
-/* The process that makes the request. */
+/* The process that makes the request, its user, and whether its name begins with this letter. */
 pid_t caller_process(void);
+uid_t caller_user(void);
+bool caller_name_begins(char letter);
 
 #endif

@@ -69,14 +69,14 @@ static void add_crtc(struct commit *commit, uint32_t crtc_id)
 }
 
 /* Checks a CRTC_ID: 0, or a CRTC that the caller sees. A lessee cannot find out whether another
- * one exists. A client from another process may be a lessee. */
+ * one exists. */
 static int find_crtc(const struct commit *commit, uint64_t value)
 {
     const struct connection *connection = commit->connection;
 
     if (value == 0 || topology_has_crtc(commit->topology, (uint32_t)value))
         return 0;
-    return connection->is_lessee || connection->is_received ? -EACCES : -EINVAL;
+    return connection->is_lessee ? -EACCES : -EINVAL;
 }
 
 /* What an FB_ID may be: none, or a framebuffer of any client. */

@@ -70,7 +70,7 @@ int answer_get_client(struct connection *connection, void *argument)
     zirkoshe_gem_flink(&connection->client, 0, &name);
     client->auth = connection->client.rule != ZIRKOSHE_RULE_AUTH;
     client->pid = (unsigned long)caller_process();
-    client->uid = (unsigned long)getuid();
+    client->uid = (unsigned long)caller_user();
     client->magic = 0;
     client->iocs = 0;
     return 0;
@@ -184,7 +184,7 @@ static int set_atomic(struct connection *connection, uint64_t value)
 {
     int failed;
 
-    if (program_invocation_short_name[0] == 'X' && value == 1)
+    if (value == 1 && caller_name_begins('X'))
         return -EOPNOTSUPP;
     if (value > 2)
         return -EINVAL;
@@ -222,9 +222,18 @@ int answer_auth_magic(struct connection *connection, void *argument)
     return zirkoshe_drmAuthMagic(&connection->client, auth->magic);
 }
 
+/* What drm_master_check_perm allows: the process that opened the file, and root. (That a file was
+ * never master is the server's to know.) */
+static bool may_change_master(const struct connection *connection)
+{
+    return caller_process() == connection->opener || caller_user() == 0;
+}
+
 int answer_set_master(struct connection *connection, void *argument)
 {
     (void)argument;
+    if (!may_change_master(connection))
+        return -EACCES;
     /* another master may have changed what is shown */
     crtcs_are_unsure();
     return zirkoshe_drmSetMaster(&connection->client);
@@ -233,6 +242,8 @@ int answer_set_master(struct connection *connection, void *argument)
 int answer_drop_master(struct connection *connection, void *argument)
 {
     (void)argument;
+    if (!may_change_master(connection))
+        return -EACCES;
     standings_changed();
     return zirkoshe_drmDropMaster(&connection->client);
 }

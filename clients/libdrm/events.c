@@ -3,7 +3,7 @@
 
 #include <errno.h>
 #include <pthread.h>
-#include <signal.h>
+#include <unistd.h>
 #include <string.h>
 #include <sys/timerfd.h>
 #include <time.h>
@@ -14,22 +14,6 @@ _Static_assert(sizeof(struct drm_event_vblank) == sizeof(struct drm_event_crtc_s
 static pthread_mutex_t turn =
     PTHREAD_MUTEX_INITIALIZER; /* no other one is taken by a thread that has it */
 static struct events *timed;   /* those that have a timer */
-
-/* A handler of signals may read and wait, too: none runs meanwhile. */
-static void hold(sigset_t *before)
-{
-    sigset_t all;
-
-    sigfillset(&all);
-    pthread_sigmask(SIG_BLOCK, &all, before);
-    pthread_mutex_lock(&turn);
-}
-
-static void let_go(const sigset_t *before)
-{
-    pthread_mutex_unlock(&turn);
-    pthread_sigmask(SIG_SETMASK, before, NULL);
-}
 
 int64_t time_now(void)
 {
@@ -48,13 +32,7 @@ void events_begin(struct events *events)
 
 static int make_timer(void)
 {
-    int low = timerfd_create(CLOCK_MONOTONIC, TFD_CLOEXEC), made;
-
-    if (low < 0)
-        return -1;
-    made = libc_duplicate(low);
-    libc_close(low);
-    return made;
+    return timerfd_create(CLOCK_MONOTONIC, TFD_CLOEXEC | TFD_NONBLOCK);
 }
 
 /* Lets the timer expire when the first event is due, or never. A program may have closed it: then
@@ -96,24 +74,22 @@ static void want_timer(struct events *events)
 
 void events_end(struct events *events)
 {
-    sigset_t before;
-
-    hold(&before);
+    pthread_mutex_lock(&turn);
     unlist(events);
     if (events->timer >= 0)
-        libc_close(events->timer);
+        close(events->timer);
     events_begin(events);
-    let_go(&before);
+    pthread_mutex_unlock(&turn);
 }
 
 bool events_have_room_for(struct events *events, unsigned count)
 {
-    sigset_t before;
+    unsigned unread = events->unread == NULL ? 0 : (unsigned)events->unread(events);
     bool has_room;
 
-    hold(&before);
-    has_room = events->count + count <= MOST_EVENTS;
-    let_go(&before);
+    pthread_mutex_lock(&turn);
+    has_room = events->count + unread + count <= MOST_EVENTS;
+    pthread_mutex_unlock(&turn);
     return has_room;
 }
 
@@ -153,16 +129,15 @@ static void insert(struct events *events, const struct event *event)
 void events_add(struct events *events, const struct event *event, uint64_t sequence, int64_t time)
 {
     struct event stamped = *event;
-    sigset_t before;
 
     stamp(&stamped, sequence, time, time);
-    hold(&before);
+    pthread_mutex_lock(&turn);
     if (events->count < MOST_EVENTS) {
         insert(events, &stamped);
         want_timer(events);
         arm(events);
     }
-    let_go(&before);
+    pthread_mutex_unlock(&turn);
 }
 
 /* Hastens those of one connection: they follow the events that are due already, in their order. */
@@ -185,12 +160,11 @@ static void hasten(struct events *events, uint32_t crtc_id, uint64_t sequence, i
 void events_hasten(uint32_t crtc_id, uint64_t sequence, int64_t time)
 {
     struct events *each;
-    sigset_t before;
 
-    hold(&before);
+    pthread_mutex_lock(&turn);
     for (each = timed; each != NULL; each = each->next)
         hasten(each, crtc_id, sequence, time, time_now());
-    let_go(&before);
+    pthread_mutex_unlock(&turn);
 }
 
 /* Does as drm_read of the core: if the buffer is too short for the first event, it returns 0. */
@@ -217,38 +191,22 @@ static int take(struct events *events, unsigned char *bytes, size_t size, int64_
 
 int events_take(struct events *events, void *bytes, size_t size)
 {
-    sigset_t before;
     int length;
 
-    hold(&before);
+    pthread_mutex_lock(&turn);
     length = take(events, bytes, size, time_now());
     arm(events);
-    let_go(&before);
+    pthread_mutex_unlock(&turn);
     return length;
 }
 
 int events_timer(struct events *events)
 {
-    sigset_t before;
     int timer;
 
-    hold(&before);
+    pthread_mutex_lock(&turn);
     want_timer(events);
     timer = events->timer;
-    let_go(&before);
+    pthread_mutex_unlock(&turn);
     return timer;
-}
-
-/* The thread that forks has blocked signals. */
-void events_before_fork(void)
-{
-    pthread_mutex_lock(&turn);
-}
-
-void events_after_fork(bool is_child)
-{
-    if (is_child)
-        pthread_mutex_init(&turn, NULL);
-    else
-        pthread_mutex_unlock(&turn);
 }

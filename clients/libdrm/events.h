@@ -1,9 +1,7 @@
-/* The events of a connection, which this library makes.
+/* The events of a connection, which are made here.
  *
- * Each event has a time at which it is due. A timerfd of this library is readable from the time
- * of the first one on, until that is read. It represents the connection wherever a program
- * waits. The supervisor writes the events to a pipe instead. Events belong to the process that
- * requested them. */
+ * Each event has a time at which it is due. A timerfd is readable from the time of the first one
+ * on, until that is taken. Then the front end writes it to the file of the connection. */
 #ifndef ZIRKOSHE_LIBDRM_EVENTS_H
 #define ZIRKOSHE_LIBDRM_EVENTS_H
 
@@ -39,6 +37,8 @@ struct event {
 struct events {
     struct events *next; /* the next one that has a timer */
     int timer;           /* -1 if none was needed yet */
+    int (*unread)(const struct events *events); /* how many are delivered and not read, or NULL */
+    int file;                                   /* what they are delivered to */
     unsigned count;
     struct event queue[MOST_EVENTS]; /* by their times */
 };
@@ -64,10 +64,5 @@ int events_take(struct events *events, void *bytes, size_t size);
 
 /* Returns a descriptor that is readable while an event is due, or -1 if no descriptor is left. */
 int events_timer(struct events *events);
-
-/* A fork happens while nothing changes here. In the child, each connection's events are then to be
- * forgotten. */
-void events_before_fork(void);
-void events_after_fork(bool is_child);
 
 #endif

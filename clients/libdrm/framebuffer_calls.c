@@ -13,7 +13,7 @@ int answer_add_fb(struct connection *connection, void *argument)
                                        fb->bpp, fb->handle, &fb->fb_id);
 
     if (!failed)
-        framebuffer_is_added(connection, fb->fb_id, &added);
+        framebuffer_is_added(connection, fb->fb_id, &added, fb->handle);
     return failed;
 }
 
@@ -55,7 +55,7 @@ int answer_add_fb2(struct connection *connection, void *argument)
     failed = zirkoshe_drmModeAddFB(&connection->client, fb->width, fb->height, fb->pitches[0], bits,
                                    fb->handles[0], &fb->fb_id);
     if (!failed)
-        framebuffer_is_added(connection, fb->fb_id, &added);
+        framebuffer_is_added(connection, fb->fb_id, &added, fb->handles[0]);
     return failed;
 }
 
@@ -69,7 +69,8 @@ static int get_fb(struct connection *connection, uint32_t fb_id, struct zirkoshe
     if (failed || fb->handle == 0)
         return failed;
     size = (uint64_t)fb->pitch * fb->height;
-    buffers_note(&connection->buffers, fb->handle, (size + 4095) / 4096 * 4096);
+    buffers_note_object(connection, fb->handle, (size + 4095) / 4096 * 4096,
+                        framebuffer_object(fb_id));
     return 0;
 }
 

@@ -8,6 +8,7 @@
 struct added {
     uint64_t owner; /* the cookie of the connection that added it, or 0 */
     struct framebuffer framebuffer;
+    struct object *object; /* what it shows, if that is known */
 };
 
 /* Taken while a connection is held, as the turn of CRTCs is. */
@@ -34,12 +35,23 @@ static bool has_room(uint32_t fb_id)
     return true;
 }
 
-void framebuffer_is_added(const struct connection *connection, uint32_t fb_id,
-                          const struct framebuffer *framebuffer)
+/* The framebuffer is not known any more. */
+static void remove_known(struct added *added)
+{
+    if (added->owner != 0 && added->object != NULL)
+        object_drop(added->object);
+    *added = (struct added){0};
+}
+
+void framebuffer_is_added(struct connection *connection, uint32_t fb_id,
+                          const struct framebuffer *framebuffer, uint32_t handle)
 {
     pthread_mutex_lock(&turn);
-    if (has_room(fb_id))
-        all[fb_id] = (struct added){connection->cookie, *framebuffer};
+    if (has_room(fb_id)) {
+        remove_known(&all[fb_id]);
+        all[fb_id] =
+            (struct added){connection->cookie, *framebuffer, buffers_use(connection, handle)};
+    }
     pthread_mutex_unlock(&turn);
 }
 
@@ -47,7 +59,7 @@ void framebuffer_is_removed(uint32_t fb_id)
 {
     pthread_mutex_lock(&turn);
     if (fb_id < room)
-        all[fb_id].owner = 0;
+        remove_known(&all[fb_id]);
     pthread_mutex_unlock(&turn);
 }
 
@@ -58,7 +70,7 @@ void framebuffers_end(const struct connection *connection)
     pthread_mutex_lock(&turn);
     for (at = 0; at < room; at++) {
         if (all[at].owner == connection->cookie) {
-            all[at].owner = 0;
+            remove_known(&all[at]);
             state_fb_is_removed(at);
         }
     }
@@ -75,6 +87,16 @@ bool framebuffer_is_known(uint32_t fb_id, struct framebuffer *framebuffer)
         *framebuffer = all[fb_id].framebuffer;
     pthread_mutex_unlock(&turn);
     return is_known;
+}
+
+struct object *framebuffer_object(uint32_t fb_id)
+{
+    struct object *found;
+
+    pthread_mutex_lock(&turn);
+    found = fb_id < room && all[fb_id].owner != 0 ? all[fb_id].object : NULL;
+    pthread_mutex_unlock(&turn);
+    return found;
 }
 
 /* The server creates a handle for a caller that is current or root. It is closed again. If there is

@@ -15,13 +15,16 @@ struct framebuffer {
 };
 
 /* Notes that a connection added or removed a framebuffer, or is closed. */
-void framebuffer_is_added(const struct connection *connection, uint32_t fb_id,
-                          const struct framebuffer *framebuffer);
+void framebuffer_is_added(struct connection *connection, uint32_t fb_id,
+                          const struct framebuffer *framebuffer, uint32_t handle);
 void framebuffer_is_removed(uint32_t fb_id);
 void framebuffers_end(const struct connection *connection);
 
 /* Returns whether this process added it. */
 bool framebuffer_is_known(uint32_t fb_id, struct framebuffer *framebuffer);
+
+/* Returns the object of a framebuffer, or NULL. */
+struct object *framebuffer_object(uint32_t fb_id);
 
 /* Finds any framebuffer, by the server if it is not known; 0, or a negative errno. */
 int framebuffer_find(struct connection *connection, uint32_t fb_id,

@@ -16,17 +16,17 @@ struct row {
     uint32_t request;
     const char *name;
     answer *answer;
-    free_answer *free_answer; /* in its place, of a request that holds the connection itself */
+    bool is_free; /* it holds the connection itself */
     enum wants wants;
 };
 
 #define ROW(name, answer, wants)                                                                   \
     {                                                                                              \
-        DRM_IOCTL_##name, #name, answer, NULL, wants                                               \
+        DRM_IOCTL_##name, #name, answer, false, wants                                               \
     }
 #define FREE_ROW(name, answer, wants)                                                              \
     {                                                                                              \
-        DRM_IOCTL_##name, #name, NULL, answer, wants                                               \
+        DRM_IOCTL_##name, #name, answer, true, wants                                               \
     }
 
 static const struct row rows[] = {
@@ -46,7 +46,7 @@ static const struct row rows[] = {
     ROW(DROP_MASTER, answer_drop_master, WANTS_NOTHING),
     ROW(PRIME_HANDLE_TO_FD, answer_prime_export, WANTS_NOTHING),
     ROW(PRIME_FD_TO_HANDLE, answer_prime_import, WANTS_NOTHING),
-    FREE_ROW(WAIT_VBLANK, answer_wait_vblank, WANTS_PRIMARY),
+    ROW(WAIT_VBLANK, answer_wait_vblank, WANTS_PRIMARY),
     ROW(CRTC_GET_SEQUENCE, answer_get_sequence, WANTS_PRIMARY),
     ROW(CRTC_QUEUE_SEQUENCE, answer_queue_sequence, WANTS_PRIMARY),
     ROW(MODE_GETRESOURCES, answer_get_resources, WANTS_NOTHING),
@@ -77,7 +77,7 @@ static const struct row rows[] = {
     ROW(MODE_OBJ_GETPROPERTIES, answer_get_object_properties, WANTS_PRIMARY),
     ROW(MODE_OBJ_SETPROPERTY, answer_set_object_property, WANTS_MASTER),
     ROW(MODE_CURSOR2, answer_cursor, WANTS_MASTER),
-    FREE_ROW(MODE_ATOMIC, answer_atomic, WANTS_PRIMARY),
+    ROW(MODE_ATOMIC, answer_atomic, WANTS_PRIMARY),
     ROW(MODE_CREATEPROPBLOB, answer_create_blob, WANTS_PRIMARY),
     ROW(MODE_DESTROYPROPBLOB, answer_destroy_blob, WANTS_PRIMARY),
     ROW(SYNCOBJ_CREATE, lacks_support, WANTS_NOTHING),
@@ -140,40 +140,41 @@ int permit_master(struct connection *connection)
     return failed;
 }
 
-static int ask(struct connection *connection, int fd, const struct row *row, void *argument)
+static _Thread_local struct outcome own_outcome;
+
+struct outcome *outcome(void)
+{
+    return &own_outcome;
+}
+
+static int ask(struct connection *connection, const struct row *row, void *argument)
 {
     int failed;
 
     if (row->wants != WANTS_NOTHING && connection->node == NODE_RENDER)
         return -EACCES;
-    if (row->free_answer != NULL)
-        return row->free_answer(connection, fd, argument);
-    failed = connection_hold(connection, fd);
+    if (row->is_free)
+        return row->answer(connection, argument);
+    failed = connection_hold(connection);
     if (failed)
         return failed;
-    buffers_close_tokens(connection, false);
-    connection->client.rule = 0;
     failed = row->wants == WANTS_MASTER ? permit_master(connection) : 0;
     if (!failed)
         failed = row->answer(connection, argument);
-    return connection_let_go(connection, fd, failed);
+    return connection_let_go(connection, failed);
 }
 
-/* Reports a request on standard error: a failure by a rule of the server or in this library (0),
- * with the errno, if DRM_SERVER_TRACE is set, and a success if it is `all`. */
-static void trace(const char *name, uint32_t rule, int error)
+int trace_line(char *line, size_t room, int result)
 {
-    const char *wanted = getenv("DRM_SERVER_TRACE");
+    const char *name = own_outcome.name;
+    uint32_t rule = own_outcome.rule;
 
-    if (wanted == NULL || wanted[0] == '\0' || (error == 0 && strcmp(wanted, "all") != 0))
-        return;
-    if (error == 0)
-        dprintf(STDERR_FILENO, "%s: done\n", name);
-    else if (rule != 0)
-        dprintf(STDERR_FILENO, "%s: denied %u %s %d\n", name, (unsigned)rule,
-                zirkoshe_rule_name(rule), error);
-    else
-        dprintf(STDERR_FILENO, "%s: failed %d\n", name, error);
+    if (result == 0)
+        return snprintf(line, room, "%s: done\n", name);
+    if (rule != 0)
+        return snprintf(line, room, "%s: denied %u %s %d\n", name, (unsigned)rule,
+                        zirkoshe_rule_name(rule), -result);
+    return snprintf(line, room, "%s: failed %d\n", name, -result);
 }
 
 static size_t least(size_t one, size_t other)
@@ -183,25 +184,22 @@ static size_t least(size_t one, size_t other)
 
 /* The core takes a struct that is shorter or longer than it knows: what is missing is 0, and what
  * is too much is left alone. */
-int carry_out(struct connection *connection, int fd, uint32_t request, void *argument)
+int carry_out(struct connection *connection, uint32_t request, void *argument)
 {
     const struct row *row = row_of(request);
     union argument held;
     size_t size;
     int failed;
 
-    if (row == NULL) {
-        trace("unknown request", 0, EINVAL);
+    own_outcome = (struct outcome){.name = row == NULL ? "unknown request" : row->name};
+    if (row == NULL)
         return -EINVAL;
-    }
     size = least(least(_IOC_SIZE(request), _IOC_SIZE(row->request)), sizeof held);
-    if (size > 0 && argument == NULL)
-        return -EFAULT;
     memset(&held, 0, sizeof held);
     if (request & row->request & IOC_IN)
         memcpy(&held, argument, size);
-    failed = ask(connection, fd, row, &held);
-    trace(row->name, failed ? connection_refused_by() : 0, -failed);
+    failed = ask(connection, row, &held);
+    own_outcome.rule = failed ? connection_refused_by() : 0;
     if (request & row->request & IOC_OUT)
         memcpy(argument, &held, size);
     return failed;
@@ -214,8 +212,6 @@ int carry_out_on_memory(uint32_t request, const void *argument)
 
     if (request != DMA_BUF_IOCTL_SYNC)
         return -ENOTTY;
-    if (argument == NULL)
-        return -EFAULT;
     return sync->flags & ~(__u64)DMA_BUF_SYNC_VALID_FLAGS_MASK || !(sync->flags & DMA_BUF_SYNC_RW)
                ? -EINVAL
                : 0;

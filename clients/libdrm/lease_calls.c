@@ -1,6 +1,8 @@
 /* Answers to requests of leases. */
 #include "answers.h"
 
+#include "ioctls.h"
+
 /* The ids of leases of nothing are above those of the server. */
 #define FIRST_OF_NOTHING 0x10000u
 
@@ -20,10 +22,10 @@ static int create(struct connection *connection, const struct drm_mode_create_le
 }
 
 /* Takes a lease back that could not be opened. */
-static void take_back(struct connection *connection, int fd, uint32_t lessee_id)
+static void take_back(struct connection *connection, uint32_t lessee_id)
 {
-    if (connection_hold(connection, fd) == 0)
-        connection_let_go(connection, fd,
+    if (connection_hold(connection) == 0)
+        connection_let_go(connection,
                           zirkoshe_drmModeRevokeLease(&connection->client, lessee_id));
 }
 
@@ -44,70 +46,66 @@ static int permit_nothing(struct connection *connection, const struct drm_mode_c
     return failed;
 }
 
-/* Lets the caller authenticate the client of another descriptor. */
-static int authenticate(struct connection *connection, int fd, int opened)
+/* Lets the caller authenticate another client. */
+static int authenticate(struct connection *connection, struct connection *other)
 {
-    struct connection *other = connection_find(opened);
     uint32_t magic = 0;
-    int failed = other == NULL ? -ENOMEM : connection_hold(other, opened);
+    int failed = connection_hold(other);
 
     if (!failed)
-        failed = connection_let_go(other, opened, zirkoshe_drmGetMagic(&other->client, &magic));
+        failed = connection_let_go(other, zirkoshe_drmGetMagic(&other->client, &magic));
     if (!failed)
-        failed = connection_hold(connection, fd);
+        failed = connection_hold(connection);
     if (!failed)
-        failed =
-            connection_let_go(connection, fd, zirkoshe_drmAuthMagic(&connection->client, magic));
-    if (failed && other != NULL)
-        connection_close(other, opened);
-    if (other != NULL)
-        connection_release(other);
+        failed = connection_let_go(connection, zirkoshe_drmAuthMagic(&connection->client, magic));
+    if (failed)
+        connection_close(other);
     return failed;
 }
 
 /* The server refuses a lease of nothing. Its descriptor is another client of the caller's master,
  * which the caller authenticates. */
-static int lease_nothing(struct connection *connection, int fd, struct drm_mode_create_lease *asked)
+static int lease_nothing(struct connection *connection, struct drm_mode_create_lease *asked)
 {
-    int failed = connection_hold(connection, fd);
-    int opened;
+    struct connection *opened;
+    int failed = connection_hold(connection);
 
-    if (failed)
-        return failed;
-    failed = connection_let_go(connection, fd, permit_nothing(connection, asked));
-    if (failed)
-        return failed;
-    opened = connection_open(lessee_node(connection), false, 0, (int)asked->flags);
-    failed = opened < 0 ? opened : authenticate(connection, fd, opened);
+    if (!failed)
+        failed = connection_let_go(connection, permit_nothing(connection, asked));
+    if (!failed)
+        failed = connection_open(lessee_node(connection), false, 0, caller_process(), &opened);
+    if (!failed)
+        failed = authenticate(connection, opened);
     if (failed)
         return failed;
     asked->lessee_id = FIRST_OF_NOTHING + connection->leases_of_nothing++;
-    asked->fd = (uint32_t)opened;
+    outcome()->opened = opened;
     return 0;
 }
 
 /* The descriptor is a client that has redeemed the lease. */
-int answer_create_lease(struct connection *connection, int fd, void *argument)
+int answer_create_lease(struct connection *connection, void *argument)
 {
     struct drm_mode_create_lease *asked = argument;
+    struct connection *opened;
     struct zirkoshe_lease lease;
-    int failed, opened;
+    int failed;
 
     if (asked->object_count == 0)
-        return lease_nothing(connection, fd, asked);
-    failed = connection_hold(connection, fd);
+        return lease_nothing(connection, asked);
+    failed = connection_hold(connection);
+    if (!failed)
+        failed = connection_let_go(connection, create(connection, asked, &lease));
     if (failed)
         return failed;
-    failed = connection_let_go(connection, fd, create(connection, asked, &lease));
-    if (failed)
+    failed =
+        connection_open(lessee_node(connection), true, lease.token, caller_process(), &opened);
+    if (failed) {
+        take_back(connection, lease.lessee_id);
         return failed;
-    opened = connection_open(lessee_node(connection), true, lease.token, (int)asked->flags);
-    if (opened < 0) {
-        take_back(connection, fd, lease.lessee_id);
-        return opened;
     }
     asked->lessee_id = lease.lessee_id;
-    asked->fd = (uint32_t)opened;
+    outcome()->opened = opened;
     return 0;
 }
 

@@ -34,16 +34,7 @@
         (__typeof__(&name))next_function;                                                          \
     })
 
-/* Closes a descriptor that is this library's own. */
-int libc_close(int fd);
-
 /* Reads a link as it is. */
 ssize_t libc_readlink(const char *path, char *target, size_t size);
-
-/* Waits for descriptors as they are. */
-int libc_poll(struct pollfd *waited, nfds_t count, int timeout);
-
-/* Returns a duplicate for this library, at a high number if possible, or -1 with errno. */
-int libc_duplicate(int fd);
 
 #endif

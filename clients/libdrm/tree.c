@@ -1,10 +1,16 @@
 /* The paths that programs look at to find a device. */
+#include "libc.h"
+
 #include "tree.h"
 
+#include <errno.h>
+#include <fcntl.h>
 #include <limits.h>
 #include <stdio.h>
+#include <string.h>
 #include <sys/mman.h>
 #include <sys/sysmacros.h>
+#include <unistd.h>
 
 /* the device numbers of DRM nodes, which are assigned: Documentation/admin-guide/devices.txt of
  * Linux */

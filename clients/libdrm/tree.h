@@ -3,7 +3,7 @@
 #ifndef ZIRKOSHE_LIBDRM_TREE_H
 #define ZIRKOSHE_LIBDRM_TREE_H
 
-#include "connections.h"
+#include "nodes.h"
 
 #include <dirent.h>
 #include <sys/stat.h>

@@ -2,8 +2,7 @@
 #include "answers.h"
 
 #include "crtcs.h"
-
-#include <time.h>
+#include "ioctls.h"
 
 /* how long the core waits for a vertical blanking at most */
 #define MOST_WAIT ((int64_t)3 * SECOND)
@@ -119,39 +118,28 @@ static int begin_wait(struct connection *connection, union drm_wait_vblank *wait
     return type & _DRM_VBLANK_EVENT ? queue_vblank(connection, wait, goal) : 0;
 }
 
-/* Waits for a time, as the core does: not for ever, and until a signal is handled. The thread isn't
- * cancelled meanwhile. */
-static int wait_until(int64_t time)
-{
-    int64_t most = time_now() + MOST_WAIT, end = time < most ? time : most;
-    struct timespec until = {(time_t)(end / SECOND), (long)(end % SECOND)};
-    int cancel_state, failed;
-
-    pthread_setcancelstate(PTHREAD_CANCEL_DISABLE, &cancel_state);
-    failed = clock_nanosleep(CLOCK_MONOTONIC, TIMER_ABSTIME, &until, NULL);
-    pthread_setcancelstate(cancel_state, NULL);
-    return failed ? -EINTR : time < most ? 0 : -EBUSY;
-}
-
-int answer_wait_vblank(struct connection *connection, int fd, void *argument)
+/* The caller waits for it, but not for ever. If a signal interrupts it, the request as it is now asks
+ * for the same one. */
+int answer_wait_vblank(struct connection *connection, void *argument)
 {
     union drm_wait_vblank *wait = argument;
-    struct vblank last;
+    int64_t now = time_now(), most = now + MOST_WAIT;
+    struct vblank told;
     struct goal goal;
-    int failed = connection_hold(connection, fd);
+    int failed = begin_wait(connection, wait, &goal);
 
-    if (failed)
-        return failed;
-    failed = connection_let_go(connection, fd, begin_wait(connection, wait, &goal));
     if (failed || ((unsigned)wait->request.type & _DRM_VBLANK_EVENT))
         return failed;
-    failed = goal.wanted.time <= time_now() ? 0 : wait_until(goal.wanted.time);
-    if (failed == -EINTR)
-        return failed;
-    last = last_vblank(&goal.blanking, time_now());
-    wait->reply.sequence = (uint32_t)last.sequence;
-    wait->reply.tval_sec = (long)(last.time / SECOND);
-    wait->reply.tval_usec = (long)(last.time % SECOND / 1000);
+    told = goal.wanted.time <= now ? goal.last : goal.wanted;
+    if (goal.wanted.time > now)
+        outcome()->until = goal.wanted.time < most ? goal.wanted.time : most;
+    if (goal.wanted.time > most) {
+        told = last_vblank(&goal.blanking, most);
+        failed = -EBUSY;
+    }
+    wait->reply.sequence = (uint32_t)told.sequence;
+    wait->reply.tval_sec = (long)(told.time / SECOND);
+    wait->reply.tval_usec = (long)(told.time % SECOND / 1000);
     return failed;
 }
 

@@ -1,13 +1,18 @@
-/* The functions of the C library on descriptors. For connections and PRIME descriptors, the
- * answers differ from those for sockets and files. */
-#include "connections.h"
+/* The functions of the C library on descriptors of nodes, which are packet sockets, and on PRIME
+ * descriptors. All others are the kernel's own: what can be read is events. */
+#include "libc.h"
 
-#include "ioctls.h"
+#include "asks.h"
 
+#include <drm.h>
+#include <errno.h>
+#include <linux/dma-buf.h>
 #include <stdarg.h>
+#include <sys/ioctl.h>
 #include <sys/mman.h>
 #include <sys/syscall.h>
 #include <sys/uio.h>
+#include <unistd.h>
 
 /* Returns as the C library does, for an answer that may be a negative errno. */
 static int result_of(int answer)
@@ -18,111 +23,43 @@ static int result_of(int answer)
     return -1;
 }
 
+/* Memory that all share needs no keeping in step. */
+static int sync_memory(unsigned long request, const struct dma_buf_sync *sync)
+{
+    if (request != DMA_BUF_IOCTL_SYNC)
+        return -ENOTTY;
+    if (sync == NULL)
+        return -EFAULT;
+    return sync->flags & ~(__u64)DMA_BUF_SYNC_VALID_FLAGS_MASK || !(sync->flags & DMA_BUF_SYNC_RW)
+               ? -EINVAL
+               : 0;
+}
+
 SHOWN int ioctl(int fd, unsigned long request, ...)
 {
-    struct connection *connection = is_for_nodes(request) ? connection_find(fd) : NULL;
+    enum node node;
     void *argument;
     va_list list;
-    int answer;
 
     va_start(list, request);
     argument = va_arg(list, void *);
     va_end(list);
-    if (connection != NULL) {
-        answer = carry_out(connection, fd, (uint32_t)request, argument);
-        connection_release(connection);
-        return result_of(answer);
-    }
-    if (is_for_memory(request) && is_memory(fd))
-        return result_of(carry_out_on_memory((uint32_t)request, argument));
+    if (_IOC_TYPE(request) == DRM_IOCTL_BASE && is_node(fd, &node))
+        return result_of(ask_ioctl(fd, (uint32_t)request, argument));
+    if (_IOC_TYPE(request) == DMA_BUF_BASE && is_memory(fd))
+        return result_of(sync_memory(request, argument));
     return REAL(ioctl)(fd, request, argument);
 }
 
-/* Returns whether it is a connection. Then it is closed, and the result of close is in `result`. */
-static bool closes(int fd, int *result)
-{
-    struct connection *connection = connections_exist() ? connection_find(fd) : NULL;
-
-    if (connection == NULL)
-        return false;
-    *result = connection_close(connection, fd);
-    connection_release(connection);
-    return true;
-}
-
-SHOWN int close(int fd)
-{
-    bool was_memory = memory_exists() && is_memory(fd);
-    int result;
-
-    if (closes(fd, &result))
-        return result;
-    result = libc_close(fd);
-    if (was_memory)
-        memory_was_closed();
-    return result;
-}
-
-/* What is overwritten by dup2 is closed before, so that the server has seen it once dup2 is done.
- */
-static void make_way(int from, int to)
-{
-    int result;
-
-    if (from != to && fcntl(from, F_GETFD) >= 0)
-        closes(to, &result);
-}
-
-SHOWN int dup2(int from, int to)
-{
-    make_way(from, to);
-    return REAL(dup2)(from, to);
-}
-
-SHOWN int dup3(int from, int to, int flags)
-{
-    make_way(from, to);
-    return REAL(dup3)(from, to, flags);
-}
-
-/* Reading a node returns events. A blocking read waits until one is due or a signal arrives. */
-SHOWN ssize_t read(int fd, void *bytes, size_t size)
-{
-    for (;;) {
-        struct connection *connection = connections_exist() ? connection_find(fd) : NULL;
-        uint64_t expired;
-        int taken, timer;
-
-        if (connection == NULL)
-            return REAL(read)(fd, bytes, size);
-        taken = events_take(&connection->events, bytes, size);
-        timer = events_timer(&connection->events);
-        connection_release(connection);
-        if (taken != -EAGAIN || (fcntl(fd, F_GETFL) & O_NONBLOCK))
-            return result_of(taken);
-        if (REAL(read)(timer, &expired, sizeof expired) < 0)
-            return -1;
-    }
-}
-
-ssize_t __read_chk(int, void *, size_t, size_t);
-
-/* A program that was compiled with checks calls this instead. */
-SHOWN ssize_t __read_chk(int fd, void *bytes, size_t size, size_t room)
-{
-    return size > room ? REAL(__read_chk)(fd, bytes, size, room) : read(fd, bytes, size);
-}
-
-/* A node can't be written to; the server would take the bytes for a request. */
+/* A node can't be written to; the display would take the bytes for a packet. */
 static bool is_not_written(int fd)
 {
-    struct connection *connection = connections_exist() ? connection_find(fd) : NULL;
+    enum node node;
+    bool is_one = is_node(fd, &node);
 
-    if (connection == NULL)
-        return false;
-    connection_release(connection);
-    errno = EINVAL;
-    return true;
+    if (is_one)
+        errno = EINVAL;
+    return is_one;
 }
 
 SHOWN ssize_t write(int fd, const void *bytes, size_t size)
@@ -135,82 +72,23 @@ SHOWN ssize_t writev(int fd, const struct iovec *parts, int count)
     return is_not_written(fd) ? -1 : REAL(writev)(fd, parts, count);
 }
 
-SHOWN ssize_t pwrite(int fd, const void *bytes, size_t size, off_t offset)
-{
-    return is_not_written(fd) ? -1 : REAL(pwrite)(fd, bytes, size, offset);
-}
-
-SHOWN ALSO(pwrite64, pwrite);
-
-/* Notes which connections a message carries to another process. */
-static void note_sent(const struct msghdr *message)
-{
-    struct msghdr *parts = (struct msghdr *)(uintptr_t)message; /* CMSG_NXTHDR changes nothing */
-    struct cmsghdr *part;
-
-    for (part = message == NULL ? NULL : CMSG_FIRSTHDR(parts); part != NULL;
-         part = CMSG_NXTHDR(parts, part)) {
-        size_t count =
-            part->cmsg_len < CMSG_LEN(0) ? 0 : (part->cmsg_len - CMSG_LEN(0)) / sizeof(int);
-        size_t at;
-
-        if (part->cmsg_level != SOL_SOCKET || part->cmsg_type != SCM_RIGHTS)
-            continue;
-        for (at = 0; at < count; at++) {
-            int fd;
-
-            memcpy(&fd, CMSG_DATA(part) + at * sizeof fd, sizeof fd);
-            connection_is_sent(fd);
-        }
-    }
-}
-
-SHOWN ssize_t sendmsg(int socket, const struct msghdr *message, int flags)
-{
-    note_sent(message);
-    return REAL(sendmsg)(socket, message, flags);
-}
-
-SHOWN int sendmmsg(int socket, struct mmsghdr *messages, unsigned count, int flags)
-{
-    unsigned at;
-
-    for (at = 0; at < count; at++)
-        note_sent(&messages[at].msg_hdr);
-    return REAL(sendmmsg)(socket, messages, count, flags);
-}
-
-/* Maps what a handle's memory has at this offset, if it is one. */
-static void *map(struct connection *connection, void *address, size_t length, int protection,
-                 int flags, uint64_t offset)
-{
-    void *mapped = MAP_FAILED;
-    sigset_t before;
-    uint64_t size;
-    int memory;
-
-    connection_lock(connection, &before);
-    memory = buffers_memory(&connection->buffers, handle_at(offset), &size);
-    if (memory < 0)
-        errno = -memory;
-    else if (length > size || place_at(offset) > size - length)
-        errno = EINVAL;
-    else
-        mapped = REAL(mmap)(address, length, protection, flags, memory, (off_t)place_at(offset));
-    connection_unlock(connection, &before);
-    return mapped;
-}
 
 SHOWN void *mmap(void *address, size_t length, int protection, int flags, int fd, off_t offset)
 {
-    struct connection *connection =
-        fd >= 0 && !(flags & MAP_ANONYMOUS) && connections_exist() ? connection_find(fd) : NULL;
+    enum node node;
+    uint64_t place;
     void *mapped;
+    int memory;
 
-    if (connection == NULL)
+    if (fd < 0 || (flags & MAP_ANONYMOUS) || !is_node(fd, &node))
         return REAL(mmap)(address, length, protection, flags, fd, offset);
-    mapped = map(connection, address, length, protection, flags, (uint64_t)offset);
-    connection_release(connection);
+    memory = ask_for_memory(fd, (uint64_t)offset, length, &place);
+    if (memory < 0) {
+        errno = -memory;
+        return MAP_FAILED;
+    }
+    mapped = REAL(mmap)(address, length, protection, flags, memory, (off_t)place);
+    close(memory);
     return mapped;
 }
 
@@ -242,7 +120,7 @@ static long call_system(long number, const long *word)
 #endif
 }
 
-/* System calls by their numbers, on descriptors that may be connections. */
+/* System calls by their numbers, on descriptors that may be nodes. */
 SHOWN long syscall(long number, ...)
 {
     long word[6];
@@ -253,21 +131,10 @@ SHOWN long syscall(long number, ...)
     for (at = 0; at < sizeof word / sizeof word[0]; at++)
         word[at] = va_arg(list, long);
     va_end(list);
-    if (!connections_exist())
-        return call_system(number, word);
-    switch (number) {
-    case SYS_ioctl:
+    if (number == SYS_ioctl)
         return ioctl((int)word[0], (unsigned long)word[1], (void *)word[2]);
-    case SYS_read:
-        return read((int)word[0], (void *)word[1], (size_t)word[2]);
-    case SYS_write:
-        return write((int)word[0], (const void *)word[1], (size_t)word[2]);
-    case SYS_close:
-        return close((int)word[0]);
-    case SYS_mmap:
+    if (number == SYS_mmap)
         return (long)mmap((void *)word[0], (size_t)word[1], (int)word[2], (int)word[3],
                           (int)word[4], (off_t)word[5]);
-    default:
-        return call_system(number, word);
-    }
+    return call_system(number, word);
 }

@@ -1,13 +1,20 @@
 /* The functions of the C library that open, look at and close files: those of the device are
  * answered here. */
+#include "libc.h"
+
+#include "asks.h"
 #include "tree.h"
 
+#include <errno.h>
+#include <fcntl.h>
 #include <limits.h>
 #include <stdarg.h>
 #include <stdio.h>
 #include <stdlib.h>
+#include <string.h>
 #include <sys/mman.h>
 #include <sys/sysmacros.h>
+#include <unistd.h>
 
 _Static_assert(sizeof(struct stat) == sizeof(struct stat64) && sizeof(off_t) == 8,
                "this is for systems of 64 bits");
@@ -26,7 +33,7 @@ static int open_text(const char *text, int flags)
     size_t size = strlen(text);
 
     if (fd >= 0 && (write(fd, text, size) != (ssize_t)size || lseek(fd, 0, SEEK_SET) != 0)) {
-        libc_close(fd);
+        close(fd);
         return fail(EIO);
     }
     return fd;
@@ -45,7 +52,7 @@ static int open_entry(const struct entry *entry, int flags)
         return open_text(entry->text, flags);
     if (entry->kind != KIND_NODE)
         return fail(EACCES);
-    opened = connection_open(entry->node, false, 0, flags);
+    opened = ask_to_open(entry->node, flags);
     return opened < 0 ? fail(-opened) : opened;
 }
 
@@ -149,15 +156,12 @@ static bool tells(int folder, const char *path, bool follows, struct stat *statu
 /* What fstat returns, if the descriptor is a connection or represents a folder. */
 static int told_of_descriptor(int fd, struct stat *status, int result)
 {
-    struct connection *connection =
-        result == 0 && S_ISSOCK(status->st_mode) ? connection_find(fd) : NULL;
+    enum node node;
     const struct entry *folder =
         result == 0 && S_ISREG(status->st_mode) && status->st_nlink == 0 ? folder_of(fd) : NULL;
 
-    if (connection != NULL) {
-        node_status(connection->node, status);
-        connection_release(connection);
-    }
+    if (result == 0 && S_ISSOCK(status->st_mode) && is_node(fd, &node))
+        node_status(node, status);
     if (folder != NULL)
         entry_status(folder, true, status);
     return result;

@@ -1,8 +1,15 @@
 /* The functions of the C library that list folders: those of the device are listed here. */
+#include "libc.h"
+
 #include "tree.h"
 
+#include <errno.h>
+#include <fcntl.h>
 #include <glob.h>
+#include <pthread.h>
 #include <stdlib.h>
+#include <string.h>
+#include <unistd.h>
 
 /* A folder of the device that the program lists; to the program its address is that of a DIR. */
 struct listing {
@@ -57,7 +64,7 @@ static void end_listing(struct listing *ended)
     *place = ended->next_listing;
     pthread_mutex_unlock(&listings_turn);
     if (ended->fd >= 0)
-        libc_close(ended->fd);
+        close(ended->fd);
     free(ended);
 }
 

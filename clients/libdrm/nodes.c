@@ -1,0 +1,51 @@
+/* The nodes of the device. */
+#include "libc.h"
+
+#include "nodes.h"
+
+#include <errno.h>
+#include <stdio.h>
+#include <stdlib.h>
+#include <string.h>
+#include <sys/socket.h>
+#include <sys/un.h>
+
+const char *node_path(enum node node)
+{
+    static const char *const names[] = {"DRM_SERVER_CARD", "DRM_SERVER_RENDER", "DRM_SERVER_ROOT"};
+    const char *path = getenv(names[node]);
+
+    return path == NULL || path[0] == '\0' ? NULL : path;
+}
+
+bool is_node(int fd, enum node *node)
+{
+    static const char wanted[] = "\0" NODE_NAME;
+    const size_t length = sizeof wanted - 1;
+    struct sockaddr_un peer;
+    socklen_t size = sizeof peer;
+    int error = errno;
+    bool is_one;
+
+    is_one = getpeername(fd, (struct sockaddr *)&peer, &size) == 0 && peer.sun_family == AF_UNIX
+             && size > offsetof(struct sockaddr_un, sun_path) + length
+             && memcmp(peer.sun_path, wanted, length) == 0 && peer.sun_path[length] >= '0'
+             && peer.sun_path[length] < '0' + NODES;
+    errno = error;
+    if (is_one)
+        *node = (enum node)(peer.sun_path[length] - '0');
+    return is_one;
+}
+
+bool is_memory(int fd)
+{
+    static const char wanted[] = "/memfd:" MEMORY_NAME;
+    char path[32], name[sizeof wanted + 1];
+    int error = errno;
+    ssize_t length;
+
+    snprintf(path, sizeof path, "/proc/self/fd/%d", fd);
+    length = libc_readlink(path, name, sizeof name);
+    errno = error;
+    return length >= (ssize_t)sizeof wanted - 1 && memcmp(name, wanted, sizeof wanted - 1) == 0;
+}

@@ -1,0 +1,27 @@
+/* The nodes of the device, and the names by which a descriptor of one is recognized. */
+#ifndef ZIRKOSHE_LIBDRM_NODES_H
+#define ZIRKOSHE_LIBDRM_NODES_H
+
+#include <stdbool.h>
+#include <stdint.h>
+
+enum node { NODE_CARD, NODE_RENDER, NODE_ROOT };
+
+#define NODES 3
+
+/* Returns the path of the server's socket for this node, or NULL if there is no such node. */
+const char *node_path(enum node node);
+
+/* The display's end of a node's packet socket has an abstract address that begins with this and the
+ * number of the node. So the other end, which a program has, is recognized by its peer. */
+#define NODE_NAME "zirkoshe-node-"
+
+/* Whether a descriptor is a node, and which. */
+bool is_node(int fd, enum node *node);
+
+/* The name of buffers' memory, and whether a descriptor is such. */
+#define MEMORY_NAME "zirkoshe-buffer"
+
+bool is_memory(int fd);
+
+#endif

@@ -1,0 +1,58 @@
+/* The packets between the preloaded library and the display.
+ *
+ * A request is one packet: `struct ask`, the request's struct, and the lists that it points to. An
+ * opening goes to the display's socket, all else to the descriptor of a node. An answer is one
+ * packet on the socket of the calling thread: `struct reply`, the struct, what is written to the
+ * caller's memory, and a line of the trace.
+ *
+ * Both ends are of one machine and of one build; a field that is wrong is refused.
+ */
+#ifndef ZIRKOSHE_LIBDRM_PACKETS_H
+#define ZIRKOSHE_LIBDRM_PACKETS_H
+
+#include <stdint.h>
+
+#define PACKET_FORM 0x5a4b0001u
+#define MOST_LISTS 4
+#define MOST_PACKET (128 * 1024)
+
+enum ask_kind { ASK_OPEN, ASK_IOCTL, ASK_MAP };
+
+enum ask_flags {
+    HAS_CHANNEL = 1, /* the first descriptor is the socket for answers to this thread */
+    HAS_MEMORY = 2,  /* the next one is a PRIME descriptor */
+    TRACES_FAILURES = 4,
+    TRACES_ALL = 8,
+};
+
+/* Bytes of the caller's memory, which follow in this order. */
+struct list {
+    uint64_t address, size;
+};
+
+struct ask {
+    uint32_t form;
+    uint32_t kind;
+    uint32_t request; /* of ioctl; the node of an opening */
+    uint32_t flags;
+    uint32_t channel; /* the number of the socket for answers, if it was given before */
+    uint32_t tag;     /* the answer has it too */
+    uint64_t offset, length; /* of a mapping */
+    uint64_t open_flags;
+    struct list lists[MOST_LISTS];
+};
+
+struct reply {
+    int32_t result; /* 0 or a negative errno */
+    uint32_t tag;
+    uint32_t channel;
+    uint32_t size;   /* of the struct */
+    uint32_t writes; /* how many writes follow it: each a `struct list` and its bytes */
+    uint32_t traced; /* the length of the line */
+    int64_t until;   /* the caller waits until then, in nanoseconds of CLOCK_MONOTONIC, or 0, */
+    uint32_t is_again; /* and asks again */
+    uint32_t has_descriptor;
+    uint64_t place; /* of a mapping, in the descriptor's file */
+};
+
+#endif
