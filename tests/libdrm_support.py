@@ -2,6 +2,7 @@
 import contextlib
 import os
 import pathlib
+import subprocess
 import sys
 import time
 
@@ -48,6 +49,14 @@ def library():
     return ran.stdout.strip()
 
 
+def display():
+    """The display, built where that is still to be done."""
+    want_libdrm()
+    ran = run(LIBRARY / "build", "--display")
+    expect("what the build says", (ran.returncode, ran.stderr), (0, ""))
+    return ran.stdout.strip()
+
+
 def supervisor():
     """The supervisor, built if necessary; skips the test if the kernel allows none."""
     want_libdrm()
@@ -70,7 +79,7 @@ def want_logind():
 def environment(folder, **variables):
     """The environment of a program that finds the server in this folder behind libdrm."""
     sockets = {f"DRM_SERVER_{name.upper()}": str(folder / name) for name in CLASSES}
-    return {**os.environ, "LD_PRELOAD": library(), **sockets, **variables}
+    return {**os.environ, "LD_PRELOAD": library(), "DRM_SERVER_DISPLAY": str(folder / "display"), **sockets, **variables}
 
 
 def wait_until(holds):
@@ -88,7 +97,17 @@ def served(folder, cards=64, renders=8, roots=8, more=()):
     with server(folder, cards, renders, roots, more=more) as started:
         wait_until(lambda: all((folder / name).exists() for name in CLASSES))
         connect(folder / "root").close()
-        yield started
+        sockets = {f"DRM_SERVER_{name.upper()}": str(folder / name) for name in CLASSES}
+        path = folder / "display"
+        path.unlink(missing_ok=True)
+        displaying = subprocess.Popen([display(), str(path)], env={**os.environ, **sockets})
+        try:
+            wait_until(path.exists)
+            yield started
+        finally:
+            displaying.terminate()
+            displaying.wait()
+            path.unlink(missing_ok=True)
 
 
 def in_time(run_once):

@@ -46,7 +46,6 @@ int answer_prime_export(struct connection *connection, void *argument)
 
     if (prime->flags & ~(uint32_t)(DRM_CLOEXEC | DRM_RDWR))
         return -EINVAL;
-    buffers_close_tokens(connection);
     failed = zirkoshe_drmPrimeHandleToFD(&connection->client, prime->handle, &token);
     if (failed)
         return failed;
@@ -72,7 +71,6 @@ int answer_create_dumb(struct connection *connection, void *argument)
     struct zirkoshe_dumb made;
     int failed;
 
-    buffers_close_tokens(connection);
     failed = zirkoshe_drmModeCreateDumbBuffer(&connection->client, dumb->width, dumb->height,
                                               dumb->bpp, &made);
     if (failed)

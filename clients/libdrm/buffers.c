@@ -4,6 +4,7 @@
 #include <limits.h>
 #include <stdio.h>
 #include <stdlib.h>
+#include <sys/inotify.h>
 #include <sys/mman.h>
 #include <sys/stat.h>
 
@@ -42,6 +43,8 @@ static pthread_mutex_t turn = PTHREAD_MUTEX_INITIALIZER;
 static struct object *objects;
 static struct export *exports;
 static uint32_t last_export;
+static int watch = -1; /* of inotify */
+static int looks;      /* how often closed exports are still looked for */
 
 static struct object *make_object(uint64_t size)
 {
@@ -236,13 +239,16 @@ int buffers_memory(struct connection *connection, uint32_t handle, uint64_t *siz
     return fd;
 }
 
-/* Opens the file of a descriptor anew, so that the two have locks of their own. */
+/* Opens the file of a descriptor anew, so that the two have locks of their own, and watches its
+ * closing. */
 static int open_anew(int fd, int flags)
 {
     char path[32];
     int opened;
 
     snprintf(path, sizeof path, "/proc/self/fd/%d", fd);
+    if (buffers_watch() >= 0)
+        inotify_add_watch(watch, path, IN_CLOSE);
     opened = open(path, flags);
     return opened < 0 ? -errno : opened;
 }
@@ -354,22 +360,49 @@ static bool is_open(const struct export *export)
     return fcntl(export->object->fd, F_OFD_GETLK, &byte) == 0 && byte.l_type != F_UNLCK;
 }
 
-void buffers_close_tokens(struct connection *connection)
+int buffers_watch(void)
+{
+    if (watch < 0)
+        watch = inotify_init1(IN_CLOEXEC | IN_NONBLOCK);
+    return watch;
+}
+
+/* Takes an export that nobody has any more from the list, or returns NULL. */
+static struct export *take_closed(void)
 {
     struct export **place = &exports, *each;
 
     pthread_mutex_lock(&turn);
-    while ((each = *place) != NULL) {
-        if (each->owner != connection || is_open(each)) {
-            place = &each->next;
-            continue;
-        }
-        zirkoshe_token_close(&connection->client, each->token);
+    while ((each = *place) != NULL && is_open(each))
+        place = &each->next;
+    if (each != NULL) {
         *place = each->next;
-        drop(each->object);
-        free(each);
+        connection_use(each->owner);
     }
     pthread_mutex_unlock(&turn);
+    return each;
+}
+
+/* The kernel reports the closing of a file just before it drops the lock, so that one look more
+ * follows. */
+void buffers_close_tokens(void)
+{
+    _Alignas(struct inotify_event) char reports[4096];
+    struct export *closed;
+
+    while (watch >= 0 && read(watch, reports, sizeof reports) > 0)
+        looks = 2;
+    if (looks == 0)
+        return;
+    looks--;
+    while ((closed = take_closed()) != NULL) {
+        if (connection_hold(closed->owner) == 0)
+            connection_let_go(closed->owner,
+                              zirkoshe_token_close(&closed->owner->client, closed->token));
+        connection_release(closed->owner);
+        object_drop(closed->object);
+        free(closed);
+    }
 }
 
 uint64_t offset_of(uint32_t handle)

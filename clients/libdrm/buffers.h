@@ -3,7 +3,8 @@
  * The server keeps no pixels. An object that is mapped or exported gets shared memory of its size
  * (a memfd), which its mappings show, whoever made the handle. A PRIME descriptor is that memory,
  * opened anew, with a lock on one byte far after its end, which stays while any process has the
- * descriptor: so its token is closed after the last one.
+ * descriptor. The kernel reports when a file of exported memory is closed everywhere, and unmapped
+ * (inotify): then the token is closed.
  */
 #ifndef ZIRKOSHE_LIBDRM_BUFFERS_H
 #define ZIRKOSHE_LIBDRM_BUFFERS_H
@@ -57,8 +58,11 @@ int buffers_export(struct connection *connection, uint32_t handle, uint32_t toke
  * another file, the server's. */
 int buffers_import(struct connection *connection, int fd, uint32_t *handle);
 
-/* Closes the tokens of a connection whose descriptors are all closed. The connection is held. */
-void buffers_close_tokens(struct connection *connection);
+/* A descriptor that is readable when PRIME descriptors may have been closed, or -1. */
+int buffers_watch(void);
+
+/* Closes the tokens whose descriptors are all closed, if there may be any. No connection is held. */
+void buffers_close_tokens(void);
 
 /* The least offset of a handle's memory in its connection; which handle has an offset, 0 for none;
  * and how far in it is. */

@@ -155,6 +155,7 @@ static int ask(struct connection *connection, const struct row *row, void *argum
         return -EACCES;
     if (row->is_free)
         return row->answer(connection, argument);
+    buffers_close_tokens();
     failed = connection_hold(connection);
     if (failed)
         return failed;

@@ -30,7 +30,7 @@ bool is_node(int fd, enum node *node)
     is_one = getpeername(fd, (struct sockaddr *)&peer, &size) == 0 && peer.sun_family == AF_UNIX
              && size > offsetof(struct sockaddr_un, sun_path) + length
              && memcmp(peer.sun_path, wanted, length) == 0 && peer.sun_path[length] >= '0'
-             && peer.sun_path[length] < '0' + NODES;
+             && peer.sun_path[length] < '0' + NODE_KINDS;
     errno = error;
     if (is_one)
         *node = (enum node)(peer.sun_path[length] - '0');

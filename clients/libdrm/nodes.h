@@ -7,7 +7,7 @@
 
 enum node { NODE_CARD, NODE_RENDER, NODE_ROOT };
 
-#define NODES 3
+#define NODE_KINDS 3
 
 /* Returns the path of the server's socket for this node, or NULL if there is no such node. */
 const char *node_path(enum node node);

@@ -8,7 +8,7 @@
 #include "packets.h"
 
 /* What the main loop waits for */
-enum source_kind { SOURCE_LISTENER, SOURCE_GUEST, SOURCE_FILE, SOURCE_TIMER, SOURCE_CHANNEL };
+enum source_kind { SOURCE_LISTENER, SOURCE_GUEST, SOURCE_FILE, SOURCE_TIMER, SOURCE_CHANNEL, SOURCE_WATCH };
 
 struct source {
     enum source_kind kind;

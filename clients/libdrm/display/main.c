@@ -96,6 +96,9 @@ static void see_ready(struct source *source)
         if (read(source->fd, &expired, sizeof expired) > 0)
             file_deliver(file_of_timer(source));
         break;
+    case SOURCE_WATCH:
+        buffers_close_tokens();
+        break;
     case SOURCE_CHANNEL:
         break;
     }
@@ -143,7 +146,7 @@ static int listen_at(const char *path)
 
 int main(int count, char **words)
 {
-    static struct source listener = {.kind = SOURCE_LISTENER};
+    static struct source listener = {.kind = SOURCE_LISTENER}, watch = {.kind = SOURCE_WATCH};
     struct rlimit most;
 
     if (count != 2) {
@@ -156,7 +159,9 @@ int main(int count, char **words)
     }
     set = epoll_create1(EPOLL_CLOEXEC);
     listener.fd = listen_at(words[1]);
-    if (set < 0 || listener.fd < 0 || !source_add(&listener, EPOLLIN)) {
+    watch.fd = buffers_watch();
+    if (set < 0 || listener.fd < 0 || !source_add(&listener, EPOLLIN)
+        || !source_add(&watch, EPOLLIN)) {
         fprintf(stderr, PROGRAM ": can't listen at %s: %s\n", words[1], strerror(errno));
         return 1;
     }

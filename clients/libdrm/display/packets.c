@@ -127,7 +127,7 @@ static int open_node(const struct packet *packet)
     struct connection *opened;
     int failed;
 
-    if (packet->ask.request >= NODES)
+    if (packet->ask.request >= NODE_KINDS)
         return -ENODEV;
     if (packet->ask.request == NODE_ROOT && packet->sender.uid != 0)
         return -EACCES;

@@ -3,6 +3,7 @@
 
 #include <stdio.h>
 #include <stdlib.h>
+#include <sys/stat.h>
 #include <sys/uio.h>
 
 static _Thread_local pid_t caller;
@@ -66,4 +67,29 @@ pid_t caller_process(void)
 void name_caller_descriptor(char *path, size_t room, int fd)
 {
     snprintf(path, room, "/proc/%d/fd/%d", (int)caller, fd);
+}
+
+/* Its real user, as the kernel tells the owner of its folder. */
+uid_t caller_user(void)
+{
+    char path[32];
+    struct stat status;
+
+    snprintf(path, sizeof path, "/proc/%d", (int)caller);
+    return stat(path, &status) == 0 ? status.st_uid : (uid_t)-1;
+}
+
+bool caller_name_begins(char letter)
+{
+    char path[32];
+    FILE *name;
+    int first = EOF;
+
+    snprintf(path, sizeof path, "/proc/%d/comm", (int)caller);
+    name = fopen(path, "r");
+    if (name != NULL) {
+        first = fgetc(name);
+        fclose(name);
+    }
+    return first == letter;
 }

@@ -12,14 +12,14 @@
 #include <stdlib.h>
 #include <sys/ioctl.h>
 #include <sys/syscall.h>
+#include <time.h>
 
 /* A system call that a thread answers */
 struct call {
     int listener;
     struct seccomp_notif notice;
     enum node node;                /* of an opening */
-    struct connection *connection; /* of a request, and its socket */
-    int socket;
+    struct connection *connection; /* of a request */
 };
 
 /* Resumes the caller with this result, or has the kernel carry out the call. */
@@ -70,9 +70,9 @@ static int give_descriptor(const struct call *call, int fd, uint32_t flags)
 }
 
 /* Installs the file of a connection in the caller. */
-static int give_node(const struct call *call, int socket, uint32_t flags)
+static int give_node(const struct call *call, struct connection *connection, uint32_t flags)
 {
-    int fd = node_make(socket, flags);
+    int fd = node_make(connection, flags);
 
     return fd < 0 ? fd : give_descriptor(call, fd, flags);
 }
@@ -87,13 +87,14 @@ static const __u64 *words_of_opening(const struct seccomp_notif *notice)
 static int open_node(const struct call *call)
 {
     uint32_t flags = (uint32_t)words_of_opening(&call->notice)[1];
-    int socket;
+    struct connection *opened;
+    int failed;
 
     if (flags & (O_PATH | O_DIRECTORY))
         return flags & O_PATH ? -EACCES : -ENOTDIR;
     nodes_attend();
-    socket = connection_open(call->node, false, 0, O_CLOEXEC);
-    return socket < 0 ? socket : give_node(call, socket, flags);
+    failed = connection_open(call->node, false, 0, caller_process(), &opened);
+    return failed ? failed : give_node(call, opened, flags);
 }
 
 /* Imports a descriptor of the caller, which the supervisor opens for that. */
@@ -104,7 +105,7 @@ static int import(const struct call *call, uint32_t request, struct drm_prime_ha
 
     name_caller_descriptor(path, sizeof path, fd);
     prime->fd = open(path, O_PATH | O_CLOEXEC);
-    failed = carry_out(call->connection, call->socket, request, prime);
+    failed = carry_out(call->connection, request, prime);
     if (prime->fd >= 0)
         close(prime->fd);
     prime->fd = fd;
@@ -120,7 +121,7 @@ static int hand_over(const struct call *call, uint32_t request, void *argument)
 
     switch (_IOC_NR(request)) {
     case _IOC_NR(DRM_IOCTL_MODE_CREATE_LEASE):
-        number = give_node(call, (int)lease->fd, lease->flags);
+        number = give_node(call, outcome()->opened, lease->flags);
         lease->fd = (uint32_t)number;
         break;
     case _IOC_NR(DRM_IOCTL_PRIME_HANDLE_TO_FD):
@@ -133,6 +134,28 @@ static int hand_over(const struct call *call, uint32_t request, void *argument)
     return number < 0 ? number : 0;
 }
 
+static void wait_until(int64_t time)
+{
+    struct timespec until = {(time_t)(time / SECOND), (long)(time % SECOND)};
+
+    clock_nanosleep(CLOCK_MONOTONIC, TIMER_ABSTIME, &until, NULL);
+}
+
+/* Reports a request on standard error: a failure if DRM_SERVER_TRACE is set, and a success if it is
+ * `all`. */
+static void trace(int failed)
+{
+    const char *wanted = getenv("DRM_SERVER_TRACE");
+    char line[256];
+    int length;
+
+    if (wanted == NULL || wanted[0] == '\0' || (failed == 0 && strcmp(wanted, "all") != 0))
+        return;
+    length = trace_line(line, sizeof line, failed);
+    if (write(STDERR_FILENO, line, (size_t)length) < 0)
+        return; /* nobody reads the trace */
+}
+
 /* Carries out a request with a copy of its struct. */
 static int carry_out_here(const struct call *call, uint32_t request, void *argument)
 {
@@ -140,7 +163,12 @@ static int carry_out_here(const struct call *call, uint32_t request, void *argum
 
     if (_IOC_NR(request) == _IOC_NR(DRM_IOCTL_PRIME_FD_TO_HANDLE))
         return import(call, request, argument);
-    failed = carry_out(call->connection, call->socket, request, argument);
+    do {
+        failed = carry_out(call->connection, request, argument);
+        if (outcome()->until != 0)
+            wait_until(outcome()->until);
+    } while (outcome()->is_again);
+    trace(failed);
     return failed ? failed : hand_over(call, request, argument);
 }
 
@@ -167,17 +195,13 @@ static int answer_request(const struct call *call)
 /* Returns a duplicate of the descriptor of the memory that a caller maps, or a negative errno. */
 static int mapped_memory(const struct call *call, uint64_t length, uint64_t offset)
 {
-    sigset_t before;
     uint64_t size;
-    int memory;
+    int memory = buffers_memory(call->connection, handle_at(offset), &size);
 
-    connection_lock(call->connection, &before);
-    memory = buffers_memory(&call->connection->buffers, handle_at(offset), &size);
     if (memory >= 0 && (length > size || place_at(offset) > size - length))
         memory = -EINVAL;
     if (memory >= 0)
         memory = fcntl(memory, F_DUPFD_CLOEXEC, 0);
-    connection_unlock(call->connection, &before);
     return memory;
 }
 
@@ -344,7 +368,7 @@ void answer_call(int listener, const struct seccomp_notif *notice)
         answer_request_on_memory(&call);
         return;
     }
-    call.connection = node_find((int)notice->data.args[is_mapping ? 4 : 0], &call.socket);
+    call.connection = node_find((int)notice->data.args[is_mapping ? 4 : 0]);
     if (!is_waiting(&call))
         let_go(&call);
     else if (call.connection == NULL)

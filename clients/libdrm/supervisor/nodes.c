@@ -12,7 +12,7 @@
 
 struct node_file {
     struct node_file *next;
-    int socket;
+    struct connection *connection;
     int events; /* the end of the pipe that the supervisor writes */
     dev_t device;
     ino_t file;
@@ -26,18 +26,6 @@ int nodes_begin(void)
 {
     set = epoll_create1(EPOLL_CLOEXEC);
     return set;
-}
-
-static void end_connection(int socket)
-{
-    struct connection *connection = connection_find(socket);
-
-    if (connection == NULL) {
-        close(socket);
-        return;
-    }
-    connection_close(connection, socket);
-    connection_release(connection);
 }
 
 /* Creates the pipe, and returns the caller's end. */
@@ -63,12 +51,9 @@ static int make_pipe(struct node_file *node, bool is_blocking)
 /* Adds the events of a connection and its pipe to the set. */
 static bool attend(const struct node_file *node)
 {
-    struct connection *connection = connection_find(node->socket);
     struct epoll_event due = {.events = EPOLLIN | EPOLLET}, ended = {.events = 0};
-    int timer = connection == NULL ? -1 : events_timer(&connection->events);
+    int timer = events_timer(&node->connection->events);
 
-    if (connection != NULL)
-        connection_release(connection);
     return timer >= 0 && epoll_ctl(set, EPOLL_CTL_ADD, timer, &due) == 0
            && epoll_ctl(set, EPOLL_CTL_ADD, node->events, &ended) == 0;
 }
@@ -81,13 +66,13 @@ static void enlist(struct node_file *node)
     pthread_mutex_unlock(&turn);
 }
 
-int node_make(int socket, uint32_t flags)
+int node_make(struct connection *connection, uint32_t flags)
 {
     struct node_file *node = calloc(1, sizeof *node);
     int fd = -ENOMEM;
 
     if (node != NULL) {
-        node->socket = socket;
+        node->connection = connection;
         node->events = -1;
         fd = make_pipe(node, !(flags & O_NONBLOCK));
     }
@@ -100,11 +85,11 @@ int node_make(int socket, uint32_t flags)
     if (node != NULL && node->events >= 0)
         close(node->events);
     free(node);
-    end_connection(socket);
+    connection_close(connection);
     return fd < 0 ? fd : -ENOMEM;
 }
 
-struct connection *node_find(int fd, int *socket)
+struct connection *node_find(int fd)
 {
     struct connection *found = NULL;
     const struct node_file *node;
@@ -120,8 +105,8 @@ struct connection *node_find(int fd, int *socket)
             break;
     }
     if (node != NULL) {
-        *socket = node->socket;
-        found = connection_find(node->socket);
+        found = node->connection;
+        connection_use(found);
     }
     pthread_mutex_unlock(&turn);
     return found;
@@ -132,7 +117,7 @@ static bool is_closed(const struct node_file *node)
 {
     struct pollfd end = {node->events, 0, 0};
 
-    return libc_poll(&end, 1, 0) == 1 && end.revents & POLLERR;
+    return poll(&end, 1, 0) == 1 && end.revents & POLLERR;
 }
 
 /* Returns whether the pipe has room for another event. */
@@ -146,17 +131,14 @@ static bool has_room(const struct node_file *node)
 /* Writes the events that are due, as far as the pipe has room. */
 static void deliver(const struct node_file *node)
 {
-    struct connection *connection = connection_find(node->socket);
     char event[sizeof(struct drm_event_vblank)];
     int length = sizeof event;
 
-    while (connection != NULL && length > 0 && has_room(node)) {
-        length = events_take(&connection->events, event, sizeof event);
+    while (length > 0 && has_room(node)) {
+        length = events_take(&node->connection->events, event, sizeof event);
         if (length > 0 && write(node->events, event, (size_t)length) != length)
             break;
     }
-    if (connection != NULL)
-        connection_release(connection);
 }
 
 void nodes_attend(void)
@@ -173,7 +155,7 @@ void nodes_attend(void)
             continue;
         }
         *place = node->next;
-        end_connection(node->socket);
+        connection_close(node->connection);
         close(node->events);
         free(node);
     }

@@ -102,10 +102,9 @@ static bool looks_at_descriptor(const struct seccomp_notif *notice, const struct
 {
     struct connection *connection = NULL;
     struct stat status;
-    int socket;
 
     if (form->folder != NONE && form->asked != LINK && form->asked != ACCESS)
-        connection = node_find((int)word_of(notice, form->folder), &socket);
+        connection = node_find((int)word_of(notice, form->folder));
     if (connection == NULL)
         return false;
     node_status(connection->node, &status);

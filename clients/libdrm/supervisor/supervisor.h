@@ -32,13 +32,13 @@ int begin_filter(void);
  * failure. */
 int nodes_begin(void);
 
-/* Creates the file of a connection, with these flags of open. The file owns the socket. Returns a
- * descriptor for a caller, or a negative errno. */
-int node_make(int socket, uint32_t flags);
+/* Creates the file of a connection, with these flags of open. The file owns the connection. Returns
+ * a descriptor for a caller, or a negative errno. */
+int node_make(struct connection *connection, uint32_t flags);
 
-/* Returns the connection of a descriptor of the caller, and its socket, or NULL if the descriptor
- * is not a node. connection_release follows. */
-struct connection *node_find(int fd, int *socket);
+/* Returns the connection of a descriptor of the caller, or NULL if the descriptor is not a node.
+ * connection_release follows. */
+struct connection *node_find(int fd);
 
 /* Writes the events that are due, and closes the connections whose files are closed. */
 void nodes_attend(void);
