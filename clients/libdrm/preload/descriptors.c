@@ -73,6 +73,13 @@ SHOWN ssize_t writev(int fd, const struct iovec *parts, int count)
 }
 
 
+SHOWN ssize_t pwrite(int fd, const void *bytes, size_t size, off_t offset)
+{
+    return is_not_written(fd) ? -1 : REAL(pwrite)(fd, bytes, size, offset);
+}
+
+SHOWN ALSO(pwrite64, pwrite);
+
 SHOWN void *mmap(void *address, size_t length, int protection, int flags, int fd, off_t offset)
 {
     enum node node;
@@ -133,6 +140,8 @@ SHOWN long syscall(long number, ...)
     va_end(list);
     if (number == SYS_ioctl)
         return ioctl((int)word[0], (unsigned long)word[1], (void *)word[2]);
+    if (number == SYS_write)
+        return write((int)word[0], (const void *)word[1], (size_t)word[2]);
     if (number == SYS_mmap)
         return (long)mmap((void *)word[0], (size_t)word[1], (int)word[2], (int)word[3],
                           (int)word[4], (off_t)word[5]);
