@@ -222,6 +222,7 @@ static void mapping(void)
     struct drm_gem_flink flink = {0};
     struct drm_gem_open opening = {0};
     uint32_t handle, name;
+    drm_magic_t magic = 0;
     uint64_t offset;
     uint8_t *bytes;
     pid_t child;
@@ -251,8 +252,8 @@ static void mapping(void)
     printf("flink %s\n", said(drmIoctl(fd, DRM_IOCTL_GEM_FLINK, &flink)));
     name = flink.name;
     own = open("/dev/dri/card0", O_RDWR);
-    drmDropMaster(fd);
-    drmSetMaster(own);
+    drmGetMagic(own, &magic);
+    drmAuthMagic(fd, magic);
     opening.name = name;
     printf("open by the name %s\n", said(drmIoctl(own, DRM_IOCTL_GEM_OPEN, &opening)));
     if (drmModeMapDumbBuffer(own, opening.handle, &offset) == 0) {

@@ -43,6 +43,7 @@ static pthread_mutex_t turn = PTHREAD_MUTEX_INITIALIZER;
 static struct object *objects;
 static struct export *exports;
 static uint32_t last_export;
+static struct connection *keeper;
 static int watch = -1; /* of inotify */
 static int looks;      /* how often closed exports are still looked for */
 
@@ -182,6 +183,50 @@ void buffers_forget(struct connection *connection, uint32_t handle)
     pthread_mutex_unlock(&turn);
 }
 
+static struct flock byte_of(short kind, uint32_t number)
+{
+    struct flock byte;
+
+    memset(&byte, 0, sizeof byte);
+    byte.l_type = kind;
+    byte.l_whence = SEEK_SET;
+    byte.l_start = EXPORTS + number;
+    byte.l_len = 1;
+    return byte;
+}
+
+static bool is_open(const struct export *export)
+{
+    struct flock byte = byte_of(F_WRLCK, export->number);
+
+    return fcntl(export->object->fd, F_OFD_GETLK, &byte) == 0 && byte.l_type != F_UNLCK;
+}
+
+/* Exports the object of a token again, for the keeper: a client of the render node, which can't
+ * become master. */
+static bool is_kept(struct export *export)
+{
+    struct zirkoshe_buffer buffer;
+    uint32_t token;
+    bool is_done;
+
+    if (keeper == NULL && connection_open(NODE_RENDER, false, 0, getpid(), &keeper) != 0)
+        return false;
+    if (connection_hold(keeper) != 0)
+        return false;
+    is_done = zirkoshe_drmPrimeFDToHandle(&keeper->client, export->token, &buffer) == 0;
+    if (is_done) {
+        is_done = zirkoshe_drmPrimeHandleToFD(&keeper->client, buffer.handle, &token) == 0;
+        zirkoshe_drmCloseBufferHandle(&keeper->client, buffer.handle);
+    }
+    connection_let_go(keeper, 0);
+    if (is_done) {
+        export->owner = keeper;
+        export->token = token;
+    }
+    return is_done;
+}
+
 void buffers_clear(struct connection *connection)
 {
     struct export **place = &exports, *each;
@@ -190,7 +235,7 @@ void buffers_clear(struct connection *connection)
     while (connection->buffers.first != NULL)
         forget(&connection->buffers, connection->buffers.first->handle);
     while ((each = *place) != NULL) {
-        if (each->owner != connection) {
+        if (each->owner != connection || (is_open(each) && is_kept(each))) {
             place = &each->next;
             continue;
         }
@@ -251,18 +296,6 @@ static int open_anew(int fd, int flags)
         inotify_add_watch(watch, path, IN_CLOSE);
     opened = open(path, flags);
     return opened < 0 ? -errno : opened;
-}
-
-static struct flock byte_of(short kind, uint32_t number)
-{
-    struct flock byte;
-
-    memset(&byte, 0, sizeof byte);
-    byte.l_type = kind;
-    byte.l_whence = SEEK_SET;
-    byte.l_start = EXPORTS + number;
-    byte.l_len = 1;
-    return byte;
 }
 
 static int export_object(struct connection *connection, struct object *object, uint32_t token,
@@ -351,13 +384,6 @@ int buffers_import(struct connection *connection, int fd, uint32_t *handle)
     }
     object_drop(object);
     return failed;
-}
-
-static bool is_open(const struct export *export)
-{
-    struct flock byte = byte_of(F_WRLCK, export->number);
-
-    return fcntl(export->object->fd, F_OFD_GETLK, &byte) == 0 && byte.l_type != F_UNLCK;
 }
 
 int buffers_watch(void)

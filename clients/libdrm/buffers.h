@@ -43,7 +43,8 @@ void object_drop(struct object *object);
 /* Forgets a handle that was closed. Its mappings and PRIME descriptors stay. */
 void buffers_forget(struct connection *connection, uint32_t handle);
 
-/* Forgets all handles, as the connection is closed. */
+/* Forgets all handles, as the connection is closed, and hands its open tokens to a client of the
+ * display's own, since the server closes them with their client. The connection is held. */
 void buffers_clear(struct connection *connection);
 
 /* Returns the memory of a handle, and its size, or a negative errno: EINVAL if the handle is not
