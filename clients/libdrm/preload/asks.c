@@ -12,6 +12,7 @@
 #include <fcntl.h>
 #include <pthread.h>
 #include <signal.h>
+#include <stdbool.h>
 #include <stdlib.h>
 #include <string.h>
 #include <sys/ioctl.h>
@@ -24,6 +25,8 @@
 #include <unistd.h>
 
 #define MOST_SENT 2
+/* Objects of a commit; each may be in it several times */
+#define MOST_COMMITTED 1024
 #define SECOND 1000000000
 /* How long a commit waits for earlier ones at most, as the core does for each of them */
 #define MOST_WAIT ((int64_t)10 * SECOND)
@@ -318,21 +321,39 @@ static void add_list(struct sent *sent, uint64_t address, uint64_t count, size_t
         (struct iovec){(void *)(uintptr_t)address, sent->ask.lists[at].size};
 }
 
+/* Copies to or from an address that may be wrong: a kernel answers EFAULT. Where a filter of system
+ * calls forbids that, a wrong address is a fault. */
+static int copy_safely(void *here, uint64_t there, size_t size, bool is_to_there)
+{
+    struct iovec own = {here, size}, other = {(void *)(uintptr_t)there, size};
+    ssize_t copied = is_to_there ? process_vm_writev(getpid(), &own, 1, &other, 1, 0)
+                                 : process_vm_readv(getpid(), &own, 1, &other, 1, 0);
+
+    if (copied == (ssize_t)size)
+        return 0;
+    if (copied >= 0 || (errno != EPERM && errno != ENOSYS))
+        return -EFAULT;
+    if (is_to_there)
+        memcpy(other.iov_base, here, size);
+    else
+        memcpy(here, other.iov_base, size);
+    return 0;
+}
+
 /* A commit has as many properties as its objects together. */
 static int add_commit(struct sent *sent, const struct drm_mode_atomic *commit)
 {
     uint64_t count = 0;
-    uint32_t at, one;
+    uint32_t counts[MOST_COMMITTED], at, read;
 
-    if (commit->count_objs > MOST_PACKET / sizeof one)
-        return -ENOMEM;
-    for (at = 0; commit->count_props_ptr != 0 && at < commit->count_objs; at++) {
-        memcpy(&one, (const uint8_t *)(uintptr_t)commit->count_props_ptr + at * sizeof one,
-               sizeof one);
-        count += one;
-    }
-    add_list(sent, commit->objs_ptr, commit->count_objs, sizeof(uint32_t));
-    add_list(sent, commit->count_props_ptr, commit->count_objs, sizeof(uint32_t));
+    /* an object more than a device has is unknown, and what follows it is not looked at */
+    read = commit->count_objs < MOST_COMMITTED ? commit->count_objs : MOST_COMMITTED;
+    if (read > 0 && copy_safely(counts, commit->count_props_ptr, read * sizeof *counts, false) != 0)
+        return -EFAULT;
+    for (at = 0; at < read; at++)
+        count += counts[at];
+    add_list(sent, commit->objs_ptr, read, sizeof(uint32_t));
+    add_list(sent, commit->count_props_ptr, read, sizeof(uint32_t));
     add_list(sent, commit->props_ptr, count, sizeof(uint32_t));
     add_list(sent, commit->prop_values_ptr, count, sizeof(uint64_t));
     return 0;
@@ -383,19 +404,21 @@ static int take_writes(const struct channel *channel, size_t length)
     const uint8_t *end = channel->bytes + length;
     struct list list;
     uint32_t at;
+    int failed = 0;
 
     for (at = 0; at < reply->writes && (size_t)(end - next) >= sizeof list; at++) {
         memcpy(&list, next, sizeof list);
         next += sizeof list;
         if (list.size > (size_t)(end - next))
             return -EIO;
-        memcpy((void *)(uintptr_t)list.address, next, list.size);
+        if (copy_safely((void *)(uintptr_t)next, list.address, list.size, true) != 0)
+            failed = -EFAULT;
         next += list.size;
     }
     if (reply->traced > 0 && reply->traced <= (size_t)(end - next)
         && write(STDERR_FILENO, next, reply->traced) < 0)
-        return 0; /* nobody reads the trace */
-    return 0;
+        return failed; /* nobody reads the trace */
+    return failed;
 }
 
 /* Puts the descriptor that a request made into its struct. */
