@@ -15,6 +15,9 @@
 #define PACKET_FORM 0x5a4b0001u
 #define MOST_LISTS 4
 #define MOST_PACKET (128 * 1024)
+/* Lists and writes that are longer together are in a file, whose descriptor comes with the packet. */
+#define MOST_INLINE (64 * 1024)
+#define MOST_LONG (64 * 1024 * 1024)
 
 enum ask_kind { ASK_OPEN, ASK_IOCTL, ASK_MAP };
 
@@ -23,6 +26,7 @@ enum ask_flags {
     HAS_MEMORY = 2,  /* the next one is a PRIME descriptor */
     TRACES_FAILURES = 4,
     TRACES_ALL = 8,
+    HAS_LISTS = 16, /* the last descriptor has the lists, in place of the packet */
 };
 
 /* Bytes of the caller's memory, which follow in this order. */
@@ -52,6 +56,8 @@ struct reply {
     int64_t until;   /* the caller waits until then, in nanoseconds of CLOCK_MONOTONIC, or 0, */
     uint32_t is_again; /* and asks again */
     uint32_t has_descriptor;
+    uint32_t is_long; /* the descriptor has all that follows this struct */
+    uint32_t pad;
     uint64_t place; /* of a mapping, in the descriptor's file */
 };
 

@@ -7,15 +7,17 @@
 #include <stdio.h>
 #include <stdlib.h>
 #include <sys/ioctl.h>
+#include <sys/mman.h>
 #include <sys/uio.h>
 
-#define MOST_RECEIVED 2
+#define MOST_RECEIVED 3
 
 /* A packet with what came beside it */
 struct packet {
     struct ask ask;
     const uint8_t *argument; /* the struct, */
-    const uint8_t *lists;    /* and the lists */
+    const uint8_t *lists;    /* and the lists, */
+    uint8_t *aside;          /* which may have come in a file */
     struct ucred sender;
     int received[MOST_RECEIVED];
     int count, taken;
@@ -23,7 +25,30 @@ struct packet {
 };
 
 static _Alignas(16) uint8_t room_in[MOST_PACKET];
-static _Alignas(16) uint8_t room_out[MOST_PACKET];
+static uint8_t *out; /* the answer after its struct, as long as it may be; untouched pages cost nothing */
+
+#define ROOM_OUT ((size_t)MOST_LONG + 4096)
+
+static bool has_room_out(void)
+{
+    if (out == NULL)
+        out = mmap(NULL, ROOM_OUT, PROT_READ | PROT_WRITE, MAP_PRIVATE | MAP_ANONYMOUS | MAP_NORESERVE,
+                   -1, 0);
+    return out != MAP_FAILED;
+}
+
+/* Puts a long answer into a file. */
+static int put_aside(size_t length)
+{
+    int file = memfd_create("zirkoshe-answer", MFD_CLOEXEC);
+
+    if (file >= 0 && write(file, out, length) != (ssize_t)length) {
+        close(file);
+        file = -1;
+    }
+    madvise(out, ROOM_OUT, MADV_DONTNEED);
+    return file;
+}
 
 static void take_control(struct msghdr *message, struct packet *packet)
 {
@@ -43,10 +68,29 @@ static void take_control(struct msghdr *message, struct packet *packet)
     }
 }
 
+/* Reads the lists of a packet from the last file that came with it. (It isn't mapped: its sender may
+ * make it shorter.) */
+static bool read_aside(struct packet *packet, size_t length)
+{
+    size_t taken = 0;
+    ssize_t more = 1;
+    int file = packet->count > 0 ? packet->received[--packet->count] : -1;
+
+    packet->aside = file < 0 ? NULL : malloc(length);
+    while (packet->aside != NULL && more > 0 && taken < length) {
+        more = pread(file, packet->aside + taken, length - taken, (off_t)taken);
+        taken += more > 0 ? (size_t)more : 0;
+    }
+    if (file >= 0)
+        close(file);
+    packet->lists = packet->aside;
+    return packet->aside != NULL && taken == length;
+}
+
 /* Whether its form is right: that of each kind, and as long as its parts. */
 static bool is_right(struct packet *packet, size_t length)
 {
-    size_t at, wanted = sizeof packet->ask;
+    size_t at, wanted = sizeof packet->ask, listed = 0;
 
     if (length < sizeof packet->ask)
         return false;
@@ -58,11 +102,13 @@ static bool is_right(struct packet *packet, size_t length)
         wanted += _IOC_SIZE(packet->ask.request);
     packet->lists = room_in + wanted;
     for (at = 0; at < MOST_LISTS; at++) {
-        if (packet->ask.lists[at].size > MOST_PACKET)
+        if (packet->ask.lists[at].size > MOST_LONG - listed)
             return false;
-        wanted += packet->ask.lists[at].size;
+        listed += packet->ask.lists[at].size;
     }
-    return wanted == length;
+    if (packet->ask.flags & HAS_LISTS)
+        return wanted == length && listed > MOST_INLINE && read_aside(packet, listed);
+    return wanted + listed == length;
 }
 
 /* The next descriptor that came with the packet, or -1. */
@@ -96,6 +142,7 @@ static void let_go(struct packet *packet)
 {
     while (packet->taken < packet->count)
         close(packet->received[packet->taken++]);
+    free(packet->aside);
 }
 
 /* Sends an answer with a descriptor, or with none (-1). */
@@ -106,8 +153,8 @@ static void respond(const struct packet *packet, const struct reply *reply, size
         struct cmsghdr head;
         char room[CMSG_SPACE(sizeof descriptor)];
     } control;
-    struct iovec parts[] = {{(void *)(uintptr_t)reply, sizeof *reply}, {room_out, length}};
-    struct msghdr message = {.msg_iov = parts, .msg_iovlen = 2};
+    struct iovec parts[] = {{(void *)(uintptr_t)reply, sizeof *reply}, {out, length}};
+    struct msghdr message = {.msg_iov = parts, .msg_iovlen = reply->is_long ? 1 : 2};
 
     if (descriptor >= 0) {
         memset(&control, 0, sizeof control);
@@ -172,7 +219,7 @@ static void answer_ioctl(struct packet *packet, struct connection *connection)
         prime->fd = memory;
     }
     caller_begin(&packet->ask, packet->lists, packet->sender.pid, packet->sender.uid,
-                 room_out + size, sizeof room_out - size - 512 - sizeof reply);
+                 out + size, ROOM_OUT - size - 512);
     failed = carry_out(connection, request, &argument);
     descriptor = made_descriptor(request, &argument, &failed);
     if (memory >= 0)
@@ -182,13 +229,23 @@ static void answer_ioctl(struct packet *packet, struct connection *connection)
     reply.is_again = outcome()->is_again;
     reply.has_descriptor = descriptor >= 0;
     reply.size = request & IOC_OUT ? size : 0;
-    memcpy(room_out, &argument, size);
+    memcpy(out, &argument, size);
     length = size + caller_written(&reply.writes);
     if (packet->ask.flags & (failed && !reply.is_again ? TRACES_FAILURES | TRACES_ALL : TRACES_ALL)
         && !reply.is_again)
-        reply.traced = (uint32_t)trace_line((char *)room_out + length, 512, failed);
+        reply.traced = (uint32_t)trace_line((char *)out + length, 512, failed);
     reply.size = size;
-    respond(packet, &reply, length + reply.traced, descriptor);
+    length += reply.traced;
+    if (length > MOST_INLINE && descriptor < 0) {
+        descriptor = put_aside(length);
+        reply.is_long = reply.has_descriptor = descriptor >= 0;
+        if (descriptor < 0) {
+            reply.result = -ENOMEM;
+            reply.size = reply.writes = reply.traced = 0;
+            length = 0;
+        }
+    }
+    respond(packet, &reply, length, descriptor);
     if (descriptor >= 0)
         close(descriptor);
 }
@@ -237,6 +294,20 @@ static void answer(struct packet *packet, struct file *file)
         answer_map(packet, file->connection);
 }
 
+/* Who waits for the answer to a packet that is none gets one. */
+static void refuse(struct packet *packet)
+{
+    struct reply reply = {.result = -EINVAL, .tag = packet->ask.tag};
+
+    packet->channel = packet->ask.form == PACKET_FORM
+                          ? channel_find(packet->ask.channel, packet->sender.pid)
+                          : NULL;
+    if (packet->channel == NULL)
+        return;
+    reply.channel = packet->channel->number;
+    respond(packet, &reply, 0, -1);
+}
+
 bool answer_packet(int fd, struct file *file)
 {
     struct packet packet;
@@ -244,8 +315,10 @@ bool answer_packet(int fd, struct file *file)
 
     if (length <= 0)
         return false;
-    if (is_right(&packet, (size_t)length))
+    if (is_right(&packet, (size_t)length) && has_room_out())
         answer(&packet, file);
+    else
+        refuse(&packet);
     let_go(&packet);
     return true;
 }

@@ -24,7 +24,7 @@
 #include <time.h>
 #include <unistd.h>
 
-#define MOST_SENT 2
+#define MOST_SENT 3
 /* Objects of a commit; each may be in it several times */
 #define MOST_COMMITTED 1024
 #define SECOND 1000000000
@@ -95,8 +95,8 @@ static struct channel *find_channel(int *other)
 
     *other = -1;
     if (channel == NULL) {
-        channel = mmap(NULL, sizeof *channel, PROT_READ | PROT_WRITE, MAP_PRIVATE | MAP_ANONYMOUS,
-                       -1, 0);
+        channel = REAL(mmap)(NULL, sizeof *channel, PROT_READ | PROT_WRITE, MAP_PRIVATE | MAP_ANONYMOUS,
+                             -1, 0);
         if (channel == MAP_FAILED)
             return NULL;
         channel->fd = -1;
@@ -204,7 +204,8 @@ static int exchange(int fd, struct sent *sent, struct channel **channel, size_t 
     sent->parts[0] = (struct iovec){&sent->ask, sizeof sent->ask};
     if (other >= 0) {
         sent->ask.flags |= HAS_CHANNEL;
-        sent->descriptors[1] = sent->descriptors[0];
+        memmove(sent->descriptors + 1, sent->descriptors,
+                (size_t)sent->count_descriptors * sizeof(int));
         sent->descriptors[0] = other;
         sent->count_descriptors++;
     }
@@ -315,8 +316,8 @@ static void add_list(struct sent *sent, uint64_t address, uint64_t count, size_t
         return;
     while (sent->ask.lists[at].size != 0)
         at++;
-    /* what is too long is refused as it is sent */
-    sent->ask.lists[at] = (struct list){address, count > MOST_PACKET ? MOST_PACKET : count * size};
+    /* what is too long is refused */
+    sent->ask.lists[at] = (struct list){address, count > MOST_LONG ? MOST_LONG : count * size};
     sent->parts[sent->count_parts++] =
         (struct iovec){(void *)(uintptr_t)address, sent->ask.lists[at].size};
 }
@@ -396,12 +397,45 @@ static int add_lists(struct sent *sent, uint32_t request, const void *argument)
     }
 }
 
-/* Writes what the answer has for the caller's memory, and its line of the trace. */
-static int take_writes(const struct channel *channel, size_t length)
+/* Puts long lists into a file. Returns 0 or a negative errno. */
+static int put_aside(struct sent *sent)
 {
-    const struct reply *reply = (const void *)channel->bytes;
-    const uint8_t *next = channel->bytes + sizeof *reply + reply->size;
-    const uint8_t *end = channel->bytes + length;
+    size_t length = 0;
+    int at, file;
+
+    for (at = 0; at < MOST_LISTS; at++)
+        length += sent->ask.lists[at].size;
+    if (length <= MOST_INLINE)
+        return 0;
+    file = length > MOST_LONG ? -1 : memfd_create("zirkoshe-lists", MFD_CLOEXEC);
+    if (file < 0)
+        return -ENOMEM;
+    for (at = 2; at < sent->count_parts; at++) {
+        const struct iovec *part = &sent->parts[at];
+        size_t written = 0;
+
+        while (written < part->iov_len) {
+            ssize_t more = REAL(write)(file, (const uint8_t *)part->iov_base + written,
+                                       part->iov_len - written);
+
+            if (more <= 0) {
+                close(file);
+                return more < 0 && errno == EFAULT ? -EFAULT : -ENOMEM;
+            }
+            written += (size_t)more;
+        }
+    }
+    sent->count_parts = 2;
+    sent->ask.flags |= HAS_LISTS;
+    sent->descriptors[sent->count_descriptors++] = file;
+    return 0;
+}
+
+/* Writes what the answer has for the caller's memory, and its line of the trace. */
+static int take_writes(const struct reply *reply, const uint8_t *bytes, size_t length)
+{
+    const uint8_t *next = bytes + reply->size;
+    const uint8_t *end = bytes + length;
     struct list list;
     uint32_t at;
     int failed = 0;
@@ -453,22 +487,40 @@ static int ask_once(int fd, uint32_t request, void *argument, struct reply *repl
                         .count_parts = 1};
     struct drm_prime_handle *prime = argument;
     struct channel *channel;
-    int descriptor = -1, imported, failed;
+    int descriptor = -1, imported, aside, failed;
+    uint8_t *bytes;
     size_t length;
 
     if (_IOC_SIZE(request) > 0)
         sent.parts[sent.count_parts++] = (struct iovec){argument, _IOC_SIZE(request)};
     failed = add_lists(&sent, request, argument);
+    if (!failed)
+        failed = put_aside(&sent);
     if (failed)
         return failed;
     imported = sent.ask.flags & HAS_MEMORY ? prime->fd : -1;
+    aside = sent.ask.flags & HAS_LISTS ? sent.descriptors[sent.count_descriptors - 1] : -1;
     failed = exchange(fd, &sent, &channel, &length, &descriptor);
+    if (aside >= 0)
+        close(aside);
     if (failed)
         return failed;
     memcpy(reply, channel->bytes, sizeof *reply);
-    if ((request & IOC_OUT) && reply->size == _IOC_SIZE(request))
-        memcpy(argument, channel->bytes + sizeof *reply, reply->size);
-    failed = take_writes(channel, length);
+    bytes = channel->bytes + sizeof *reply;
+    length -= sizeof *reply;
+    if (reply->is_long) {
+        length = (size_t)lseek(descriptor, 0, SEEK_END);
+        bytes = REAL(mmap)(NULL, length, PROT_READ, MAP_SHARED, descriptor, 0);
+        close(descriptor);
+        descriptor = -1;
+        if (bytes == MAP_FAILED)
+            return -ENOMEM;
+    }
+    if ((request & IOC_OUT) && reply->size == _IOC_SIZE(request) && reply->size <= length)
+        memcpy(argument, bytes, reply->size);
+    failed = take_writes(reply, bytes, length);
+    if (reply->is_long)
+        munmap(bytes, length);
     if (imported >= 0)
         prime->fd = imported;
     if (descriptor >= 0)

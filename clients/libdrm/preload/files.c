@@ -56,11 +56,28 @@ static int open_entry(const struct entry *entry, int flags)
     return opened < 0 ? fail(-opened) : opened;
 }
 
+/* Whether a path is that of a descriptor of a node, which is opened anew as a client of its own. */
+static bool is_path_of_node(const char *path, enum node *node)
+{
+    int fd, length = 0;
+
+    return path != NULL
+           && (sscanf(path, "/proc/self/fd/%d%n", &fd, &length) == 1
+               || sscanf(path, "/dev/fd/%d%n", &fd, &length) == 1)
+           && path[length] == '\0' && is_node(fd, node);
+}
+
 /* Returns whether the path is the device's. Then the result of open is in `fd`. */
 static bool opens(int folder, const char *path, int flags, int *fd)
 {
     const struct entry *entry;
+    enum node node;
 
+    if (is_path_of_node(path, &node)) {
+        *fd = ask_to_open(node, flags);
+        *fd = *fd < 0 ? fail(-*fd) : *fd;
+        return true;
+    }
     if (!find_place(folder, path, &entry))
         return false;
     *fd = entry == NULL ? fail(ENOENT) : open_entry(entry, flags);
