@@ -265,9 +265,17 @@ static int connect_to_display(void)
     return failed;
 }
 
+/* A program whose card is the root socket opens that. */
+static enum node asked_node(enum node node)
+{
+    const char *path = node_path(node), *root = node_path(NODE_ROOT);
+
+    return path != NULL && root != NULL && strcmp(path, root) == 0 ? NODE_ROOT : node;
+}
+
 int ask_to_open(enum node node, int flags)
 {
-    struct sent sent = {.ask = {.kind = ASK_OPEN, .request = node, .open_flags = (uint64_t)flags},
+    struct sent sent = {.ask = {.kind = ASK_OPEN, .request = asked_node(node), .open_flags = (uint64_t)flags},
                         .count_parts = 1};
     int fd = connect_to_display(), descriptor = -1, failed;
     struct channel *channel;
@@ -431,6 +439,22 @@ static int put_aside(struct sent *sent)
     return 0;
 }
 
+/* Writes a line of the trace, unless standard error is a node or nobody reads it. Signals are
+ * blocked, so that the one of a broken pipe can be taken back. */
+static void trace(const uint8_t *line, size_t length)
+{
+    const struct timespec at_once = {0, 0};
+    sigset_t broken, pending;
+
+    sigemptyset(&broken);
+    sigaddset(&broken, SIGPIPE);
+    if (sigpending(&pending) != 0)
+        return;
+    if (write(STDERR_FILENO, line, length) < 0 && errno == EPIPE
+        && !sigismember(&pending, SIGPIPE))
+        sigtimedwait(&broken, NULL, &at_once);
+}
+
 /* Writes what the answer has for the caller's memory, and its line of the trace. */
 static int take_writes(const struct reply *reply, const uint8_t *bytes, size_t length)
 {
@@ -449,9 +473,8 @@ static int take_writes(const struct reply *reply, const uint8_t *bytes, size_t l
             failed = -EFAULT;
         next += list.size;
     }
-    if (reply->traced > 0 && reply->traced <= (size_t)(end - next)
-        && write(STDERR_FILENO, next, reply->traced) < 0)
-        return failed; /* nobody reads the trace */
+    if (reply->traced > 0 && reply->traced <= (size_t)(end - next))
+        trace(next, reply->traced);
     return failed;
 }
 
