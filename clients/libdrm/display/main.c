@@ -12,10 +12,14 @@
 #define PROGRAM "zirkoshe-display"
 /* In one round all that is ready is seen: ends come before packets. */
 #define MOST_READY 16384
+/* Openers that have not asked yet, at most: the first of them goes if there are more. */
+#define MOST_GUESTS 256
 
 static int set = -1;
 static struct source *ended;
 static struct epoll_event ready[MOST_READY];
+static struct source *guests[MOST_GUESTS]; /* a ring */
+static unsigned next_guest;
 
 bool source_add(struct source *source, uint32_t events)
 {
@@ -43,6 +47,28 @@ static void free_ended(void)
     }
 }
 
+/* What a guest has asked is answered before it goes. */
+static void end_guest(struct source *guest)
+{
+    unsigned at;
+
+    while (answer_packet(guest->fd, NULL))
+        ;
+    for (at = 0; at < MOST_GUESTS; at++)
+        guests[at] = guests[at] == guest ? NULL : guests[at];
+    source_end(guest);
+}
+
+/* Gives a guest the place of the one that is there longest. */
+static void place_guest(struct source *guest)
+{
+    struct source **place = &guests[next_guest++ % MOST_GUESTS];
+
+    if (*place != NULL)
+        end_guest(*place);
+    *place = guest;
+}
+
 static void accept_guest(int listener)
 {
     struct source *guest = calloc(1, sizeof *guest);
@@ -50,8 +76,10 @@ static void accept_guest(int listener)
 
     if (guest != NULL && fd >= 0) {
         *guest = (struct source){.kind = SOURCE_GUEST, .fd = fd};
-        if (source_add(guest, EPOLLIN))
+        if (source_add(guest, EPOLLIN)) {
+            place_guest(guest);
             return;
+        }
     }
     if (fd >= 0)
         close(fd);
@@ -72,9 +100,7 @@ static void see_end(struct source *source)
         channel_end((struct channel *)source);
         break;
     default:
-        while (answer_packet(source->fd, NULL))
-            ;
-        source_end(source);
+        end_guest(source);
     }
 }
 
