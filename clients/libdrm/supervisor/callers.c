@@ -3,7 +3,6 @@
 
 #include <stdio.h>
 #include <stdlib.h>
-#include <sys/stat.h>
 #include <sys/uio.h>
 
 static _Thread_local pid_t caller;
@@ -47,36 +46,39 @@ int copy_text_from_caller(char *text, size_t room, uint64_t address)
     return -ENAMETOOLONG;
 }
 
-/* A task is a thread of a process. */
-pid_t caller_process(void)
+/* The first number of a line of the status of the caller, or -1. */
+static long number_in_status(const char *name)
 {
     char path[32], line[128];
     FILE *status;
-    int process = 0;
+    long number = -1;
 
     snprintf(path, sizeof path, "/proc/%d/status", (int)caller);
     status = fopen(path, "r");
     if (status == NULL)
-        return caller;
-    while (process == 0 && fgets(line, sizeof line, status) != NULL)
-        process = strncmp(line, "Tgid:", 5) == 0 ? atoi(line + 5) : 0;
+        return -1;
+    while (number < 0 && fgets(line, sizeof line, status) != NULL)
+        number = strncmp(line, name, strlen(name)) == 0 ? atol(line + strlen(name)) : -1;
     fclose(status);
-    return process == 0 ? caller : (pid_t)process;
+    return number;
+}
+
+/* A task is a thread of a process. */
+pid_t caller_process(void)
+{
+    long process = number_in_status("Tgid:");
+
+    return process < 0 ? caller : (pid_t)process;
+}
+
+uid_t caller_user(void)
+{
+    return (uid_t)number_in_status("Uid:");
 }
 
 void name_caller_descriptor(char *path, size_t room, int fd)
 {
     snprintf(path, room, "/proc/%d/fd/%d", (int)caller, fd);
-}
-
-/* Its real user, as the kernel tells the owner of its folder. */
-uid_t caller_user(void)
-{
-    char path[32];
-    struct stat status;
-
-    snprintf(path, sizeof path, "/proc/%d", (int)caller);
-    return stat(path, &status) == 0 ? status.st_uid : (uid_t)-1;
 }
 
 bool caller_name_begins(char letter)
