@@ -157,7 +157,10 @@ static void pass(int socket, int fd)
     } control = {0};
     char byte = 0;
     struct iovec part = {&byte, 1};
-    struct msghdr message = {.msg_iov = &part, .msg_iovlen = 1, .msg_control = &control, .msg_controllen = sizeof control};
+    struct msghdr message = {.msg_iov = &part,
+                             .msg_iovlen = 1,
+                             .msg_control = &control,
+                             .msg_controllen = sizeof control};
 
     control.head.cmsg_level = SOL_SOCKET;
     control.head.cmsg_type = SCM_RIGHTS;
@@ -174,7 +177,10 @@ static int received(int socket)
     } control;
     char byte;
     struct iovec part = {&byte, 1};
-    struct msghdr message = {.msg_iov = &part, .msg_iovlen = 1, .msg_control = &control, .msg_controllen = sizeof control};
+    struct msghdr message = {.msg_iov = &part,
+                             .msg_iovlen = 1,
+                             .msg_control = &control,
+                             .msg_controllen = sizeof control};
     int fd = -1;
 
     if (recvmsg(socket, &message, 0) == 1)
@@ -203,7 +209,8 @@ static void passed_events(void)
         crtc = drmModeGetCrtc(got, CRTC);
         id = crtc->buffer_id;
         usleep(50000);
-        printf("receiver's flip: %s\n", said(drmModePageFlip(got, CRTC, id, DRM_MODE_PAGE_FLIP_EVENT, (void *)5)));
+        printf("receiver's flip: %s\n",
+               said(drmModePageFlip(got, CRTC, id, DRM_MODE_PAGE_FLIP_EVENT, (void *)5)));
         tell_event("receiver", got);
         _exit(0);
     }
@@ -502,7 +509,8 @@ static void room(void)
     lit(fd, 0, 0);
     fcntl(fd, F_SETFL, O_NONBLOCK);
     for (;;) {
-        drmVBlank wait = {.request = {.type = DRM_VBLANK_RELATIVE | DRM_VBLANK_EVENT, .sequence = 1}};
+        drmVBlank wait = {
+            .request = {.type = DRM_VBLANK_RELATIVE | DRM_VBLANK_EVENT, .sequence = 1}};
 
         failed = drmWaitVBlank(fd, &wait);
         if (failed || count > 1000)
@@ -517,7 +525,8 @@ static void room(void)
         read_ones++;
     printf("read %d; ", read_ones);
     {
-        drmVBlank wait = {.request = {.type = DRM_VBLANK_RELATIVE | DRM_VBLANK_EVENT, .sequence = 1}};
+        drmVBlank wait = {
+            .request = {.type = DRM_VBLANK_RELATIVE | DRM_VBLANK_EVENT, .sequence = 1}};
 
         printf("then %s\n", said(drmWaitVBlank(fd, &wait)));
     }
@@ -533,7 +542,8 @@ static void orphan(void)
     drmModeCreateDumbBuffer(fd, 64, 64, 32, 0, &handle, &pitch, &size);
     drmPrimeHandleToFD(fd, handle, DRM_CLOEXEC | DRM_RDWR, &prime);
     close(fd);
-    printf("import after the exporter's close: %s, ", said(drmPrimeFDToHandle(other, prime, &imported)));
+    printf("import after the exporter's close: %s, ",
+           said(drmPrimeFDToHandle(other, prime, &imported)));
     printf("map %s\n", said(drmModeMapDumbBuffer(other, imported, &offset)));
 }
 
@@ -557,11 +567,25 @@ int main(int count, char **words)
     static const struct {
         const char *name;
         void (*run)(void);
-    } cases[] = {{"view", view}, {"fork", fork_events}, {"passed", passed_events}, {"mapping", mapping},
-                 {"master", master}, {"sequences", sequences}, {"busy", busy}, {"killed", killed},
-                 {"reopen", reopen}, {"reopen-ended", reopen_ended}, {"next-master", next_master},
-                 {"handler", handler}, {"limit", limit}, {"forked", forked}, {"room", room},
-                 {"orphan", orphan}, {"waits", waits}, {"look", look}, {"sequence", sequence},
+    } cases[] = {{"view", view},
+                 {"fork", fork_events},
+                 {"passed", passed_events},
+                 {"mapping", mapping},
+                 {"master", master},
+                 {"sequences", sequences},
+                 {"busy", busy},
+                 {"killed", killed},
+                 {"reopen", reopen},
+                 {"reopen-ended", reopen_ended},
+                 {"next-master", next_master},
+                 {"handler", handler},
+                 {"limit", limit},
+                 {"forked", forked},
+                 {"room", room},
+                 {"orphan", orphan},
+                 {"waits", waits},
+                 {"look", look},
+                 {"sequence", sequence},
                  {"held-flip", held_flip}};
     size_t at;
 

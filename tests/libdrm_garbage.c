@@ -50,7 +50,8 @@ static void fill(uint64_t *words, size_t count, int has_addresses)
         uint64_t value = number();
 
         if (has_addresses)
-            words[at] = rand() % 3 == 0 ? (uintptr_t)lists : (uint64_t)(rand() % 9) << 32 | (uint64_t)(rand() % 9);
+            words[at] = rand() % 3 == 0 ? (uintptr_t)lists
+                                        : (uint64_t)(rand() % 9) << 32 | (uint64_t)(rand() % 9);
         else
             words[at] = value;
     }
@@ -58,18 +59,52 @@ static void fill(uint64_t *words, size_t count, int has_addresses)
 
 static void request(int fd)
 {
-    static const unsigned long known[] = {
-        DRM_IOCTL_VERSION, DRM_IOCTL_GET_UNIQUE, DRM_IOCTL_GET_MAGIC, DRM_IOCTL_GET_CLIENT, DRM_IOCTL_SET_VERSION,
-        DRM_IOCTL_GEM_CLOSE, DRM_IOCTL_GEM_FLINK, DRM_IOCTL_GEM_OPEN, DRM_IOCTL_GET_CAP, DRM_IOCTL_SET_CLIENT_CAP,
-        DRM_IOCTL_AUTH_MAGIC, DRM_IOCTL_SET_MASTER, DRM_IOCTL_DROP_MASTER, DRM_IOCTL_PRIME_HANDLE_TO_FD,
-        DRM_IOCTL_PRIME_FD_TO_HANDLE, DRM_IOCTL_CRTC_GET_SEQUENCE, DRM_IOCTL_CRTC_QUEUE_SEQUENCE,
-        DRM_IOCTL_MODE_GETRESOURCES, DRM_IOCTL_MODE_GETCRTC, DRM_IOCTL_MODE_SETCRTC, DRM_IOCTL_MODE_CURSOR,
-        DRM_IOCTL_MODE_GETENCODER, DRM_IOCTL_MODE_GETCONNECTOR, DRM_IOCTL_MODE_GETPROPERTY, DRM_IOCTL_MODE_GETPROPBLOB,
-        DRM_IOCTL_MODE_GETFB, DRM_IOCTL_MODE_ADDFB, DRM_IOCTL_MODE_RMFB, DRM_IOCTL_MODE_PAGE_FLIP, DRM_IOCTL_MODE_DIRTYFB,
-        DRM_IOCTL_MODE_CREATE_DUMB, DRM_IOCTL_MODE_MAP_DUMB, DRM_IOCTL_MODE_DESTROY_DUMB, DRM_IOCTL_MODE_GETPLANERESOURCES,
-        DRM_IOCTL_MODE_GETPLANE, DRM_IOCTL_MODE_SETPLANE, DRM_IOCTL_MODE_ADDFB2, DRM_IOCTL_MODE_OBJ_GETPROPERTIES,
-        DRM_IOCTL_MODE_ATOMIC, DRM_IOCTL_MODE_CREATEPROPBLOB, DRM_IOCTL_MODE_DESTROYPROPBLOB, DRM_IOCTL_MODE_CREATE_LEASE,
-        DRM_IOCTL_MODE_LIST_LESSEES, DRM_IOCTL_MODE_GET_LEASE, DRM_IOCTL_MODE_REVOKE_LEASE, DRM_IOCTL_MODE_GETFB2};
+    static const unsigned long known[] = {DRM_IOCTL_VERSION,
+                                          DRM_IOCTL_GET_UNIQUE,
+                                          DRM_IOCTL_GET_MAGIC,
+                                          DRM_IOCTL_GET_CLIENT,
+                                          DRM_IOCTL_SET_VERSION,
+                                          DRM_IOCTL_GEM_CLOSE,
+                                          DRM_IOCTL_GEM_FLINK,
+                                          DRM_IOCTL_GEM_OPEN,
+                                          DRM_IOCTL_GET_CAP,
+                                          DRM_IOCTL_SET_CLIENT_CAP,
+                                          DRM_IOCTL_AUTH_MAGIC,
+                                          DRM_IOCTL_SET_MASTER,
+                                          DRM_IOCTL_DROP_MASTER,
+                                          DRM_IOCTL_PRIME_HANDLE_TO_FD,
+                                          DRM_IOCTL_PRIME_FD_TO_HANDLE,
+                                          DRM_IOCTL_CRTC_GET_SEQUENCE,
+                                          DRM_IOCTL_CRTC_QUEUE_SEQUENCE,
+                                          DRM_IOCTL_MODE_GETRESOURCES,
+                                          DRM_IOCTL_MODE_GETCRTC,
+                                          DRM_IOCTL_MODE_SETCRTC,
+                                          DRM_IOCTL_MODE_CURSOR,
+                                          DRM_IOCTL_MODE_GETENCODER,
+                                          DRM_IOCTL_MODE_GETCONNECTOR,
+                                          DRM_IOCTL_MODE_GETPROPERTY,
+                                          DRM_IOCTL_MODE_GETPROPBLOB,
+                                          DRM_IOCTL_MODE_GETFB,
+                                          DRM_IOCTL_MODE_ADDFB,
+                                          DRM_IOCTL_MODE_RMFB,
+                                          DRM_IOCTL_MODE_PAGE_FLIP,
+                                          DRM_IOCTL_MODE_DIRTYFB,
+                                          DRM_IOCTL_MODE_CREATE_DUMB,
+                                          DRM_IOCTL_MODE_MAP_DUMB,
+                                          DRM_IOCTL_MODE_DESTROY_DUMB,
+                                          DRM_IOCTL_MODE_GETPLANERESOURCES,
+                                          DRM_IOCTL_MODE_GETPLANE,
+                                          DRM_IOCTL_MODE_SETPLANE,
+                                          DRM_IOCTL_MODE_ADDFB2,
+                                          DRM_IOCTL_MODE_OBJ_GETPROPERTIES,
+                                          DRM_IOCTL_MODE_ATOMIC,
+                                          DRM_IOCTL_MODE_CREATEPROPBLOB,
+                                          DRM_IOCTL_MODE_DESTROYPROPBLOB,
+                                          DRM_IOCTL_MODE_CREATE_LEASE,
+                                          DRM_IOCTL_MODE_LIST_LESSEES,
+                                          DRM_IOCTL_MODE_GET_LEASE,
+                                          DRM_IOCTL_MODE_REVOKE_LEASE,
+                                          DRM_IOCTL_MODE_GETFB2};
     uint64_t words[64];
     unsigned long asked = known[(size_t)rand() % (sizeof known / sizeof known[0])];
 
@@ -85,7 +120,8 @@ static void request(int fd)
         commit->flags &= 0x7ff & ~0u;
         commit->flags |= DRM_MODE_ATOMIC_NONBLOCK;
         commit->count_objs = (uint32_t)(rand() % 5);
-        commit->objs_ptr = commit->count_props_ptr = commit->props_ptr = commit->prop_values_ptr = (uintptr_t)lists;
+        commit->objs_ptr = commit->count_props_ptr = commit->props_ptr = commit->prop_values_ptr =
+            (uintptr_t)lists;
         for (int at = 0; at < 16; at++)
             lists[at] = (uint64_t)(rand() % 12) << 32 | (uint64_t)(rand() % 12);
     } else {

@@ -151,8 +151,8 @@ static int carry_out_commit(struct connection *connection, const struct drm_mode
     return 0;
 }
 
-/* A commit that does not block is refused while an earlier one is not complete. The caller of one that
- * does waits for that and asks again, and then waits until it is complete itself. */
+/* A commit that does not block is refused while an earlier one is not complete. The caller of one
+ * that does waits for that and asks again, and then waits until it is complete itself. */
 int answer_atomic(struct connection *connection, void *argument)
 {
     const struct drm_mode_atomic *asked = argument;

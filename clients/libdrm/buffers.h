@@ -62,7 +62,8 @@ int buffers_import(struct connection *connection, int fd, uint32_t *handle);
 /* A descriptor that is readable when PRIME descriptors may have been closed, or -1. */
 int buffers_watch(void);
 
-/* Closes the tokens whose descriptors are all closed, if there may be any. No connection is held. */
+/* Closes the tokens whose descriptors are all closed, if there may be any. No connection is held.
+ */
 void buffers_close_tokens(void);
 
 /* The least offset of a handle's memory in its connection; which handle has an offset, 0 for none;

@@ -17,10 +17,10 @@
 struct connection {
     uint64_t cookie; /* unique */
     enum node node;
-    unsigned users;      /* its file, and each thread that found it */
-    pid_t opener;        /* the process that opened it */
-    unsigned known_at;   /* the age of the standings at which the caller was current, or 0 */
-    uint32_t known_crtc; /* a CRTC that the caller saw then, or 0 */
+    unsigned users;             /* its file, and each thread that found it */
+    pid_t opener;               /* the process that opened it */
+    unsigned known_at;          /* the age of the standings at which the caller was current, or 0 */
+    uint32_t known_crtc;        /* a CRTC that the caller saw then, or 0 */
     uint32_t leases_of_nothing; /* how many the caller made */
     bool is_lessee;             /* it was opened by a lease */
     bool is_atomic;             /* the program has the capability */

@@ -35,8 +35,8 @@ struct event {
 };
 
 struct events {
-    struct events *next; /* the next one that has a timer */
-    int timer;           /* -1 if none was needed yet */
+    struct events *next;                        /* the next one that has a timer */
+    int timer;                                  /* -1 if none was needed yet */
     int (*unread)(const struct events *events); /* how many are delivered and not read, or NULL */
     int file;                                   /* what they are delivered to */
     unsigned count;

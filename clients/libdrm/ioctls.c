@@ -22,7 +22,7 @@ struct row {
 
 #define ROW(name, answer, wants)                                                                   \
     {                                                                                              \
-        DRM_IOCTL_##name, #name, answer, false, wants                                               \
+        DRM_IOCTL_##name, #name, answer, false, wants                                              \
     }
 #define FREE_ROW(name, answer, wants)                                                              \
     {                                                                                              \

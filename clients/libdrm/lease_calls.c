@@ -25,8 +25,7 @@ static int create(struct connection *connection, const struct drm_mode_create_le
 static void take_back(struct connection *connection, uint32_t lessee_id)
 {
     if (connection_hold(connection) == 0)
-        connection_let_go(connection,
-                          zirkoshe_drmModeRevokeLease(&connection->client, lessee_id));
+        connection_let_go(connection, zirkoshe_drmModeRevokeLease(&connection->client, lessee_id));
 }
 
 /* The node on which a lease is opened: the card, whose clients are not root. */
@@ -98,8 +97,7 @@ int answer_create_lease(struct connection *connection, void *argument)
         failed = connection_let_go(connection, create(connection, asked, &lease));
     if (failed)
         return failed;
-    failed =
-        connection_open(lessee_node(connection), true, lease.token, caller_process(), &opened);
+    failed = connection_open(lessee_node(connection), true, lease.token, caller_process(), &opened);
     if (failed) {
         take_back(connection, lease.lessee_id);
         return failed;

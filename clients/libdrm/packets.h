@@ -15,7 +15,8 @@
 #define PACKET_FORM 0x5a4b0001u
 #define MOST_LISTS 4
 #define MOST_PACKET (128 * 1024)
-/* Lists and writes that are longer together are in a file, whose descriptor comes with the packet. */
+/* Lists and writes that are longer together are in a file, whose descriptor comes with the packet.
+ */
 #define MOST_INLINE (64 * 1024)
 #define MOST_LONG (64 * 1024 * 1024)
 
@@ -39,8 +40,8 @@ struct ask {
     uint32_t kind;
     uint32_t request; /* of ioctl; the node of an opening */
     uint32_t flags;
-    uint32_t channel; /* the number of the socket for answers, if it was given before */
-    uint32_t tag;     /* the answer has it too */
+    uint32_t channel;        /* the number of the socket for answers, if it was given before */
+    uint32_t tag;            /* the answer has it too */
     uint64_t offset, length; /* of a mapping */
     uint64_t open_flags;
     struct list lists[MOST_LISTS];
@@ -50,10 +51,10 @@ struct reply {
     int32_t result; /* 0 or a negative errno */
     uint32_t tag;
     uint32_t channel;
-    uint32_t size;   /* of the struct */
-    uint32_t writes; /* how many writes follow it: each a `struct list` and its bytes */
-    uint32_t traced; /* the length of the line */
-    int64_t until;   /* the caller waits until then, in nanoseconds of CLOCK_MONOTONIC, or 0, */
+    uint32_t size;     /* of the struct */
+    uint32_t writes;   /* how many writes follow it: each a `struct list` and its bytes */
+    uint32_t traced;   /* the length of the line */
+    int64_t until;     /* the caller waits until then, in nanoseconds of CLOCK_MONOTONIC, or 0, */
     uint32_t is_again; /* and asks again */
     uint32_t has_descriptor;
     uint32_t is_long; /* the descriptor has all that follows this struct */

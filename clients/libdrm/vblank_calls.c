@@ -118,8 +118,8 @@ static int begin_wait(struct connection *connection, union drm_wait_vblank *wait
     return type & _DRM_VBLANK_EVENT ? queue_vblank(connection, wait, goal) : 0;
 }
 
-/* The caller waits for it, but not for ever. If a signal interrupts it, the request as it is now asks
- * for the same one. */
+/* The caller waits for it, but not for ever. If a signal interrupts it, the request as it is now
+ * asks for the same one. */
 int answer_wait_vblank(struct connection *connection, void *argument)
 {
     union drm_wait_vblank *wait = argument;

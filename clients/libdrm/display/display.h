@@ -1,5 +1,6 @@
-/* The display: one process that has the connections to the server, one for each open file of a node,
- * and all that a driver keeps beside the rules. Programs reach it by the preloaded library. */
+/* The display: one process that has the connections to the server, one for each open file of a
+ * node, and all that a driver keeps beside the rules. Programs reach it by the preloaded library.
+ */
 #ifndef ZIRKOSHE_LIBDRM_DISPLAY_H
 #define ZIRKOSHE_LIBDRM_DISPLAY_H
 
@@ -8,7 +9,14 @@
 #include "packets.h"
 
 /* What the main loop waits for */
-enum source_kind { SOURCE_LISTENER, SOURCE_GUEST, SOURCE_FILE, SOURCE_TIMER, SOURCE_CHANNEL, SOURCE_WATCH };
+enum source_kind {
+    SOURCE_LISTENER,
+    SOURCE_GUEST,
+    SOURCE_FILE,
+    SOURCE_TIMER,
+    SOURCE_CHANNEL,
+    SOURCE_WATCH
+};
 
 struct source {
     enum source_kind kind;
@@ -27,8 +35,8 @@ struct file {
     struct connection *connection;
 };
 
-/* files.c: makes the file of a connection, with flags of open, which has the connection from now on.
- * Returns the program's end, or a negative errno. */
+/* files.c: makes the file of a connection, with flags of open, which has the connection from now
+ * on. Returns the program's end, or a negative errno. */
 int file_make(struct connection *connection, uint64_t flags);
 
 /* The file of its timer. Writes the events that are due. Ends the file. */

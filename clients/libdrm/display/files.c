@@ -49,8 +49,7 @@ static bool prepare(int fd, int other, enum node node, uint64_t flags)
     int on = 1;
 
     return name_end(fd, node) && setsockopt(fd, SOL_SOCKET, SO_PASSCRED, &on, sizeof on) == 0
-           && fcntl(fd, F_SETFL, O_NONBLOCK) == 0
-           && fcntl(other, F_SETFL, flags & O_NONBLOCK) == 0;
+           && fcntl(fd, F_SETFL, O_NONBLOCK) == 0 && fcntl(other, F_SETFL, flags & O_NONBLOCK) == 0;
 }
 
 int file_make(struct connection *connection, uint64_t flags)

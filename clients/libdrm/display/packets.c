@@ -25,15 +25,16 @@ struct packet {
 };
 
 static _Alignas(16) uint8_t room_in[MOST_PACKET];
-static uint8_t *out; /* the answer after its struct, as long as it may be; untouched pages cost nothing */
+static uint8_t
+    *out; /* the answer after its struct, as long as it may be; untouched pages cost nothing */
 
 #define ROOM_OUT ((size_t)MOST_LONG + 4096)
 
 static bool has_room_out(void)
 {
     if (out == NULL)
-        out = mmap(NULL, ROOM_OUT, PROT_READ | PROT_WRITE, MAP_PRIVATE | MAP_ANONYMOUS | MAP_NORESERVE,
-                   -1, 0);
+        out = mmap(NULL, ROOM_OUT, PROT_READ | PROT_WRITE,
+                   MAP_PRIVATE | MAP_ANONYMOUS | MAP_NORESERVE, -1, 0);
     return out != MAP_FAILED;
 }
 
@@ -68,8 +69,8 @@ static void take_control(struct msghdr *message, struct packet *packet)
     }
 }
 
-/* Reads the lists of a packet from the last file that came with it. (It isn't mapped: its sender may
- * make it shorter.) */
+/* Reads the lists of a packet from the last file that came with it. (It isn't mapped: its sender
+ * may make it shorter.) */
 static bool read_aside(struct packet *packet, size_t length)
 {
     size_t taken = 0;
@@ -218,8 +219,8 @@ static void answer_ioctl(struct packet *packet, struct connection *connection)
         memory = packet->ask.flags & HAS_MEMORY ? take_descriptor(packet) : -1;
         prime->fd = memory;
     }
-    caller_begin(&packet->ask, packet->lists, packet->sender.pid, packet->sender.uid,
-                 out + size, ROOM_OUT - size - 512);
+    caller_begin(&packet->ask, packet->lists, packet->sender.pid, packet->sender.uid, out + size,
+                 ROOM_OUT - size - 512);
     failed = carry_out(connection, request, &argument);
     descriptor = made_descriptor(request, &argument, &failed);
     if (memory >= 0)
@@ -279,11 +280,10 @@ static void answer_open(const struct packet *packet)
 
 static void answer(struct packet *packet, struct file *file)
 {
-    packet->channel = packet->ask.flags & HAS_CHANNEL
-                          ? packet->count > 0
-                                ? channel_add(take_descriptor(packet), packet->sender.pid)
-                                : NULL
-                          : channel_find(packet->ask.channel, packet->sender.pid);
+    packet->channel =
+        packet->ask.flags & HAS_CHANNEL
+            ? packet->count > 0 ? channel_add(take_descriptor(packet), packet->sender.pid) : NULL
+            : channel_find(packet->ask.channel, packet->sender.pid);
     if (packet->channel == NULL || (packet->ask.kind == ASK_OPEN) != (file == NULL))
         return;
     if (packet->ask.kind == ASK_OPEN)

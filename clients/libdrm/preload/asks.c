@@ -95,8 +95,8 @@ static struct channel *find_channel(int *other)
 
     *other = -1;
     if (channel == NULL) {
-        channel = REAL(mmap)(NULL, sizeof *channel, PROT_READ | PROT_WRITE, MAP_PRIVATE | MAP_ANONYMOUS,
-                             -1, 0);
+        channel = REAL(mmap)(NULL, sizeof *channel, PROT_READ | PROT_WRITE,
+                             MAP_PRIVATE | MAP_ANONYMOUS, -1, 0);
         if (channel == MAP_FAILED)
             return NULL;
         channel->fd = -1;
@@ -178,7 +178,8 @@ static int take_answer(struct channel *channel, size_t *length, int *descriptor)
         if (taken < (ssize_t)sizeof *reply)
             return -ENODEV;
         *descriptor = -1;
-        if (head != NULL && head->cmsg_type == SCM_RIGHTS && head->cmsg_len == CMSG_LEN(sizeof(int)))
+        if (head != NULL && head->cmsg_type == SCM_RIGHTS
+            && head->cmsg_len == CMSG_LEN(sizeof(int)))
             memcpy(descriptor, CMSG_DATA(head), sizeof *descriptor);
         *length = (size_t)taken;
         if (reply->tag == channel->tag)
@@ -275,8 +276,9 @@ static enum node asked_node(enum node node)
 
 int ask_to_open(enum node node, int flags)
 {
-    struct sent sent = {.ask = {.kind = ASK_OPEN, .request = asked_node(node), .open_flags = (uint64_t)flags},
-                        .count_parts = 1};
+    struct sent sent = {
+        .ask = {.kind = ASK_OPEN, .request = asked_node(node), .open_flags = (uint64_t)flags},
+        .count_parts = 1};
     int fd = connect_to_display(), descriptor = -1, failed;
     struct channel *channel;
     struct state before;
@@ -450,8 +452,7 @@ static void trace(const uint8_t *line, size_t length)
     sigaddset(&broken, SIGPIPE);
     if (sigpending(&pending) != 0)
         return;
-    if (write(STDERR_FILENO, line, length) < 0 && errno == EPIPE
-        && !sigismember(&pending, SIGPIPE))
+    if (write(STDERR_FILENO, line, length) < 0 && errno == EPIPE && !sigismember(&pending, SIGPIPE))
         sigtimedwait(&broken, NULL, &at_once);
 }
 
@@ -483,8 +484,8 @@ static void put_descriptor(uint32_t request, void *argument, int descriptor)
 {
     struct drm_mode_create_lease *lease = argument;
     struct drm_prime_handle *prime = argument;
-    uint32_t flags = _IOC_NR(request) == _IOC_NR(DRM_IOCTL_MODE_CREATE_LEASE) ? lease->flags
-                                                                              : prime->flags;
+    uint32_t flags =
+        _IOC_NR(request) == _IOC_NR(DRM_IOCTL_MODE_CREATE_LEASE) ? lease->flags : prime->flags;
 
     if (!(flags & O_CLOEXEC))
         fcntl(descriptor, F_SETFD, 0);

@@ -72,7 +72,6 @@ SHOWN ssize_t writev(int fd, const struct iovec *parts, int count)
     return is_not_written(fd) ? -1 : REAL(writev)(fd, parts, count);
 }
 
-
 SHOWN ssize_t pwrite(int fd, const void *bytes, size_t size, off_t offset)
 {
     return is_not_written(fd) ? -1 : REAL(pwrite)(fd, bytes, size, offset);
