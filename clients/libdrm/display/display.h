@@ -15,7 +15,8 @@ enum source_kind {
     SOURCE_FILE,
     SOURCE_TIMER,
     SOURCE_CHANNEL,
-    SOURCE_WATCH
+    SOURCE_WATCH,
+    SOURCE_END
 };
 
 struct source {

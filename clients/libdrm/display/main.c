@@ -1,11 +1,14 @@
 /* zirkoshe-display SOCKET: what programs with the preloaded library see of the server. The
- * environment names the server's sockets. It runs until it gets a signal. */
+ * environment names the server's sockets. It runs until SIGTERM or SIGINT, and ends between two
+ * requests. */
 #include "display.h"
 
 #include <stdio.h>
+#include <signal.h>
 #include <stdlib.h>
 #include <sys/epoll.h>
 #include <sys/resource.h>
+#include <sys/signalfd.h>
 #include <sys/stat.h>
 #include <sys/un.h>
 
@@ -20,6 +23,7 @@ static struct source *ended;
 static struct epoll_event ready[MOST_READY];
 static struct source *guests[MOST_GUESTS]; /* a ring */
 static unsigned next_guest;
+static bool is_to_end;
 
 bool source_add(struct source *source, uint32_t events)
 {
@@ -125,6 +129,9 @@ static void see_ready(struct source *source)
     case SOURCE_WATCH:
         buffers_close_tokens();
         break;
+    case SOURCE_END:
+        is_to_end = true;
+        break;
     case SOURCE_CHANNEL:
         break;
     }
@@ -132,7 +139,7 @@ static void see_ready(struct source *source)
 
 static void run(void)
 {
-    for (;;) {
+    while (!is_to_end) {
         int count = epoll_wait(set, ready, MOST_READY, -1), at;
 
         for (at = 0; at < count; at++) {
@@ -172,7 +179,9 @@ static int listen_at(const char *path)
 
 int main(int count, char **words)
 {
-    static struct source listener = {.kind = SOURCE_LISTENER}, watch = {.kind = SOURCE_WATCH};
+    static struct source listener = {.kind = SOURCE_LISTENER}, watch = {.kind = SOURCE_WATCH},
+                         end = {.kind = SOURCE_END};
+    sigset_t ends;
     struct rlimit most;
 
     if (count != 2) {
@@ -185,9 +194,14 @@ int main(int count, char **words)
     }
     set = epoll_create1(EPOLL_CLOEXEC);
     listener.fd = listen_at(words[1]);
+    sigemptyset(&ends);
+    sigaddset(&ends, SIGTERM);
+    sigaddset(&ends, SIGINT);
+    sigprocmask(SIG_BLOCK, &ends, NULL);
+    end.fd = signalfd(-1, &ends, SFD_CLOEXEC);
     watch.fd = buffers_watch();
     if (set < 0 || listener.fd < 0 || !source_add(&listener, EPOLLIN)
-        || !source_add(&watch, EPOLLIN)) {
+        || !source_add(&watch, EPOLLIN) || !source_add(&end, EPOLLIN)) {
         fprintf(stderr, PROGRAM ": can't listen at %s: %s\n", words[1], strerror(errno));
         return 1;
     }
