@@ -71,9 +71,23 @@ static void end_thread(void *given)
     own = NULL;
 }
 
+/* A channel of the process, for threads that can't make one at the limit of descriptors: they use
+ * it in turn. */
+static struct channel spare = {.fd = -1};
+static pthread_mutex_t spare_turn = PTHREAD_MUTEX_INITIALIZER;
+static _Thread_local bool has_spare __attribute__((tls_model("initial-exec")));
+
+/* A thread that the child doesn't have may have had the turn. The child makes a spare of its own.
+ */
+static void begin_anew(void)
+{
+    pthread_mutex_init(&spare_turn, NULL);
+}
+
 __attribute__((constructor)) static void begin(void)
 {
     pthread_key_create(&at_end, end_thread);
+    pthread_atfork(NULL, NULL, begin_anew);
 }
 
 /* Keeps a descriptor out of the program's way. */
@@ -87,11 +101,25 @@ static int hide(int fd)
     return hidden;
 }
 
+/* Makes the two ends of a channel. */
+static bool make_pair(struct channel *channel, int *other)
+{
+    int ends[2];
+
+    let_go(channel);
+    if (socketpair(AF_UNIX, SOCK_SEQPACKET | SOCK_CLOEXEC, 0, ends) != 0)
+        return false;
+    channel->fd = hide(ends[0]);
+    channel->cookie = cookie_of(channel->fd);
+    channel->process = getpid();
+    *other = ends[1];
+    return true;
+}
+
 /* The thread's channel, and the end for the display if it is new (or else -1); NULL with errno. */
 static struct channel *find_channel(int *other)
 {
     struct channel *channel = own;
-    int ends[2];
 
     *other = -1;
     if (channel == NULL) {
@@ -105,14 +133,23 @@ static struct channel *find_channel(int *other)
     }
     if (channel->fd >= 0 && channel->process == getpid() && is_there(channel))
         return channel;
-    let_go(channel);
-    if (socketpair(AF_UNIX, SOCK_SEQPACKET | SOCK_CLOEXEC, 0, ends) != 0)
-        return NULL;
-    channel->fd = hide(ends[0]);
-    channel->cookie = cookie_of(channel->fd);
-    channel->process = getpid();
-    *other = ends[1];
-    return channel;
+    return make_pair(channel, other) ? channel : NULL;
+}
+
+/* The spare, which the thread has until it is let, or NULL with errno. */
+static struct channel *take_spare(void)
+{
+    int error = errno;
+
+    if ((error == EMFILE || error == ENFILE) && spare.process == getpid()) {
+        pthread_mutex_lock(&spare_turn);
+        has_spare = is_there(&spare);
+        if (has_spare)
+            return &spare;
+        pthread_mutex_unlock(&spare_turn);
+    }
+    errno = error;
+    return NULL;
 }
 
 /* What a request sends: the struct, the lists, and descriptors. */
@@ -189,19 +226,16 @@ static int take_answer(struct channel *channel, size_t *length, int *descriptor)
     }
 }
 
-/* Sends a packet, and takes its answer, with a descriptor or -1. Returns 0 or a negative errno, and
- * then there is no answer. */
-static int exchange(int fd, struct sent *sent, struct channel **channel, size_t *length,
-                    int *descriptor)
+/* Sends a packet, and takes its answer on a channel, with a descriptor or -1. Returns 0 or a
+ * negative errno, and then there is no answer. */
+static int exchange_by(struct channel *channel, int other, int fd, struct sent *sent,
+                       size_t *length, int *descriptor)
 {
-    int other, failed;
+    int failed;
 
-    *channel = find_channel(&other);
-    if (*channel == NULL)
-        return -errno;
     sent->ask.form = PACKET_FORM;
-    sent->ask.channel = (*channel)->number;
-    sent->ask.tag = ++(*channel)->tag;
+    sent->ask.channel = channel->number;
+    sent->ask.tag = ++channel->tag;
     sent->parts[0] = (struct iovec){&sent->ask, sizeof sent->ask};
     if (other >= 0) {
         sent->ask.flags |= HAS_CHANNEL;
@@ -214,12 +248,24 @@ static int exchange(int fd, struct sent *sent, struct channel **channel, size_t 
     if (other >= 0)
         close(other);
     if (!failed)
-        failed = take_answer(*channel, length, descriptor);
+        failed = take_answer(channel, length, descriptor);
     if (failed && failed != -EMFILE)
-        let_go(*channel);
+        let_go(channel);
     else
-        (*channel)->number = ((const struct reply *)(void *)(*channel)->bytes)->channel;
+        channel->number = ((const struct reply *)(void *)channel->bytes)->channel;
     return failed;
+}
+
+/* The same on the thread's channel. */
+static int exchange(int fd, struct sent *sent, struct channel **channel, size_t *length,
+                    int *descriptor)
+{
+    int other;
+
+    *channel = find_channel(&other);
+    if (*channel == NULL)
+        *channel = take_spare();
+    return *channel == NULL ? -errno : exchange_by(*channel, other, fd, sent, length, descriptor);
 }
 
 /* Blocks what could come between, or lets it. Signals of faults arrive at once. */
@@ -243,6 +289,10 @@ static void hold(struct state *before)
 
 static void let(const struct state *before)
 {
+    if (has_spare) {
+        has_spare = false;
+        pthread_mutex_unlock(&spare_turn);
+    }
     pthread_sigmask(SIG_SETMASK, &before->signals, NULL);
     pthread_setcancelstate(before->cancelling, NULL);
 }
@@ -264,6 +314,22 @@ static int connect_to_display(void)
     failed = errno == EACCES ? -EACCES : -ENODEV;
     close(fd);
     return failed;
+}
+
+/* Makes the spare channel, which the display learns by a packet that it refuses. */
+static void make_spare(int fd)
+{
+    struct sent sent = {.ask = {.kind = ASK_MAP}, .count_parts = 1};
+    struct state before;
+    int descriptor, other;
+    size_t length;
+
+    hold(&before);
+    pthread_mutex_lock(&spare_turn);
+    if ((spare.process != getpid() || !is_there(&spare)) && make_pair(&spare, &other))
+        exchange_by(&spare, other, fd, &sent, &length, &descriptor);
+    pthread_mutex_unlock(&spare_turn);
+    let(&before);
 }
 
 /* A program whose card is the root socket opens that. */
@@ -292,6 +358,8 @@ int ask_to_open(enum node node, int flags)
         failed = ((const struct reply *)(void *)channel->bytes)->result;
     let(&before);
     close(fd);
+    if (descriptor >= 0)
+        make_spare(descriptor);
     if (descriptor >= 0 && !(flags & O_CLOEXEC))
         fcntl(descriptor, F_SETFD, 0);
     return failed ? failed : descriptor;
