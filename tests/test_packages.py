@@ -442,14 +442,17 @@ class DebianTests(FolderCase):
         expect("error output, status and output", (told, ran.returncode, ran.stdout), ([], 0, wanted.stdout))
 
     def test_debian_package_has_what_is_compiled(self):
-        """Neither the program, the library for libdrm programs nor the supervisor is compiled at the first use."""
+        """Neither the program nor the library, display and supervisor for libdrm programs are compiled at the first use."""
         _, root = debian_package(self.folder)
         lib = root / "usr/lib/zirkoshe"
         without = {**os.environ, "DRM_SERVER_PROGRAM": "", "CC": "false"}
-        library = lib / "clients/libdrm/out/libzirkoshe_libdrm.so"
-        expect_end(run(lib / "clients/libdrm/build", env=without), 0, "", f"{library}\n")
-        supervisor = lib / "clients/libdrm/out/supervisor"
-        expect_end(run(lib / "clients/libdrm/build", "--supervisor", env=without), 0, "", f"{supervisor}\n")
+        for options, name in (
+            ([], "libzirkoshe_libdrm.so"),
+            (["--display"], "zirkoshe-display"),
+            (["--supervisor"], "supervisor"),
+        ):
+            built = run(lib / "clients/libdrm/build", *options, env=without)
+            expect_end(built, 0, "", f"{lib}/clients/libdrm/out/{name}\n")
         expect_end(run(root / "usr/bin/drm_server", "--program", env=without), 0, "", f"{lib}/bin/drm_server_main\n")
         asked = "import zirkoshe.server as s; server = s.Server(); print(server.__enter__() is server); server.__exit__(None, None, None)"
         packages = str(root / "usr/lib/python3/dist-packages")
@@ -468,7 +471,7 @@ OF_THE_WHEEL = """
 import os, subprocess
 from zirkoshe import Client, Denied
 from zirkoshe.page import text_of
-from zirkoshe.server import Server, find_library, find_program
+from zirkoshe.server import Server, find_display, find_library, find_program
 
 with Server(cards=64) as server:
     with Client(server.card) as owner:
@@ -482,7 +485,7 @@ with Server(cards=64) as server:
     words = ["modetest", "-M", "zirkoshe", "-e"]
     shown = subprocess.run(words, env={**os.environ, **server.libdrm_environment}, stdout=subprocess.PIPE, text=True)
     print(shown.stdout.count("Virtual"))
-print(find_program().count("site-packages"), find_library().count("site-packages"))
+print(*(found().count("site-packages") for found in (find_program, find_library, find_display)))
 print(text_of("steps.html").splitlines()[0])
 """
 
@@ -502,7 +505,7 @@ class WheelTests(FolderCase):
         expect("what pip says", (installed.returncode, installed.stdout), (0, ""))
         environment = {name: value for name, value in os.environ.items() if not name.startswith(("DRM_", "PYTHON"))}
         ran = run(python, "-c", OF_THE_WHEEL, cwd=self.folder, env=environment)
-        expect_end(ran, 0, "", "denied 30 NoModeObject 2 (ENOENT)\n2\n1 1\n<!DOCTYPE html>\n")
+        expect_end(ran, 0, "", "denied 30 NoModeObject 2 (ENOENT)\n2\n1 1 1\n<!DOCTYPE html>\n")
 
 
 if __name__ == "__main__":

@@ -90,22 +90,32 @@ def find_program() -> str:
 
 
 def find_library() -> str:
-    """Returns the library that connects unchanged libdrm programs to a server.
+    """Returns the library that connects unchanged libdrm programs to a display.
 
     It is the one in this package if it was installed from a wheel. Otherwise that of
     this checkout or archive is compiled, if it is not there yet.
     """
-    packed = PACKAGE / "lib" / "libzirkoshe_libdrm.so"
+    return _find_compiled("libzirkoshe_libdrm.so")
+
+
+def find_display() -> str:
+    """Returns the display, which connects that library to a server, likewise."""
+    return _find_compiled("zirkoshe-display", "--display")
+
+
+def _find_compiled(name: str, *options: str) -> str:
+    """Returns a file of this package, or the one that the build script compiles."""
+    packed = PACKAGE / "lib" / name
     if packed.is_file():
         return str(packed)
     build = PACKAGE.parents[1] / "libdrm" / "build"
     if not build.is_file():
         raise ServerError(
-            "can't find the library for libdrm programs: install a wheel of "
-            "tools/wheel, or use the package of an archive"
+            f"can't find {name}: install a wheel of tools/wheel, or use the package "
+            "of an archive"
         )
     asked = subprocess.run(
-        [str(build)],
+        [str(build), *options],
         stdin=subprocess.DEVNULL,
         stdout=subprocess.PIPE,
         check=False,
@@ -145,6 +155,7 @@ class Server:
         self.folder = tempfile.mkdtemp(prefix="drm-server-")
         self._log: Optional[IO[bytes]] = None
         self._process: "Optional[subprocess.Popen[bytes]]" = None
+        self._display: "Optional[subprocess.Popen[bytes]]" = None
         self.card, self.render, self.root = map(self._path, CLASSES)
         self.control = self._path("control") if control else None
         counts = _counts_of(cards, renders, roots)
@@ -160,7 +171,8 @@ class Server:
             served.append(self.control)
         try:
             self._start(program, counts, options)
-            self._wait_until_it_listens(served)
+            assert self._process is not None
+            self._wait_until_it_listens("server", self._process, served)
         except BaseException:
             self._kill()
             self._clean()
@@ -204,13 +216,22 @@ class Server:
     def libdrm_environment(self) -> Dict[str, str]:
         """The variables for an unchanged program that calls libdrm.
 
-        They are those of `environment`, and LD_PRELOAD with the library that connects
-        the program's /dev/dri to this server. There is no DRM_SERVER_RENDER, so the
-        program finds a card and no render node. Many expect a GPU if they find one. Add
-        it from `environment` for a program that needs the node.
+        They are those of `environment`, DRM_SERVER_DISPLAY, and LD_PRELOAD with the
+        library that connects the program's /dev/dri to this server. The first use
+        starts the display that DRM_SERVER_DISPLAY names. It ends with the server.
+
+        There is no DRM_SERVER_RENDER, so the program finds a card and no render node.
+        Many expect a GPU if they find one. Add it from `environment` for a program that
+        needs the node.
         """
         loaded = filter(None, (find_library(), os.environ.get("LD_PRELOAD")))
-        variables = {**self.environment, "LD_PRELOAD": " ".join(loaded)}
+        variables = {
+            **self.environment,
+            "DRM_SERVER_DISPLAY": self._path("display"),
+            "LD_PRELOAD": " ".join(loaded),
+        }
+        if self._display is None and self._process is not None:
+            self._start_display(variables["DRM_SERVER_DISPLAY"])
         del variables["DRM_SERVER_RENDER"]
         return variables
 
@@ -276,6 +297,7 @@ class Server:
         if self._process is None:
             return self.listing
         process, self._process = self._process, None
+        self._end_display()
         try:
             output = self._output_of(process)
             self.listing = output.decode()
@@ -336,20 +358,47 @@ class Server:
         except OSError as error:
             raise ServerError(f"can't run {command[0]}: {error.strerror}") from error
 
-    def _wait_until_it_listens(self, paths: Iterable[str]) -> None:
-        """Waits for the server, and uses up none of its connections."""
-        assert self._process is not None
+    def _start_display(self, path: str) -> None:
+        """Starts a display, whose errors are in the server's log."""
+        display = subprocess.Popen(
+            [find_display(), path],
+            env={**os.environ, **self.environment},
+            stdin=subprocess.DEVNULL,
+            stdout=subprocess.DEVNULL,
+            stderr=self._log,
+            start_new_session=True,
+        )
+        self._display = display
+        self._wait_until_it_listens("display", display, [path])
+
+    def _end_display(self) -> None:
+        if self._display is not None:
+            display, self._display = self._display, None
+            display.terminate()
+            try:
+                display.wait(STOP_SECONDS)
+            except subprocess.TimeoutExpired:
+                display.kill()
+                display.wait()
+
+    def _wait_until_it_listens(
+        self,
+        what: str,
+        process: "subprocess.Popen[bytes]",
+        paths: Iterable[str],
+    ) -> None:
+        """Waits for the server or the display, and uses up no connection."""
         expected = set(map(os.fsencode, paths))
         until = time.monotonic() + START_SECONDS
         while not expected.issubset(listening()):
-            if self._process.poll() is not None:
+            if process.poll() is not None:
                 raise ServerError(
-                    f"the server exited with status {self._process.returncode} before "
+                    f"the {what} exited with status {process.returncode} before "
                     f"it listened{self._logged()}"
                 )
             if time.monotonic() > until:
                 raise ServerError(
-                    f"the server didn't listen within {START_SECONDS:g} seconds"
+                    f"the {what} didn't listen within {START_SECONDS:g} seconds"
                     f"{self._logged()}"
                 )
             time.sleep(0.005)
@@ -363,6 +412,7 @@ class Server:
         return f": {logged}" if logged else ""
 
     def _kill(self) -> None:
+        self._end_display()
         if self._process is not None:
             process, self._process = self._process, None
             process.kill()
