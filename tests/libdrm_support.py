@@ -2,6 +2,7 @@
 import contextlib
 import os
 import pathlib
+import socket
 import subprocess
 import sys
 import time
@@ -20,6 +21,8 @@ from support import (  # noqa: E402
     server,
     want_libdrm,
 )
+
+from zirkoshe.server import listening  # noqa: E402
 
 LIBRARY = CLIENTS / "libdrm"
 LOGIND = LIBRARY / "logind"
@@ -79,7 +82,8 @@ def want_logind():
 def environment(folder, **variables):
     """The environment of a program that finds the server in this folder behind libdrm."""
     sockets = {f"DRM_SERVER_{name.upper()}": str(folder / name) for name in CLASSES}
-    return {**os.environ, "LD_PRELOAD": library(), "DRM_SERVER_DISPLAY": str(folder / "display"), **sockets, **variables}
+    own = {"LD_PRELOAD": library(), "DRM_SERVER_DISPLAY": str(folder / "display")}
+    return {**os.environ, **own, **sockets, **variables}
 
 
 def wait_until(holds):
@@ -92,22 +96,31 @@ def wait_until(holds):
 
 
 @contextlib.contextmanager
+def displayed(folder):
+    """A display of the server in this folder, and the socket on which a supervisor speaks for its callers."""
+    sockets = {f"DRM_SERVER_{name.upper()}": str(folder / name) for name in CLASSES}
+    path = folder / "display"
+    channel, other = socket.socketpair(socket.AF_UNIX, socket.SOCK_SEQPACKET)
+    with channel, other:
+        words = [display(), path, str(other.fileno())]
+        with subprocess.Popen(words, env={**os.environ, **sockets}, pass_fds=[other.fileno()]) as displaying:
+            other.close()
+            wait_until(lambda: os.fsencode(path) in listening())
+            try:
+                yield channel
+            finally:
+                displaying.terminate()
+        expect("status of the display", displaying.returncode, 0)
+
+
+@contextlib.contextmanager
 def served(folder, cards=64, renders=8, roots=8, more=()):
-    """A server in this folder, once it listens."""
+    """A server in this folder, once it listens, with a display."""
     with server(folder, cards, renders, roots, more=more) as started:
         wait_until(lambda: all((folder / name).exists() for name in CLASSES))
         connect(folder / "root").close()
-        sockets = {f"DRM_SERVER_{name.upper()}": str(folder / name) for name in CLASSES}
-        path = folder / "display"
-        path.unlink(missing_ok=True)
-        displaying = subprocess.Popen([display(), str(path)], env={**os.environ, **sockets})
-        try:
-            wait_until(path.exists)
+        with displayed(folder):
             yield started
-        finally:
-            displaying.terminate()
-            displaying.wait()
-            path.unlink(missing_ok=True)
 
 
 def in_time(run_once):

@@ -239,7 +239,7 @@ static inline int zirkoshe_try_connect(int fd, const struct sockaddr_un *address
             return -errno;
         if (zirkoshe_now() >= until)
             return -ETIMEDOUT;
-        poll(NULL, 0, 10);
+        ZIRKOSHE_POLL(NULL, 0, 10);
     }
     return 0;
 }

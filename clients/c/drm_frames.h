@@ -132,6 +132,11 @@ static inline int64_t zirkoshe_now(void)
 #endif
 }
 
+/* A program with a loop of its own may wait by another function with the arguments of poll. */
+#ifndef ZIRKOSHE_POLL
+#define ZIRKOSHE_POLL poll
+#endif
+
 /* Waits until the socket is ready for these events, until a time. */
 static inline int zirkoshe_wait(int fd, short events, int64_t until)
 {
@@ -141,7 +146,7 @@ static inline int zirkoshe_wait(int fd, short events, int64_t until)
 
     if (left <= 0)
         return -ETIMEDOUT;
-    ready = poll(&waited, 1, left < 1000 ? ZIRKOSHE_CAST(int, left) : 1000);
+    ready = ZIRKOSHE_POLL(&waited, 1, left < 1000 ? ZIRKOSHE_CAST(int, left) : 1000);
     return ready < 0 && errno != EINTR ? -errno : 0;
 }
 
@@ -154,14 +159,13 @@ static inline bool zirkoshe_is_not_ready(int error)
 static inline int zirkoshe_send_all(int fd, const unsigned char *bytes, size_t size, int64_t until)
 {
     while (size > 0) {
-        ssize_t sent;
-        int failed = zirkoshe_wait(fd, POLLOUT, until);
+        ssize_t sent = send(fd, bytes, size, MSG_NOSIGNAL);
+        int failed = 0;
 
+        if (sent < 0)
+            failed = zirkoshe_is_not_ready(errno) ? zirkoshe_wait(fd, POLLOUT, until) : -errno;
         if (failed)
             return failed;
-        sent = send(fd, bytes, size, MSG_NOSIGNAL);
-        if (sent < 0 && !zirkoshe_is_not_ready(errno))
-            return -errno;
         if (sent > 0) {
             bytes += sent;
             size -= ZIRKOSHE_CAST(size_t, sent);
@@ -175,16 +179,15 @@ static inline int zirkoshe_take_all(int fd, unsigned char *bytes, size_t size, i
                                     int at_end)
 {
     while (size > 0) {
-        ssize_t taken;
-        int failed = zirkoshe_wait(fd, POLLIN, until);
+        ssize_t taken = recv(fd, bytes, size, 0);
+        int failed = 0;
 
-        if (failed)
-            return failed;
-        taken = recv(fd, bytes, size, 0);
         if (taken == 0)
             return at_end;
-        if (taken < 0 && !zirkoshe_is_not_ready(errno))
-            return -errno;
+        if (taken < 0)
+            failed = zirkoshe_is_not_ready(errno) ? zirkoshe_wait(fd, POLLIN, until) : -errno;
+        if (failed)
+            return failed;
         if (taken > 0) {
             bytes += taken;
             size -= ZIRKOSHE_CAST(size_t, taken);

@@ -42,7 +42,7 @@ int give_connector_properties(struct connection *connection,
 /* atomic_calls.c */
 answer answer_atomic;
 
-/* lease_calls.c; the making of a lease holds the connection itself, since it opens another one */
+/* lease_calls.c */
 answer answer_list_lessees, answer_get_lease, answer_revoke_lease, answer_create_lease;
 
 /* vblank_calls.c */

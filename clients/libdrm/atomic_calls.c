@@ -70,7 +70,7 @@ static int reserve_events(const struct commit *commit)
         return 0;
     if (count == 0)
         return -EINVAL;
-    return events_have_room_for(&commit->connection->events, count) ? 0 : -ENOMEM;
+    return events_have_room(&commit->connection->events, count) ? 0 : -ENOMEM;
 }
 
 /* The time at which all CRTCs of the commit have completed their last flips, or 0. */
@@ -116,7 +116,7 @@ static void complete(const struct commit *commit, uint64_t user_data)
     }
 }
 
-/* Carries a commit out while the connection is held. `due` is when its CRTCs have completed what
+/* Carries a commit out. `due` is when its CRTCs have completed what
  * they were asked for, or 0. */
 static int carry_out_commit(struct connection *connection, const struct drm_mode_atomic *asked,
                             int64_t *due)

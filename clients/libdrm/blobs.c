@@ -16,8 +16,6 @@ struct blob {
     uint8_t bytes[];
 };
 
-/* No other turn is taken by a thread that has it. */
-static pthread_mutex_t turn = PTHREAD_MUTEX_INITIALIZER;
 static struct blob *blobs;
 static uint32_t last_id = FIRST_ID;
 static uint32_t formats_id;
@@ -65,36 +63,27 @@ static void drop(struct blob **place)
 int blob_create(const struct connection *connection, const void *bytes, uint32_t size,
                 uint32_t *blob_id)
 {
-    pthread_mutex_lock(&turn);
     *blob_id = create(connection->cookie, bytes, size);
-    pthread_mutex_unlock(&turn);
     return *blob_id != 0 ? 0 : -ENOMEM;
 }
 
 int blob_destroy(const struct connection *connection, uint32_t blob_id)
 {
-    struct blob **place;
-    int failed = 0;
+    struct blob **place = find(blob_id);
 
-    pthread_mutex_lock(&turn);
-    place = find(blob_id);
     if (*place == NULL)
-        failed = -ENOENT;
-    else if ((*place)->owner != connection->cookie)
-        failed = -EPERM;
-    if (!failed) {
-        (*place)->owner = 0;
-        drop(place);
-    }
-    pthread_mutex_unlock(&turn);
-    return failed;
+        return -ENOENT;
+    if ((*place)->owner != connection->cookie)
+        return -EPERM;
+    (*place)->owner = 0;
+    drop(place);
+    return 0;
 }
 
 void blobs_end(const struct connection *connection)
 {
     struct blob **place = &blobs, *blob;
 
-    pthread_mutex_lock(&turn);
     while ((blob = *place) != NULL) {
         bool is_owned = blob->owner == connection->cookie, stays = !is_owned || blob->uses > 1;
 
@@ -105,17 +94,11 @@ void blobs_end(const struct connection *connection)
         if (stays)
             place = &blob->next;
     }
-    pthread_mutex_unlock(&turn);
 }
 
 uint32_t blob_of_mode(const struct drm_mode_modeinfo *mode)
 {
-    uint32_t id;
-
-    pthread_mutex_lock(&turn);
-    id = create(0, mode, sizeof *mode);
-    pthread_mutex_unlock(&turn);
-    return id;
+    return create(0, mode, sizeof *mode);
 }
 
 /* All formats have one modifier, the linear one. */
@@ -145,44 +128,30 @@ static uint32_t create_formats(void)
 
 uint32_t blob_of_formats(void)
 {
-    uint32_t id;
-
-    pthread_mutex_lock(&turn);
     if (formats_id == 0)
         formats_id = create_formats();
-    id = formats_id;
-    pthread_mutex_unlock(&turn);
-    return id;
+    return formats_id;
 }
 
 void blob_use(uint32_t blob_id)
 {
-    struct blob *blob;
+    struct blob *blob = *find(blob_id);
 
-    pthread_mutex_lock(&turn);
-    blob = *find(blob_id);
     if (blob != NULL)
         blob->uses++;
-    pthread_mutex_unlock(&turn);
 }
 
 void blob_drop(uint32_t blob_id)
 {
-    pthread_mutex_lock(&turn);
     drop(find(blob_id));
-    pthread_mutex_unlock(&turn);
 }
 
 uint32_t blob_read(uint32_t blob_id, void *bytes, uint32_t size)
 {
-    const struct blob *blob;
-    uint32_t found;
+    const struct blob *blob = *find(blob_id);
+    uint32_t found = blob != NULL ? blob->size : 0;
 
-    pthread_mutex_lock(&turn);
-    blob = *find(blob_id);
-    found = blob != NULL ? blob->size : 0;
     if (blob != NULL && size == found)
         memcpy(bytes, blob->bytes, size);
-    pthread_mutex_unlock(&turn);
     return found;
 }

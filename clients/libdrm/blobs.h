@@ -1,5 +1,4 @@
-/* Property blobs, which are this process's own: those that programs create, and those that this
- * library does. */
+/* Property blobs: those that programs create, and those that the display does. */
 #ifndef ZIRKOSHE_LIBDRM_BLOBS_H
 #define ZIRKOSHE_LIBDRM_BLOBS_H
 
@@ -18,7 +17,7 @@ int blob_destroy(const struct connection *connection, uint32_t blob_id);
 /* Takes all blobs of a connection from it. */
 void blobs_end(const struct connection *connection);
 
-/* Returns the blob of a mode for this library's own use, or 0 if there is no memory. */
+/* Returns the blob of a mode for the display's own use, or 0 if there is no memory. */
 uint32_t blob_of_mode(const struct drm_mode_modeinfo *mode);
 
 /* Returns the blob with the formats of all planes, or 0 if there is no memory. */

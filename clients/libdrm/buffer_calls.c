@@ -36,8 +36,8 @@ int answer_gem_open(struct connection *connection, void *argument)
     return 0;
 }
 
-/* The server creates a token, and the library the descriptor. If that fails, the library closes
- * the token again. */
+/* The server creates a token, and the display the descriptor. If that fails, it closes the token
+ * again. */
 int answer_prime_export(struct connection *connection, void *argument)
 {
     struct drm_prime_handle *prime = argument;

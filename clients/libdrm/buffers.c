@@ -39,13 +39,16 @@ struct export
     struct object *object;
 };
 
-static pthread_mutex_t turn = PTHREAD_MUTEX_INITIALIZER;
 static struct object *objects;
 static struct export *exports;
 static uint32_t last_export;
 static struct connection *keeper;
 static int watch = -1; /* of inotify */
 static int looks;      /* how often closed exports are still looked for */
+
+/* The kernel reports the closing of a file just before it drops the lock, so that more looks
+ * follow. */
+#define LOOKS 4
 
 static struct object *make_object(uint64_t size)
 {
@@ -61,7 +64,7 @@ static struct object *make_object(uint64_t size)
     return made;
 }
 
-static void drop(struct object *object)
+void object_drop(struct object *object)
 {
     struct object **place = &objects;
 
@@ -84,9 +87,9 @@ static struct buffer *find(const struct buffers *buffers, uint32_t handle)
     return found;
 }
 
-static void forget(struct buffers *buffers, uint32_t handle)
+void buffers_forget(struct connection *connection, uint32_t handle)
 {
-    struct buffer **place = &buffers->first, *found;
+    struct buffer **place = &connection->buffers.first, *found;
 
     while (*place != NULL && (*place)->handle != handle)
         place = &(*place)->next;
@@ -94,7 +97,7 @@ static void forget(struct buffers *buffers, uint32_t handle)
     if (found == NULL)
         return;
     *place = found->next;
-    drop(found->object);
+    object_drop(found->object);
     free(found);
 }
 
@@ -104,7 +107,7 @@ static void note(struct buffers *buffers, uint32_t handle, struct object *object
     struct buffer *made = object == NULL ? NULL : malloc(sizeof *made);
 
     if (made == NULL) {
-        drop(object);
+        object_drop(object);
         return;
     }
     made->handle = handle;
@@ -116,14 +119,12 @@ static void note(struct buffers *buffers, uint32_t handle, struct object *object
 void buffers_note_object(struct connection *connection, uint32_t handle, uint64_t size,
                          struct object *object)
 {
-    pthread_mutex_lock(&turn);
     if (object != NULL)
         object->uses++;
     else
         object = make_object(size);
-    forget(&connection->buffers, handle);
+    buffers_forget(connection, handle);
     note(&connection->buffers, handle, object);
-    pthread_mutex_unlock(&turn);
 }
 
 void buffers_note(struct connection *connection, uint32_t handle, uint64_t size)
@@ -134,53 +135,32 @@ void buffers_note(struct connection *connection, uint32_t handle, uint64_t size)
 void buffers_note_named(struct connection *connection, uint32_t handle, uint64_t size,
                         uint32_t name)
 {
-    struct object *found;
+    struct object *found = objects;
 
-    pthread_mutex_lock(&turn);
-    for (found = objects; found != NULL && found->name != name; found = found->next)
-        ;
-    pthread_mutex_unlock(&turn);
+    while (found != NULL && found->name != name)
+        found = found->next;
     buffers_note_object(connection, handle, size, found);
 }
 
 void buffers_name(struct connection *connection, uint32_t handle, uint32_t name)
 {
-    struct buffer *buffer;
+    struct buffer *buffer = find(&connection->buffers, handle);
     struct object *each;
 
-    pthread_mutex_lock(&turn);
-    buffer = find(&connection->buffers, handle);
     for (each = objects; each != NULL; each = each->next)
         each->name = each->name == name ? 0 : each->name;
     if (buffer != NULL)
         buffer->object->name = name;
-    pthread_mutex_unlock(&turn);
 }
 
 struct object *buffers_use(struct connection *connection, uint32_t handle)
 {
-    struct buffer *buffer;
+    struct buffer *buffer = find(&connection->buffers, handle);
 
-    pthread_mutex_lock(&turn);
-    buffer = find(&connection->buffers, handle);
-    if (buffer != NULL)
-        buffer->object->uses++;
-    pthread_mutex_unlock(&turn);
-    return buffer == NULL ? NULL : buffer->object;
-}
-
-void object_drop(struct object *object)
-{
-    pthread_mutex_lock(&turn);
-    drop(object);
-    pthread_mutex_unlock(&turn);
-}
-
-void buffers_forget(struct connection *connection, uint32_t handle)
-{
-    pthread_mutex_lock(&turn);
-    forget(&connection->buffers, handle);
-    pthread_mutex_unlock(&turn);
+    if (buffer == NULL)
+        return NULL;
+    buffer->object->uses++;
+    return buffer->object;
 }
 
 static struct flock byte_of(short kind, uint32_t number)
@@ -227,23 +207,39 @@ static bool is_kept(struct export *export)
     return is_done;
 }
 
-void buffers_clear(struct connection *connection)
+/* Takes an export of an owner from the list, or one of any owner (NULL) that no process has open.
+ * Returns NULL if there is none. */
+static struct export *take_export(const struct connection *owner)
 {
     struct export **place = &exports, *each;
 
-    pthread_mutex_lock(&turn);
-    while (connection->buffers.first != NULL)
-        forget(&connection->buffers, connection->buffers.first->handle);
-    while ((each = *place) != NULL) {
-        if (each->owner != connection || (is_open(each) && is_kept(each))) {
-            place = &each->next;
-            continue;
-        }
+    while ((each = *place) != NULL && (owner != NULL ? each->owner != owner : is_open(each)))
+        place = &each->next;
+    if (each != NULL)
         *place = each->next;
-        drop(each->object);
-        free(each);
+    return each;
+}
+
+static void end_export(struct export *export)
+{
+    object_drop(export->object);
+    free(export);
+}
+
+void buffers_clear(struct connection *connection)
+{
+    struct export *each;
+
+    while (connection->buffers.first != NULL)
+        buffers_forget(connection, connection->buffers.first->handle);
+    while ((each = take_export(connection)) != NULL) {
+        if (is_open(each) && is_kept(each)) {
+            each->next = exports;
+            exports = each;
+        } else {
+            end_export(each);
+        }
     }
-    pthread_mutex_unlock(&turn);
 }
 
 /* Makes the memory of an object, if it has none yet; its descriptor, or a negative errno. */
@@ -271,17 +267,12 @@ static int memory_of(struct object *object)
 
 int buffers_memory(struct connection *connection, uint32_t handle, uint64_t *size)
 {
-    struct buffer *buffer;
-    int fd = -EINVAL;
+    const struct buffer *buffer = find(&connection->buffers, handle);
 
-    pthread_mutex_lock(&turn);
-    buffer = find(&connection->buffers, handle);
-    if (buffer != NULL) {
-        *size = buffer->object->size;
-        fd = memory_of(buffer->object);
-    }
-    pthread_mutex_unlock(&turn);
-    return fd;
+    if (buffer == NULL)
+        return -EINVAL;
+    *size = buffer->object->size;
+    return memory_of(buffer->object);
 }
 
 /* Opens the file of a descriptor anew, so that the two have locks of their own, and watches its
@@ -319,33 +310,38 @@ static int export_object(struct connection *connection, struct object *object, u
 
 int buffers_export(struct connection *connection, uint32_t handle, uint32_t token, int flags)
 {
-    struct buffer *buffer;
-    int fd = -EINVAL;
+    const struct buffer *buffer = find(&connection->buffers, handle);
 
-    pthread_mutex_lock(&turn);
-    buffer = find(&connection->buffers, handle);
-    if (buffer != NULL)
-        fd = export_object(connection, buffer->object, token, flags);
-    pthread_mutex_unlock(&turn);
-    return fd;
+    return buffer == NULL ? -EINVAL : export_object(connection, buffer->object, token, flags);
 }
 
 /* The object whose memory a descriptor is, of which this is a new use, or NULL. */
 static struct object *object_of(int fd)
 {
-    struct object *found = NULL;
+    struct object *found;
     struct stat status;
 
     if (fstat(fd, &status) != 0)
         return NULL;
-    pthread_mutex_lock(&turn);
     for (found = objects; found != NULL; found = found->next) {
         if (found->fd >= 0 && found->device == status.st_dev && found->file == status.st_ino)
             break;
     }
     if (found != NULL)
         found->uses++;
-    pthread_mutex_unlock(&turn);
+    return found;
+}
+
+/* The export of an object with the least number from one on, or NULL. */
+static const struct export *next_export(const struct object *object, uint32_t number)
+{
+    const struct export *each, *found = NULL;
+
+    for (each = exports; each != NULL; each = each->next) {
+        if (each->object == object && each->number >= number
+            && (found == NULL || each->number < found->number))
+            found = each;
+    }
     return found;
 }
 
@@ -353,15 +349,15 @@ static struct object *object_of(int fd)
 static int redeem(struct zirkoshe_client *client, const struct object *object,
                   struct zirkoshe_buffer *buffer)
 {
-    const struct export *each;
+    const struct export *found = next_export(object, 0);
     int failed = -EINVAL;
 
-    pthread_mutex_lock(&turn);
-    for (each = exports; failed && each != NULL; each = each->next) {
-        if (each->object == object)
-            failed = zirkoshe_drmPrimeFDToHandle(client, each->token, buffer);
+    while (failed && found != NULL) {
+        uint32_t next = found->number + 1;
+
+        failed = zirkoshe_drmPrimeFDToHandle(client, found->token, buffer);
+        found = next_export(object, next);
     }
-    pthread_mutex_unlock(&turn);
     return failed;
 }
 
@@ -393,41 +389,32 @@ int buffers_watch(void)
     return watch;
 }
 
-/* Takes an export that nobody has any more from the list, or returns NULL. */
-static struct export *take_closed(void)
-{
-    struct export **place = &exports, *each;
-
-    pthread_mutex_lock(&turn);
-    while ((each = *place) != NULL && is_open(each))
-        place = &each->next;
-    if (each != NULL) {
-        *place = each->next;
-        connection_use(each->owner);
-    }
-    pthread_mutex_unlock(&turn);
-    return each;
-}
-
-/* The kernel reports the closing of a file just before it drops the lock, so that one look more
- * follows. */
-void buffers_close_tokens(void)
+void buffers_are_closed(void)
 {
     _Alignas(struct inotify_event) char reports[4096];
-    struct export *closed;
 
     while (watch >= 0 && read(watch, reports, sizeof reports) > 0)
-        looks = 2;
-    if (looks == 0)
-        return;
+        looks = LOOKS;
+}
+
+bool buffers_may_be_closed(void)
+{
+    return looks > 0;
+}
+
+void buffers_close_tokens(void)
+{
+    struct export *closed;
+
     looks--;
-    while ((closed = take_closed()) != NULL) {
-        if (connection_hold(closed->owner) == 0)
-            connection_let_go(closed->owner,
-                              zirkoshe_token_close(&closed->owner->client, closed->token));
-        connection_release(closed->owner);
-        object_drop(closed->object);
-        free(closed);
+    while ((closed = take_export(NULL)) != NULL) {
+        struct connection *owner = closed->owner;
+
+        connection_use(owner);
+        if (connection_hold(owner) == 0)
+            connection_let_go(owner, zirkoshe_token_close(&owner->client, closed->token));
+        connection_release(owner);
+        end_export(closed);
     }
 }
 

@@ -43,8 +43,8 @@ void object_drop(struct object *object);
 /* Forgets a handle that was closed. Its mappings and PRIME descriptors stay. */
 void buffers_forget(struct connection *connection, uint32_t handle);
 
-/* Forgets all handles, as the connection is closed, and hands its open tokens to a client of the
- * display's own, since the server closes them with their client. The connection is held. */
+/* Forgets all handles of a connection that is closed, and hands its open tokens to a client of the
+ * display's own, since the server closes them with their client. */
 void buffers_clear(struct connection *connection);
 
 /* Returns the memory of a handle, and its size, or a negative errno: EINVAL if the handle is not
@@ -55,15 +55,15 @@ int buffers_memory(struct connection *connection, uint32_t handle, uint64_t *siz
  * errno. */
 int buffers_export(struct connection *connection, uint32_t handle, uint32_t token, int flags);
 
-/* Redeems the token of a descriptor. The connection is held. A negative errno: EBADF, EINVAL for
- * another file, the server's. */
+/* Redeems the token of a descriptor. A negative errno: EBADF, EINVAL for another file, the server's.
+ */
 int buffers_import(struct connection *connection, int fd, uint32_t *handle);
 
-/* A descriptor that is readable when PRIME descriptors may have been closed, or -1. */
+/* A descriptor that is readable when PRIME descriptors may have been closed, or -1; notes that they
+ * may be, returns whether they may be, and closes the tokens whose descriptors are all closed. */
 int buffers_watch(void);
-
-/* Closes the tokens whose descriptors are all closed, if there may be any. No connection is held.
- */
+void buffers_are_closed(void);
+bool buffers_may_be_closed(void);
 void buffers_close_tokens(void);
 
 /* The least offset of a handle's memory in its connection; which handle has an offset, 0 for none;

@@ -7,7 +7,7 @@
 #include "framebuffers.h"
 #include "properties.h"
 
-/* Asks what CRTCs show that this process is not sure of. */
+/* Asks what CRTCs show, as far as that is not sure. */
 static int look_at_crtcs(struct connection *connection, const struct topology *topology)
 {
     uint32_t at, fb_id;
@@ -51,7 +51,7 @@ int commit_begin(struct commit *commit, struct connection *connection)
     failed = topology_find(connection, &commit->topology);
     if (!failed)
         failed = look_at_crtcs(connection, commit->topology);
-    state_copy(&commit->before);
+    commit->before = *state_now();
     place_objects(&commit->before, commit->topology);
     commit->after = commit->before;
     return failed;

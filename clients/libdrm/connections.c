@@ -8,8 +8,12 @@
 #include <limits.h>
 #include <stdlib.h>
 
-static _Atomic uint64_t last_cookie;
-static _Thread_local uint32_t refused_by;
+/* How long a task waits for another one before it looks again, in milliseconds */
+#define PAUSE 10
+
+static uint64_t last_cookie;
+static uint32_t refused_by;
+static unsigned standings_age = 1; /* from 1 */
 
 static struct connection *make_connection(enum node node, pid_t opener)
 {
@@ -19,7 +23,7 @@ static struct connection *make_connection(enum node node, pid_t opener)
         connection->node = node;
         connection->users = 1;
         connection->opener = opener;
-        connection->cookie = atomic_fetch_add(&last_cookie, 1) + 1;
+        connection->cookie = ++last_cookie;
         connection->client.socket = -1;
         events_begin(&connection->events);
     }
@@ -59,6 +63,7 @@ int connection_open(enum node node, bool is_lease, uint32_t token, pid_t opener,
         zirkoshe_open_by(&connection->client, path, 2, is_lease ? 1 : 0, token, ZIRKOSHE_TIMEOUT);
     if (failed) {
         failed = opening_error(&connection->client, failed);
+        events_end(&connection->events);
         free(connection);
         return failed;
     }
@@ -69,65 +74,62 @@ int connection_open(enum node node, bool is_lease, uint32_t token, pid_t opener,
 
 void connection_use(struct connection *connection)
 {
-    zirkoshe_lock(&connection->client);
     connection->users++;
-    zirkoshe_unlock(&connection->client);
 }
 
 void connection_release(struct connection *connection)
 {
-    bool is_unused;
+    if (--connection->users > 0)
+        return;
+    events_end(&connection->events);
+    zirkoshe_close(&connection->client);
+    free(connection);
+}
 
-    zirkoshe_lock(&connection->client);
-    is_unused = --connection->users == 0;
-    zirkoshe_unlock(&connection->client);
-    if (is_unused) {
-        events_end(&connection->events);
-        zirkoshe_close(&connection->client);
-        free(connection);
-    }
+/* It is held by another task if the server stalls, and then for long. */
+static void take(struct connection *connection)
+{
+    while (connection->is_held)
+        task_poll(NULL, 0, PAUSE);
+    connection->is_held = true;
 }
 
 int connection_hold(struct connection *connection)
 {
-    zirkoshe_lock(&connection->client);
+    take(connection);
     refused_by = 0;
     connection->client.rule = 0;
     if (connection->client.socket >= 0)
         return 0;
-    zirkoshe_unlock(&connection->client);
+    connection->is_held = false;
     return -ENODEV;
 }
 
-/* The number of calls of this process that can have changed which caller is current, from 1. */
-static atomic_uint standings_age = 1;
-
 bool connection_is_current(const struct connection *connection)
 {
-    return connection->known_at == atomic_load(&standings_age);
+    return connection->known_at == standings_age;
 }
 
 void connection_is_found_current(struct connection *connection)
 {
     if (!connection_is_current(connection))
         connection->known_crtc = 0;
-    connection->known_at = atomic_load(&standings_age);
+    connection->known_at = standings_age;
 }
 
 bool connection_knows_topology(const struct connection *connection)
 {
-    return connection->topology_at == atomic_load(&standings_age);
+    return connection->topology_at == standings_age;
 }
 
 void connection_has_topology(struct connection *connection)
 {
-    connection->topology_at = atomic_load(&standings_age);
+    connection->topology_at = standings_age;
 }
 
 void standings_changed(void)
 {
-    if (atomic_fetch_add(&standings_age, 1) == UINT_MAX)
-        atomic_store(&standings_age, 1);
+    standings_age = standings_age < UINT_MAX ? standings_age + 1 : 1;
 }
 
 uint32_t connection_refused_by(void)
@@ -150,21 +152,19 @@ int connection_let_go(struct connection *connection, int failed)
         connection->known_at = 0;
     if (failed && connection->client.rule != 0)
         connection->topology_at = 0;
-    if (connection->client.socket < 0)
-        failed = -ENODEV;
-    zirkoshe_unlock(&connection->client);
-    return failed;
+    connection->is_held = false;
+    return connection->client.socket < 0 ? -ENODEV : failed;
 }
 
 void connection_close(struct connection *connection)
 {
-    zirkoshe_lock(&connection->client);
+    take(connection);
     buffers_clear(connection);
     zirkoshe_disconnect(&connection->client);
     standings_changed();
     crtcs_are_unsure();
     framebuffers_end(connection);
     blobs_end(connection);
-    zirkoshe_unlock(&connection->client);
+    connection->is_held = false;
     connection_release(connection);
 }

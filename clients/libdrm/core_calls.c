@@ -48,7 +48,7 @@ int answer_version(struct connection *connection, void *argument)
     return failed;
 }
 
-/* A master's device has no name before SET_VERSION sets it, which this library does not do. */
+/* A master's device has no name before SET_VERSION sets it, which the display does not do. */
 int answer_get_unique(struct connection *connection, void *argument)
 {
     struct drm_unique *unique = argument;

@@ -1,4 +1,4 @@
-/* What this process knows of CRTCs, and their vertical blanking. */
+/* What is known of CRTCs, and their vertical blanking. */
 #include "answers.h"
 
 #include "crtcs.h"
@@ -12,15 +12,13 @@ struct crtc {
     uint32_t id; /* 0 if the place is free */
     uint32_t connector_id;
     bool is_lit;
-    bool is_sure;   /* no call of this process since can have darkened it */
-    bool is_viewed; /* the view is what this process set, and not a guess */
+    bool is_sure;   /* no request since can have darkened it */
+    bool is_viewed; /* the view is what a program set, and not a guess */
     int64_t flip_due;
     struct blanking blanking;
     struct view view;
 };
 
-/* Taken only while a connection is held, so that no handler of signals and no fork interrupts. */
-static pthread_mutex_t turn = PTHREAD_MUTEX_INITIALIZER;
 static struct crtc crtcs[MOST_CRTCS];
 
 struct vblank last_vblank(const struct blanking *blanking, int64_t now)
@@ -103,25 +101,20 @@ static void end(struct crtc *crtc)
 
 void crtc_is_seen(uint32_t crtc_id, bool is_lit)
 {
-    struct crtc *crtc;
+    struct crtc *crtc = find(crtc_id);
     uint32_t count;
 
-    pthread_mutex_lock(&turn);
-    crtc = find(crtc_id);
     if (!is_lit)
         end(crtc);
     else if (!crtc->is_lit)
         begin(crtc, crtc->view.mode.clock != 0 ? &crtc->view.mode : all_modes(&count));
     crtc->is_sure = true;
-    pthread_mutex_unlock(&turn);
 }
 
 void crtc_is_lit(uint32_t crtc_id, const struct view *view, uint32_t connector_id)
 {
-    struct crtc *crtc;
+    struct crtc *crtc = find(crtc_id);
 
-    pthread_mutex_lock(&turn);
-    crtc = find(crtc_id);
     crtc->connector_id = connector_id;
     if (crtc->is_lit && memcmp(&crtc->view.mode, &view->mode, sizeof view->mode) != 0)
         end(crtc);
@@ -130,99 +123,59 @@ void crtc_is_lit(uint32_t crtc_id, const struct view *view, uint32_t connector_i
     crtc->view = *view;
     crtc->is_viewed = true;
     crtc->is_sure = true;
-    pthread_mutex_unlock(&turn);
 }
 
 bool crtc_is_viewed(uint32_t crtc_id, struct view *view)
 {
-    struct crtc *crtc;
-    bool is_viewed;
+    const struct crtc *crtc = find(crtc_id);
 
-    pthread_mutex_lock(&turn);
-    crtc = find(crtc_id);
     *view = crtc->view;
-    is_viewed = crtc->is_viewed;
-    pthread_mutex_unlock(&turn);
-    return is_viewed;
+    return crtc->is_viewed;
 }
 
 bool crtc_is_surely_lit(uint32_t crtc_id)
 {
-    struct crtc *crtc;
-    bool is_lit;
+    const struct crtc *crtc = find(crtc_id);
 
-    pthread_mutex_lock(&turn);
-    crtc = find(crtc_id);
-    is_lit = crtc->is_lit && crtc->is_sure;
-    pthread_mutex_unlock(&turn);
-    return is_lit;
+    return crtc->is_lit && crtc->is_sure;
 }
 
 bool crtc_is_sure(uint32_t crtc_id)
 {
-    bool is_sure;
-
-    pthread_mutex_lock(&turn);
-    is_sure = find(crtc_id)->is_sure;
-    pthread_mutex_unlock(&turn);
-    return is_sure;
+    return find(crtc_id)->is_sure;
 }
 
 void crtcs_are_unsure(void)
 {
     size_t at;
 
-    pthread_mutex_lock(&turn);
     for (at = 0; at < MOST_CRTCS; at++)
         crtcs[at].is_sure = false;
-    pthread_mutex_unlock(&turn);
 }
 
 struct drm_mode_modeinfo crtc_mode(uint32_t crtc_id)
 {
-    struct drm_mode_modeinfo mode;
-
-    pthread_mutex_lock(&turn);
-    mode = find(crtc_id)->view.mode;
-    pthread_mutex_unlock(&turn);
-    return mode;
+    return find(crtc_id)->view.mode;
 }
 
 struct blanking crtc_blanking(uint32_t crtc_id)
 {
-    struct blanking blanking;
-
-    pthread_mutex_lock(&turn);
-    blanking = find(crtc_id)->blanking;
-    pthread_mutex_unlock(&turn);
-    return blanking;
+    return find(crtc_id)->blanking;
 }
 
 uint32_t crtc_connector(uint32_t crtc_id)
 {
-    uint32_t connector_id;
-
-    pthread_mutex_lock(&turn);
-    connector_id = find(crtc_id)->connector_id;
-    pthread_mutex_unlock(&turn);
-    return connector_id;
+    return find(crtc_id)->connector_id;
 }
 
 void crtc_has_connector(uint32_t crtc_id, uint32_t connector_id)
 {
-    pthread_mutex_lock(&turn);
     find(crtc_id)->connector_id = connector_id;
-    pthread_mutex_unlock(&turn);
 }
 
 int64_t crtc_flip_due(uint32_t crtc_id)
 {
-    int64_t due;
-
-    pthread_mutex_lock(&turn);
-    due = find(crtc_id)->flip_due;
-    pthread_mutex_unlock(&turn);
-    return due;
+    return find(crtc_id)->flip_due;
 }
 
 bool crtc_flips(uint32_t crtc_id)
@@ -232,7 +185,5 @@ bool crtc_flips(uint32_t crtc_id)
 
 void crtc_flips_until(uint32_t crtc_id, int64_t due)
 {
-    pthread_mutex_lock(&turn);
     find(crtc_id)->flip_due = due;
-    pthread_mutex_unlock(&turn);
 }

@@ -1,9 +1,8 @@
-/* What this process knows of CRTCs, and their vertical blanking, which is made here.
+/* What is known of CRTCs, and their vertical blanking, which is made here.
  *
- * The server has no modes and no time. A CRTC that shows something blanks by the mode that this
- * process set there last, or else by the preferred mode: from the moment on at which this process
- * lit it, or first saw it lit. All of it is this process's own, and no other's. The connection that
- * asks is held meanwhile.
+ * The server has no modes and no time. A CRTC that shows something blanks by the mode that a
+ * program set there last. If a client of the server lit it, it blanks by the preferred mode, from
+ * the moment on at which it was first seen lit.
  */
 #ifndef ZIRKOSHE_LIBDRM_CRTCS_H
 #define ZIRKOSHE_LIBDRM_CRTCS_H
@@ -25,7 +24,7 @@ struct vblank {
     int64_t time;
 };
 
-/* What this process set a CRTC to: a mode, the corner of the framebuffer that it shows, and that
+/* What a CRTC is set to: a mode, the corner of the framebuffer that it shows, and that
  * framebuffer's format, or 0 */
 struct view {
     struct drm_mode_modeinfo mode;
@@ -44,21 +43,20 @@ bool has_passed(uint64_t sequence, uint64_t wanted);
  * waiting events are due at once. */
 void crtc_is_seen(uint32_t crtc_id, bool is_lit);
 
-/* Notes that this process lit it in this way, with this connector. */
+/* Notes that it was lit in this way, with this connector. */
 void crtc_is_lit(uint32_t crtc_id, const struct view *view, uint32_t connector_id);
 
-/* Returns whether this process set it, and to what, as far as it knows. */
+/* Returns whether a program set it, and to what. */
 bool crtc_is_viewed(uint32_t crtc_id, struct view *view);
 
-/* Whether it shows something, as the server last said, and no call of this process since can have
- * darkened it. Another client can. */
+/* Whether it shows something, as the server last said, and no request since can have darkened it.
+ * A client of the server can. */
 bool crtc_is_surely_lit(uint32_t crtc_id);
 
-/* Whether no call of this process can have changed what it shows since the server last said so. */
+/* Whether no request can have changed what it shows since the server last said so. */
 bool crtc_is_sure(uint32_t crtc_id);
 
-/* Notes that a call of this process can have darkened any CRTC, or that the server refused to flip
- * one. */
+/* Notes that a request can have darkened any CRTC, or that the server refused to flip one. */
 void crtcs_are_unsure(void);
 
 /* The mode of a CRTC that shows something, and when it blanks. */

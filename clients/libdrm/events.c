@@ -1,19 +1,19 @@
-/* The events of connections, and the timer that wakes the threads that wait for them. */
+/* The events of connections, and the timer that expires when the first of them is due. */
 #include "events.h"
 
-#include <errno.h>
-#include <pthread.h>
-#include <unistd.h>
+#include <linux/sockios.h>
 #include <string.h>
+#include <sys/ioctl.h>
+#include <sys/socket.h>
 #include <sys/timerfd.h>
 #include <time.h>
+#include <unistd.h>
 
 _Static_assert(sizeof(struct drm_event_vblank) == sizeof(struct drm_event_crtc_sequence),
                "each event has the same length");
 
-static pthread_mutex_t turn =
-    PTHREAD_MUTEX_INITIALIZER; /* no other one is taken by a thread that has it */
-static struct events *timed;   /* those that have a timer */
+static struct events *all;
+static int timer = -1;
 
 int64_t time_now(void)
 {
@@ -23,79 +23,73 @@ int64_t time_now(void)
     return (int64_t)now.tv_sec * SECOND + now.tv_nsec;
 }
 
-void events_begin(struct events *events)
+int events_timer(void)
 {
-    events->next = NULL;
-    events->timer = -1;
-    events->count = 0;
+    if (timer < 0)
+        timer = timerfd_create(CLOCK_MONOTONIC, TFD_CLOEXEC | TFD_NONBLOCK);
+    return timer;
 }
 
-static int make_timer(void)
-{
-    return timerfd_create(CLOCK_MONOTONIC, TFD_CLOEXEC | TFD_NONBLOCK);
-}
-
-/* Lets the timer expire when the first event is due, or never. A program may have closed it: then
- * there is none any more. */
-static void arm(struct events *events)
+/* Lets the timer expire when the first event is due, or never. */
+static void arm(void)
 {
     struct itimerspec until;
+    const struct events *each;
+    int64_t first = INT64_MAX;
 
-    memset(&until, 0, sizeof until);
-    if (events->count > 0) {
-        until.it_value.tv_sec = (time_t)(events->queue[0].due / SECOND);
-        until.it_value.tv_nsec = (long)(events->queue[0].due % SECOND);
+    for (each = all; each != NULL; each = each->next) {
+        if (each->count > 0 && each->queue[0].due < first)
+            first = each->queue[0].due;
     }
-    if (events->timer >= 0 && timerfd_settime(events->timer, TFD_TIMER_ABSTIME, &until, NULL) != 0)
-        events->timer = -1;
+    memset(&until, 0, sizeof until);
+    if (first != INT64_MAX) {
+        until.it_value.tv_sec = (time_t)(first / SECOND);
+        until.it_value.tv_nsec = (long)(first % SECOND);
+    }
+    timerfd_settime(events_timer(), TFD_TIMER_ABSTIME, &until, NULL);
 }
 
-/* Takes the events from the list of those that have a timer, or puts them there. */
-static void unlist(struct events *events)
+void events_begin(struct events *events)
 {
-    struct events **place = &timed;
-
-    while (*place != NULL && *place != events)
-        place = &(*place)->next;
-    if (*place != NULL)
-        *place = events->next;
-}
-
-static void want_timer(struct events *events)
-{
-    if (events->timer >= 0)
-        return;
-    events->timer = make_timer();
-    unlist(events);
-    events->next = timed;
-    timed = events;
-    arm(events);
+    events->next = all;
+    events->file = -1;
+    events->count = 0;
+    all = events;
 }
 
 void events_end(struct events *events)
 {
-    pthread_mutex_lock(&turn);
-    unlist(events);
-    if (events->timer >= 0)
-        close(events->timer);
-    events_begin(events);
-    pthread_mutex_unlock(&turn);
+    struct events **place = &all;
+
+    while (*place != events)
+        place = &(*place)->next;
+    *place = events->next;
+    arm();
 }
 
-bool events_have_room_for(struct events *events, unsigned count)
+/* What an event takes of the buffer of a socket. */
+static int size_in_buffer(void)
 {
-    unsigned unread = events->unread == NULL ? 0 : (unsigned)events->unread(events);
-    bool has_room;
+    static int size;
+    const struct drm_event_vblank event = {0};
+    int ends[2];
 
-    pthread_mutex_lock(&turn);
-    has_room = events->count + unread + count <= MOST_EVENTS;
-    pthread_mutex_unlock(&turn);
-    return has_room;
+    if (size == 0 && socketpair(AF_UNIX, SOCK_SEQPACKET | SOCK_CLOEXEC, 0, ends) == 0) {
+        if (send(ends[0], &event, sizeof event, 0) < 0 || ioctl(ends[0], SIOCOUTQ, &size) != 0)
+            size = 0;
+        close(ends[0]);
+        close(ends[1]);
+    }
+    return size > 0 ? size : INT32_MAX;
 }
 
-bool events_have_room(struct events *events)
+bool events_have_room(const struct events *events, unsigned count)
 {
-    return events_have_room_for(events, 1);
+    int unread = 0;
+
+    if (ioctl(events->file, SIOCOUTQ, &unread) != 0)
+        unread = 0;
+    return events->count + (unsigned)(unread / size_in_buffer()) + count <= MOST_EVENTS;
 }
 
 /* Writes number and time of a vertical blanking into an event, which is due at a time. */
@@ -130,14 +124,11 @@ void events_add(struct events *events, const struct event *event, uint64_t seque
 {
     struct event stamped = *event;
 
+    if (events->count == MOST_EVENTS)
+        return;
     stamp(&stamped, sequence, time, time);
-    pthread_mutex_lock(&turn);
-    if (events->count < MOST_EVENTS) {
-        insert(events, &stamped);
-        want_timer(events);
-        arm(events);
-    }
-    pthread_mutex_unlock(&turn);
+    insert(events, &stamped);
+    arm();
 }
 
 /* Hastens those of one connection: they follow the events that are due already, in their order. */
@@ -154,59 +145,35 @@ static void hasten(struct events *events, uint32_t crtc_id, uint64_t sequence, i
             stamp(&event, sequence, time, now);
         insert(events, &event);
     }
-    arm(events);
 }
 
 void events_hasten(uint32_t crtc_id, uint64_t sequence, int64_t time)
 {
     struct events *each;
 
-    pthread_mutex_lock(&turn);
-    for (each = timed; each != NULL; each = each->next)
+    for (each = all; each != NULL; each = each->next)
         hasten(each, crtc_id, sequence, time, time_now());
-    pthread_mutex_unlock(&turn);
+    arm();
 }
 
-/* Does as drm_read of the core: if the buffer is too short for the first event, it returns 0. */
-static int take(struct events *events, unsigned char *bytes, size_t size, int64_t now)
+static void deliver(struct events *events, int64_t now)
 {
-    size_t length = 0;
     unsigned taken = 0;
 
-    if (events->count == 0 || events->queue[0].due > now)
-        return -EAGAIN;
-    if (bytes == NULL && size >= events->queue[0].told.base.length)
-        return -EFAULT;
-    while (taken < events->count && events->queue[taken].due <= now
-           && events->queue[taken].told.base.length <= size - length) {
+    while (taken < events->count && events->queue[taken].due <= now) {
         const struct event *event = &events->queue[taken++];
 
-        memcpy(bytes + length, &event->told, event->told.base.length);
-        length += event->told.base.length;
+        send(events->file, &event->told, event->told.base.length, MSG_DONTWAIT | MSG_NOSIGNAL);
     }
     events->count -= taken;
     memmove(events->queue, events->queue + taken, events->count * sizeof events->queue[0]);
-    return (int)length;
 }
 
-int events_take(struct events *events, void *bytes, size_t size)
+void events_deliver(void)
 {
-    int length;
+    struct events *each;
 
-    pthread_mutex_lock(&turn);
-    length = take(events, bytes, size, time_now());
-    arm(events);
-    pthread_mutex_unlock(&turn);
-    return length;
-}
-
-int events_timer(struct events *events)
-{
-    int timer;
-
-    pthread_mutex_lock(&turn);
-    want_timer(events);
-    timer = events->timer;
-    pthread_mutex_unlock(&turn);
-    return timer;
+    for (each = all; each != NULL; each = each->next)
+        deliver(each, time_now());
+    arm();
 }

@@ -1,7 +1,7 @@
-/* The events of a connection, which are made here.
+/* The events of connections, which are made here.
  *
- * Each event has a time at which it is due. A timerfd is readable from the time of the first one
- * on, until that is taken. Then the front end writes it to the file of the connection. */
+ * Each event has a time at which it is due. Then it is written to the file of the connection, as a
+ * packet. */
 #ifndef ZIRKOSHE_LIBDRM_EVENTS_H
 #define ZIRKOSHE_LIBDRM_EVENTS_H
 
@@ -11,7 +11,6 @@
 #include <stdint.h>
 
 #include <drm.h>
-#include <sys/types.h>
 
 /* How many bytes of events wait at most, and so how many events: each kind has the same length. */
 #define MOST_EVENT_BYTES 4096
@@ -35,21 +34,18 @@ struct event {
 };
 
 struct events {
-    struct events *next;                        /* the next one that has a timer */
-    int timer;                                  /* -1 if none was needed yet */
-    int (*unread)(const struct events *events); /* how many are delivered and not read, or NULL */
-    int file;                                   /* what they are delivered to */
+    struct events *next; /* of another connection */
+    int file;            /* the socket that they are written to, or -1 */
     unsigned count;
     struct event queue[MOST_EVENTS]; /* by their times */
 };
 
+/* Begins without events and without a file. Drops all events. */
 void events_begin(struct events *events);
-
-/* Drops all events and closes the timer. */
 void events_end(struct events *events);
 
-bool events_have_room(struct events *events);
-bool events_have_room_for(struct events *events, unsigned count);
+/* Returns whether so many more can wait, with those that were written and not read. */
+bool events_have_room(const struct events *events, unsigned count);
 
 /* Adds an event whose kind and data are in place: that of the vertical blanking of this number and
  * time, at which it is due. */
@@ -58,11 +54,8 @@ void events_add(struct events *events, const struct event *event, uint64_t seque
 /* Makes all events of a CRTC that aren't due yet due now, with this vertical blanking as theirs. */
 void events_hasten(uint32_t crtc_id, uint64_t sequence, int64_t time);
 
-/* Copies the events that are due whole, as many as fit. Returns their length, or -EAGAIN if none
- * is due. */
-int events_take(struct events *events, void *bytes, size_t size);
-
-/* Returns a descriptor that is readable while an event is due, or -1 if no descriptor is left. */
-int events_timer(struct events *events);
+/* A descriptor that is readable when an event is due, or -1. Writes the events that are due. */
+int events_timer(void);
+void events_deliver(void);
 
 #endif

@@ -6,8 +6,8 @@
 #include "framebuffers.h"
 #include "states.h"
 
-/* What is wrong with another framebuffer on a CRTC that this process set: what is shown must be in
- * it, and the format must stay. */
+/* What is wrong with another framebuffer on a CRTC that a program set: what is shown must be in it,
+ * and the format must stay. */
 static int refuse_framebuffer(const struct view *view, const struct framebuffer *framebuffer)
 {
     if (!framebuffer_contains(framebuffer, view->x, view->y, view->mode.hdisplay,
@@ -57,7 +57,7 @@ static int refuse_flip(struct connection *connection,
     failed = refuse_shown(connection, flip);
     if (failed)
         return failed;
-    if ((flip->flags & DRM_MODE_PAGE_FLIP_EVENT) && !events_have_room(&connection->events))
+    if ((flip->flags & DRM_MODE_PAGE_FLIP_EVENT) && !events_have_room(&connection->events, 1))
         return -ENOMEM;
     return crtc_flips(flip->crtc_id) ? -EBUSY : 0;
 }
@@ -89,8 +89,8 @@ static int can_drive(struct zirkoshe_client *client, uint32_t connector_id, uint
     return failed;
 }
 
-/* Finds the connector that last lit the CRTC, as far as this process knows, or else the first
- * one that it can drive, or 0. */
+/* Finds the connector that last lit the CRTC, if that is known, or else the first one that it can
+ * drive, or 0. */
 static int find_connector(struct zirkoshe_client *client, uint32_t crtc_id, uint32_t *connector_id)
 {
     struct zirkoshe_resources resources;
@@ -133,7 +133,7 @@ static void complete(struct connection *connection,
     events_add(&connection->events, &event, next.sequence, next.time);
 }
 
-/* Whether this process knows the framebuffer, and nothing against it. */
+/* Whether the framebuffer is known, and nothing against it. */
 static bool is_expected_to_fit(const struct drm_mode_crtc_page_flip_target *flip)
 {
     struct framebuffer framebuffer;
@@ -144,14 +144,14 @@ static bool is_expected_to_fit(const struct drm_mode_crtc_page_flip_target *flip
                || refuse_framebuffer(&view, &framebuffer) == 0);
 }
 
-/* Whether a flip is refused by nothing that this process knows: then SETCRTC alone decides. */
+/* Whether a flip is refused by nothing that is known: then SETCRTC alone decides. */
 static bool is_expected_to_flip(struct connection *connection,
                                 const struct drm_mode_crtc_page_flip_target *flip)
 {
     return (flip->flags & ~(uint32_t)DRM_MODE_PAGE_FLIP_EVENT) == 0 && flip->sequence == 0
            && is_expected_to_fit(flip) && crtc_is_surely_lit(flip->crtc_id)
            && crtc_connector(flip->crtc_id) != 0 && !crtc_flips(flip->crtc_id)
-           && (!(flip->flags & DRM_MODE_PAGE_FLIP_EVENT) || events_have_room(&connection->events));
+           && (!(flip->flags & DRM_MODE_PAGE_FLIP_EVENT) || events_have_room(&connection->events, 1));
 }
 
 int answer_page_flip(struct connection *connection, void *argument)

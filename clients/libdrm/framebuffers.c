@@ -1,4 +1,4 @@
-/* What this process knows of framebuffers. */
+/* What is known of framebuffers. */
 #include "framebuffers.h"
 
 #include "states.h"
@@ -11,8 +11,6 @@ struct added {
     struct object *object; /* what it shows, if that is known */
 };
 
-/* Taken while a connection is held, as the turn of CRTCs is. */
-static pthread_mutex_t turn = PTHREAD_MUTEX_INITIALIZER;
 static struct added *all; /* by their ids, which are the lowest that are free */
 static uint32_t room;
 
@@ -46,57 +44,42 @@ static void remove_known(struct added *added)
 void framebuffer_is_added(struct connection *connection, uint32_t fb_id,
                           const struct framebuffer *framebuffer, uint32_t handle)
 {
-    pthread_mutex_lock(&turn);
-    if (has_room(fb_id)) {
-        remove_known(&all[fb_id]);
-        all[fb_id] =
-            (struct added){connection->cookie, *framebuffer, buffers_use(connection, handle)};
-    }
-    pthread_mutex_unlock(&turn);
+    if (!has_room(fb_id))
+        return;
+    remove_known(&all[fb_id]);
+    all[fb_id] = (struct added){connection->cookie, *framebuffer, buffers_use(connection, handle)};
 }
 
 void framebuffer_is_removed(uint32_t fb_id)
 {
-    pthread_mutex_lock(&turn);
     if (fb_id < room)
         remove_known(&all[fb_id]);
-    pthread_mutex_unlock(&turn);
 }
 
 void framebuffers_end(const struct connection *connection)
 {
     uint32_t at;
 
-    pthread_mutex_lock(&turn);
     for (at = 0; at < room; at++) {
         if (all[at].owner == connection->cookie) {
             remove_known(&all[at]);
             state_fb_is_removed(at);
         }
     }
-    pthread_mutex_unlock(&turn);
 }
 
 bool framebuffer_is_known(uint32_t fb_id, struct framebuffer *framebuffer)
 {
-    bool is_known;
+    bool is_known = fb_id < room && all[fb_id].owner != 0;
 
-    pthread_mutex_lock(&turn);
-    is_known = fb_id < room && all[fb_id].owner != 0;
     if (is_known)
         *framebuffer = all[fb_id].framebuffer;
-    pthread_mutex_unlock(&turn);
     return is_known;
 }
 
 struct object *framebuffer_object(uint32_t fb_id)
 {
-    struct object *found;
-
-    pthread_mutex_lock(&turn);
-    found = fb_id < room && all[fb_id].owner != 0 ? all[fb_id].object : NULL;
-    pthread_mutex_unlock(&turn);
-    return found;
+    return fb_id < room && all[fb_id].owner != 0 ? all[fb_id].object : NULL;
 }
 
 /* The server creates a handle for a caller that is current or root. It is closed again. If there is

@@ -1,8 +1,5 @@
-/* What this process knows of framebuffers: those that it added, with the format, which the server
- * does not keep.
- *
- * Only the client that added a framebuffer can remove it. So what is known holds until this process
- * removes it or closes that connection, unless another process that shares the connection does.
+/* What is known of framebuffers: those that programs added, with the format, which the server does
+ * not keep. Only the connection that added a framebuffer can remove it, or end.
  */
 #ifndef ZIRKOSHE_LIBDRM_FRAMEBUFFERS_H
 #define ZIRKOSHE_LIBDRM_FRAMEBUFFERS_H
@@ -20,7 +17,7 @@ void framebuffer_is_added(struct connection *connection, uint32_t fb_id,
 void framebuffer_is_removed(uint32_t fb_id);
 void framebuffers_end(const struct connection *connection);
 
-/* Returns whether this process added it. */
+/* Returns whether a program added it. */
 bool framebuffer_is_known(uint32_t fb_id, struct framebuffer *framebuffer);
 
 /* Returns the object of a framebuffer, or NULL. */

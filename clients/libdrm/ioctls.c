@@ -3,9 +3,7 @@
 
 #include "answers.h"
 
-#include <linux/dma-buf.h>
 #include <stdio.h>
-#include <stdlib.h>
 #include <sys/ioctl.h>
 
 /* What the core asks of the caller before a call that the server doesn't have; the server asks it
@@ -16,65 +14,65 @@ struct row {
     uint32_t request;
     const char *name;
     answer *answer;
-    bool is_free; /* it holds the connection itself */
     enum wants wants;
+    bool reads; /* it changes nothing that another request can see */
 };
 
 #define ROW(name, answer, wants)                                                                   \
     {                                                                                              \
-        DRM_IOCTL_##name, #name, answer, false, wants                                              \
+        DRM_IOCTL_##name, #name, answer, wants, false                                              \
     }
-#define FREE_ROW(name, answer, wants)                                                              \
+#define READING_ROW(name, answer, wants)                                                           \
     {                                                                                              \
-        DRM_IOCTL_##name, #name, answer, true, wants                                               \
+        DRM_IOCTL_##name, #name, answer, wants, true                                               \
     }
 
 static const struct row rows[] = {
-    ROW(VERSION, answer_version, WANTS_NOTHING),
-    ROW(GET_UNIQUE, answer_get_unique, WANTS_PRIMARY),
+    READING_ROW(VERSION, answer_version, WANTS_NOTHING),
+    READING_ROW(GET_UNIQUE, answer_get_unique, WANTS_PRIMARY),
     ROW(GET_MAGIC, answer_get_magic, WANTS_NOTHING),
-    ROW(GET_CLIENT, answer_get_client, WANTS_PRIMARY),
-    ROW(GET_STATS, answer_nothing, WANTS_PRIMARY),
+    READING_ROW(GET_CLIENT, answer_get_client, WANTS_PRIMARY),
+    READING_ROW(GET_STATS, answer_nothing, WANTS_PRIMARY),
     ROW(SET_VERSION, answer_set_version, WANTS_MASTER),
     ROW(GEM_CLOSE, answer_gem_close, WANTS_NOTHING),
     ROW(GEM_FLINK, answer_gem_flink, WANTS_NOTHING),
     ROW(GEM_OPEN, answer_gem_open, WANTS_NOTHING),
-    ROW(GET_CAP, answer_get_cap, WANTS_NOTHING),
+    READING_ROW(GET_CAP, answer_get_cap, WANTS_NOTHING),
     ROW(SET_CLIENT_CAP, answer_set_client_cap, WANTS_NOTHING),
     ROW(AUTH_MAGIC, answer_auth_magic, WANTS_NOTHING),
     ROW(SET_MASTER, answer_set_master, WANTS_NOTHING),
     ROW(DROP_MASTER, answer_drop_master, WANTS_NOTHING),
     ROW(PRIME_HANDLE_TO_FD, answer_prime_export, WANTS_NOTHING),
     ROW(PRIME_FD_TO_HANDLE, answer_prime_import, WANTS_NOTHING),
-    ROW(WAIT_VBLANK, answer_wait_vblank, WANTS_PRIMARY),
-    ROW(CRTC_GET_SEQUENCE, answer_get_sequence, WANTS_PRIMARY),
-    ROW(CRTC_QUEUE_SEQUENCE, answer_queue_sequence, WANTS_PRIMARY),
-    ROW(MODE_GETRESOURCES, answer_get_resources, WANTS_NOTHING),
-    ROW(MODE_GETCRTC, answer_get_crtc, WANTS_NOTHING),
+    READING_ROW(WAIT_VBLANK, answer_wait_vblank, WANTS_PRIMARY),
+    READING_ROW(CRTC_GET_SEQUENCE, answer_get_sequence, WANTS_PRIMARY),
+    READING_ROW(CRTC_QUEUE_SEQUENCE, answer_queue_sequence, WANTS_PRIMARY),
+    READING_ROW(MODE_GETRESOURCES, answer_get_resources, WANTS_NOTHING),
+    READING_ROW(MODE_GETCRTC, answer_get_crtc, WANTS_NOTHING),
     ROW(MODE_SETCRTC, answer_set_crtc, WANTS_NOTHING),
     ROW(MODE_CURSOR, answer_cursor, WANTS_MASTER),
-    ROW(MODE_GETGAMMA, lacks_gamma_size, WANTS_PRIMARY),
+    READING_ROW(MODE_GETGAMMA, lacks_gamma_size, WANTS_PRIMARY),
     ROW(MODE_SETGAMMA, lacks_gamma, WANTS_MASTER),
-    ROW(MODE_GETENCODER, answer_get_encoder, WANTS_NOTHING),
-    ROW(MODE_GETCONNECTOR, answer_get_connector, WANTS_NOTHING),
+    READING_ROW(MODE_GETENCODER, answer_get_encoder, WANTS_NOTHING),
+    READING_ROW(MODE_GETCONNECTOR, answer_get_connector, WANTS_NOTHING),
     ROW(MODE_ATTACHMODE, answer_nothing, WANTS_MASTER),
     ROW(MODE_DETACHMODE, answer_nothing, WANTS_MASTER),
-    ROW(MODE_GETPROPERTY, answer_get_property, WANTS_PRIMARY),
+    READING_ROW(MODE_GETPROPERTY, answer_get_property, WANTS_PRIMARY),
     ROW(MODE_SETPROPERTY, answer_set_connector_property, WANTS_MASTER),
-    ROW(MODE_GETPROPBLOB, answer_get_blob, WANTS_PRIMARY),
+    READING_ROW(MODE_GETPROPBLOB, answer_get_blob, WANTS_PRIMARY),
     ROW(MODE_GETFB, answer_get_fb, WANTS_NOTHING),
     ROW(MODE_ADDFB, answer_add_fb, WANTS_NOTHING),
     ROW(MODE_RMFB, answer_rm_fb, WANTS_NOTHING),
     ROW(MODE_PAGE_FLIP, answer_page_flip, WANTS_PRIMARY),
     ROW(MODE_DIRTYFB, lacks_dirty, WANTS_MASTER),
     ROW(MODE_CREATE_DUMB, answer_create_dumb, WANTS_NOTHING),
-    ROW(MODE_MAP_DUMB, answer_map_dumb, WANTS_PRIMARY),
+    READING_ROW(MODE_MAP_DUMB, answer_map_dumb, WANTS_PRIMARY),
     ROW(MODE_DESTROY_DUMB, answer_destroy_dumb, WANTS_NOTHING),
-    ROW(MODE_GETPLANERESOURCES, answer_get_plane_resources, WANTS_NOTHING),
-    ROW(MODE_GETPLANE, answer_get_plane, WANTS_NOTHING),
+    READING_ROW(MODE_GETPLANERESOURCES, answer_get_plane_resources, WANTS_NOTHING),
+    READING_ROW(MODE_GETPLANE, answer_get_plane, WANTS_NOTHING),
     ROW(MODE_SETPLANE, answer_set_plane, WANTS_NOTHING),
     ROW(MODE_ADDFB2, answer_add_fb2, WANTS_PRIMARY),
-    ROW(MODE_OBJ_GETPROPERTIES, answer_get_object_properties, WANTS_PRIMARY),
+    READING_ROW(MODE_OBJ_GETPROPERTIES, answer_get_object_properties, WANTS_PRIMARY),
     ROW(MODE_OBJ_SETPROPERTY, answer_set_object_property, WANTS_MASTER),
     ROW(MODE_CURSOR2, answer_cursor, WANTS_MASTER),
     ROW(MODE_ATOMIC, answer_atomic, WANTS_PRIMARY),
@@ -91,9 +89,9 @@ static const struct row rows[] = {
     ROW(SYNCOBJ_QUERY, lacks_support, WANTS_NOTHING),
     ROW(SYNCOBJ_TRANSFER, lacks_support, WANTS_NOTHING),
     ROW(SYNCOBJ_TIMELINE_SIGNAL, lacks_support, WANTS_NOTHING),
-    FREE_ROW(MODE_CREATE_LEASE, answer_create_lease, WANTS_NOTHING),
-    ROW(MODE_LIST_LESSEES, answer_list_lessees, WANTS_NOTHING),
-    ROW(MODE_GET_LEASE, answer_get_lease, WANTS_NOTHING),
+    ROW(MODE_CREATE_LEASE, answer_create_lease, WANTS_NOTHING),
+    READING_ROW(MODE_LIST_LESSEES, answer_list_lessees, WANTS_NOTHING),
+    READING_ROW(MODE_GET_LEASE, answer_get_lease, WANTS_NOTHING),
     ROW(MODE_REVOKE_LEASE, answer_revoke_lease, WANTS_NOTHING),
     ROW(MODE_GETFB2, answer_get_fb2, WANTS_NOTHING),
 };
@@ -103,16 +101,6 @@ union argument {
     struct drm_stats largest;
     max_align_t aligned;
 };
-
-bool is_for_nodes(unsigned long request)
-{
-    return _IOC_TYPE(request) == DRM_IOCTL_BASE;
-}
-
-bool is_for_memory(unsigned long request)
-{
-    return _IOC_TYPE(request) == DMA_BUF_BASE;
-}
 
 static const struct row *row_of(uint32_t request)
 {
@@ -140,22 +128,12 @@ int permit_master(struct connection *connection)
     return failed;
 }
 
-static _Thread_local struct outcome own_outcome;
-
-struct outcome *outcome(void)
-{
-    return &own_outcome;
-}
-
 static int ask(struct connection *connection, const struct row *row, void *argument)
 {
     int failed;
 
     if (row->wants != WANTS_NOTHING && connection->node == NODE_RENDER)
         return -EACCES;
-    if (row->is_free)
-        return row->answer(connection, argument);
-    buffers_close_tokens();
     failed = connection_hold(connection);
     if (failed)
         return failed;
@@ -167,8 +145,8 @@ static int ask(struct connection *connection, const struct row *row, void *argum
 
 int trace_line(char *line, size_t room, int result)
 {
-    const char *name = own_outcome.name;
-    uint32_t rule = own_outcome.rule;
+    const char *name = outcome()->name;
+    uint32_t rule = outcome()->rule;
 
     if (result == 0)
         return snprintf(line, room, "%s: done\n", name);
@@ -176,6 +154,13 @@ int trace_line(char *line, size_t room, int result)
         return snprintf(line, room, "%s: denied %u %s %d\n", name, (unsigned)rule,
                         zirkoshe_rule_name(rule), -result);
     return snprintf(line, room, "%s: failed %d\n", name, -result);
+}
+
+bool is_reading(uint32_t request)
+{
+    const struct row *row = row_of(request);
+
+    return row == NULL || row->reads;
 }
 
 static size_t least(size_t one, size_t other)
@@ -192,7 +177,7 @@ int carry_out(struct connection *connection, uint32_t request, void *argument)
     size_t size;
     int failed;
 
-    own_outcome = (struct outcome){.name = row == NULL ? "unknown request" : row->name};
+    *outcome() = (struct outcome){.name = row == NULL ? "unknown request" : row->name};
     if (row == NULL)
         return -EINVAL;
     size = least(least(_IOC_SIZE(request), _IOC_SIZE(row->request)), sizeof held);
@@ -200,20 +185,8 @@ int carry_out(struct connection *connection, uint32_t request, void *argument)
     if (request & row->request & IOC_IN)
         memcpy(&held, argument, size);
     failed = ask(connection, row, &held);
-    own_outcome.rule = failed ? connection_refused_by() : 0;
+    outcome()->rule = failed ? connection_refused_by() : 0;
     if (request & row->request & IOC_OUT)
         memcpy(argument, &held, size);
     return failed;
-}
-
-/* Memory that all share needs no keeping in step. */
-int carry_out_on_memory(uint32_t request, const void *argument)
-{
-    const struct dma_buf_sync *sync = argument;
-
-    if (request != DMA_BUF_IOCTL_SYNC)
-        return -ENOTTY;
-    return sync->flags & ~(__u64)DMA_BUF_SYNC_VALID_FLAGS_MASK || !(sync->flags & DMA_BUF_SYNC_RW)
-               ? -EINVAL
-               : 0;
 }

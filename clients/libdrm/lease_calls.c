@@ -21,56 +21,35 @@ static int create(struct connection *connection, const struct drm_mode_create_le
     return failed ? failed : zirkoshe_drmModeCreateLease(&connection->client, ids, count, lease);
 }
 
-/* Takes a lease back that could not be opened. */
-static void take_back(struct connection *connection, uint32_t lessee_id)
-{
-    if (connection_hold(connection) == 0)
-        connection_let_go(connection, zirkoshe_drmModeRevokeLease(&connection->client, lessee_id));
-}
-
 /* The node on which a lease is opened: the card, whose clients are not root. */
 static enum node lessee_node(const struct connection *connection)
 {
     return node_path(NODE_CARD) != NULL ? NODE_CARD : connection->node;
 }
 
-/* Only a current caller may lease. */
-static int permit_nothing(struct connection *connection, const struct drm_mode_create_lease *create)
-{
-    struct zirkoshe_ids lessees;
-    int failed = zirkoshe_drmModeListLessees(&connection->client, &lessees);
-
-    if (!failed && (create->flags & ~(uint32_t)(O_CLOEXEC | O_NONBLOCK)))
-        failed = -EINVAL;
-    return failed;
-}
-
-/* Lets the caller authenticate another client. */
+/* Lets the caller authenticate another client, which is closed if that fails. */
 static int authenticate(struct connection *connection, struct connection *other)
 {
     uint32_t magic = 0;
-    int failed = connection_hold(other);
+    int failed = zirkoshe_drmGetMagic(&other->client, &magic);
 
     if (!failed)
-        failed = connection_let_go(other, zirkoshe_drmGetMagic(&other->client, &magic));
-    if (!failed)
-        failed = connection_hold(connection);
-    if (!failed)
-        failed = connection_let_go(connection, zirkoshe_drmAuthMagic(&connection->client, magic));
+        failed = zirkoshe_drmAuthMagic(&connection->client, magic);
     if (failed)
         connection_close(other);
     return failed;
 }
 
 /* The server refuses a lease of nothing. Its descriptor is another client of the caller's master,
- * which the caller authenticates. */
+ * which the caller authenticates. Only a current caller may lease. */
 static int lease_nothing(struct connection *connection, struct drm_mode_create_lease *asked)
 {
+    struct zirkoshe_ids lessees;
     struct connection *opened;
-    int failed = connection_hold(connection);
+    int failed = zirkoshe_drmModeListLessees(&connection->client, &lessees);
 
-    if (!failed)
-        failed = connection_let_go(connection, permit_nothing(connection, asked));
+    if (!failed && (asked->flags & ~(uint32_t)(O_CLOEXEC | O_NONBLOCK)))
+        failed = -EINVAL;
     if (!failed)
         failed = connection_open(lessee_node(connection), false, 0, caller_process(), &opened);
     if (!failed)
@@ -82,7 +61,8 @@ static int lease_nothing(struct connection *connection, struct drm_mode_create_l
     return 0;
 }
 
-/* The descriptor is a client that has redeemed the lease. */
+/* The descriptor is a client that has redeemed the lease. A lease that can't be opened is taken
+ * back. */
 int answer_create_lease(struct connection *connection, void *argument)
 {
     struct drm_mode_create_lease *asked = argument;
@@ -92,14 +72,12 @@ int answer_create_lease(struct connection *connection, void *argument)
 
     if (asked->object_count == 0)
         return lease_nothing(connection, asked);
-    failed = connection_hold(connection);
-    if (!failed)
-        failed = connection_let_go(connection, create(connection, asked, &lease));
+    failed = create(connection, asked, &lease);
     if (failed)
         return failed;
     failed = connection_open(lessee_node(connection), true, lease.token, caller_process(), &opened);
     if (failed) {
-        take_back(connection, lease.lessee_id);
+        zirkoshe_drmModeRevokeLease(&connection->client, lease.lessee_id);
         return failed;
     }
     asked->lessee_id = lease.lessee_id;

@@ -36,8 +36,8 @@ int answer_get_resources(struct connection *connection, void *argument)
     return failed;
 }
 
-/* If the CRTC shows something, reports the position and the mode that this process set, or else 0,
- * 0 and the preferred mode. */
+/* If the CRTC shows something, reports the position and the mode that a program set, or else 0, 0
+ * and the preferred mode. */
 int answer_get_crtc(struct connection *connection, void *argument)
 {
     struct drm_mode_crtc *crtc = argument;
@@ -148,8 +148,7 @@ static void note_crtc(const struct drm_mode_crtc *crtc, uint32_t fb_id, const st
         crtc_is_seen(crtc->crtc_id, false);
 }
 
-/* The server accepts at most one connector, and has no mode and no position. The library keeps
- * these. */
+/* The server accepts at most one connector, and has no mode and no position, which are kept here. */
 int answer_set_crtc(struct connection *connection, void *argument)
 {
     const struct drm_mode_crtc *crtc = argument;

@@ -37,6 +37,24 @@ bool is_node(int fd, enum node *node)
     return is_one;
 }
 
+bool names_descriptor(const char *path, pid_t process, int *fd)
+{
+    char own[32] = "/";
+    const char *const folders[] = {"/dev/fd/", "/proc/self/fd/", "/proc/thread-self/fd/", own};
+    size_t at, size;
+    int length = 0;
+
+    if (strncmp(path, "/proc/", 6) == 0)
+        snprintf(own, sizeof own, "/proc/%d/fd/", (int)process);
+    for (at = 0; at < sizeof folders / sizeof folders[0]; at++) {
+        size = strlen(folders[at]);
+        if (size > 1 && strncmp(path, folders[at], size) == 0
+            && sscanf(path + size, "%d%n", fd, &length) == 1 && path[size + (size_t)length] == '\0')
+            return true;
+    }
+    return false;
+}
+
 bool is_memory(int fd)
 {
     static const char wanted[] = "/memfd:" MEMORY_NAME;

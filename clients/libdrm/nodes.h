@@ -4,6 +4,7 @@
 
 #include <stdbool.h>
 #include <stdint.h>
+#include <sys/types.h>
 
 enum node { NODE_CARD, NODE_RENDER, NODE_ROOT };
 
@@ -18,6 +19,10 @@ const char *node_path(enum node node);
 
 /* Whether a descriptor is a node, and which. */
 bool is_node(int fd, enum node *node);
+
+/* Whether a path names a descriptor of a process, and its number: opened again, a node is another
+ * client, as in a kernel. */
+bool names_descriptor(const char *path, pid_t process, int *fd);
 
 /* The name of buffers' memory, and whether a descriptor is such. */
 #define MEMORY_NAME "zirkoshe-buffer"

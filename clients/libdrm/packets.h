@@ -1,4 +1,4 @@
-/* The packets between the preloaded library and the display.
+/* The packets between the front ends and the display.
  *
  * A request is one packet: `struct ask`, the request's struct, and the lists that it points to. An
  * opening goes to the display's socket, all else to the descriptor of a node. An answer is one
@@ -20,7 +20,12 @@
 #define MOST_INLINE (64 * 1024)
 #define MOST_LONG (64 * 1024 * 1024)
 
-enum ask_kind { ASK_OPEN, ASK_IOCTL, ASK_MAP };
+enum ask_kind {
+    ASK_OPEN,
+    ASK_IOCTL,
+    ASK_MAP,
+    ASK_NOTHING /* but to note the socket for answers */
+};
 
 enum ask_flags {
     HAS_CHANNEL = 1, /* the first descriptor is the socket for answers to this thread */
@@ -44,6 +49,8 @@ struct ask {
     uint32_t tag;            /* the answer has it too */
     uint64_t offset, length; /* of a mapping */
     uint64_t open_flags;
+    int32_t process; /* whose request a supervisor sends, */
+    uint32_t user;   /* and of which user */
     struct list lists[MOST_LISTS];
 };
 

@@ -88,7 +88,6 @@ static int find_values(struct connection *connection, uint32_t object_id, uint32
 {
     const struct topology *topology;
     const struct seen_plane *plane = NULL;
-    struct state state;
     uint32_t at;
     int failed = 0;
 
@@ -99,14 +98,13 @@ static int find_values(struct connection *connection, uint32_t object_id, uint32
     }
     if (failed)
         return failed;
-    state_copy(&state);
     for (at = 0; at < count; at++) {
         if (plane == NULL)
-            values[at] = other_value(&state, object_id, kind, ids[at]);
+            values[at] = other_value(state_now(), object_id, kind, ids[at]);
         else if (ids[at] == TYPE)
             values[at] = plane->primary_of != 0 ? PRIMARY : 0;
         else
-            values[at] = plane_value(state_of_plane(&state, plane), ids[at]);
+            values[at] = plane_value(state_of_plane(state_now(), plane), ids[at]);
     }
     return 0;
 }

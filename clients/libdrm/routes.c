@@ -55,18 +55,16 @@ static int find_by_topology(struct connection *connection, const struct topology
     return failed;
 }
 
-/* Whether a CRTC that this process lit shows something yet: another process can have darkened it.
- * One that this process set to be inactive drives its connector all the same. */
+/* Whether a CRTC that a program lit shows something yet: a client of the server can have darkened
+ * it. One that was set to be inactive drives its connector all the same. */
 static int is_kept(struct connection *connection, const struct topology *topology, uint32_t crtc_id,
                    bool *kept)
 {
-    struct state state;
     uint32_t fb_id = 0;
     int failed = 0;
 
-    state_copy(&state);
     *kept = true;
-    if (state_of_crtc(&state, crtc_id)->is_active && topology_has_crtc(topology, crtc_id)) {
+    if (state_of_crtc(state_now(), crtc_id)->is_active && topology_has_crtc(topology, crtc_id)) {
         failed = find_shown(connection, crtc_id, &fb_id);
         *kept = fb_id != 0;
     }
@@ -76,15 +74,13 @@ static int is_kept(struct connection *connection, const struct topology *topolog
 int route_of_connector(struct connection *connection, uint32_t connector_id, uint32_t *crtc_id)
 {
     const struct topology *topology;
-    struct state state;
     bool kept;
     int failed = topology_find(connection, &topology);
 
     *crtc_id = 0;
     if (failed)
         return failed;
-    state_copy(&state);
-    *crtc_id = state_of_connector(&state, connector_id)->crtc_id;
+    *crtc_id = state_of_connector(state_now(), connector_id)->crtc_id;
     if (*crtc_id == 0)
         return find_by_topology(connection, topology, connector_id, crtc_id);
     failed = is_kept(connection, topology, *crtc_id, &kept);
@@ -109,17 +105,14 @@ int route_of_encoder(struct connection *connection, uint32_t encoder_id, uint32_
     return failed;
 }
 
-/* The CRTC of a plane that shows something: the one that this process set, or the only one that it
- * can be shown on. */
+/* The CRTC of a plane that shows something: the one that a program set, or the only one that it can
+ * be shown on. */
 static uint32_t crtc_of_plane(const struct topology *topology, const struct seen_plane *seen,
                               uint32_t fb_id)
 {
-    struct state state;
-    const struct plane_state *plane;
+    const struct plane_state *plane = state_of_plane(state_now(), seen);
     uint32_t at, found = 0, count = 0;
 
-    state_copy(&state);
-    plane = state_of_plane(&state, seen);
     if (plane->fb_id == fb_id && topology_has_crtc(topology, plane->crtc_id))
         return plane->crtc_id;
     for (at = 0; at < topology->count_crtcs; at++) {

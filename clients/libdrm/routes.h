@@ -1,5 +1,5 @@
-/* Which CRTC drives what now. The server keeps framebuffers only, so this is what this process set,
- * as far as the server agrees, and what the server's answers leave no choice about. */
+/* Which CRTC drives what now. The server keeps framebuffers only, so this is what programs set, as
+ * far as the server agrees, and what the server's answers leave no choice about. */
 #ifndef ZIRKOSHE_LIBDRM_ROUTES_H
 #define ZIRKOSHE_LIBDRM_ROUTES_H
 

@@ -1,16 +1,13 @@
-/* What this process knows of what is shown. */
+/* What is shown. */
 #include "states.h"
 
 #include "answers.h"
 #include "blobs.h"
 
-#include <pthread.h>
 
 /* The key of a primary plane is that of its CRTC, with this bit. Ids of the server are smaller. */
 #define PRIMARY_OF 0x80000000u
 
-/* Taken while a connection is held. */
-static pthread_mutex_t turn = PTHREAD_MUTEX_INITIALIZER;
 static struct state now;
 
 /* A device has no more objects than places. If it had, the last place would be shared. */
@@ -84,11 +81,9 @@ uint32_t state_connector(const struct state *state, uint32_t crtc_id, unsigned *
     return found;
 }
 
-void state_copy(struct state *state)
+struct state *state_now(void)
 {
-    pthread_mutex_lock(&turn);
-    *state = now;
-    pthread_mutex_unlock(&turn);
+    return &now;
 }
 
 /* A state that was made of another one has its objects in the same places. */
@@ -96,7 +91,6 @@ void state_change(const struct state *before, const struct state *after)
 {
     size_t at;
 
-    pthread_mutex_lock(&turn);
     for (at = 0; at < MOST_OBJECTS; at++) {
         const struct plane_state *plane = &after->planes[at];
         const struct crtc_state *crtc = &after->crtcs[at];
@@ -110,7 +104,6 @@ void state_change(const struct state *before, const struct state *after)
             && memcmp(connector, &before->connectors[at], sizeof *connector) != 0)
             *state_of_connector(&now, connector->id) = *connector;
     }
-    pthread_mutex_unlock(&turn);
 }
 
 /* Sets a mode, or none. */
@@ -140,10 +133,8 @@ static void unplug(struct state *state, uint32_t crtc_id)
 void state_crtc_is_set(uint32_t crtc_id, uint32_t connector_id, const struct plane_state *primary,
                        const struct drm_mode_modeinfo *mode)
 {
-    struct plane_state *plane;
+    struct plane_state *plane = state_of_primary(&now, crtc_id);
 
-    pthread_mutex_lock(&turn);
-    plane = state_of_primary(&now, crtc_id);
     set_mode(state_of_crtc(&now, crtc_id), primary != NULL ? mode : NULL);
     unplug(&now, crtc_id);
     if (primary != NULL) {
@@ -155,34 +146,26 @@ void state_crtc_is_set(uint32_t crtc_id, uint32_t connector_id, const struct pla
     } else {
         plane->crtc_id = plane->fb_id = 0;
     }
-    pthread_mutex_unlock(&turn);
 }
 
 void state_crtc_flips(uint32_t crtc_id, uint32_t fb_id)
 {
-    pthread_mutex_lock(&turn);
     state_of_primary(&now, crtc_id)->fb_id = fb_id;
-    pthread_mutex_unlock(&turn);
 }
 
 void state_plane_is_set(const struct plane_state *plane)
 {
-    pthread_mutex_lock(&turn);
     *find_plane(&now, plane->key) = *plane;
-    pthread_mutex_unlock(&turn);
 }
 
-/* Another process's framebuffer is shown in the mode that this process set, or else in the
- * preferred one. */
+/* The framebuffer of a client of the server is shown in the mode that the CRTC last had, or else in
+ * the preferred one. */
 void state_crtc_is_seen(uint32_t crtc_id, uint32_t fb_id)
 {
-    struct plane_state *plane;
-    struct crtc_state *crtc;
+    struct plane_state *plane = state_of_primary(&now, crtc_id);
+    struct crtc_state *crtc = state_of_crtc(&now, crtc_id);
     uint32_t count;
 
-    pthread_mutex_lock(&turn);
-    plane = state_of_primary(&now, crtc_id);
-    crtc = state_of_crtc(&now, crtc_id);
     if (fb_id == 0 && crtc->is_active)
         plane->fb_id = plane->crtc_id = 0;
     if (fb_id != 0 && !crtc->is_active)
@@ -195,17 +178,14 @@ void state_crtc_is_seen(uint32_t crtc_id, uint32_t fb_id)
         plane->src_w = plane->crtc_w << 16;
         plane->src_h = plane->crtc_h << 16;
     }
-    pthread_mutex_unlock(&turn);
 }
 
 void state_fb_is_removed(uint32_t fb_id)
 {
     size_t at;
 
-    pthread_mutex_lock(&turn);
     for (at = 0; at < MOST_OBJECTS; at++) {
         if (now.planes[at].fb_id == fb_id)
             now.planes[at].fb_id = now.planes[at].crtc_id = 0;
     }
-    pthread_mutex_unlock(&turn);
 }

@@ -1,8 +1,8 @@
-/* What this process knows of what is shown: the state of planes, CRTCs and connectors, as atomic
- * commits and the older calls left it.
+/* What is shown: the state of planes, CRTCs and connectors, as atomic commits and the older calls
+ * left it.
  *
- * The server keeps the framebuffers alone. All else is this process's own. A primary plane's state
- * is found by its CRTC, since the older calls do not name the plane.
+ * The server keeps the framebuffers alone. A primary plane's state is found by its CRTC, since the
+ * older calls do not name the plane.
  */
 #ifndef ZIRKOSHE_LIBDRM_STATES_H
 #define ZIRKOSHE_LIBDRM_STATES_H
@@ -50,9 +50,8 @@ bool plane_overflows(const struct plane_state *plane);
 /* Returns the connector of a CRTC, or 0, and how many it has in `count`. */
 uint32_t state_connector(const struct state *state, uint32_t crtc_id, unsigned *count);
 
-/* Returns the state now, and changes what differs between two states. The connection is held
- * meanwhile. */
-void state_copy(struct state *state);
+/* Returns the state now, and changes what differs between two states. */
+struct state *state_now(void);
 void state_change(const struct state *before, const struct state *after);
 
 /* Notes what the older calls changed: a MODE_SETCRTC or a flip, a MODE_SETPLANE, the framebuffer

@@ -30,8 +30,7 @@ struct topology {
 struct connection;
 
 /* Returns what the caller sees in `topology`; 0, or a negative errno. The server is asked the first
- * time, and again after a call of this process can have changed it, or the server refused a
- * request. */
+ * time, and again after a request can have changed it, or the server refused one. */
 int topology_find(struct connection *connection, const struct topology **topology);
 
 /* Return the object with this id, or NULL if the client does not see it. */

@@ -79,7 +79,7 @@ static void find_wanted(struct drm_wait_vblank_request *request, struct goal *go
 
 static int queue(struct connection *connection, struct event *event, const struct goal *goal)
 {
-    if (!events_have_room(&connection->events))
+    if (!events_have_room(&connection->events, 1))
         return -ENOMEM;
     event->crtc_id = goal->crtc_id;
     event->told.base.length = sizeof event->told;

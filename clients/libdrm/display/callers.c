@@ -1,47 +1,38 @@
-/* The caller is who sent the packet. Its memory is the lists that are in it, and what is written to
- * it is in the answer. */
+/* The caller of the request that is answered now. Its memory is the lists that are in the packet,
+ * and what is written to it is in the answer. */
 #include "display.h"
 
 #include <stdio.h>
+#include <stdlib.h>
 
-static struct {
-    const struct ask *ask;
-    const uint8_t *bytes;
-    pid_t process;
-    uid_t user;
-    uint8_t *written;
-    size_t room, length;
-    uint32_t writes;
-} caller;
-
-void caller_begin(const struct ask *ask, const uint8_t *bytes, pid_t process, uid_t user,
-                  uint8_t *written, size_t room)
+uint8_t *written_add(struct written *written, size_t size)
 {
-    caller.ask = ask;
-    caller.bytes = bytes;
-    caller.process = process;
-    caller.user = user;
-    caller.written = written;
-    caller.room = room;
-    caller.length = 0;
-    caller.writes = 0;
-}
+    size_t room = written->room > 0 ? written->room : 4096;
+    uint8_t *grown;
 
-size_t caller_written(uint32_t *writes)
-{
-    *writes = caller.writes;
-    return caller.length;
+    while (room - written->length < size && room < 2 * (size_t)MOST_LONG)
+        room *= 2;
+    if (room - written->length < size)
+        return NULL;
+    grown = room > written->room ? realloc(written->bytes, room) : written->bytes;
+    if (grown == NULL)
+        return NULL;
+    written->bytes = grown;
+    written->room = room;
+    written->length += size;
+    return grown + written->length - size;
 }
 
 int copy_from_caller(void *to, uint64_t address, size_t size)
 {
-    const uint8_t *bytes = caller.bytes;
+    const struct packet *packet = &task_now()->packet;
+    const uint8_t *bytes = packet->lists;
     size_t at;
 
     if (size == 0)
         return 0;
     for (at = 0; at < MOST_LISTS; at++) {
-        const struct list *list = &caller.ask->lists[at];
+        const struct list *list = &packet->ask.lists[at];
 
         if (address >= list->address && address - list->address <= list->size
             && size <= list->size - (address - list->address)) {
@@ -56,41 +47,48 @@ int copy_from_caller(void *to, uint64_t address, size_t size)
 int copy_to_caller(uint64_t address, const void *from, size_t size)
 {
     const struct list head = {address, size};
+    struct written *written = &task_now()->written;
+    uint8_t *bytes;
 
     if (size == 0)
         return 0;
     if (address == 0)
         return -EFAULT;
-    if (caller.room - caller.length < sizeof head + size)
+    bytes = written_add(written, sizeof head + size);
+    if (bytes == NULL)
         return -ENOMEM;
-    memcpy(caller.written + caller.length, &head, sizeof head);
-    memcpy(caller.written + caller.length + sizeof head, from, size);
-    caller.length += sizeof head + size;
-    caller.writes++;
+    memcpy(bytes, &head, sizeof head);
+    memcpy(bytes + sizeof head, from, size);
+    written->count++;
     return 0;
 }
 
 pid_t caller_process(void)
 {
-    return caller.process;
+    return task_now()->caller.pid;
 }
 
 uid_t caller_user(void)
 {
-    return caller.user;
+    return task_now()->caller.uid;
 }
 
 bool caller_name_begins(char letter)
 {
     char path[32];
     FILE *name;
-    int first = EOF;
+    int found = EOF;
 
-    snprintf(path, sizeof path, "/proc/%d/comm", (int)caller.process);
+    snprintf(path, sizeof path, "/proc/%d/comm", (int)caller_process());
     name = fopen(path, "r");
     if (name != NULL) {
-        first = fgetc(name);
+        found = fgetc(name);
         fclose(name);
     }
-    return first == letter;
+    return found == letter;
+}
+
+struct outcome *outcome(void)
+{
+    return &task_now()->outcome;
 }

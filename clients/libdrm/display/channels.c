@@ -2,29 +2,40 @@
 #include "display.h"
 
 #include <stdlib.h>
-#include <sys/epoll.h>
 
-#define MOST_CHANNELS 4096
+#define MOST_CHANNELS 16384
+/* Users but root leave some for others. */
+#define MOST_OF_USER (MOST_CHANNELS / 4 * 3)
 
 static struct channel *channels[MOST_CHANNELS]; /* the first place is never used */
 
-struct channel *channel_add(int fd, pid_t process)
+/* The first free number, or MOST_CHANNELS if there is none for this user. */
+static uint32_t free_number(uid_t user)
 {
-    uint32_t number = 1;
-    struct channel *made;
+    uint32_t number = MOST_CHANNELS, at, count = 0;
 
-    while (number < MOST_CHANNELS && channels[number] != NULL)
-        number++;
-    made = number < MOST_CHANNELS ? calloc(1, sizeof *made) : NULL;
-    if (made == NULL) {
-        close(fd);
-        return NULL;
+    for (at = MOST_CHANNELS - 1; at > 0; at--) {
+        if (channels[at] == NULL)
+            number = at;
+        else if (channels[at]->user == user)
+            count++;
     }
-    made->source = (struct source){.kind = SOURCE_CHANNEL, .fd = fd};
-    made->number = number;
-    made->process = process;
+    return user != 0 && count >= MOST_OF_USER ? MOST_CHANNELS : number;
+}
+
+struct channel *channel_add(int fd, const struct ucred *sender, bool is_supervisor)
+{
+    uint32_t number = free_number(sender->uid);
+    struct channel *made = number < MOST_CHANNELS ? calloc(1, sizeof *made) : NULL;
+
+    if (made == NULL)
+        return NULL;
+    *made = (struct channel){.source = {.kind = SOURCE_CHANNEL, .fd = fd},
+                             .number = number,
+                             .process = sender->pid,
+                             .user = sender->uid,
+                             .is_supervisor = is_supervisor};
     if (!source_add(&made->source, 0)) {
-        close(fd);
         free(made);
         return NULL;
     }

@@ -1,10 +1,11 @@
-/* zirkoshe-display SOCKET: what programs with the preloaded library see of the server. The
- * environment names the server's sockets. It runs until SIGTERM or SIGINT, and ends between two
- * requests. */
+/* zirkoshe-display SOCKET [DESCRIPTOR]: what programs see of the server. The environment names the
+ * server's sockets. A supervisor speaks for its callers on the other end of the descriptor, a
+ * packet socket. The display runs until SIGTERM or SIGINT, or until that end is closed everywhere.
+ */
 #include "display.h"
 
-#include <stdio.h>
 #include <signal.h>
+#include <stdio.h>
 #include <stdlib.h>
 #include <sys/epoll.h>
 #include <sys/resource.h>
@@ -15,14 +16,12 @@
 #define PROGRAM "zirkoshe-display"
 /* In one round all that is ready is seen: ends come before packets. */
 #define MOST_READY 16384
-/* Openers that have not asked yet, at most: the first of them goes if there are more. */
-#define MOST_GUESTS 256
+/* After how long buffers are looked at again, in milliseconds */
+#define LOOK 10
 
 static int set = -1;
 static struct source *ended;
 static struct epoll_event ready[MOST_READY];
-static struct source *guests[MOST_GUESTS]; /* a ring */
-static unsigned next_guest;
 static bool is_to_end;
 
 bool source_add(struct source *source, uint32_t events)
@@ -30,6 +29,15 @@ bool source_add(struct source *source, uint32_t events)
     struct epoll_event event = {.events = events, .data = {.ptr = source}};
 
     return epoll_ctl(set, EPOLL_CTL_ADD, source->fd, &event) == 0;
+}
+
+/* The descriptor is in the set from its first wait on. */
+void source_wait(struct source *source, uint32_t events)
+{
+    struct epoll_event event = {.events = events | EPOLLONESHOT, .data = {.ptr = source}};
+
+    if (epoll_ctl(set, EPOLL_CTL_MOD, source->fd, &event) != 0)
+        epoll_ctl(set, EPOLL_CTL_ADD, source->fd, &event);
 }
 
 /* Another event of this round can name it, so that it is freed later. */
@@ -51,114 +59,107 @@ static void free_ended(void)
     }
 }
 
-/* What a guest has asked is answered before it goes. */
-static void end_guest(struct source *guest)
+void loop_end(void)
 {
-    unsigned at;
-
-    while (answer_packet(guest->fd, NULL))
-        ;
-    for (at = 0; at < MOST_GUESTS; at++)
-        guests[at] = guests[at] == guest ? NULL : guests[at];
-    source_end(guest);
+    is_to_end = true;
 }
 
-/* Gives a guest the place of the one that is there longest. */
-static void place_guest(struct source *guest)
+static void accept_opener(int listener)
 {
-    struct source **place = &guests[next_guest++ % MOST_GUESTS];
-
-    if (*place != NULL)
-        end_guest(*place);
-    *place = guest;
-}
-
-static void accept_guest(int listener)
-{
-    struct source *guest = calloc(1, sizeof *guest);
     int fd = accept4(listener, NULL, NULL, SOCK_CLOEXEC | SOCK_NONBLOCK);
 
-    if (guest != NULL && fd >= 0) {
-        *guest = (struct source){.kind = SOURCE_GUEST, .fd = fd};
-        if (source_add(guest, EPOLLIN)) {
-            place_guest(guest);
-            return;
-        }
-    }
     if (fd >= 0)
-        close(fd);
-    free(guest);
+        opener_add(fd);
 }
 
-/* What is left of packets is answered before a file ends: another thread may wait for it. */
 static void see_end(struct source *source)
 {
-    switch (source->kind) {
-    case SOURCE_FILE:
-        while (answer_packet(source->fd, (struct file *)source))
-            ;
-        ((struct file *)source)->timer.is_ended = true;
-        file_end((struct file *)source);
-        break;
-    case SOURCE_CHANNEL:
+    if (source->kind == SOURCE_PEER)
+        peer_end((struct peer *)source);
+    else if (source->kind == SOURCE_CHANNEL)
         channel_end((struct channel *)source);
-        break;
-    default:
-        end_guest(source);
-    }
+}
+
+static struct task *task_of(struct source *source)
+{
+    return (struct task *)((char *)source - offsetof(struct task, source));
 }
 
 static void see_ready(struct source *source)
 {
-    uint64_t expired;
-
     switch (source->kind) {
     case SOURCE_LISTENER:
-        accept_guest(source->fd);
+        accept_opener(source->fd);
         break;
-    case SOURCE_GUEST:
-        answer_packet(source->fd, NULL);
+    case SOURCE_PEER:
+        peer_answer((struct peer *)source);
         break;
-    case SOURCE_FILE:
-        answer_packet(source->fd, (struct file *)source);
+    case SOURCE_TASK:
+        task_go_on(task_of(source));
         break;
-    case SOURCE_TIMER:
-        if (read(source->fd, &expired, sizeof expired) > 0)
-            file_deliver(file_of_timer(source));
+    case SOURCE_EVENTS:
+        events_deliver();
         break;
-    case SOURCE_WATCH:
-        buffers_close_tokens();
+    case SOURCE_BUFFERS:
+        buffers_are_closed();
         break;
-    case SOURCE_END:
-        is_to_end = true;
+    case SOURCE_SIGNALS:
+        loop_end();
         break;
     case SOURCE_CHANNEL:
         break;
     }
 }
 
+static void close_tokens(struct task *task)
+{
+    (void)task;
+    buffers_close_tokens();
+}
+
+/* Closes the tokens of buffers that are closed, before what comes later is answered. */
+static void attend_to_buffers(void)
+{
+    struct task *task = buffers_may_be_closed() ? task_make(close_tokens, NULL) : NULL;
+
+    if (task != NULL)
+        task_begin(task, false);
+}
+
+/* What the server answers goes on at once. */
+static void see_round(int count)
+{
+    int at;
+
+    for (at = 0; at < count; at++) {
+        struct source *source = ready[at].data.ptr;
+
+        if ((ready[at].events & (EPOLLHUP | EPOLLERR)) && !source->is_ended)
+            see_end(source);
+        if (source->kind == SOURCE_BUFFERS)
+            buffers_are_closed();
+    }
+    attend_to_buffers();
+    peers_answer();
+    for (at = 0; at < count; at++) {
+        struct source *source = ready[at].data.ptr;
+
+        if (!source->is_ended && (source->kind == SOURCE_TASK || ready[at].events & EPOLLIN))
+            see_ready(source);
+    }
+    tasks_go_on();
+    tasks_begin();
+    free_ended();
+}
+
 static void run(void)
 {
-    while (!is_to_end) {
-        int count = epoll_wait(set, ready, MOST_READY, -1), at;
+    while (!is_to_end || !tasks_are_done()) {
+        int timeout = peers_are_waiting() ? 0 : tasks_timeout();
 
-        for (at = 0; at < count; at++) {
-            struct source *source = ready[at].data.ptr;
-
-            if ((ready[at].events & (EPOLLHUP | EPOLLERR)) && source->kind != SOURCE_GUEST
-                && !source->is_ended)
-                see_end(source);
-        }
-        for (at = 0; at < count; at++) {
-            struct source *source = ready[at].data.ptr;
-
-            if (!source->is_ended && (ready[at].events & EPOLLIN))
-                see_ready(source);
-            if (!source->is_ended && source->kind == SOURCE_GUEST
-                && (ready[at].events & (EPOLLHUP | EPOLLERR)))
-                see_end(source);
-        }
-        free_ended();
+        if (buffers_may_be_closed() && (timeout < 0 || timeout > LOOK))
+            timeout = LOOK;
+        see_round(epoll_wait(set, ready, MOST_READY, timeout));
     }
 }
 
@@ -167,25 +168,56 @@ static int listen_at(const char *path)
     struct sockaddr_un address = {.sun_family = AF_UNIX};
     int fd = socket(AF_UNIX, SOCK_SEQPACKET | SOCK_CLOEXEC | SOCK_NONBLOCK, 0), on = 1;
 
-    if (fd < 0 || strlen(path) >= sizeof address.sun_path)
+    if (strlen(path) >= sizeof address.sun_path) {
+        errno = ENAMETOOLONG;
         return -1;
+    }
     strcpy(address.sun_path, path);
-    if (setsockopt(fd, SOL_SOCKET, SO_PASSCRED, &on, sizeof on) != 0
+    if (fd < 0 || setsockopt(fd, SOL_SOCKET, SO_PASSCRED, &on, sizeof on) != 0
         || bind(fd, (struct sockaddr *)&address, sizeof address) != 0 || chmod(path, 0666) != 0
         || listen(fd, 128) != 0)
         return -1;
     return fd;
 }
 
+static int attend_to_signals(void)
+{
+    sigset_t ends;
+
+    sigemptyset(&ends);
+    sigaddset(&ends, SIGTERM);
+    sigaddset(&ends, SIGINT);
+    sigprocmask(SIG_BLOCK, &ends, NULL);
+    return signalfd(-1, &ends, SFD_CLOEXEC);
+}
+
+/* Attends to the supervisor's end of a pair of sockets. */
+static bool attend_to_supervisor(const char *word)
+{
+    int fd = atoi(word), on = 1;
+    struct peer *peer;
+
+    if (setsockopt(fd, SOL_SOCKET, SO_PASSCRED, &on, sizeof on) != 0
+        || fcntl(fd, F_SETFD, FD_CLOEXEC) != 0)
+        return false;
+    peer = peer_add(fd);
+    if (peer != NULL)
+        peer->is_supervisor = true;
+    return peer != NULL;
+}
+
 int main(int count, char **words)
 {
-    static struct source listener = {.kind = SOURCE_LISTENER}, watch = {.kind = SOURCE_WATCH},
-                         end = {.kind = SOURCE_END};
-    sigset_t ends;
+    static struct source sources[] = {{.kind = SOURCE_LISTENER},
+                                      {.kind = SOURCE_EVENTS},
+                                      {.kind = SOURCE_BUFFERS},
+                                      {.kind = SOURCE_SIGNALS}};
     struct rlimit most;
+    size_t at;
+    bool is_ready;
 
-    if (count != 2) {
-        fprintf(stderr, "usage: " PROGRAM " SOCKET\n");
+    if (count != 2 && count != 3) {
+        fprintf(stderr, "usage: " PROGRAM " SOCKET [DESCRIPTOR]\n");
         return 2;
     }
     if (getrlimit(RLIMIT_NOFILE, &most) == 0) {
@@ -193,18 +225,18 @@ int main(int count, char **words)
         setrlimit(RLIMIT_NOFILE, &most);
     }
     set = epoll_create1(EPOLL_CLOEXEC);
-    listener.fd = listen_at(words[1]);
-    sigemptyset(&ends);
-    sigaddset(&ends, SIGTERM);
-    sigaddset(&ends, SIGINT);
-    sigprocmask(SIG_BLOCK, &ends, NULL);
-    end.fd = signalfd(-1, &ends, SFD_CLOEXEC);
-    watch.fd = buffers_watch();
-    if (set < 0 || listener.fd < 0 || !source_add(&listener, EPOLLIN)
-        || !source_add(&watch, EPOLLIN) || !source_add(&end, EPOLLIN)) {
+    sources[0].fd = listen_at(words[1]);
+    sources[1].fd = events_timer();
+    sources[2].fd = buffers_watch();
+    sources[3].fd = attend_to_signals();
+    is_ready = count == 2 || attend_to_supervisor(words[2]);
+    for (at = 0; at < sizeof sources / sizeof sources[0]; at++)
+        is_ready = is_ready && source_add(&sources[at], EPOLLIN);
+    if (!is_ready) {
         fprintf(stderr, PROGRAM ": can't listen at %s: %s\n", words[1], strerror(errno));
         return 1;
     }
     run();
+    unlink(words[1]);
     return 0;
 }

@@ -1,62 +1,20 @@
-/* The answering of packets. */
+/* The receiving of packets, and their answers. */
 #include "display.h"
 
-#include "ioctls.h"
-
 #include <drm.h>
+#include <drm_mode.h>
 #include <stdio.h>
 #include <stdlib.h>
 #include <sys/ioctl.h>
 #include <sys/mman.h>
 #include <sys/uio.h>
 
-#define MOST_RECEIVED 3
-
-/* A packet with what came beside it */
-struct packet {
-    struct ask ask;
-    const uint8_t *argument; /* the struct, */
-    const uint8_t *lists;    /* and the lists, */
-    uint8_t *aside;          /* which may have come in a file */
-    struct ucred sender;
-    int received[MOST_RECEIVED];
-    int count, taken;
-    struct channel *channel;
-};
-
-static _Alignas(16) uint8_t room_in[MOST_PACKET];
-static uint8_t
-    *out; /* the answer after its struct, as long as it may be; untouched pages cost nothing */
-
-#define ROOM_OUT ((size_t)MOST_LONG + 4096)
-
-static bool has_room_out(void)
-{
-    if (out == NULL)
-        out = mmap(NULL, ROOM_OUT, PROT_READ | PROT_WRITE,
-                   MAP_PRIVATE | MAP_ANONYMOUS | MAP_NORESERVE, -1, 0);
-    return out != MAP_FAILED;
-}
-
-/* Puts a long answer into a file. */
-static int put_aside(size_t length)
-{
-    int file = memfd_create("zirkoshe-answer", MFD_CLOEXEC);
-
-    if (file >= 0 && write(file, out, length) != (ssize_t)length) {
-        close(file);
-        file = -1;
-    }
-    madvise(out, ROOM_OUT, MADV_DONTNEED);
-    return file;
-}
+#define MOST_TRACED 512
 
 static void take_control(struct msghdr *message, struct packet *packet)
 {
     struct cmsghdr *part;
 
-    packet->sender.pid = 0;
-    packet->sender.uid = (uid_t)-1;
     for (part = CMSG_FIRSTHDR(message); part != NULL; part = CMSG_NXTHDR(message, part)) {
         if (part->cmsg_level != SOL_SOCKET)
             continue;
@@ -75,7 +33,7 @@ static bool read_aside(struct packet *packet, size_t length)
 {
     size_t taken = 0;
     ssize_t more = 1;
-    int file = packet->count > 0 ? packet->received[--packet->count] : -1;
+    int file = packet->count > packet->taken ? packet->received[--packet->count] : -1;
 
     packet->aside = file < 0 ? NULL : malloc(length);
     while (packet->aside != NULL && more > 0 && taken < length) {
@@ -88,20 +46,17 @@ static bool read_aside(struct packet *packet, size_t length)
     return packet->aside != NULL && taken == length;
 }
 
-/* Whether its form is right: that of each kind, and as long as its parts. */
-static bool is_right(struct packet *packet, size_t length)
+/* Returns whether the form of a packet is right: that of its kind, and as long as its parts. */
+static bool has_right_form(struct packet *packet, size_t length)
 {
     size_t at, wanted = sizeof packet->ask, listed = 0;
 
-    if (length < sizeof packet->ask)
+    if (packet->ask.form != PACKET_FORM || packet->ask.kind > ASK_NOTHING)
         return false;
-    memcpy(&packet->ask, room_in, sizeof packet->ask);
-    packet->argument = room_in + sizeof packet->ask;
-    if (packet->ask.form != PACKET_FORM || packet->ask.kind > ASK_MAP)
-        return false;
+    packet->argument = packet->bytes + sizeof packet->ask;
     if (packet->ask.kind == ASK_IOCTL)
         wanted += _IOC_SIZE(packet->ask.request);
-    packet->lists = room_in + wanted;
+    packet->lists = packet->bytes + wanted;
     for (at = 0; at < MOST_LISTS; at++) {
         if (packet->ask.lists[at].size > MOST_LONG - listed)
             return false;
@@ -118,45 +73,31 @@ static int take_descriptor(struct packet *packet)
     return packet->taken < packet->count ? packet->received[packet->taken++] : -1;
 }
 
-/* Receives a packet. Returns its length, 0 at the end, or -1 if there is none. */
-static ssize_t receive(int fd, struct packet *packet)
-{
-    union {
-        struct cmsghdr head;
-        char room[CMSG_SPACE(sizeof(struct ucred)) + CMSG_SPACE(MOST_RECEIVED * sizeof(int))];
-    } control;
-    struct iovec part = {room_in, sizeof room_in};
-    struct msghdr message = {.msg_iov = &part,
-                             .msg_iovlen = 1,
-                             .msg_control = &control,
-                             .msg_controllen = sizeof control};
-    ssize_t length;
-
-    memset(packet, 0, sizeof *packet);
-    length = recvmsg(fd, &message, MSG_DONTWAIT | MSG_CMSG_CLOEXEC);
-    if (length > 0)
-        take_control(&message, packet);
-    return length;
-}
-
 static void let_go(struct packet *packet)
 {
-    while (packet->taken < packet->count)
-        close(packet->received[packet->taken++]);
+    int fd;
+
+    while ((fd = take_descriptor(packet)) >= 0)
+        close(fd);
     free(packet->aside);
+    packet->aside = NULL;
 }
 
-/* Sends an answer with a descriptor, or with none (-1). */
-static void respond(const struct packet *packet, const struct reply *reply, size_t length,
+/* Sends an answer on a socket, with a descriptor or with none (-1). */
+static void respond(int socket, const struct reply *reply, const struct written *written,
                     int descriptor)
 {
     union {
         struct cmsghdr head;
         char room[CMSG_SPACE(sizeof descriptor)];
     } control;
-    struct iovec parts[] = {{(void *)(uintptr_t)reply, sizeof *reply}, {out, length}};
-    struct msghdr message = {.msg_iov = parts, .msg_iovlen = reply->is_long ? 1 : 2};
+    struct iovec parts[] = {{(void *)(uintptr_t)reply, sizeof *reply}, {NULL, 0}};
+    struct msghdr message = {.msg_iov = parts, .msg_iovlen = 1};
 
+    if (written != NULL && !reply->is_long) {
+        parts[1] = (struct iovec){written->bytes, written->length};
+        message.msg_iovlen = 2;
+    }
     if (descriptor >= 0) {
         memset(&control, 0, sizeof control);
         message.msg_control = &control;
@@ -166,159 +107,260 @@ static void respond(const struct packet *packet, const struct reply *reply, size
         control.head.cmsg_len = CMSG_LEN(sizeof descriptor);
         memcpy(CMSG_DATA(&control.head), &descriptor, sizeof descriptor);
     }
-    sendmsg(packet->channel->source.fd, &message, MSG_DONTWAIT | MSG_NOSIGNAL);
+    sendmsg(socket, &message, MSG_DONTWAIT | MSG_NOSIGNAL);
 }
 
-/* Opens a node for who asks. The root socket is for root alone. */
-static int open_node(const struct packet *packet)
+/* Sends the answer to the caller's thread, if that still waits. */
+static void respond_to(const struct packet *packet, struct reply *reply,
+                       const struct written *written, int descriptor)
 {
+    const struct channel *channel = channel_find(packet->channel, packet->sender.pid);
+
+    reply->tag = packet->ask.tag;
+    reply->channel = packet->channel;
+    if (channel != NULL)
+        respond(channel->source.fd, reply, written, descriptor);
+}
+
+/* Finds the socket for the answer: one that came with the packet, or one that came before. Without
+ * room for it, the answer says so. */
+static const struct channel *find_channel(struct packet *packet, bool is_supervisor)
+{
+    const struct reply refusal = {.result = -EMFILE, .tag = packet->ask.tag};
+    struct channel *found;
+    int fd;
+
+    if (!(packet->ask.flags & HAS_CHANNEL))
+        return channel_find(packet->ask.channel, packet->sender.pid);
+    fd = take_descriptor(packet);
+    if (fd < 0)
+        return NULL;
+    found = channel_add(fd, &packet->sender, is_supervisor);
+    if (found == NULL) {
+        respond(fd, &refusal, NULL, -1);
+        close(fd);
+    }
+    return found;
+}
+
+/* Finds out who asks, and where the answer goes. A supervisor speaks for its callers. */
+static void find_caller(struct task *task)
+{
+    struct packet *packet = &task->packet;
+    const struct channel *channel = find_channel(packet, task->peer->is_supervisor);
+
+    packet->channel = channel == NULL ? 0 : channel->number;
+    task->caller = packet->sender;
+    if (channel != NULL && channel->is_supervisor) {
+        task->caller.pid = packet->ask.process;
+        task->caller.uid = packet->ask.user;
+    }
+}
+
+bool packet_receive(struct task *task)
+{
+    union {
+        struct cmsghdr head;
+        char room[CMSG_SPACE(sizeof(struct ucred)) + CMSG_SPACE(MOST_RECEIVED * sizeof(int))];
+    } control;
+    struct packet *packet = &task->packet;
+    struct iovec part = {packet->bytes, sizeof packet->bytes};
+    struct msghdr message = {.msg_iov = &part,
+                             .msg_iovlen = 1,
+                             .msg_control = &control,
+                             .msg_controllen = sizeof control};
+    ssize_t length = recvmsg(task->peer->source.fd, &message, MSG_DONTWAIT | MSG_CMSG_CLOEXEC);
+
+    if (length <= 0)
+        return false;
+    packet->aside = NULL;
+    packet->count = packet->taken = 0;
+    packet->sender = (struct ucred){0, (uid_t)-1, (gid_t)-1};
+    take_control(&message, packet);
+    memset(&packet->ask, 0, sizeof packet->ask);
+    if (length >= (ssize_t)sizeof packet->ask)
+        memcpy(&packet->ask, packet->bytes, sizeof packet->ask);
+    find_caller(task);
+    packet->is_right =
+        length >= (ssize_t)sizeof packet->ask && has_right_form(packet, (size_t)length);
+    return true;
+}
+
+bool packet_is_reading(const struct task *task)
+{
+    const struct ask *ask = &task->packet.ask;
+
+    return !task->packet.is_right || ask->kind == ASK_MAP || ask->kind == ASK_NOTHING
+           || (ask->kind == ASK_IOCTL && is_reading(ask->request));
+}
+
+/* Opens a node for the caller. The root socket is for root alone. */
+static int open_node(const struct task *task)
+{
+    const struct ask *ask = &task->packet.ask;
     struct connection *opened;
     int failed;
 
-    if (packet->ask.request >= NODE_KINDS)
+    if (ask->request >= NODE_KINDS)
         return -ENODEV;
-    if (packet->ask.request == NODE_ROOT && packet->sender.uid != 0)
+    if (ask->request == NODE_ROOT && task->caller.uid != 0)
         return -EACCES;
-    failed = connection_open((enum node)packet->ask.request, false, 0, packet->sender.pid, &opened);
-    return failed ? failed : file_make(opened, packet->ask.open_flags);
+    failed = connection_open((enum node)ask->request, false, 0, task->caller.pid, &opened);
+    return failed ? failed : file_make(opened, ask->open_flags, task->caller.uid);
+}
+
+static void answer_open(struct task *task)
+{
+    int descriptor = open_node(task);
+    struct reply reply = {.result = descriptor < 0 ? descriptor : 0,
+                          .has_descriptor = descriptor >= 0};
+
+    respond_to(&task->packet, &reply, NULL, descriptor);
+    if (descriptor >= 0)
+        close(descriptor);
+}
+
+/* Gives the memory at an offset. */
+static void answer_map(struct task *task)
+{
+    const struct ask *ask = &task->packet.ask;
+    uint64_t size, place = place_at(ask->offset);
+    int memory = buffers_memory(task->peer->connection, handle_at(ask->offset), &size);
+    struct reply reply = {.place = place};
+
+    if (memory >= 0 && (ask->length > size || place > size - ask->length))
+        memory = -EINVAL;
+    reply.result = memory < 0 ? memory : 0;
+    reply.has_descriptor = memory >= 0;
+    respond_to(&task->packet, &reply, NULL, memory);
 }
 
 /* A descriptor for the caller of a request that makes one, or -1. */
-static int made_descriptor(uint32_t request, void *argument, int *failed)
+static int made_descriptor(const struct task *task, const void *argument, int *failed)
 {
-    struct drm_prime_handle *prime = argument;
-    struct drm_mode_create_lease *lease = argument;
+    uint32_t request = task->packet.ask.request;
+    const struct drm_prime_handle *prime = argument;
+    const struct drm_mode_create_lease *lease = argument;
     int made = -1;
 
     if (*failed)
         return -1;
     if (_IOC_NR(request) == _IOC_NR(DRM_IOCTL_PRIME_HANDLE_TO_FD))
         return prime->fd;
-    if (outcome()->opened != NULL) {
-        made = file_make(outcome()->opened, lease->flags);
+    if (task->outcome.opened != NULL) {
+        made = file_make(task->outcome.opened, lease->flags, task->caller.uid);
         *failed = made < 0 ? made : 0;
     }
     return made < 0 ? -1 : made;
 }
 
-/* Answers a request. Its struct is at the front of the answer. */
-static void answer_ioctl(struct packet *packet, struct connection *connection)
+/* Carries out a request with a copy of its struct, which is first in what is written. */
+static int carry_out_packet(struct task *task, int *descriptor)
 {
     union {
         max_align_t aligned;
         uint8_t bytes[1 << _IOC_SIZEBITS];
     } argument;
+    struct packet *packet = &task->packet;
     uint32_t request = packet->ask.request, size = _IOC_SIZE(request);
     struct drm_prime_handle *prime = (void *)&argument;
-    struct reply reply = {.tag = packet->ask.tag, .channel = packet->channel->number};
-    int failed, descriptor, memory = -1;
-    size_t length;
+    int failed, memory = -1;
 
     memcpy(&argument, packet->argument, size);
     if (_IOC_NR(request) == _IOC_NR(DRM_IOCTL_PRIME_FD_TO_HANDLE)) {
         memory = packet->ask.flags & HAS_MEMORY ? take_descriptor(packet) : -1;
         prime->fd = memory;
     }
-    caller_begin(&packet->ask, packet->lists, packet->sender.pid, packet->sender.uid, out + size,
-                 ROOM_OUT - size - 512);
-    failed = carry_out(connection, request, &argument);
-    descriptor = made_descriptor(request, &argument, &failed);
+    if (written_add(&task->written, size) == NULL)
+        failed = -ENOMEM;
+    else
+        failed = carry_out(task->peer->connection, request, &argument);
+    *descriptor = made_descriptor(task, &argument, &failed);
     if (memory >= 0)
         close(memory);
-    reply.result = failed;
-    reply.until = outcome()->until;
-    reply.is_again = outcome()->is_again;
-    reply.has_descriptor = descriptor >= 0;
-    reply.size = request & IOC_OUT ? size : 0;
-    memcpy(out, &argument, size);
-    length = size + caller_written(&reply.writes);
-    if (packet->ask.flags & (failed && !reply.is_again ? TRACES_FAILURES | TRACES_ALL : TRACES_ALL)
-        && !reply.is_again)
-        reply.traced = (uint32_t)trace_line((char *)out + length, 512, failed);
-    reply.size = size;
-    length += reply.traced;
-    if (length > MOST_INLINE && descriptor < 0) {
-        descriptor = put_aside(length);
-        reply.is_long = reply.has_descriptor = descriptor >= 0;
+    if (task->written.length >= size)
+        memcpy(task->written.bytes, &argument, size);
+    return failed;
+}
+
+/* Puts a long answer into a file. */
+static int put_aside(const struct written *written)
+{
+    int file = memfd_create("zirkoshe-answer", MFD_CLOEXEC);
+
+    if (file >= 0 && write(file, written->bytes, written->length) != (ssize_t)written->length) {
+        close(file);
+        file = -1;
+    }
+    return file;
+}
+
+/* Adds the line of the trace, if it is wanted. */
+static uint32_t add_trace(struct task *task, int failed)
+{
+    uint32_t wanted = failed ? TRACES_FAILURES | TRACES_ALL : TRACES_ALL;
+    uint8_t *line = (task->packet.ask.flags & wanted) && !task->outcome.is_again
+                        ? written_add(&task->written, MOST_TRACED)
+                        : NULL;
+    int length = line == NULL ? 0 : trace_line((char *)line, MOST_TRACED, failed);
+
+    if (line != NULL)
+        task->written.length -= (size_t)(MOST_TRACED - length);
+    return (uint32_t)length;
+}
+
+static void answer_ioctl(struct task *task)
+{
+    struct written *written = &task->written;
+    struct reply reply = {.size = _IOC_SIZE(task->packet.ask.request)};
+    int descriptor;
+
+    written->length = written->count = 0;
+    task->outcome = (struct outcome){0};
+    reply.result = carry_out_packet(task, &descriptor);
+    reply.until = task->outcome.until;
+    reply.is_again = task->outcome.is_again;
+    reply.writes = written->count;
+    reply.traced = add_trace(task, reply.result);
+    if (written->length > MOST_INLINE && descriptor < 0) {
+        descriptor = put_aside(written);
+        reply.is_long = descriptor >= 0;
         if (descriptor < 0) {
-            reply.result = -ENOMEM;
-            reply.size = reply.writes = reply.traced = 0;
-            length = 0;
+            reply = (struct reply){.result = -ENOMEM};
+            written->length = 0;
         }
     }
-    respond(packet, &reply, length, descriptor);
-    if (descriptor >= 0)
-        close(descriptor);
-}
-
-/* Gives the memory at an offset. */
-static void answer_map(const struct packet *packet, struct connection *connection)
-{
-    struct reply reply = {.tag = packet->ask.tag, .channel = packet->channel->number};
-    uint64_t size, place = place_at(packet->ask.offset);
-    int memory = buffers_memory(connection, handle_at(packet->ask.offset), &size);
-
-    if (memory >= 0 && (packet->ask.length > size || place > size - packet->ask.length))
-        memory = -EINVAL;
-    reply.result = memory < 0 ? memory : 0;
-    reply.has_descriptor = memory >= 0;
-    reply.place = place;
-    respond(packet, &reply, 0, memory);
-}
-
-static void answer_open(const struct packet *packet)
-{
-    struct reply reply = {.tag = packet->ask.tag, .channel = packet->channel->number};
-    int descriptor = open_node(packet);
-
-    reply.result = descriptor < 0 ? descriptor : 0;
     reply.has_descriptor = descriptor >= 0;
-    respond(packet, &reply, 0, descriptor);
+    respond_to(&task->packet, &reply, written, descriptor);
     if (descriptor >= 0)
         close(descriptor);
 }
 
-static void answer(struct packet *packet, struct file *file)
+static bool is_of_file(const struct ask *ask)
 {
-    packet->channel =
-        packet->ask.flags & HAS_CHANNEL
-            ? packet->count > 0 ? channel_add(take_descriptor(packet), packet->sender.pid) : NULL
-            : channel_find(packet->ask.channel, packet->sender.pid);
-    if (packet->channel == NULL || (packet->ask.kind == ASK_OPEN) != (file == NULL))
-        return;
-    if (packet->ask.kind == ASK_OPEN)
-        answer_open(packet);
-    else if (packet->ask.kind == ASK_IOCTL)
-        answer_ioctl(packet, file->connection);
-    else
-        answer_map(packet, file->connection);
+    return ask->kind == ASK_IOCTL || ask->kind == ASK_MAP;
 }
 
-/* Who waits for the answer to a packet that is none gets one. */
-static void refuse(struct packet *packet)
+/* Each packet gets an answer. A process that the display can't see, in another PID namespace, is
+ * refused. */
+void packet_answer(struct task *task)
 {
-    struct reply reply = {.result = -EINVAL, .tag = packet->ask.tag};
+    const struct ask *ask = &task->packet.ask;
+    struct reply refusal = {.result = -EINVAL};
 
-    packet->channel = packet->ask.form == PACKET_FORM
-                          ? channel_find(packet->ask.channel, packet->sender.pid)
-                          : NULL;
-    if (packet->channel == NULL)
-        return;
-    reply.channel = packet->channel->number;
-    respond(packet, &reply, 0, -1);
-}
-
-bool answer_packet(int fd, struct file *file)
-{
-    struct packet packet;
-    ssize_t length = receive(fd, &packet);
-
-    if (length <= 0)
-        return false;
-    if (is_right(&packet, (size_t)length) && has_room_out())
-        answer(&packet, file);
-    else
-        refuse(&packet);
-    let_go(&packet);
-    return true;
+    if (!task->packet.is_right || is_of_file(ask) != (task->peer->connection != NULL)) {
+        respond_to(&task->packet, &refusal, NULL, -1);
+    } else if (task->caller.pid == 0) {
+        refusal.result = -EACCES;
+        respond_to(&task->packet, &refusal, NULL, -1);
+    } else if (ask->kind == ASK_OPEN) {
+        answer_open(task);
+    } else if (ask->kind == ASK_IOCTL) {
+        answer_ioctl(task);
+    } else if (ask->kind == ASK_MAP) {
+        answer_map(task);
+    } else {
+        respond_to(&task->packet, &(struct reply){0}, NULL, -1);
+    }
+    let_go(&task->packet);
 }

@@ -2,7 +2,7 @@
  * descriptors. All others are the kernel's own: what can be read is events. */
 #include "libc.h"
 
-#include "asks.h"
+#include "preload.h"
 
 #include <drm.h>
 #include <errno.h>
@@ -14,27 +14,6 @@
 #include <sys/uio.h>
 #include <unistd.h>
 
-/* Returns as the C library does, for an answer that may be a negative errno. */
-static int result_of(int answer)
-{
-    if (answer >= 0)
-        return answer;
-    errno = -answer;
-    return -1;
-}
-
-/* Memory that all share needs no keeping in step. */
-static int sync_memory(unsigned long request, const struct dma_buf_sync *sync)
-{
-    if (request != DMA_BUF_IOCTL_SYNC)
-        return -ENOTTY;
-    if (sync == NULL)
-        return -EFAULT;
-    return sync->flags & ~(__u64)DMA_BUF_SYNC_VALID_FLAGS_MASK || !(sync->flags & DMA_BUF_SYNC_RW)
-               ? -EINVAL
-               : 0;
-}
-
 SHOWN int ioctl(int fd, unsigned long request, ...)
 {
     enum node node;
@@ -45,9 +24,9 @@ SHOWN int ioctl(int fd, unsigned long request, ...)
     argument = va_arg(list, void *);
     va_end(list);
     if (_IOC_TYPE(request) == DRM_IOCTL_BASE && is_node(fd, &node))
-        return result_of(ask_ioctl(fd, (uint32_t)request, argument));
+        return result_of(ask_ioctl(fd, (uint32_t)request, (uintptr_t)argument));
     if (_IOC_TYPE(request) == DMA_BUF_BASE && is_memory(fd))
-        return result_of(sync_memory(request, argument));
+        return result_of(ask_of_memory((uint32_t)request, (uintptr_t)argument));
     return REAL(ioctl)(fd, request, argument);
 }
 

@@ -2,7 +2,7 @@
  * answered here. */
 #include "libc.h"
 
-#include "asks.h"
+#include "preload.h"
 #include "tree.h"
 
 #include <errno.h>
@@ -42,8 +42,6 @@ static int open_text(const char *text, int flags)
 /* Opens an entry, or the connection that it is. */
 static int open_entry(const struct entry *entry, int flags)
 {
-    int opened;
-
     if (entry->kind == KIND_FOLDER)
         return flags & (O_WRONLY | O_RDWR) ? fail(EISDIR) : open_folder(entry, flags);
     if (flags & (O_PATH | O_DIRECTORY))
@@ -52,19 +50,15 @@ static int open_entry(const struct entry *entry, int flags)
         return open_text(entry->text, flags);
     if (entry->kind != KIND_NODE)
         return fail(EACCES);
-    opened = ask_to_open(entry->node, flags);
-    return opened < 0 ? fail(-opened) : opened;
+    return result_of(open_node(entry->node, flags));
 }
 
-/* Whether a path is that of a descriptor of a node, which is opened anew as a client of its own. */
+/* Whether a path is that of a descriptor of a node, which is opened anew. */
 static bool is_path_of_node(const char *path, enum node *node)
 {
-    int fd, length = 0;
+    int fd;
 
-    return path != NULL
-           && (sscanf(path, "/proc/self/fd/%d%n", &fd, &length) == 1
-               || sscanf(path, "/dev/fd/%d%n", &fd, &length) == 1)
-           && path[length] == '\0' && is_node(fd, node);
+    return path != NULL && names_descriptor(path, getpid(), &fd) && is_node(fd, node);
 }
 
 /* Returns whether the path is the device's. Then the result of open is in `fd`. */
@@ -74,8 +68,7 @@ static bool opens(int folder, const char *path, int flags, int *fd)
     enum node node;
 
     if (is_path_of_node(path, &node)) {
-        *fd = ask_to_open(node, flags);
-        *fd = *fd < 0 ? fail(-*fd) : *fd;
+        *fd = result_of(open_node(node, flags));
         return true;
     }
     if (!find_place(folder, path, &entry))

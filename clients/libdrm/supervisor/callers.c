@@ -1,32 +1,57 @@
-/* Reads and writes the memory of the caller: a task that waits for the answer to a system call. */
+/* The caller: a task that waits for the answer to a system call. Its memory, its descriptors, its
+ * process and user, and the sockets on which its answers arrive. */
 #include "supervisor.h"
 
 #include <stdio.h>
 #include <stdlib.h>
-#include <sys/uio.h>
+#include <sys/ioctl.h>
+#include <sys/stat.h>
+#include <sys/syscall.h>
 
-static _Thread_local pid_t caller;
+static _Thread_local const struct call *call;
+static _Thread_local struct caller caller;
+static _Thread_local unsigned held; /* how many of the caller's descriptors this thread has */
 
-void set_caller(pid_t task)
+/* Taken while a thread has a descriptor of a caller's: whoever waits for the end of a process finds
+ * its files closed. */
+static pthread_mutex_t files_turn = PTHREAD_MUTEX_INITIALIZER;
+static pthread_mutex_t channels_turn = PTHREAD_MUTEX_INITIALIZER;
+static struct channel *free_channels;
+static int way_to_display = -1;
+
+void answer_for(const struct call *set)
 {
-    caller = task;
+    call = set;
+    caller = (struct caller){(pid_t)set->notice.pid, 0, 0};
 }
 
-int copy_from_caller(void *to, uint64_t address, size_t size)
+/* Returns the number of a line of the status of the caller, or -1. */
+static long number_in(const char *status, const char *name)
 {
-    struct iovec here = {to, size}, there = {(void *)(uintptr_t)address, size};
+    const char *found = strstr(status, name);
 
-    return size == 0 || process_vm_readv(caller, &here, 1, &there, 1, 0) == (ssize_t)size ? 0
-                                                                                          : -EFAULT;
+    return found == NULL ? -1 : atol(found + strlen(name));
 }
 
-int copy_to_caller(uint64_t address, const void *from, size_t size)
+/* A task is a thread of a process. */
+const struct caller *caller_now(void)
 {
-    struct iovec here = {(void *)(uintptr_t)from, size}, there = {(void *)(uintptr_t)address, size};
+    char path[32], status[1024];
+    ssize_t length = 0;
+    int fd;
 
-    return size == 0 || process_vm_writev(caller, &here, 1, &there, 1, 0) == (ssize_t)size
-               ? 0
-               : -EFAULT;
+    if (caller.process != 0)
+        return &caller;
+    snprintf(path, sizeof path, "/proc/%d/status", (int)caller.task);
+    fd = open(path, O_RDONLY | O_CLOEXEC);
+    if (fd >= 0) {
+        length = read(fd, status, sizeof status - 1);
+        close(fd);
+    }
+    status[length > 0 ? length : 0] = '\0';
+    caller.process = (pid_t)number_in(status, "\nTgid:");
+    caller.user = (uid_t)number_in(status, "\nUid:");
+    return &caller;
 }
 
 int copy_text_from_caller(char *text, size_t room, uint64_t address)
@@ -37,7 +62,7 @@ int copy_text_from_caller(char *text, size_t room, uint64_t address)
         size_t left = PAGE - (address + length) % PAGE;
         size_t size = left < room - length ? left : room - length;
 
-        if (copy_from_caller(text + length, address + length, size) != 0)
+        if (caller_reads(text + length, address + length, size) != 0)
             return -EFAULT;
         if (memchr(text + length, '\0', size) != NULL)
             return 0;
@@ -46,52 +71,118 @@ int copy_text_from_caller(char *text, size_t room, uint64_t address)
     return -ENAMETOOLONG;
 }
 
-/* The first number of a line of the status of the caller, or -1. */
-static long number_in_status(const char *name)
+void name_caller_descriptor(char *path, size_t room, int fd)
 {
-    char path[32], line[128];
-    FILE *status;
-    long number = -1;
+    snprintf(path, room, "/proc/%d/fd/%d", (int)caller.task, fd);
+}
 
-    snprintf(path, sizeof path, "/proc/%d/status", (int)caller);
-    status = fopen(path, "r");
-    if (status == NULL)
-        return -1;
-    while (number < 0 && fgets(line, sizeof line, status) != NULL)
-        number = strncmp(line, name, strlen(name)) == 0 ? atol(line + strlen(name)) : -1;
-    fclose(status);
+int caller_file(int fd)
+{
+    int process, file, error;
+
+    if (held++ == 0)
+        pthread_mutex_lock(&files_turn);
+    process = (int)syscall(SYS_pidfd_open, caller_now()->process, 0);
+    file = process < 0 ? -1 : (int)syscall(SYS_pidfd_getfd, process, fd, 0);
+    error = errno;
+    if (process >= 0)
+        close(process);
+    if (file >= 0)
+        return file;
+    caller_file_end(-1);
+    return -error;
+}
+
+void caller_file_end(int fd)
+{
+    if (fd >= 0)
+        close(fd);
+    if (--held == 0)
+        pthread_mutex_unlock(&files_turn);
+}
+
+bool is_caller_node(int fd, enum node *node)
+{
+    struct stat status;
+    char path[48];
+    bool is_one;
+    int file;
+
+    name_caller_descriptor(path, sizeof path, fd);
+    if (stat(path, &status) != 0 || !S_ISSOCK(status.st_mode))
+        return false;
+    file = caller_file(fd);
+    if (file < 0)
+        return false;
+    is_one = is_node(file, node);
+    caller_file_end(file);
+    return is_one;
+}
+
+int caller_gets(int fd, int flags)
+{
+    struct seccomp_notif_addfd given = {
+        .id = call->notice.id, .srcfd = (uint32_t)fd, .newfd_flags = (uint32_t)(flags & O_CLOEXEC)};
+    int number = ioctl(call->listener, SECCOMP_IOCTL_NOTIF_ADDFD, &given);
+
+    if (number < 0)
+        number = -errno;
+    close(fd);
     return number;
 }
 
-/* A task is a thread of a process. */
-pid_t caller_process(void)
+bool callers_begin(int way)
 {
-    long process = number_in_status("Tgid:");
-
-    return process < 0 ? caller : (pid_t)process;
+    way_to_display = way;
+    return fcntl(way, F_SETFD, FD_CLOEXEC) == 0;
 }
 
-uid_t caller_user(void)
+/* Files of processes that have ended are closed first. */
+int open_for_caller(enum node node, int flags)
 {
-    return (uid_t)number_in_status("Uid:");
+    pthread_mutex_lock(&files_turn);
+    pthread_mutex_unlock(&files_turn);
+    return ask_to_open(way_to_display, node, flags);
 }
 
-void name_caller_descriptor(char *path, size_t room, int fd)
+/* The display believes what comes with this socket. */
+static struct channel *make_channel(void)
 {
-    snprintf(path, room, "/proc/%d/fd/%d", (int)caller, fd);
+    struct channel *made = calloc(1, sizeof *made);
+    int other;
+
+    if (made == NULL)
+        return NULL;
+    made->fd = -1;
+    if (channel_make(made, &other) && channel_note(made, other, way_to_display) == 0
+        && made->fd >= 0)
+        return made;
+    free(made);
+    errno = EMFILE;
+    return NULL;
 }
 
-bool caller_name_begins(char letter)
+struct channel *channel_take(int *other)
 {
-    char path[32];
-    FILE *name;
-    int first = EOF;
+    struct channel *taken;
 
-    snprintf(path, sizeof path, "/proc/%d/comm", (int)caller);
-    name = fopen(path, "r");
-    if (name != NULL) {
-        first = fgetc(name);
-        fclose(name);
+    *other = -1;
+    pthread_mutex_lock(&channels_turn);
+    taken = free_channels;
+    if (taken != NULL)
+        free_channels = taken->next;
+    pthread_mutex_unlock(&channels_turn);
+    return taken != NULL ? taken : make_channel();
+}
+
+void channel_let(struct channel *channel)
+{
+    if (channel->fd < 0) {
+        free(channel);
+        return;
     }
-    return first == letter;
+    pthread_mutex_lock(&channels_turn);
+    channel->next = free_channels;
+    free_channels = channel;
+    pthread_mutex_unlock(&channels_turn);
 }

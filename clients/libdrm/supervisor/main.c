@@ -1,6 +1,9 @@
 /* supervisor COMMAND..: runs a command and answers its system calls on the nodes. The environment
- * variables are those of the preloaded library. */
+ * variables are those of the preloaded library, and DRM_SERVER_CHANNEL in place of
+ * DRM_SERVER_DISPLAY: the number of a descriptor, whose other end the display has. */
 #include "supervisor.h"
+
+#include "tree.h"
 
 #include <stdio.h>
 #include <stdlib.h>
@@ -15,8 +18,6 @@
 #define STATUS_NOT_STARTED 125
 #define STATUS_NOT_RUN 126
 #define STATUS_NOT_FOUND 127
-/* How often the supervisor retries events for which there was no room, in milliseconds */
-#define SWEEP 50
 
 /* A notification of the kernel. A later kernel can write a longer one. */
 union notice {
@@ -108,10 +109,12 @@ __attribute__((noreturn)) static void run(char **words, int channel, const sigse
 static bool is_allowed(pid_t process)
 {
     struct seccomp_notif_sizes sizes;
+    static struct call command;
     uint64_t found = 0;
 
-    set_caller(process);
-    if (copy_from_caller(&found, (uintptr_t)&known, sizeof found) != 0 || found != known) {
+    command.notice.pid = (uint32_t)process;
+    answer_for(&command);
+    if (caller_reads(&found, (uintptr_t)&known, sizeof found) != 0 || found != known) {
         say("the kernel refuses to read the command's memory", errno);
         return false;
     }
@@ -181,17 +184,15 @@ static void take_call(const struct command *command)
  * itself would also report its stops for mappings.) */
 static int supervise(const struct command *command)
 {
-    enum { END, LISTENER, SIGNALS, NODES, COUNT };
+    enum { END, LISTENER, SIGNALS, COUNT };
     struct pollfd waited[COUNT] = {{command->end, POLLIN, 0},
                                    {command->listener, POLLIN, 0},
-                                   {command->signals, POLLIN, 0},
-                                   {nodes_begin(), POLLIN, 0}};
+                                   {command->signals, POLLIN, 0}};
     int ended = SIGKILL;
 
     while (!(waited[END].revents & POLLIN)) {
-        if (poll(waited, COUNT, SWEEP) < 0)
+        if (poll(waited, COUNT, -1) < 0)
             continue;
-        nodes_attend();
         if (waited[SIGNALS].revents & POLLIN)
             take_signal(command);
         if (waited[LISTENER].revents & POLLIN)
@@ -204,6 +205,16 @@ static int supervise(const struct command *command)
     return status_of(ended);
 }
 
+/* The command doesn't get the descriptor on which the supervisor names its callers. */
+static bool attend_to_display(void)
+{
+    const char *channel = getenv("DRM_SERVER_CHANNEL");
+    bool is_there = channel != NULL && callers_begin(atoi(channel));
+
+    unsetenv("DRM_SERVER_CHANNEL");
+    return is_there || !is_served();
+}
+
 int main(int count, char **words)
 {
     static const int numbers[] = {SIGCHLD, SIGTERM, SIGHUP, SIGINT, SIGQUIT};
@@ -213,6 +224,10 @@ int main(int count, char **words)
 
     if (count < 2) {
         fprintf(stderr, "usage: " PROGRAM " COMMAND..\n");
+        return STATUS_NOT_STARTED;
+    }
+    if (!attend_to_display()) {
+        say("DRM_SERVER_CHANNEL names no descriptor of a display", ENODEV);
         return STATUS_NOT_STARTED;
     }
     sigemptyset(&heeded);

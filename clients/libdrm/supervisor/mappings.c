@@ -89,13 +89,16 @@ static int wait_for_stop(pid_t task)
     return found.si_code == CLD_TRAPPED || found.si_code == CLD_STOPPED ? found.si_status : -1;
 }
 
-/* Resumes the task until its next stop at a system call. */
+/* Resumes the task until its next stop at a system call. All signals are blocked but SIGSTOP, which
+ * stops the other threads now, and this one afterwards. */
 static bool run_to_call(pid_t task)
 {
     int stop = 0;
 
     while (stop != CALL_STOP) {
-        if (ptrace(PTRACE_SYSCALL, task, NULL, NULL) != 0)
+        long injected = stop == SIGSTOP ? SIGSTOP : 0;
+
+        if (ptrace(PTRACE_SYSCALL, task, NULL, injected) != 0)
             return false;
         stop = wait_for_stop(task);
         if (stop < 0)

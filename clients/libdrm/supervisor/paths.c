@@ -56,6 +56,13 @@ static bool is_of_link(const struct seccomp_notif *notice, const struct form *fo
     return form->more != NONE && (word_of(notice, form->more) & AT_SYMLINK_NOFOLLOW) != 0;
 }
 
+static int give(uint64_t address, const void *from, size_t size)
+{
+    struct iovec here = {(void *)(uintptr_t)from, size}, there = {(void *)(uintptr_t)address, size};
+
+    return size == 0 ? 0 : caller_takes(&here, &there, 1);
+}
+
 static int write_status(const struct seccomp_notif *notice, const struct form *form,
                         const struct stat *status)
 {
@@ -63,9 +70,9 @@ static int write_status(const struct seccomp_notif *notice, const struct form *f
     struct statx wide;
 
     if (form->asked == STATUS)
-        return copy_to_caller(address, status, sizeof *status);
+        return give(address, status, sizeof *status);
     widen_status(status, &wide);
-    return copy_to_caller(address, &wide, sizeof wide);
+    return give(address, &wide, sizeof wide);
 }
 
 /* The result is cut off as the kernel does. */
@@ -78,7 +85,7 @@ static int write_link(const struct seccomp_notif *notice, const struct form *for
     if (entry->kind != KIND_LINK || (int)room <= 0)
         return -EINVAL;
     length = length < room ? length : room;
-    failed = copy_to_caller(word_of(notice, form->result), entry->text, length);
+    failed = give(word_of(notice, form->result), entry->text, length);
     return failed ? failed : (int)length;
 }
 
@@ -100,15 +107,13 @@ static int answer_entry(const struct seccomp_notif *notice, const struct form *f
 static bool looks_at_descriptor(const struct seccomp_notif *notice, const struct form *form,
                                 int *result)
 {
-    struct connection *connection = NULL;
     struct stat status;
+    enum node node;
 
-    if (form->folder != NONE && form->asked != LINK && form->asked != ACCESS)
-        connection = node_find((int)word_of(notice, form->folder));
-    if (connection == NULL)
+    if (form->folder == NONE || form->asked == LINK || form->asked == ACCESS
+        || !is_caller_node((int)word_of(notice, form->folder), &node))
         return false;
-    node_status(connection->node, &status);
-    connection_release(connection);
+    node_status(node, &status);
     *result = write_status(notice, form, &status);
     return true;
 }

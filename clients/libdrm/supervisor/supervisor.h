@@ -1,47 +1,49 @@
 /* Answers system calls of a command and of the processes that it starts: the opening of nodes, and
- * their requests. The command needs no library for it. */
+ * their requests, which it asks of the display. The command needs no library for it. */
 #ifndef ZIRKOSHE_LIBDRM_SUPERVISOR_H
 #define ZIRKOSHE_LIBDRM_SUPERVISOR_H
 
-#include "callers.h"
-#include "connections.h"
+#include "libc.h"
 
+#include "asks.h"
+
+#include <errno.h>
+#include <fcntl.h>
 #include <linux/seccomp.h>
+#include <pthread.h>
+#include <stdbool.h>
+#include <string.h>
+#include <unistd.h>
 
 struct entry;
 
 /* The smallest size of a page. A path is read page by page. */
 #define PAGE 4096u
 
-/* callers.c: sets the task whose call this thread answers. Copies a text of the caller, and returns
- * 0, -EFAULT or -ENAMETOOLONG. Writes the path of a descriptor of the caller. */
-void set_caller(pid_t task);
+/* A system call that a caller waits for */
+struct call {
+    int listener;
+    struct seccomp_notif notice;
+    enum node node; /* of an opening */
+};
+
+/* callers.c: sets the call that this thread answers. Copies a text of the caller, and returns 0,
+ * -EFAULT or -ENAMETOOLONG. Writes the path of a descriptor of the caller. */
+void answer_for(const struct call *call);
 int copy_text_from_caller(char *text, size_t room, uint64_t address);
 void name_caller_descriptor(char *path, size_t room, int fd);
+
+/* Returns whether a descriptor of the caller is a node, and which. */
+bool is_caller_node(int fd, enum node *node);
+
+/* Attends to the socket of the display on which the supervisor names its callers. Opens a node for
+ * the caller. Returns a descriptor or a negative errno. */
+bool callers_begin(int way);
+int open_for_caller(enum node node, int flags);
 
 /* filters.c: installs the filter for this process. Returns the descriptor of the notifications, or
  * a negative errno. */
 int begin_filter(void);
-
-/* nodes.c: the files that callers have for connections.
- *
- * A caller's descriptor of a node is the end of a pipe, to which the supervisor writes the events
- * of the connection when they are due. So waiting and reading are the kernel's own. */
-
-/* Creates a descriptor that is readable when nodes_attend has something to do. Returns -1 on
- * failure. */
-int nodes_begin(void);
-
-/* Creates the file of a connection, with these flags of open. The file owns the connection. Returns
- * a descriptor for a caller, or a negative errno. */
-int node_make(struct connection *connection, uint32_t flags);
-
-/* Returns the connection of a descriptor of the caller, or NULL if the descriptor is not a node.
- * connection_release follows. */
-struct connection *node_find(int fd);
-
-/* Writes the events that are due, and closes the connections whose files are closed. */
-void nodes_attend(void);
 
 /* mappings.c: has a caller that waits for the answer to an mmap make another one.
  *
@@ -66,6 +68,6 @@ int open_listed_folder(const struct entry *folder);
 void folders_end(void);
 
 /* calls.c: answers a system call, in another thread if that can take time. */
-void answer_call(int listener, const struct seccomp_notif *call);
+void answer_call(int listener, const struct seccomp_notif *notice);
 
 #endif

@@ -1,0 +1,683 @@
+/* Asking the display: a packet on the descriptor of a node, and its answer on a socket of the
+ * thread. */
+#include "libc.h"
+
+#include "asks.h"
+
+#include <drm.h>
+#include <drm_mode.h>
+#include <errno.h>
+#include <fcntl.h>
+#include <linux/dma-buf.h>
+#include <pthread.h>
+#include <signal.h>
+#include <stdlib.h>
+#include <string.h>
+#include <sys/ioctl.h>
+#include <sys/mman.h>
+#include <sys/socket.h>
+#include <time.h>
+#include <unistd.h>
+
+#define MOST_SENT 3
+#define MOST_WRITES 16
+/* Objects of a commit; each may be in it several times */
+#define MOST_COMMITTED 1024
+#define SECOND 1000000000
+/* How long a commit waits for earlier ones at most, as the core does for each of them */
+#define MOST_WAIT ((int64_t)10 * SECOND)
+
+static uint64_t cookie_of(int fd)
+{
+    uint64_t cookie = 0;
+    socklen_t size = sizeof cookie;
+
+    return getsockopt(fd, SOL_SOCKET, SO_COOKIE, &cookie, &size) == 0 ? cookie : 0;
+}
+
+bool channel_is_there(const struct channel *channel)
+{
+    return channel->fd >= 0 && channel->process == getpid()
+           && cookie_of(channel->fd) == channel->cookie;
+}
+
+void channel_end(struct channel *channel)
+{
+    if (channel->fd >= 0 && cookie_of(channel->fd) == channel->cookie)
+        close(channel->fd);
+    channel->fd = -1;
+    channel->number = 0;
+}
+
+/* Keeps a descriptor out of the program's way. */
+static int hide(int fd)
+{
+    int hidden = fcntl(fd, F_DUPFD_CLOEXEC, LEAST_HIDDEN);
+
+    if (hidden < 0)
+        return fd;
+    close(fd);
+    return hidden;
+}
+
+bool channel_make(struct channel *channel, int *other)
+{
+    int ends[2];
+
+    channel_end(channel);
+    if (socketpair(AF_UNIX, SOCK_SEQPACKET | SOCK_CLOEXEC, 0, ends) != 0)
+        return false;
+    channel->fd = hide(ends[0]);
+    channel->cookie = cookie_of(channel->fd);
+    channel->process = getpid();
+    *other = ends[1];
+    return true;
+}
+
+/* What a request sends: the struct and the lists, and descriptors, each of which may be -1. */
+struct sent {
+    struct ask ask;
+    struct iovec parts[2 + MOST_LISTS];
+    size_t count_parts;
+    int other;  /* the display's end of a socket for answers */
+    int memory; /* the caller's number of a PRIME descriptor */
+    int aside;  /* the file with the lists */
+    union {
+        uint64_t aligned;
+        uint8_t bytes[sizeof(struct drm_mode_crtc)];
+    } argument;                   /* the struct of a request with lists */
+    void *copies[1 + MOST_LISTS]; /* of another process's memory */
+    size_t count_copies;
+};
+
+/* What is answered. `bytes` has what follows the reply. */
+struct answer {
+    struct reply reply;
+    uint8_t *bytes;
+    size_t length;
+    int descriptor; /* or -1 */
+};
+
+static int error_of_sending(void)
+{
+    return errno == EPIPE || errno == ECONNRESET ? -ENODEV
+           : errno == EMSGSIZE                   ? -ENOMEM
+                                                 : -errno;
+}
+
+static int send_packet(int fd, const struct sent *sent, int memory)
+{
+    const int all[MOST_SENT] = {sent->other, memory, sent->aside};
+    int descriptors[MOST_SENT];
+    size_t at, length = 0;
+    union {
+        struct cmsghdr head;
+        char room[CMSG_SPACE(MOST_SENT * sizeof(int))];
+    } control;
+    struct msghdr message = {.msg_iov = (struct iovec *)(uintptr_t)sent->parts,
+                             .msg_iovlen = sent->count_parts};
+
+    for (at = 0; at < MOST_SENT; at++) {
+        if (all[at] >= 0) {
+            descriptors[length / sizeof(int)] = all[at];
+            length += sizeof(int);
+        }
+    }
+    if (length > 0) {
+        memset(&control, 0, sizeof control);
+        message.msg_control = &control;
+        message.msg_controllen = CMSG_SPACE(length);
+        control.head.cmsg_level = SOL_SOCKET;
+        control.head.cmsg_type = SCM_RIGHTS;
+        control.head.cmsg_len = CMSG_LEN(length);
+        memcpy(CMSG_DATA(&control.head), descriptors, length);
+    }
+    return sendmsg(fd, &message, MSG_NOSIGNAL | MSG_DONTWAIT) < 0 ? error_of_sending() : 0;
+}
+
+/* Receives a packet, and a descriptor with it or -1. Returns its length, or a negative errno. */
+static ssize_t receive(struct channel *channel, int *descriptor)
+{
+    union {
+        struct cmsghdr head;
+        char room[CMSG_SPACE(sizeof(int))];
+    } control;
+    struct iovec part = {channel->bytes, sizeof channel->bytes};
+    struct msghdr message = {.msg_iov = &part,
+                             .msg_iovlen = 1,
+                             .msg_control = &control,
+                             .msg_controllen = sizeof control};
+    ssize_t length = recvmsg(channel->fd, &message, MSG_CMSG_CLOEXEC);
+    const struct cmsghdr *head = length > 0 ? CMSG_FIRSTHDR(&message) : NULL;
+
+    *descriptor = -1;
+    if (head != NULL && head->cmsg_type == SCM_RIGHTS && head->cmsg_len == CMSG_LEN(sizeof(int)))
+        memcpy(descriptor, CMSG_DATA(head), sizeof *descriptor);
+    return length < 0 ? -errno : length;
+}
+
+/* Takes the answer to the last packet. Those of earlier ones, which nothing waited for, are left
+ * out. */
+static int take_answer(struct channel *channel, struct answer *answer)
+{
+    ssize_t length = -EINTR;
+
+    memset(&answer->reply, 0, sizeof answer->reply);
+    while (length == -EINTR || answer->reply.tag != channel->tag) {
+        length = receive(channel, &answer->descriptor);
+        if (length == -EINTR)
+            continue;
+        if (length < (ssize_t)sizeof answer->reply)
+            return -ENODEV;
+        memcpy(&answer->reply, channel->bytes, sizeof answer->reply);
+        if (answer->reply.tag != channel->tag && answer->descriptor >= 0)
+            close(answer->descriptor);
+    }
+    answer->bytes = channel->bytes + sizeof answer->reply;
+    answer->length = (size_t)length - sizeof answer->reply;
+    return answer->reply.has_descriptor && answer->descriptor < 0 ? -EMFILE : 0;
+}
+
+/* Sends a packet on a descriptor of the caller's, with one of its PRIME descriptors or none. */
+static int send_for_caller(int fd, const struct sent *sent)
+{
+    int file = caller_file(fd), memory = -1, failed;
+
+    if (file < 0)
+        return file;
+    if (sent->memory >= 0)
+        memory = caller_file(sent->memory);
+    failed = sent->memory >= 0 && memory < 0 ? memory : send_packet(file, sent, memory);
+    if (memory >= 0)
+        caller_file_end(memory);
+    caller_file_end(file);
+    return failed;
+}
+
+/* Sends a packet on a descriptor of the caller's, or on a socket of the front end, as soon as that
+ * has room. */
+static int send_at_last(struct sent *sent, int fd, bool is_callers)
+{
+    int failed;
+
+    for (;;) {
+        failed = is_callers ? send_for_caller(fd, sent) : send_packet(fd, sent, -1);
+        if (failed != -EAGAIN && failed != -EINTR)
+            return failed;
+        poll(NULL, 0, 1);
+    }
+}
+
+/* Sends a packet on a descriptor of the caller's, or on a socket of the front end, and takes the
+ * answer. Returns 0, or a negative errno if there is none. */
+static int exchange(struct channel *channel, struct sent *sent, int fd, bool is_callers,
+                    struct answer *answer)
+{
+    int failed;
+
+    sent->ask.form = PACKET_FORM;
+    sent->ask.channel = channel->number;
+    sent->ask.tag = ++channel->tag;
+    sent->ask.flags |= sent->other >= 0 ? HAS_CHANNEL : 0;
+    sent->parts[0] = (struct iovec){&sent->ask, sizeof sent->ask};
+    if (caller_now() != NULL) {
+        sent->ask.process = caller_now()->process;
+        sent->ask.user = caller_now()->user;
+    }
+    failed = send_at_last(sent, fd, is_callers);
+    if (sent->other >= 0)
+        close(sent->other);
+    if (failed) {
+        /* a socket that the display doesn't have is of no use, and neither is its end */
+        if (sent->other >= 0)
+            channel_end(channel);
+        return failed;
+    }
+    failed = take_answer(channel, answer);
+    channel->number = answer->reply.channel;
+    if (channel->number == 0)
+        channel_end(channel);
+    return failed;
+}
+
+/* The same for a thread, whose socket for answers is taken until channel_let. */
+static int exchange_on(struct sent *sent, int fd, bool is_callers, struct channel **channel,
+                       struct answer *answer)
+{
+    *channel = channel_take(&sent->other);
+    return *channel == NULL ? -errno : exchange(*channel, sent, fd, is_callers, answer);
+}
+
+int channel_note(struct channel *channel, int other, int way)
+{
+    struct sent sent = {
+        .ask = {.kind = ASK_NOTHING}, .count_parts = 1, .other = other, .memory = -1, .aside = -1};
+    struct answer answer;
+
+    return exchange(channel, &sent, way, false, &answer);
+}
+
+/* Asks for a descriptor. */
+static int ask_for_descriptor(struct sent *sent, int fd, bool is_callers, struct reply *reply)
+{
+    struct channel *channel;
+    struct answer answer;
+    int failed = exchange_on(sent, fd, is_callers, &channel, &answer);
+
+    if (channel != NULL)
+        channel_let(channel);
+    if (failed)
+        return failed;
+    *reply = answer.reply;
+    return reply->result != 0 ? reply->result : answer.descriptor;
+}
+
+/* A program whose card is the root socket opens that. */
+static enum node asked_node(enum node node)
+{
+    const char *path = node_path(node), *root = node_path(NODE_ROOT);
+
+    return path != NULL && root != NULL && strcmp(path, root) == 0 ? NODE_ROOT : node;
+}
+
+int ask_to_open(int way, enum node node, int flags)
+{
+    struct sent sent = {
+        .ask = {.kind = ASK_OPEN, .request = asked_node(node), .open_flags = (uint64_t)(unsigned)flags},
+        .count_parts = 1,
+        .memory = -1,
+        .aside = -1};
+    struct reply reply;
+
+    return ask_for_descriptor(&sent, way, false, &reply);
+}
+
+int ask_for_memory(int fd, uint64_t offset, uint64_t length, uint64_t *place)
+{
+    struct sent sent = {.ask = {.kind = ASK_MAP, .offset = offset, .length = length},
+                        .count_parts = 1,
+                        .memory = -1,
+                        .aside = -1};
+    struct reply reply = {0};
+    int memory = ask_for_descriptor(&sent, fd, true, &reply);
+
+    *place = reply.place;
+    return memory;
+}
+
+/* Copies between this process and the caller. If that is this process, a wrong address is found out
+ * by the kernel; where a filter of system calls forbids that, it is a fault. */
+static int copy(const struct iovec *here, const struct iovec *there, size_t count, bool is_to_there)
+{
+    const struct caller *caller = caller_now();
+    pid_t task = caller == NULL ? getpid() : caller->task;
+    ssize_t copied = is_to_there ? process_vm_writev(task, here, count, there, count, 0)
+                                 : process_vm_readv(task, here, count, there, count, 0);
+    size_t at, length = 0;
+
+    for (at = 0; at < count; at++)
+        length += here[at].iov_len;
+    if (copied == (ssize_t)length)
+        return 0;
+    if (copied >= 0 || caller != NULL || (errno != EPERM && errno != ENOSYS))
+        return -EFAULT;
+    for (at = 0; at < count; at++) {
+        if (is_to_there)
+            memcpy(there[at].iov_base, here[at].iov_base, here[at].iov_len);
+        else
+            memcpy(here[at].iov_base, there[at].iov_base, here[at].iov_len);
+    }
+    return 0;
+}
+
+int caller_reads(void *to, uint64_t address, size_t size)
+{
+    struct iovec here = {to, size}, there = {(void *)(uintptr_t)address, size};
+
+    return size == 0 ? 0 : copy(&here, &there, 1, false);
+}
+
+int caller_takes(const struct iovec *here, const struct iovec *there, size_t count)
+{
+    return count == 0 ? 0 : copy(here, there, count, true);
+}
+
+/* Adds bytes of the caller, whose own are sent from where they are. */
+static int add_part(struct sent *sent, uint64_t address, size_t size)
+{
+    void *bytes = (void *)(uintptr_t)address;
+
+    if (caller_now() != NULL && size > 0) {
+        bytes = malloc(size);
+        if (bytes == NULL)
+            return -ENOMEM;
+        sent->copies[sent->count_copies++] = bytes;
+        if (caller_reads(bytes, address, size) != 0)
+            return -EFAULT;
+    }
+    sent->parts[sent->count_parts++] = (struct iovec){bytes, size};
+    return 0;
+}
+
+static int add_list(struct sent *sent, uint64_t address, uint64_t count, size_t size)
+{
+    if (address == 0 || count == 0)
+        return 0;
+    if (count > MOST_LONG / size)
+        return -ENOMEM;
+    sent->ask.lists[sent->count_parts - 2] = (struct list){address, count * size};
+    return add_part(sent, address, count * size);
+}
+
+static uint32_t least(uint32_t one, uint32_t other)
+{
+    return one < other ? one : other;
+}
+
+/* A commit has as many properties as its objects together. An object more than a device has is
+ * unknown, and what follows it is not looked at. */
+static int add_commit(struct sent *sent, const struct drm_mode_atomic *commit)
+{
+    uint32_t at, read = least(commit->count_objs, MOST_COMMITTED);
+    int failed = add_list(sent, commit->objs_ptr, read, sizeof(uint32_t));
+    uint32_t counts[MOST_COMMITTED] = {0};
+    uint64_t count = 0;
+
+    if (!failed && read > 0)
+        failed = caller_reads(counts, commit->count_props_ptr, read * sizeof *counts);
+    for (at = 0; at < read; at++)
+        count += counts[at];
+    if (!failed)
+        failed = add_list(sent, commit->count_props_ptr, read, sizeof(uint32_t));
+    if (!failed)
+        failed = add_list(sent, commit->props_ptr, count, sizeof(uint32_t));
+    return failed ? failed : add_list(sent, commit->prop_values_ptr, count, sizeof(uint64_t));
+}
+
+/* The lists that a request reads, and the descriptor that it imports. What it writes is in the
+ * answer. */
+static int add_lists(struct sent *sent, uint32_t request, const void *argument)
+{
+    const struct drm_mode_crtc *crtc = argument;
+    const struct drm_mode_create_blob *blob = argument;
+    const struct drm_mode_create_lease *lease = argument;
+    const struct drm_mode_fb_dirty_cmd *dirty = argument;
+    const struct drm_prime_handle *prime = argument;
+
+    switch (request) {
+    case DRM_IOCTL_MODE_ATOMIC:
+        return add_commit(sent, argument);
+    case DRM_IOCTL_MODE_SETCRTC:
+        /* more than one connector is refused */
+        return add_list(sent, crtc->set_connectors_ptr, crtc->count_connectors == 1,
+                        sizeof(uint32_t));
+    case DRM_IOCTL_MODE_CREATEPROPBLOB:
+        return add_list(sent, blob->data, blob->length, 1);
+    case DRM_IOCTL_MODE_CREATE_LEASE:
+        return add_list(sent, lease->object_ids, least(lease->object_count, MOST_COMMITTED),
+                        sizeof(uint32_t));
+    case DRM_IOCTL_MODE_DIRTYFB:
+        return dirty->num_clips > DRM_MODE_FB_DIRTY_MAX_CLIPS
+                   ? 0
+                   : add_list(sent, dirty->clips_ptr, dirty->num_clips,
+                              sizeof(struct drm_clip_rect));
+    case DRM_IOCTL_PRIME_FD_TO_HANDLE:
+        sent->ask.flags |= HAS_MEMORY;
+        sent->memory = prime->fd;
+        return prime->fd < 0 ? -EBADF : 0;
+    default:
+        return 0;
+    }
+}
+
+/* Writes a part into a file. */
+static int write_part(int file, const struct iovec *part)
+{
+    size_t written = 0;
+
+    while (written < part->iov_len) {
+        ssize_t more = REAL(write)(file, (const uint8_t *)part->iov_base + written,
+                                   part->iov_len - written);
+
+        if (more <= 0)
+            return more < 0 && errno == EFAULT ? -EFAULT : -ENOMEM;
+        written += (size_t)more;
+    }
+    return 0;
+}
+
+/* Puts long lists into a file. Returns 0 or a negative errno. */
+static int put_aside(struct sent *sent)
+{
+    size_t length = 0, at;
+    int failed = 0;
+
+    for (at = 2; at < sent->count_parts; at++)
+        length += sent->parts[at].iov_len;
+    if (length <= MOST_INLINE)
+        return 0;
+    sent->aside = length > MOST_LONG ? -1 : memfd_create("zirkoshe-lists", MFD_CLOEXEC);
+    if (sent->aside < 0)
+        return -ENOMEM;
+    for (at = 2; !failed && at < sent->count_parts; at++)
+        failed = write_part(sent->aside, &sent->parts[at]);
+    sent->count_parts = 2;
+    sent->ask.flags |= HAS_LISTS;
+    return failed;
+}
+
+static bool has_lists(uint32_t request)
+{
+    static const uint32_t requests[] = {
+        DRM_IOCTL_MODE_ATOMIC,       DRM_IOCTL_MODE_SETCRTC, DRM_IOCTL_MODE_CREATEPROPBLOB,
+        DRM_IOCTL_MODE_CREATE_LEASE, DRM_IOCTL_MODE_DIRTYFB, DRM_IOCTL_PRIME_FD_TO_HANDLE};
+    size_t at = 0;
+
+    while (at < sizeof requests / sizeof requests[0] && requests[at] != request)
+        at++;
+    return at < sizeof requests / sizeof requests[0];
+}
+
+/* Gathers what a request sends. */
+static int gather(struct sent *sent, uint64_t address)
+{
+    uint32_t request = sent->ask.request, size = _IOC_SIZE(request);
+    int failed;
+
+    if (size > 0 && address == 0)
+        return -EFAULT;
+    if (!has_lists(request))
+        return add_part(sent, address, size);
+    failed = caller_reads(&sent->argument, address, size);
+    sent->parts[sent->count_parts++] = (struct iovec){&sent->argument, size};
+    if (!failed)
+        failed = add_lists(sent, request, &sent->argument);
+    return failed ? failed : put_aside(sent);
+}
+
+static void end_sent(const struct sent *sent)
+{
+    size_t at;
+
+    for (at = 0; at < sent->count_copies; at++)
+        free(sent->copies[at]);
+    if (sent->aside >= 0)
+        close(sent->aside);
+}
+
+/* Writes a line of the trace, unless nobody reads it. The signal of a broken pipe is taken back. */
+static void trace(const uint8_t *line, size_t length)
+{
+    const struct timespec at_once = {0, 0};
+    sigset_t broken, pending;
+
+    sigemptyset(&broken);
+    sigaddset(&broken, SIGPIPE);
+    if (sigpending(&pending) != 0)
+        return;
+    if (write(STDERR_FILENO, line, length) < 0 && errno == EPIPE && !sigismember(&pending, SIGPIPE))
+        sigtimedwait(&broken, NULL, &at_once);
+}
+
+/* Writes the struct, whose request may have made a descriptor, and what else the answer has for the
+ * caller's memory. Then comes the line of the trace. */
+static int take_writes(const struct answer *answer, uint64_t address, size_t size)
+{
+    struct iovec here[1 + MOST_WRITES], there[1 + MOST_WRITES];
+    const uint8_t *next = answer->bytes + answer->reply.size;
+    const uint8_t *end = answer->bytes + answer->length;
+    uint32_t at, count = least(answer->reply.writes, MOST_WRITES);
+    struct list list;
+
+    here[0] = (struct iovec){answer->bytes, size};
+    there[0] = (struct iovec){(void *)(uintptr_t)address, size};
+    for (at = 1; at <= count; at++) {
+        memcpy(&list, next, sizeof list);
+        next += sizeof list;
+        here[at] = (struct iovec){(void *)(uintptr_t)next, list.size};
+        there[at] = (struct iovec){(void *)(uintptr_t)list.address, list.size};
+        next += list.size;
+    }
+    if (answer->reply.traced > 0 && answer->reply.traced <= (size_t)(end - next))
+        trace(next, answer->reply.traced);
+    return size > 0 ? caller_takes(here, there, count + 1) : caller_takes(here + 1, there + 1, count);
+}
+
+/* Puts the caller's numbers of descriptors into a struct: of the one that the request made, or
+ * imported. */
+static int put_descriptor(struct answer *answer, const struct sent *sent)
+{
+    struct drm_mode_create_lease *lease = (void *)answer->bytes;
+    struct drm_prime_handle *prime = (void *)answer->bytes;
+    bool is_lease = _IOC_NR(sent->ask.request) == _IOC_NR(DRM_IOCTL_MODE_CREATE_LEASE);
+    int number;
+
+    if (sent->memory >= 0)
+        prime->fd = sent->memory;
+    if (answer->descriptor < 0)
+        return 0;
+    number = caller_gets(answer->descriptor, (int)(is_lease ? lease->flags : prime->flags));
+    if (number < 0)
+        return number;
+    if (is_lease)
+        lease->fd = (uint32_t)number;
+    else
+        prime->fd = number;
+    return 0;
+}
+
+/* Maps a long answer. */
+static int find_long(struct answer *answer)
+{
+    off_t length = lseek(answer->descriptor, 0, SEEK_END);
+    void *bytes = length <= 0 ? MAP_FAILED
+                              : REAL(mmap)(NULL, (size_t)length, PROT_READ | PROT_WRITE,
+                                           MAP_PRIVATE, answer->descriptor, 0);
+
+    close(answer->descriptor);
+    answer->descriptor = -1;
+    if (bytes == MAP_FAILED)
+        return -ENOMEM;
+    answer->bytes = bytes;
+    answer->length = (size_t)length;
+    return 0;
+}
+
+/* What an answer has for the caller. */
+static int take(struct answer *answer, const struct sent *sent, uint64_t address)
+{
+    uint32_t size = _IOC_SIZE(sent->ask.request);
+    int failed = answer->reply.is_long ? find_long(answer) : 0, copied;
+
+    if (failed || answer->reply.size != size || answer->length < size)
+        return failed ? failed : answer->reply.result;
+    failed = put_descriptor(answer, sent);
+    copied = take_writes(answer, address, sent->ask.request & IOC_OUT ? size : 0);
+    if (answer->reply.is_long)
+        munmap(answer->bytes, answer->length);
+    return failed ? failed : copied ? copied : answer->reply.result;
+}
+
+static uint32_t tracing(void)
+{
+    const char *wanted = getenv("DRM_SERVER_TRACE");
+
+    return wanted == NULL || wanted[0] == '\0' ? 0
+           : strcmp(wanted, "all") == 0        ? TRACES_ALL
+                                               : TRACES_FAILURES;
+}
+
+/* Asks once. `reply` says whether the caller then waits. */
+static int ask_once(int fd, uint32_t request, uint64_t address, struct reply *reply)
+{
+    struct sent sent = {.ask = {.kind = ASK_IOCTL, .request = request, .flags = tracing()},
+                        .count_parts = 1,
+                        .memory = -1,
+                        .aside = -1};
+    struct channel *channel = NULL;
+    struct answer answer;
+    int failed = gather(&sent, address);
+
+    memset(reply, 0, sizeof *reply);
+    if (!failed)
+        failed = exchange_on(&sent, fd, true, &channel, &answer);
+    if (!failed) {
+        failed = take(&answer, &sent, address);
+        *reply = answer.reply;
+    }
+    if (channel != NULL)
+        channel_let(channel);
+    end_sent(&sent);
+    return failed;
+}
+
+int ask_of_memory(uint32_t request, uint64_t address)
+{
+    struct dma_buf_sync sync = {0};
+
+    if (request != DMA_BUF_IOCTL_SYNC)
+        return -ENOTTY;
+    if (caller_reads(&sync, address, sizeof sync) != 0)
+        return -EFAULT;
+    return sync.flags & ~(__u64)DMA_BUF_SYNC_VALID_FLAGS_MASK || !(sync.flags & DMA_BUF_SYNC_RW)
+               ? -EINVAL
+               : 0;
+}
+
+static int64_t time_now(void)
+{
+    struct timespec now;
+
+    clock_gettime(CLOCK_MONOTONIC, &now);
+    return (int64_t)now.tv_sec * SECOND + now.tv_nsec;
+}
+
+/* Waits for a time, until a signal is handled. The thread isn't cancelled meanwhile. */
+static int wait_until(int64_t time)
+{
+    struct timespec until = {(time_t)(time / SECOND), (long)(time % SECOND)};
+    int cancelling, failed;
+
+    pthread_setcancelstate(PTHREAD_CANCEL_DISABLE, &cancelling);
+    failed = clock_nanosleep(CLOCK_MONOTONIC, TIMER_ABSTIME, &until, NULL);
+    pthread_setcancelstate(cancelling, NULL);
+    return failed ? -EINTR : 0;
+}
+
+/* A signal interrupts a request that waits, but not a commit that is carried out. */
+int ask_ioctl(int fd, uint32_t request, uint64_t address)
+{
+    int64_t most = time_now() + MOST_WAIT;
+    bool is_commit = _IOC_NR(request) == _IOC_NR(DRM_IOCTL_MODE_ATOMIC);
+    struct reply reply;
+    int answered;
+
+    do {
+        answered = ask_once(fd, request, address, &reply);
+        if (reply.until == 0 || (reply.is_again && reply.until > most))
+            return answered;
+        if (wait_until(reply.until) != 0 && !is_commit && (reply.is_again || answered == 0))
+            return -EINTR;
+    } while (reply.is_again);
+    return answered;
+}
