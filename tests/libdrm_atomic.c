@@ -310,7 +310,7 @@ static void pause_at(const char *what)
     getchar();
 }
 
-/* Commits whose last change is refused, by this library and by the server. */
+/* Commits whose last change is refused. */
 static void deny(void)
 {
     int fd = open_card(true);
@@ -324,16 +324,16 @@ static void deny(void)
         COMMIT(fd, 0, {PRIMARY, "FB_ID", fbs[2]}, {OTHER_PRIMARY, "FB_ID", fbs[3]},
                SHOWS(OVERLAY, CRTC, fbs[2]), {OVERLAY, "SRC_X", 1}));
     pause_at("refused");
-    /* another process that has the connection removes a framebuffer, which this one can't know */
+    /* another process that has the file removes a framebuffer */
     if (fork() == 0)
         _exit(drmModeRmFB(fd, fbs[3]) != 0);
     wait(NULL);
     pause_at("removed");
-    say("the last is denied",
+    say("the last isn't there",
         COMMIT(fd, 0, {PRIMARY, "FB_ID", fbs[2]}, {OTHER_PRIMARY, "FB_ID", fbs[3]}));
     printf("planes have %d %d\n", (int)value_of(fd, PRIMARY, "FB_ID") == (int)fbs[0],
            (int)value_of(fd, OTHER_PRIMARY, "FB_ID") == (int)fbs[1]);
-    pause_at("denied");
+    pause_at("refused again");
     say("another one", COMMIT(fd, 0, {PRIMARY, "FB_ID", fbs[2]}, {OTHER_PRIMARY, "FB_ID", fbs[0]}));
 }
 

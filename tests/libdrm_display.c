@@ -1,4 +1,5 @@
-/* For tests: what two processes see of one display. Each word is a case, and prints a line. */
+/* For tests: what two processes see of one display, and what a process may do with a node. The
+ * argument is a case, which prints what it finds. */
 #define _GNU_SOURCE
 #include <errno.h>
 #include <fcntl.h>
@@ -19,7 +20,9 @@
 #include <time.h>
 #include <unistd.h>
 
+#include <dirent.h>
 #include <drm_fourcc.h>
+#include <sys/stat.h>
 #include <xf86drm.h>
 #include <xf86drmMode.h>
 
@@ -70,9 +73,21 @@ static uint32_t lit(int fd, uint32_t x, uint32_t y)
     return id;
 }
 
+/* The name of an error that a case can find, or its number. */
 static const char *said(int result)
 {
-    return result == 0 ? "done" : strerror(errno);
+    static char number[16];
+
+    snprintf(number, sizeof number, "%d", errno);
+    return result == 0       ? "done"
+           : errno == EACCES ? "EACCES"
+           : errno == EBUSY  ? "EBUSY"
+           : errno == EFAULT ? "EFAULT"
+           : errno == EMFILE ? "EMFILE"
+           : errno == ENOENT ? "ENOENT"
+           : errno == ENOMEM ? "ENOMEM"
+           : errno == EPERM  ? "EPERM"
+                             : number;
 }
 
 static void wait_for(pid_t child)
@@ -448,22 +463,33 @@ static void handler(void)
     printf("closed in a handler 500 times\n");
 }
 
+static void *asks_once(void *given)
+{
+    uint64_t value;
+
+    printf("another thread %s, ", said(drmGetCap(*(int *)given, DRM_CAP_DUMB_BUFFER, &value)));
+    return NULL;
+}
+
+/* No descriptor is left. */
 static void limit(void)
 {
-    int fd = opened(), count = 0, first = -1, next;
-    uint32_t handle, pitch;
-    uint64_t size, value;
     struct drm_gem_close closing = {0};
     struct rlimit few = {64, 64};
+    uint32_t handle, pitch;
+    pthread_t thread;
+    uint64_t size;
+    int fd = opened(), prime;
 
     setrlimit(RLIMIT_NOFILE, &few);
     drmModeCreateDumbBuffer(fd, 8, 8, 32, 0, &handle, &pitch, &size);
-    while ((next = open("/dev/null", O_RDONLY)) >= 0) {
-        first = first < 0 ? next : first;
-        count++;
-    }
+    while (open("/dev/null", O_RDONLY) >= 0)
+        ;
+    asks_once(&fd);
+    pthread_create(&thread, NULL, asks_once, &fd);
+    pthread_join(thread, NULL);
+    printf("export %s, ", said(drmPrimeHandleToFD(fd, handle, DRM_CLOEXEC, &prime)));
     closing.handle = handle;
-    printf("at the limit: cap %s, ", said(drmGetCap(fd, DRM_CAP_DUMB_BUFFER, &value)));
     printf("gem close %s\n", said(drmIoctl(fd, DRM_IOCTL_GEM_CLOSE, &closing)));
 }
 
@@ -519,7 +545,7 @@ static void room(void)
         if (count % 40 == 0)
             usleep(40000);
     }
-    printf("events %d, then %s; ", count, strerror(errno));
+    printf("events %d, then %s; ", count, said(failed));
     usleep(40000);
     while (read(fd, bytes, sizeof bytes) > 0)
         read_ones++;
@@ -545,6 +571,128 @@ static void orphan(void)
     printf("import after the exporter's close: %s, ",
            said(drmPrimeFDToHandle(other, prime, &imported)));
     printf("map %s\n", said(drmModeMapDumbBuffer(other, imported, &offset)));
+}
+
+/* Opened again by its path, a node is another client, which isn't master. */
+static void reopened(void)
+{
+    const char *const paths[] = {"/proc/self/fd/%d", "/dev/fd/%d", "/proc/thread-self/fd/%d"};
+    int fd = opened(), other;
+    char path[64];
+    size_t at;
+
+    for (at = 0; at < sizeof paths / sizeof paths[0]; at++) {
+        snprintf(path, sizeof path, paths[at], fd);
+        other = open(path, O_RDWR | O_CLOEXEC);
+        printf("opens %s, ", said(other < 0));
+        printf("is master %d, ", drmIsMaster(other));
+        close(other);
+    }
+    printf("the first is master %d\n", drmIsMaster(fd));
+}
+
+/* Where libdrm finds the device */
+static void looks(void)
+{
+    int folder = open("/sys/dev/char/226:0", O_RDONLY | O_DIRECTORY | O_CLOEXEC);
+    struct dirent *entry, own;
+    DIR *stream = opendir("/dev/dri");
+    long place;
+    int count = 0;
+
+    printf("opens a link to a folder %s, ", said(folder < 0));
+    printf("its file %s, ", said(openat(folder, "uevent", O_RDONLY) < 0));
+    printf("changes the mode %s, ", said(chmod("/dev/dri/card0", 0600)));
+    printf("owner %s, ", said(chown("/dev/dri/card0", 0, 0)));
+    printf("no node's mode %s\n", said(chmod("/dev/dri/card7", 0600)));
+    while ((entry = readdir(stream)) != NULL)
+        count += entry->d_name[0] != '.';
+    rewinddir(stream);
+    place = telldir(stream);
+    while ((entry = readdir(stream)) != NULL && entry->d_name[0] == '.')
+        place = telldir(stream);
+    printf("%d entries, %s, ", count, entry == NULL ? "none" : entry->d_name);
+    seekdir(stream, place);
+    entry = readdir(stream);
+    printf("again %s, ", entry == NULL ? "none" : entry->d_name);
+    rewinddir(stream);
+    count = 0;
+#pragma GCC diagnostic ignored "-Wdeprecated-declarations"
+    while (readdir_r(stream, &own, &entry) == 0 && entry != NULL)
+        count += entry->d_name[0] != '.';
+    printf("%d entries\n", count);
+    closedir(stream);
+}
+
+/* Wrong addresses of a struct, of a list that is read, and of one that is written */
+static void addresses(void)
+{
+    struct drm_mode_card_res resources = {.crtc_id_ptr = 16, .count_crtcs = 8};
+    struct drm_mode_create_blob blob = {.data = 16, .length = 8};
+    struct drm_mode_atomic commit = {.objs_ptr = 16, .count_props_ptr = 16, .count_objs = 2};
+    void *constant = mmap(NULL, 4096, PROT_READ, MAP_PRIVATE | MAP_ANONYMOUS, -1, 0);
+    int fd = opened();
+
+    drmSetClientCap(fd, DRM_CLIENT_CAP_ATOMIC, 1);
+    printf("struct %s, ", said(ioctl(fd, DRM_IOCTL_MODE_GETRESOURCES, (void *)16)));
+    printf("none %s, ", said(ioctl(fd, DRM_IOCTL_MODE_GETRESOURCES, NULL)));
+    printf("constant %s, ", said(ioctl(fd, DRM_IOCTL_MODE_GETRESOURCES, constant)));
+    printf("written %s, ", said(ioctl(fd, DRM_IOCTL_MODE_GETRESOURCES, &resources)));
+    printf("read %s, ", said(ioctl(fd, DRM_IOCTL_MODE_CREATEPROPBLOB, &blob)));
+    printf("commit %s\n", said(ioctl(fd, DRM_IOCTL_MODE_ATOMIC, &commit)));
+}
+
+/* A process is stopped while it maps buffers, and goes on. */
+static void stopped(void)
+{
+    int fd = opened(), round, status, stops = 0;
+    uint32_t handle, pitch;
+    uint64_t size, offset;
+    pid_t child;
+
+    drmModeCreateDumbBuffer(fd, 64, 64, 32, 0, &handle, &pitch, &size);
+    drmModeMapDumbBuffer(fd, handle, &offset);
+    fflush(stdout);
+    child = fork();
+    for (; child == 0;) {
+        void *mapped = mmap(NULL, size, PROT_READ, MAP_SHARED, fd, (off_t)offset);
+
+        if (mapped == MAP_FAILED)
+            _exit(1);
+        munmap(mapped, size);
+    }
+    for (round = 0; round < 8; round++) {
+        usleep(10000);
+        if (child > 1)
+            kill(child, SIGSTOP);
+        for (status = 0; status < 100 && waitpid(child, &(int){0}, WUNTRACED | WNOHANG) == 0;
+             status++)
+            usleep(10000);
+        stops += status < 100;
+        kill(child, SIGCONT);
+    }
+    kill(child, SIGKILL);
+    waitpid(child, &status, 0);
+    printf("stops %d of 8, killed by %d\n", stops, WTERMSIG(status));
+}
+
+/* Standard error is closed, so that a node could get its number, or nobody reads it. */
+static void traced(void)
+{
+    int pair[2], fd, again;
+    uint64_t value;
+
+    close(STDERR_FILENO);
+    fd = opened();
+    drmGetCap(fd, 999, &value);
+    printf("node %d, master %d, ", fd, drmIsMaster(fd));
+    again = fcntl(fd, F_DUPFD, 10);
+    if (pipe(pair) != 0)
+        exit(2);
+    dup2(pair[1], STDERR_FILENO);
+    close(pair[0]);
+    drmGetCap(again, 999, &value);
+    printf("master %d\n", drmIsMaster(again));
 }
 
 static void waits(void)
@@ -584,6 +732,11 @@ int main(int count, char **words)
                  {"room", room},
                  {"orphan", orphan},
                  {"waits", waits},
+                 {"reopened", reopened},
+                 {"looks", looks},
+                 {"addresses", addresses},
+                 {"stopped", stopped},
+                 {"traced", traced},
                  {"look", look},
                  {"sequence", sequence},
                  {"held-flip", held_flip}};

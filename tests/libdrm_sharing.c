@@ -387,8 +387,7 @@ static void share_buffer(void)
     waitpid(child, NULL, 0);
 }
 
-/* A child is to be killed while it waits for an answer: what comes then is nobody's, and the parent
- * isn't given it. */
+/* A child is to be killed while it waits for an answer: the parent gets its own. */
 static void ask_after_a_kill(void)
 {
     int fd = open_node(CARD);
@@ -408,7 +407,9 @@ static void ask_after_a_kill(void)
     getchar();
     waitpid(child, NULL, 0);
     found = drmModeGetEncoder(fd, 6);
-    printf("%s\n", found == NULL ? strerror(errno) : "an answer");
+    printf("%s\n", found == NULL             ? strerror(errno)
+                   : found->encoder_id == 6 ? "its own answer"
+                                            : "another answer");
 }
 
 /* Calls that the server doesn't have, by their errnos, of a master and of another client. */

@@ -96,14 +96,15 @@ def wait_until(holds):
 
 
 @contextlib.contextmanager
-def displayed(folder):
+def displayed(folder, **variables):
     """A display of the server in this folder, and the socket on which a supervisor speaks for its callers."""
     sockets = {f"DRM_SERVER_{name.upper()}": str(folder / name) for name in CLASSES}
+    given = {**os.environ, **sockets, **variables}
     path = folder / "display"
     channel, other = socket.socketpair(socket.AF_UNIX, socket.SOCK_SEQPACKET)
     with channel, other:
         words = [display(), path, str(other.fileno())]
-        with subprocess.Popen(words, env={**os.environ, **sockets}, pass_fds=[other.fileno()]) as displaying:
+        with subprocess.Popen(words, env=given, pass_fds=[other.fileno()]) as displaying:
             other.close()
             wait_until(lambda: os.fsencode(path) in listening())
             try:
@@ -114,12 +115,12 @@ def displayed(folder):
 
 
 @contextlib.contextmanager
-def served(folder, cards=64, renders=8, roots=8, more=()):
-    """A server in this folder, once it listens, with a display."""
+def served(folder, cards=64, renders=8, roots=8, more=(), **variables):
+    """A server in this folder, once it listens, with a display that has these variables."""
     with server(folder, cards, renders, roots, more=more) as started:
         wait_until(lambda: all((folder / name).exists() for name in CLASSES))
         connect(folder / "root").close()
-        with displayed(folder):
+        with displayed(folder, **variables):
             yield started
 
 

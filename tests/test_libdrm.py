@@ -36,9 +36,11 @@ from zirkoshe.constants import RULES  # noqa: E402
 from zirkoshe.server import Server  # noqa: E402
 
 from blocks import worked_rows  # noqa: E402
-from libdrm_support import COMPILER, LIBRARY, compiled, environment, library, said, served, wait_until  # noqa: E402
+from libdrm_support import LIBRARY, compiled, environment, library, said, served, wait_until  # noqa: E402
 
 EBADF = 9
+# the number of the system call on x86-64
+RECVMSG = "47"
 
 # How much more a call may cost than the same by the C client.
 MOST_COST = 1.5
@@ -100,7 +102,7 @@ MODE_SETCRTC: denied 30 NoModeObject 2
 # Lines of worked rows that libdrm has no word for, and that change nothing of what it tells.
 UNSAID = ("audit", "list_handles", "raw", "stamp_read", "stamp_write")
 # How many worked rows are tried: the others have limits of their own, or nothing else that libdrm has a word for, or stand below.
-ROWS = 49
+ROWS = 48
 # Worked rows that don't hold for a program over libdrm, and why: each is in docs/LIBDRM.md.
 OTHERWISE = {
     "buffers_of_bad_sizes": "libdrm makes dumb buffers alone",
@@ -116,6 +118,7 @@ OTHERWISE = {
     "audits_of_leases_and_root_lessees": "a lease is opened on the card's socket",
     "objects_go_with_the_last_that_refers_to_them": "a closed descriptor is no token",
     "closings_take_no_token_of_another": "a closed descriptor is no token",
+    "tokens_keep_objects_and_go_with_their_client": "a descriptor outlives its exporter's file",
     "imports_beside_handles_without_a_place": "a closed descriptor is no token",
     "audits_of_names_and_tokens": "a closed descriptor is no token",
 }
@@ -229,35 +232,35 @@ def has_ended(process):
 
 
 def waits_for_an_answer(process):
-    """Whether a process sleeps in poll, by the name of the kernel's function or, where that isn't told, by its state."""
-    place = pathlib.Path(f"/proc/{process}/wchan").read_text()
-    return (
-        "poll" in place or place in ("", "0") and "\nState:\tS" in pathlib.Path(f"/proc/{process}/status").read_text()
-    )
+    """Whether a process sleeps in recvmsg, which is how a thread waits for its answer, by the number of the system call."""
+    return pathlib.Path(f"/proc/{process}/syscall").read_text().split()[0] == RECVMSG
 
 
 class LibdrmTests(FolderCase):
     """Tests of programs that call libdrm and know nothing of this server, with clients/libdrm loaded into them."""
 
+    def copy_sources(self):
+        """A copy of what is compiled, without what was."""
+        want_libdrm()
+        for part in ("c", "libdrm"):
+            shutil.copytree(CLIENTS / part, self.folder / "clients" / part, ignore=shutil.ignore_patterns("out"))
+        return self.folder / "clients/libdrm"
+
     def test_library_is_compiled_without_a_warning(self):
-        folder = self.folder
-        words = want_libdrm()
-        sources = sorted(LIBRARY.glob("*.c"))
-        ran = run(
-            *COMPILER, "-fPIC", "-shared", "-I", CLIENTS / "c", "-o", folder / "library.so", *sources, *words, "-ldl"
-        )
-        expect("what cc says", (ran.returncode, ran.stdout + ran.stderr), (0, ""))
+        """And the display and the supervisor."""
+        build = self.copy_sources() / "build"
+        for options in ([], ["--display"], ["--supervisor"]):
+            ran = run(build, *options, env={**os.environ, "CFLAGS": "-Werror"})
+            expect(f"what the build with {options} says", (ran.returncode, ran.stderr), (0, ""))
 
     def test_library_is_built_by_meson(self):
         """From the same files as by the script, and a program runs with it."""
         folder = self.folder
-        want_libdrm()
         for name in ("meson", "ninja"):
             want_program(name)
-        for part in ("c", "libdrm"):
-            shutil.copytree(CLIENTS / part, folder / "clients" / part, ignore=shutil.ignore_patterns("out"))
-        named = re.findall(r"'(\w+\.c)'", (LIBRARY / "meson.build").read_text())
-        expect("files", sorted(named), sorted(path.name for path in LIBRARY.glob("*.c")))
+        sources = self.copy_sources()
+        named = re.findall(r"'([\w/]+\.c)'", (LIBRARY / "meson.build").read_text())
+        expect("files", sorted(named), sorted(str(path.relative_to(sources)) for path in sources.rglob("*.c")))
         for words in (["setup", "--werror", "built", "clients/libdrm"], ["compile", "-C", "built"]):
             ran = run("meson", *words, cwd=folder)
             expect(f"meson {words[0]}", (ran.returncode, ran.stdout if ran.returncode else "", ran.stderr), (0, "", ""))
@@ -294,9 +297,8 @@ class LibdrmTests(FolderCase):
     def test_modetest_finds_a_driver_by_another_name(self):
         folder = self.folder
         want_program("modetest")
-        given = environment(folder, DRM_SERVER_DRIVER="vkms")
-        with served(folder):
-            ran = run("modetest", "-M", "vkms", "-e", env=given)
+        with served(folder, DRM_SERVER_DRIVER="vkms"):
+            ran = run("modetest", "-M", "vkms", "-e", env=environment(folder))
         expect("encoders", {int(words[0]): words[3] for words in section(ran.stdout, "Encoders")}, ENCODERS)
 
     def test_with_server_loads_the_library(self):
@@ -642,7 +644,8 @@ closes again: EBADF
             ),
         )
 
-    def test_answer_to_a_killed_process_is_nobodys(self):
+    def test_killed_process_leaves_the_others_their_answers(self):
+        """A child is killed between its request and the answer."""
         folder = self.folder
         with begun(folder, "kill") as (started, sharer):
             expect("the opening", sharer.stdout.readline(), "open\n")
@@ -655,7 +658,7 @@ closes again: EBADF
             os.kill(child, signal.SIGKILL)
             started.send_signal(signal.SIGCONT)
             output, _ = sharer.communicate("\n", timeout=SECONDS)
-        expect("what the other gets", output, "No such device\n")
+        expect("what the other gets", output, "its own answer\n")
 
     def test_program_outlives_the_server(self):
         """Who asks a server that has gone is told that there is no device any more."""

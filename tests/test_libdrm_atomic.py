@@ -95,8 +95,7 @@ CRTCs show 10 11, overlay shows 0
         )
 
     def test_what_drives_what(self):
-        """As drm_mode_getplane, drm_mode_getencoder and drm_mode_getconnector report it. What another process set is known as far as the
-        topology leaves no choice."""
+        """As drm_mode_getplane, drm_mode_getencoder and drm_mode_getconnector report it, also in another process."""
         commits(
             self.folder / "laptop",
             "laptop",
@@ -106,7 +105,7 @@ dark: plane 3: 0 on 0, plane 4: 0 on 0, plane 5: 0 on 0, encoder 6: 0, encoder 7
 lit: plane 3: 10 on 1, plane 4: 0 on 0, plane 5: 0 on 0, encoder 6: 0, encoder 7: 1, connector 8: 0 connector 9: 7
 overlay: plane 3: 10 on 1, plane 4: 0 on 0, plane 5: 11 on 1, encoder 6: 0, encoder 7: 1, connector 8: 0 connector 9: 7
 both: plane 3: 10 on 1, plane 4: 11 on 2, plane 5: 11 on 1, encoder 6: 2, encoder 7: 1, connector 8: 6 connector 9: 7
-another process: plane 3: 10 on 1, plane 4: 11 on 2, plane 5: 11 on 0, encoder 6: 0, encoder 7: 0, connector 8: 0 connector 9: 0
+another process: plane 3: 10 on 1, plane 4: 11 on 2, plane 5: 11 on 1, encoder 6: 2, encoder 7: 1, connector 8: 6 connector 9: 7
 lessee: plane 4: 11 on 2, encoder 6: 2, encoder 7: 0, connector 8: 6
 inactive: plane 3: 0 on 0, plane 4: 11 on 2, plane 5: 0 on 0, encoder 6: 2, encoder 7: 1, connector 8: 6 connector 9: 7
 darkened by a child: plane 3: 0 on 0, plane 4: 0 on 0, plane 5: 0 on 0, encoder 6: 0, encoder 7: 1, connector 8: 0 connector 9: 7
@@ -251,8 +250,8 @@ CRTCs show 0 0, overlay shows 0
 """,
         )
 
-    def test_denied_commit_leaves_all_unchanged(self):
-        """If the library refuses its last change, and if the server denies it, since another process removed a framebuffer."""
+    def test_refused_commit_leaves_all_unchanged(self):
+        """If its last change is outside, and if it is a framebuffer that another process removed."""
         given = environment(self.folder)
         said, audits = [], []
         with served(self.folder, more=("--topology", TOPOLOGY)), subprocess.Popen(
@@ -260,7 +259,7 @@ CRTCs show 0 0, overlay shows 0
         ) as committing, ended_in_time(committing):
             for line in committing.stdout:
                 said.append(line.rstrip("\n"))
-                if said[-1] in ("lit", "refused", "removed", "denied"):
+                if said[-1] in ("lit", "refused", "removed", "refused again"):
                     # the program is the master, since it opened first
                     with connect(self.folder / "root") as root:
                         audits.append([root.ask(f"audit {kind} 0") for kind in AUDITED])
@@ -275,14 +274,14 @@ CRTCs show 0 0, overlay shows 0
                 "the last is outside: ENOSPC",
                 "refused",
                 "removed",
-                "the last is denied: ENOENT",
+                "the last isn't there: EINVAL",
                 "planes have 1 1",
-                "denied",
+                "refused again",
                 "another one: done",
             ],
         )
         expect("after the refusal", audits[1], audits[0])
-        expect("after the denial", audits[3], audits[2])
+        expect("after the second one", audits[3], audits[2])
 
     def test_commit_costs_a_step_for_each_framebuffer_that_changes(self):
         """Two CRTCs flip in each commit. An overlay plane that stays costs none, and neither does a test."""

@@ -285,7 +285,7 @@ poll 1 1, ppoll 1, select 1 1, pselect 1, epoll 0 0
 """,
         )
 
-    def test_events_are_read_whole(self):
+    def test_events_are_read_one_by_one(self):
         folder = self.folder
         frames(
             folder,
@@ -294,9 +294,9 @@ poll 1 1, ppoll 1, select 1 1, pselect 1, epoll 0 0
 reads nothing: EAGAIN
 events 128, then ENOMEM
 a flip without an event: done
-31 bytes: 0
-100 bytes: 96
-all: 4000, the last 127
+31 bytes: 31
+100 bytes: 32
+others: 126, the last 127
 reads nothing: EAGAIN
 queues: done
 waits: 32
@@ -304,9 +304,9 @@ waits until a signal: EINTR
 """,
         )
 
-    def test_child_has_none_of_its_parents_events(self):
+    def test_events_are_for_who_reads_the_file(self):
         folder = self.folder
-        frames(folder, "fork", "flips: done\nchild 0\nevents 1, of the CRTC 1\n")
+        frames(folder, "fork", "flips: done\nchild 0\nevents 1, data 5\n")
 
     def test_events_end_with_what_they_are_of(self):
         folder = self.folder
@@ -349,7 +349,8 @@ who isn't master: EACCES
             "calls that set a CRTC: the mode, and each frame", (few.count("setcrtc"), many.count("setcrtc")), (11, 61)
         )
 
-    def test_dropped_master_shows_at_the_next_refusal(self):
+    def test_dropped_master_shows_at_once(self):
+        """Also if another process that has the file dropped it."""
         folder = self.folder
         frames(
             folder,
@@ -360,7 +361,7 @@ drops: done
 moves: EACCES
 sets: done
 moves: done
-moves: done
+moves: EACCES
 flips: EACCES
 moves: EACCES
 """,

@@ -112,8 +112,8 @@ def sources_in_c():
     return sorted(found)
 
 
-# the core of clients/libdrm, and its two front ends
-LIBDRM = ("clients/libdrm", "clients/libdrm/preload", "clients/libdrm/supervisor")
+# the display of clients/libdrm, and its two front ends
+LIBDRM = ("clients/libdrm", *(f"clients/libdrm/{name}" for name in ("display", "fronts", "preload", "supervisor")))
 # the runner of scripts on a kernel, and the module
 KERNEL = ("clients/kernel", "clients/kernel/module")
 WARNINGS = ["-Wall", "-Wextra", "-Wpedantic", "-Wconversion", "-Wshadow", "-Werror", "-pthread"]
@@ -243,9 +243,10 @@ class LintersTests(FolderCase):
             expect(f"what is said of {source.name}", (ran.returncode, ran.stderr), (0, ""))
 
     def test_libdrm_library_without_warnings(self):
-        """Its supervisor, and the program that tests that."""
+        """The display, the supervisor, and the program that tests that."""
         headers = [word for word in want_libdrm() if word.startswith("-I")]
-        words = ["-I", REPOSITORY / "clients/libdrm", "-I", CLIENTS / "c", *headers]
+        folders = ["-I", REPOSITORY / "clients/libdrm", "-I", REPOSITORY / "clients/libdrm/fronts", "-I", CLIENTS / "c"]
+        words = [*folders, *headers]
         sources = sorted(source for place in LIBDRM for source in (REPOSITORY / place).glob("*.c"))
         for source in (*sources, TESTS / "supervised.c"):
             ran = run("cc", "-std=gnu11", *WARNINGS, "-fsyntax-only", *words, source)

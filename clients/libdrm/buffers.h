@@ -55,7 +55,8 @@ int buffers_memory(struct connection *connection, uint32_t handle, uint64_t *siz
  * errno. */
 int buffers_export(struct connection *connection, uint32_t handle, uint32_t token, int flags);
 
-/* Redeems the token of a descriptor. A negative errno: EBADF, EINVAL for another file, the server's.
+/* Redeems the token of a descriptor. A negative errno: EBADF, EINVAL for another file, the
+ * server's.
  */
 int buffers_import(struct connection *connection, int fd, uint32_t *handle);
 

@@ -151,7 +151,8 @@ static bool is_expected_to_flip(struct connection *connection,
     return (flip->flags & ~(uint32_t)DRM_MODE_PAGE_FLIP_EVENT) == 0 && flip->sequence == 0
            && is_expected_to_fit(flip) && crtc_is_surely_lit(flip->crtc_id)
            && crtc_connector(flip->crtc_id) != 0 && !crtc_flips(flip->crtc_id)
-           && (!(flip->flags & DRM_MODE_PAGE_FLIP_EVENT) || events_have_room(&connection->events, 1));
+           && (!(flip->flags & DRM_MODE_PAGE_FLIP_EVENT)
+               || events_have_room(&connection->events, 1));
 }
 
 int answer_page_flip(struct connection *connection, void *argument)

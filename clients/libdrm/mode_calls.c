@@ -148,7 +148,8 @@ static void note_crtc(const struct drm_mode_crtc *crtc, uint32_t fb_id, const st
         crtc_is_seen(crtc->crtc_id, false);
 }
 
-/* The server accepts at most one connector, and has no mode and no position, which are kept here. */
+/* The server accepts at most one connector, and has no mode and no position, which are kept here.
+ */
 int answer_set_crtc(struct connection *connection, void *argument)
 {
     const struct drm_mode_crtc *crtc = argument;

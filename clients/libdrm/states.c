@@ -4,7 +4,6 @@
 #include "answers.h"
 #include "blobs.h"
 
-
 /* The key of a primary plane is that of its CRTC, with this bit. Ids of the server are smaller. */
 #define PRIMARY_OF 0x80000000u
 

@@ -143,7 +143,8 @@ bool packet_receive(struct task *task);
 bool packet_is_reading(const struct task *task);
 void packet_answer(struct task *task);
 
-/* callers.c: puts bytes into what is written. Returns their place, or NULL if there is no memory. */
+/* callers.c: puts bytes into what is written. Returns their place, or NULL if there is no memory.
+ */
 uint8_t *written_add(struct written *written, size_t size);
 
 #endif

@@ -19,7 +19,7 @@ static struct {
     unsigned count;
 } users[MOST_USERS]; /* how many files each has */
 
-static struct peer *waiting;              /* those that may have another packet */
+static struct peer *waiting;               /* those that may have another packet */
 static struct peer *openers[MOST_OPENERS]; /* a ring */
 static unsigned next_opener;
 

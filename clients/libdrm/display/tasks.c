@@ -1,7 +1,7 @@
 /* What the display does at once. A task has a stack of its own, so that it can wait for the server
  * in the middle of an answer. Tasks that only read run together, and one that changes something
- * runs alone, as under a kernel's lock. One for which the server takes longer than a second is late,
- * and holds up nobody any more. */
+ * runs alone, as under a kernel's lock. One for which the server takes longer than a second is
+ * late, and holds up nobody any more. */
 #include "display.h"
 
 #include <limits.h>
@@ -23,9 +23,9 @@ struct fiber {
 };
 
 static ucontext_t loop;
-static struct fiber *now;      /* the one that runs */
-static struct fiber *running;  /* all that have begun */
-static struct task *kept;      /* those that are free */
+static struct fiber *now;     /* the one that runs */
+static struct fiber *running; /* all that have begun */
+static struct task *kept;     /* those that are free */
 static unsigned count_kept;
 static struct task *first, **last = &first; /* those that wait to begin */
 

@@ -100,9 +100,7 @@ struct answer {
 
 static int error_of_sending(void)
 {
-    return errno == EPIPE || errno == ECONNRESET ? -ENODEV
-           : errno == EMSGSIZE                   ? -ENOMEM
-                                                 : -errno;
+    return errno == EPIPE || errno == ECONNRESET ? -ENODEV : errno == EMSGSIZE ? -ENOMEM : -errno;
 }
 
 static int send_packet(int fd, const struct sent *sent, int memory)
@@ -282,11 +280,12 @@ static enum node asked_node(enum node node)
 
 int ask_to_open(int way, enum node node, int flags)
 {
-    struct sent sent = {
-        .ask = {.kind = ASK_OPEN, .request = asked_node(node), .open_flags = (uint64_t)(unsigned)flags},
-        .count_parts = 1,
-        .memory = -1,
-        .aside = -1};
+    struct sent sent = {.ask = {.kind = ASK_OPEN,
+                                .request = asked_node(node),
+                                .open_flags = (uint64_t)(unsigned)flags},
+                        .count_parts = 1,
+                        .memory = -1,
+                        .aside = -1};
     struct reply reply;
 
     return ask_for_descriptor(&sent, way, false, &reply);
@@ -436,8 +435,8 @@ static int write_part(int file, const struct iovec *part)
     size_t written = 0;
 
     while (written < part->iov_len) {
-        ssize_t more = REAL(write)(file, (const uint8_t *)part->iov_base + written,
-                                   part->iov_len - written);
+        ssize_t more =
+            REAL(write)(file, (const uint8_t *)part->iov_base + written, part->iov_len - written);
 
         if (more <= 0)
             return more < 0 && errno == EFAULT ? -EFAULT : -ENOMEM;
@@ -540,7 +539,8 @@ static int take_writes(const struct answer *answer, uint64_t address, size_t siz
     }
     if (answer->reply.traced > 0 && answer->reply.traced <= (size_t)(end - next))
         trace(next, answer->reply.traced);
-    return size > 0 ? caller_takes(here, there, count + 1) : caller_takes(here + 1, there + 1, count);
+    return size > 0 ? caller_takes(here, there, count + 1)
+                    : caller_takes(here + 1, there + 1, count);
 }
 
 /* Puts the caller's numbers of descriptors into a struct: of the one that the request made, or

@@ -257,3 +257,22 @@ const struct entry *next_in(const struct entry *folder, size_t *next, const char
     }
     return NULL;
 }
+
+bool is_folder(const struct entry *entry)
+{
+    const char *name;
+    size_t next = 0;
+
+    return entry->kind == KIND_FOLDER
+           || (entry->kind == KIND_LINK && next_in(entry, &next, &name) != NULL);
+}
+
+bool changes_place(int folder, const char *path, uid_t user, int *result)
+{
+    const struct entry *entry;
+
+    if (!find_place(folder, path, &entry) || (entry != NULL && entry->path[0] == '\0'))
+        return false;
+    *result = entry == NULL ? -ENOENT : user == 0 ? 0 : -EPERM;
+    return true;
+}

@@ -25,12 +25,20 @@ bool is_served(void);
  * before it, not the one that a symbolic link leads to. */
 bool find_place(int folder, const char *path, const struct entry **entry);
 
+/* Returns whether an entry is a folder, or a link to one that has entries. */
+bool is_folder(const struct entry *entry);
+
 /* Opens a descriptor that represents a folder of the device, with O_CLOEXEC or not; -1 with errno.
  */
 int open_folder(const struct entry *folder, int flags);
 
 /* The folder that a descriptor represents, or NULL. */
 const struct entry *folder_of(int fd);
+
+/* Returns whether a path is the device's, as find_place does, and not that of a server's socket.
+ * Then a user's change of its mode or owner results in 0 or a negative errno, and changes nothing.
+ */
+bool changes_place(int folder, const char *path, uid_t user, int *result);
 
 /* Writes what stat reports of an entry, and of the target of a link if links are followed. */
 void entry_status(const struct entry *entry, bool follows, struct stat *status);

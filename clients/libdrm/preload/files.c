@@ -42,7 +42,7 @@ static int open_text(const char *text, int flags)
 /* Opens an entry, or the connection that it is. */
 static int open_entry(const struct entry *entry, int flags)
 {
-    if (entry->kind == KIND_FOLDER)
+    if (is_folder(entry) && (entry->kind == KIND_FOLDER || !(flags & O_NOFOLLOW)))
         return flags & (O_WRONLY | O_RDWR) ? fail(EISDIR) : open_folder(entry, flags);
     if (flags & (O_PATH | O_DIRECTORY))
         return fail(flags & O_PATH ? EACCES : ENOTDIR);
@@ -302,6 +302,27 @@ SHOWN int euidaccess(const char *path, int mode)
 
     return allows(AT_FDCWD, path, mode, &result) ? result : REAL(euidaccess)(path, mode);
 }
+
+/* Each function that changes a mode or an owner */
+#define CHANGING_FUNCTION(name, folder, path, parameters, words)                                   \
+    SHOWN int name parameters                                                                      \
+    {                                                                                              \
+        int result;                                                                                \
+                                                                                                   \
+        return changes_place(folder, path, geteuid(), &result) ? result_of(result)                 \
+                                                               : REAL(name) words;                 \
+    }
+
+CHANGING_FUNCTION(chmod, AT_FDCWD, path, (const char *path, mode_t mode), (path, mode))
+CHANGING_FUNCTION(fchmodat, folder, path, (int folder, const char *path, mode_t mode, int flags),
+                  (folder, path, mode, flags))
+CHANGING_FUNCTION(chown, AT_FDCWD, path, (const char *path, uid_t user, gid_t group),
+                  (path, user, group))
+CHANGING_FUNCTION(lchown, AT_FDCWD, path, (const char *path, uid_t user, gid_t group),
+                  (path, user, group))
+CHANGING_FUNCTION(fchownat, folder, path,
+                  (int folder, const char *path, uid_t user, gid_t group, int flags),
+                  (folder, path, user, group, flags))
 
 static bool leads(int folder, const char *path, char *target, size_t size, ssize_t *length)
 {

@@ -102,7 +102,7 @@ SHOWN DIR *opendir(const char *path)
 
     if (!find_place(AT_FDCWD, path, &entry))
         return REAL(opendir)(path);
-    if (entry != NULL && entry->kind == KIND_FOLDER)
+    if (entry != NULL && is_folder(entry))
         return list(entry, -1);
     errno = entry == NULL ? ENOENT : ENOTDIR;
     return NULL;
@@ -129,6 +129,44 @@ SHOWN struct dirent64 *readdir64(DIR *stream)
     struct listing *listing = listing_of(stream);
 
     return listing != NULL ? (struct dirent64 *)next_given(listing) : REAL(readdir64)(stream);
+}
+
+/* glibc's header says that no program is to use it; some do. */
+#pragma GCC diagnostic ignored "-Wdeprecated-declarations"
+SHOWN int readdir_r(DIR *stream, struct dirent *room, struct dirent **found)
+{
+    struct listing *listing = listing_of(stream);
+    const struct dirent *next;
+
+    if (listing == NULL)
+        return REAL(readdir_r)(stream, room, found);
+    next = next_given(listing);
+    *found = next == NULL ? NULL : room;
+    if (next != NULL)
+        *room = *next;
+    return 0;
+}
+
+SHOWN int readdir64_r(DIR *stream, struct dirent64 *room, struct dirent64 **found)
+{
+    return readdir_r(stream, (struct dirent *)room, (struct dirent **)found);
+}
+
+SHOWN long telldir(DIR *stream)
+{
+    struct listing *listing = listing_of(stream);
+
+    return listing != NULL ? (long)listing->next : REAL(telldir)(stream);
+}
+
+SHOWN void seekdir(DIR *stream, long place)
+{
+    struct listing *listing = listing_of(stream);
+
+    if (listing != NULL)
+        listing->next = (size_t)place;
+    else
+        REAL(seekdir)(stream, place);
 }
 
 SHOWN void rewinddir(DIR *stream)

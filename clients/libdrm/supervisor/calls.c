@@ -115,7 +115,7 @@ static int open_entry(const struct entry *entry, int flags)
 {
     int fd;
 
-    if (entry->kind == KIND_FOLDER)
+    if (is_folder(entry) && (entry->kind == KIND_FOLDER || !(flags & O_NOFOLLOW)))
         fd = flags & (O_WRONLY | O_RDWR) ? -EISDIR : open_listed_folder(entry);
     else if (entry->kind == KIND_TEXT && !(flags & O_DIRECTORY))
         fd = open_text_file(entry);

@@ -35,10 +35,11 @@
 /* The calls that the supervisor answers whatever their arguments are */
 static const int answered[] = {
 #ifdef __NR_open
-    __NR_open,       __NR_stat,       __NR_lstat,      __NR_access, __NR_readlink,
+    __NR_open,       __NR_stat,       __NR_lstat,      __NR_access,   __NR_readlink,
+    __NR_chmod,      __NR_chown,      __NR_lchown,
 #endif
-    __NR_openat,     __NR_fstat,      __NR_newfstatat, __NR_statx,  __NR_faccessat,
-    __NR_faccessat2, __NR_readlinkat,
+    __NR_openat,     __NR_fstat,      __NR_newfstatat, __NR_statx,    __NR_faccessat,
+    __NR_faccessat2, __NR_readlinkat, __NR_fchmodat,   __NR_fchownat,
 };
 
 #define ANSWERED (sizeof answered / sizeof answered[0])

@@ -185,9 +185,8 @@ static void take_call(const struct command *command)
 static int supervise(const struct command *command)
 {
     enum { END, LISTENER, SIGNALS, COUNT };
-    struct pollfd waited[COUNT] = {{command->end, POLLIN, 0},
-                                   {command->listener, POLLIN, 0},
-                                   {command->signals, POLLIN, 0}};
+    struct pollfd waited[COUNT] = {
+        {command->end, POLLIN, 0}, {command->listener, POLLIN, 0}, {command->signals, POLLIN, 0}};
     int ended = SIGKILL;
 
     while (!(waited[END].revents & POLLIN)) {

@@ -10,8 +10,8 @@
 
 #define NONE (-1)
 
-/* What a call asks for */
-enum asked { STATUS, WIDE_STATUS, ACCESS, LINK };
+/* What a call asks for, or changes */
+enum asked { STATUS, WIDE_STATUS, ACCESS, LINK, CHANGE };
 
 /* The positions of the arguments of a call */
 struct form {
@@ -22,12 +22,15 @@ struct form {
 
 static const struct form forms[] = {
 #ifdef __NR_stat
-    {__NR_stat, STATUS, NONE, 0, 1, NONE},    {__NR_lstat, STATUS, NONE, 0, 1, NONE},
-    {__NR_access, ACCESS, NONE, 0, NONE, 1},  {__NR_readlink, LINK, NONE, 0, 1, 2},
+    {__NR_stat, STATUS, NONE, 0, 1, NONE},      {__NR_lstat, STATUS, NONE, 0, 1, NONE},
+    {__NR_access, ACCESS, NONE, 0, NONE, 1},    {__NR_readlink, LINK, NONE, 0, 1, 2},
+    {__NR_chmod, CHANGE, NONE, 0, NONE, NONE},  {__NR_chown, CHANGE, NONE, 0, NONE, NONE},
+    {__NR_lchown, CHANGE, NONE, 0, NONE, NONE},
 #endif
-    {__NR_fstat, STATUS, 0, NONE, 1, NONE},   {__NR_newfstatat, STATUS, 0, 1, 2, 3},
-    {__NR_statx, WIDE_STATUS, 0, 1, 4, 2},    {__NR_faccessat, ACCESS, 0, 1, NONE, 2},
-    {__NR_faccessat2, ACCESS, 0, 1, NONE, 2}, {__NR_readlinkat, LINK, 0, 1, 2, 3},
+    {__NR_fstat, STATUS, 0, NONE, 1, NONE},     {__NR_newfstatat, STATUS, 0, 1, 2, 3},
+    {__NR_statx, WIDE_STATUS, 0, 1, 4, 2},      {__NR_faccessat, ACCESS, 0, 1, NONE, 2},
+    {__NR_faccessat2, ACCESS, 0, 1, NONE, 2},   {__NR_readlinkat, LINK, 0, 1, 2, 3},
+    {__NR_fchmodat, CHANGE, 0, 1, NONE, NONE},  {__NR_fchownat, CHANGE, 0, 1, NONE, NONE},
 };
 
 static const struct form *form_of(int number)
@@ -110,7 +113,7 @@ static bool looks_at_descriptor(const struct seccomp_notif *notice, const struct
     struct stat status;
     enum node node;
 
-    if (form->folder == NONE || form->asked == LINK || form->asked == ACCESS
+    if (form->folder == NONE || (form->asked != STATUS && form->asked != WIDE_STATUS)
         || !is_caller_node((int)word_of(notice, form->folder), &node))
         return false;
     node_status(node, &status);
@@ -134,7 +137,11 @@ bool answer_look(const struct seccomp_notif *notice, int *result)
         return false;
     if (path[0] == '\0')
         return looks_at_descriptor(notice, form, result);
-    if (path[0] != '/' || !find_place(AT_FDCWD, path, &entry))
+    if (path[0] != '/')
+        return false;
+    if (form->asked == CHANGE)
+        return changes_place(AT_FDCWD, path, caller_now()->user, result);
+    if (!find_place(AT_FDCWD, path, &entry))
         return false;
     *result = entry == NULL ? -ENOENT : answer_entry(notice, form, entry);
     return true;
