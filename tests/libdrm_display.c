@@ -138,6 +138,15 @@ static void look(void)
            fb == NULL ? "none" : (char *)&fb->pixel_format);
 }
 
+/* Sets a CRTC, and waits for a line. */
+static void shows(void)
+{
+    lit(opened(), 100, 50);
+    printf("shown\n");
+    fflush(stdout);
+    getchar();
+}
+
 /* What another program that opens the card itself sees. */
 static void view(void)
 {
@@ -376,6 +385,38 @@ static void killed(void)
         failed += drmGetCap(fd, DRM_CAP_DUMB_BUFFER, &value) != 0;
     }
     printf("failed after kills %d of 100\n", failed);
+}
+
+static double seconds_since(const struct timespec *begun)
+{
+    struct timespec now;
+
+    clock_gettime(CLOCK_MONOTONIC, &now);
+    return (double)(now.tv_sec - begun->tv_sec) + (double)(now.tv_nsec - begun->tv_nsec) / 1e9;
+}
+
+/* The server answers the child late. */
+static void killed_waiting(void)
+{
+    struct timespec begun;
+    struct stat status;
+    double looked;
+    pid_t child = fork();
+
+    if (child == 0) {
+        drmModeGetCrtc(opened(), CRTC);
+        _exit(0);
+    }
+    usleep(500000);
+    if (child > 1)
+        kill(child, SIGKILL);
+    waitpid(child, NULL, 0);
+    clock_gettime(CLOCK_MONOTONIC, &begun);
+    stat("/dev/dri/card0", &status);
+    looked = seconds_since(&begun);
+    clock_gettime(CLOCK_MONOTONIC, &begun);
+    opened();
+    printf("stat at once %d, opening in a while %d\n", looked < 0.8, seconds_since(&begun) < 2.5);
 }
 
 static void reopen(void)
@@ -733,6 +774,8 @@ int main(int count, char **words)
                  {"orphan", orphan},
                  {"waits", waits},
                  {"reopened", reopened},
+                 {"shows", shows},
+                 {"killed-waiting", killed_waiting},
                  {"looks", looks},
                  {"addresses", addresses},
                  {"stopped", stopped},

@@ -96,14 +96,14 @@ def wait_until(holds):
 
 
 @contextlib.contextmanager
-def displayed(folder, **variables):
+def displayed(folder, program=None, **variables):
     """A display of the server in this folder, and the socket on which a supervisor speaks for its callers."""
     sockets = {f"DRM_SERVER_{name.upper()}": str(folder / name) for name in CLASSES}
     given = {**os.environ, **sockets, **variables}
     path = folder / "display"
     channel, other = socket.socketpair(socket.AF_UNIX, socket.SOCK_SEQPACKET)
     with channel, other:
-        words = [display(), path, str(other.fileno())]
+        words = [program or display(), path, str(other.fileno())]
         with subprocess.Popen(words, env=given, pass_fds=[other.fileno()]) as displaying:
             other.close()
             wait_until(lambda: os.fsencode(path) in listening())
