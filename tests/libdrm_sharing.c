@@ -407,7 +407,7 @@ static void ask_after_a_kill(void)
     getchar();
     waitpid(child, NULL, 0);
     found = drmModeGetEncoder(fd, 6);
-    printf("%s\n", found == NULL             ? strerror(errno)
+    printf("%s\n", found == NULL            ? strerror(errno)
                    : found->encoder_id == 6 ? "its own answer"
                                             : "another answer");
 }

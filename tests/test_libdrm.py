@@ -42,8 +42,8 @@ EBADF = 9
 # the number of the system call on x86-64
 RECVMSG = "47"
 
-# How much more a call may cost than the same by the C client.
-MOST_COST = 1.5
+# How much more a call may cost than the same by the C client: as a factor, or in nanoseconds.
+MOST_COST, MOST_MORE = 1.6, 30_000
 
 # What modetest lists: of each kind of object its first column, and what else the server tells of it.
 ENCODERS = {5: "0x00000003", 6: "0x00000002"}
@@ -611,7 +611,7 @@ closes again: EBADF
             place = folder / str(at)
             place.mkdir()
             through, beside = costs(place)
-            if through <= MOST_COST * beside:
+            if through <= max(MOST_COST * beside, beside + MOST_MORE):
                 return
         raise AssertionError("a call through libdrm costs too much")
 

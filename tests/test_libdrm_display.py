@@ -67,7 +67,8 @@ print("open", flush=True)
 for line in sys.stdin:
     word = line.strip()
     struct = bytearray(104 if word == "getcrtc" else 32)
-    struct[0:12] = (1 if word == "getcrtc" else 64).to_bytes(4, "little") + (64).to_bytes(4, "little") + (32).to_bytes(4, "little")
+    # the id of a CRTC, or the height, width and bits of a buffer
+    struct[0:16] = b"".join(number.to_bytes(4, "little") for number in ((0, 0, 0, 1) if word == "getcrtc" else (64, 64, 32, 0)))
     begun = time.monotonic()
     if word == "open":
         os.close(os.open("/dev/dri/card0", os.O_RDWR))
@@ -263,7 +264,8 @@ opens a link to a folder done, its file done, changes the mode done, owner done,
         if built.returncode != 0:
             raise Skipped("the compiler has no sanitizers")
         program = compiled(GARBAGE)
-        with server(folder, 64, 8, 8), displayed(folder, built.stdout.strip()):
+        # what only the loop's set of descriptors refers to would be a leak
+        with server(folder, 64, 8, 8), displayed(folder, built.stdout.strip(), ASAN_OPTIONS="detect_leaks=0"):
             ran = run(program, REQUESTS, env=environment(folder), timeout=SECONDS * 20)
         text = "processes that ended badly 0, the display answers afterwards: yes\n"
         expect_end(ran, 0, "", text)

@@ -28,7 +28,7 @@ from support import (  # noqa: E402
 
 from zirkoshe.audit import audit_by  # noqa: E402
 
-from libdrm_support import COMPILER, NOT_STARTED, environment, served, supervisor, wait_until  # noqa: E402
+from libdrm_support import COMPILER, NOT_STARTED, supervisor, wait_until  # noqa: E402
 
 WITH_SERVER = REPOSITORY / "tools/with-server"
 
