@@ -30,8 +30,6 @@ MOST_RATE = 61
 
 # what is run before a command of wlroots, which refuses to be root
 SOMEBODY = """\
-chmod 755 "${DRM_SERVER_CARD%/*}"
-chmod 666 "$DRM_SERVER_CARD"
 chown nobody .
 export LIBSEAT_BACKEND=builtin SEATD_VTBOUND=0
 export WLR_BACKENDS=drm WLR_DRM_DEVICES=/dev/dri/card0 WLR_LIBINPUT_NO_DEVICES=1 WLR_RENDERER_ALLOW_SOFTWARE=1
