@@ -286,6 +286,11 @@ class ToolsTests(FolderCase):
         sums = [str(sum(column)) for column in zip(*counts)]
         expect("sums", last.split(), [*sums, "in", "all"])
 
+    def test_all_runs_each_file_of_tests(self):
+        files = sorted(path.stem for path in (REPOSITORY / "tests").glob("test_*.py"))
+        named = re.findall(r'^    "(\w+)",$', (REPOSITORY / "tests/all").read_text(), re.MULTILINE)
+        expect("files of tests", sorted(f"test_{name}" for name in named), files)
+
     def test_public_api_is_the_kept_one(self):
         expect_end(run(REPOSITORY / "tools/public_api", "--check"), 0, "", "")
 
