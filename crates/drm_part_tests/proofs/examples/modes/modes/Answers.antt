@@ -2,7 +2,7 @@ use Rattle.std.proofs.Common.{◌≡◌, ◌+◌, ◌≤◌, length, ap, ◌∙�
 use Rattle.drm_modes.specs.Modes.{ModeSet}
 use Rattle.drm_modes.specs.Topology.{Topology}
 use Rattle.drm_modes.proofs.Ids.{length-numbers_from}
-use Rattle.drm_part_tests.proofs.examples.modes.modes_from_kind.Goals as goal
+use Rattle.drm_part_tests.proofs.examples.modes.modes.Goals as goal
 
 pub append_ids-requires : goal.append_ids-requires
 append_ids-requires g c =
