@@ -20,4 +20,4 @@ pub use notes::{Note, Notes, PROGRAM};
 pub use open_connections::{Attendance, OpenConnections, Role};
 pub use peek::{Peek, Ready};
 pub use reporting::Reporting;
-pub use requests::Requests;
+pub use requests::{Lost, Requests};

@@ -25,6 +25,16 @@ const MOST: usize = 262_144;
 /// The most bytes that are removed from a stream at once. Most requests have fewer.
 const PIECE: usize = 64;
 
+/// The stream has failed, or it lacks bytes that were handed on and stayed in it (own).
+#[derive(Clone, Copy, Debug)]
+pub struct Lost;
+
+impl From<Lost> for io::Error {
+    fn from(_: Lost) -> io::Error {
+        io::Error::from(ErrorKind::UnexpectedEof)
+    }
+}
+
 /// The bytes that a connection brings, each once and in the order of the stream (own).
 ///
 /// The last of its hello is handed on once the connection is admitted. Requests are handed on only while there is room for
@@ -77,8 +87,8 @@ impl<'a, S: Peek, R: Wait> Requests<'a, S, R> {
     ///
     /// # Errors
     ///
-    /// That of the stream, or `UnexpectedEof` if it no longer has these bytes. The connection has then failed.
-    pub fn settle(&mut self) -> io::Result<()>
+    /// `Lost` if the stream fails or no longer has these bytes. The connection has then failed.
+    pub fn settle(&mut self) -> Result<(), Lost>
         ensures kept { Keeps (requests_left S.remaining self.old) (requests_left S.remaining self.new) }
         ensures settled { OnOk result (IsSettled self.new) }
     {
@@ -88,7 +98,7 @@ impl<'a, S: Peek, R: Wait> Requests<'a, S, R> {
         self.remove_seen()
     }
 
-    fn remove_seen(&mut self) -> io::Result<()>
+    fn remove_seen(&mut self) -> Result<(), Lost>
         ensures kept { Keeps (requests_left S.remaining self.old) (requests_left S.remaining self.new) }
         ensures settled { OnOk result (IsSettled self.new) }
     {
@@ -99,13 +109,13 @@ impl<'a, S: Peek, R: Wait> Requests<'a, S, R> {
             }
             let most = self.seen.min(PIECE);
             match self.stream.read(&mut piece[..most]) {
-                Ok(0) => return Err(io::Error::from(ErrorKind::UnexpectedEof)),
+                Ok(0) => return Err(Lost),
                 Ok(count) => self.seen -= count,
                 Err(reason) if reason.kind() == ErrorKind::Interrupted => {}
-                Err(reason) => return Err(reason),
+                Err(_) => return Err(Lost),
             }
         }
-        Err(io::Error::from(ErrorKind::Interrupted))
+        Err(Lost)
     }
 
     /// Waits until there is room for answers, and reads ahead meanwhile.
