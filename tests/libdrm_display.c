@@ -28,6 +28,7 @@
 
 #define CRTC 1
 #define CONNECTOR 7
+#define PLANE 3
 
 static int opened(void)
 {
@@ -128,14 +129,67 @@ static void beside(const char *name)
     wait_for(child);
 }
 
+/* The value of a property of an object. */
+static uint64_t value_of(int fd, uint32_t object, uint32_t kind, const char *name)
+{
+    drmModeObjectProperties *all = drmModeObjectGetProperties(fd, object, kind);
+    uint64_t found = UINT64_MAX;
+    uint32_t at;
+
+    for (at = 0; all != NULL && at < all->count_props; at++) {
+        drmModePropertyRes *property = drmModeGetProperty(fd, all->props[at]);
+
+        if (property != NULL && strcmp(property->name, name) == 0)
+            found = all->prop_values[at];
+        drmModeFreeProperty(property);
+    }
+    drmModeFreeObjectProperties(all);
+    return found;
+}
+
+static void look_at(int fd)
+{
+    drmModeCrtc *crtc;
+    drmModeFB2 *fb;
+    drmModePlane *plane;
+    drmModePropertyBlobRes *blob;
+
+    drmSetClientCap(fd, DRM_CLIENT_CAP_ATOMIC, 1);
+    crtc = drmModeGetCrtc(fd, CRTC);
+    fb = drmModeGetFB2(fd, crtc->buffer_id);
+    plane = drmModeGetPlane(fd, PLANE);
+    blob =
+        drmModeGetPropertyBlob(fd, (uint32_t)value_of(fd, CRTC, DRM_MODE_OBJECT_CRTC, "MODE_ID"));
+    printf("mode %s at %u,%u, format %.4s, ", crtc->mode.name, crtc->x, crtc->y,
+           fb == NULL ? "none" : (char *)&fb->pixel_format);
+    printf("plane shows it %d on CRTC %u from %u, ", plane->fb_id == crtc->buffer_id,
+           plane->crtc_id, (uint32_t)(value_of(fd, PLANE, DRM_MODE_OBJECT_PLANE, "SRC_X") >> 16));
+    printf("blob %s, connector on CRTC %u\n",
+           blob == NULL ? "none" : ((drmModeModeInfo *)blob->data)->name,
+           (uint32_t)value_of(fd, CONNECTOR, DRM_MODE_OBJECT_CONNECTOR, "CRTC_ID"));
+}
+
 static void look(void)
 {
-    int fd = opened();
-    drmModeCrtc *crtc = drmModeGetCrtc(fd, CRTC);
-    drmModeFB2 *fb = drmModeGetFB2(fd, crtc->buffer_id);
+    look_at(opened());
+}
 
-    printf("mode %s at %u,%u, format %.4s\n", crtc->mode.name, crtc->x, crtc->y,
-           fb == NULL ? "none" : (char *)&fb->pixel_format);
+/* The descriptor is that of a lease. */
+static void look_leased(void)
+{
+    look_at(9);
+}
+
+/* Opens as many files as it may, and waits for a line. */
+static void many(void)
+{
+    int count = 0;
+
+    while (open("/dev/dri/card0", O_RDWR | O_CLOEXEC) >= 0)
+        count++;
+    printf("opened %d, then %s\n", count, said(-1));
+    fflush(stdout);
+    getchar();
 }
 
 /* Sets a CRTC, and waits for a line. */
@@ -147,11 +201,17 @@ static void shows(void)
     getchar();
 }
 
-/* What another program that opens the card itself sees. */
+/* What another program that opens the card itself sees, and one with a lease. */
 static void view(void)
 {
-    lit(opened(), 100, 50);
+    uint32_t objects[] = {CRTC, PLANE, CONNECTOR}, lessee;
+    int fd = opened();
+
+    lit(fd, 100, 50);
     beside("look");
+    drmSetClientCap(fd, DRM_CLIENT_CAP_UNIVERSAL_PLANES, 1);
+    dup2(drmModeCreateLease(fd, objects, 3, O_CLOEXEC, &lessee), 9);
+    beside("look-leased");
 }
 
 static void fork_events(void)
@@ -781,6 +841,8 @@ int main(int count, char **words)
                  {"stopped", stopped},
                  {"traced", traced},
                  {"look", look},
+                 {"look-leased", look_leased},
+                 {"many", many},
                  {"sequence", sequence},
                  {"held-flip", held_flip}};
     size_t at;

@@ -6,6 +6,7 @@ docs/LIBDRM.md. The last line is `N passed, M failed`. If there is no C compiler
 if the kernel allows no supervisor, the other half. Standard library only.
 """
 import contextlib
+import errno
 import os
 import shutil
 import subprocess
@@ -37,6 +38,11 @@ REQUESTS = 25000
 # how long something takes at most that isn't delayed by a server that stalls, and that is delayed by it
 AT_ONCE, A_WHILE = 0.8, 2.5
 STALL_SECONDS = 6
+# what a program sees of the CRTC that another one set
+SEEN = """\
+mode 1024x768 at 100,50, format XB24, plane shows it 1 on CRTC 1 from 100, blob 1024x768, connector on CRTC 1
+"""
+NOBODY = ["setpriv", "--reuid=nobody", "--regid=nogroup", "--clear-groups"]
 PIPES = {"stdin": subprocess.PIPE, "stdout": subprocess.PIPE, "text": True}
 
 
@@ -112,8 +118,20 @@ def expect_within(what, seconds, most):
 class LibdrmDisplayTests(FolderCase):
     """Tests of the display of clients/libdrm."""
 
+    def for_nobody(self):
+        """The program of the cases and the library, where another user finds them."""
+        want_program("setpriv")
+        if os.geteuid() != 0:
+            raise Skipped("the tests don't run as root")
+        program = shutil.copy(compiled(CASES), self.folder / "program")
+        loaded = shutil.copy(library(), self.folder / "library.so")
+        for path in (self.folder, program, loaded):
+            os.chmod(path, 0o755)
+        return program, loaded
+
     def test_another_program_sees_mode_position_and_format(self):
-        finds("view", "mode 1024x768 at 100,50, format XB24\n")
+        """And formats, planes and properties; and so does a lessee."""
+        finds("view", 2 * SEEN)
 
     def test_events_are_read_after_fork(self):
         event = "ready 1, length 32, type 2, data"
@@ -136,13 +154,7 @@ class LibdrmDisplayTests(FolderCase):
 
     def test_master_is_the_openers(self):
         """A child that isn't root may neither set nor drop it: drm_master_check_perm. The program has dropped root."""
-        want_program("setpriv")
-        if os.geteuid() != 0:
-            raise Skipped("the tests don't run as root")
-        program = shutil.copy(compiled(CASES), self.folder / "program")
-        loaded = shutil.copy(library(), self.folder / "library.so")
-        for path in (self.folder, program, loaded):
-            os.chmod(path, 0o755)
+        program, loaded = self.for_nobody()
         text = """\
 drop by the opener: done
 set by a child: EACCES
@@ -150,12 +162,22 @@ set by the opener: done
 drop by a child: EACCES
 drop by the opener: done
 """
-        nobody = ["setpriv", "--reuid=nobody", "--regid=nogroup", "--clear-groups"]
         for option, before in (("--libdrm", ["env", f"LD_PRELOAD={loaded}"]), ("--seccomp", [])):
             if option == "--seccomp":
                 supervisor()
-            ran = run(WITH_SERVER, option, *before, *nobody, program, "master", cwd=self.folder)
+            ran = run(WITH_SERVER, option, *before, *NOBODY, program, "master", cwd=self.folder)
             expect_end(ran, 0, "", text)
+
+    def test_user_leaves_files_for_others(self):
+        """The card of this server accepts 64 connections in total."""
+        program, loaded = self.for_nobody()
+        with served(self.folder):
+            given = environment(self.folder)
+            words = [*NOBODY, program, "many"]
+            with subprocess.Popen(words, **PIPES, env={**given, "LD_PRELOAD": loaded}) as opens, ended_in_time(opens):
+                expect("what a user may open", opens.stdout.readline(), "opened 56, then EMFILE\n")
+                expect_end(run(program, "many", env=given, input="\n", stdin=None), 0, "", f"opened 8, then {errno.ENODEV}\n")
+                opens.communicate("\n", timeout=SECONDS)
 
     def test_blanking_is_one_clock(self):
         finds("sequences", "sequence above 20 1\n")
@@ -227,7 +249,7 @@ opens a link to a folder done, its file done, changes the mode done, owner done,
             for (words, one), (others, other) in ((loaded, supervised), (supervised, loaded)):
                 with subprocess.Popen([*words, "shows"], **PIPES, **one) as shows, ended_in_time(shows):
                     expect("what one does", shows.stdout.readline(), "shown\n")
-                    expect_end(run(*others, "look", **other), 0, "", "mode 1024x768 at 100,50, format XB24\n")
+                    expect_end(run(*others, "look", **other), 0, "", SEEN)
                     shows.communicate("\n", timeout=SECONDS)
 
     def test_server_that_stalls_delays_others_a_second_at_most(self):

@@ -18,9 +18,15 @@
 /* Numbers of descriptors that are this library's own begin here, out of the program's way. */
 #define LEAST_HIDDEN 512
 
-/* What the program sees of this library, and a function that is another name of one. */
+/* What the program sees of this library, and another name by which it sees a function. (Headers
+ * declare some of these names with other types of the same form.) */
 #define SHOWN __attribute__((visibility("default")))
-#define ALSO(other, name) __typeof__(name) other __attribute__((alias(#name)))
+#if __has_attribute(copy)
+#define AS(name) __attribute__((alias(#name), copy(name)))
+#else
+#define AS(name) __attribute__((alias(#name)))
+#endif
+#define ALSO(other, name) extern __typeof__(name) also_##other __asm__(#other) SHOWN AS(name)
 
 /* The next function of this name after this library, looked up once at each place. */
 #define REAL(name)                                                                                 \

@@ -53,8 +53,9 @@ struct peer {
 struct peer *peer_add(int fd);
 void opener_add(int fd);
 
-/* Makes the file of a connection for a user, with flags of open. The file owns the connection.
- * Returns the program's end, or a negative errno. */
+/* Returns whether a user may have another file. Makes that of a connection, with flags of open,
+ * which owns the connection. Returns the program's end, or a negative errno. */
+bool file_has_room(uid_t user);
 int file_make(struct connection *connection, uint64_t flags, uid_t user);
 
 /* Begins to answer the next packet of a peer; begins those of peers that were busy; and begins to

@@ -205,6 +205,8 @@ static int open_node(const struct task *task)
         return -ENODEV;
     if (ask->request == NODE_ROOT && task->caller.uid != 0)
         return -EACCES;
+    if (!file_has_room(task->caller.uid))
+        return -EMFILE;
     failed = connection_open((enum node)ask->request, false, 0, task->caller.pid, &opened);
     return failed ? failed : file_make(opened, ask->open_flags, task->caller.uid);
 }

@@ -114,12 +114,17 @@ static int make_pair(struct connection *connection, uint64_t flags, struct peer 
     return -ENOMEM;
 }
 
+bool file_has_room(uid_t user)
+{
+    const unsigned *count = count_of(user);
+
+    return count != NULL && (user == 0 || *count < MOST_FILES_OF_USER);
+}
+
 int file_make(struct connection *connection, uint64_t flags, uid_t user)
 {
-    unsigned *count = count_of(user);
-    bool is_too_many = count == NULL || (user != 0 && *count >= MOST_FILES_OF_USER);
     struct peer *made;
-    int fd = is_too_many ? -EMFILE : make_pair(connection, flags, &made);
+    int fd = file_has_room(user) ? make_pair(connection, flags, &made) : -EMFILE;
 
     if (fd < 0) {
         connection_close(connection);
@@ -128,7 +133,7 @@ int file_make(struct connection *connection, uint64_t flags, uid_t user)
     made->connection = connection;
     made->user = user;
     connection->events.file = made->source.fd;
-    ++*count;
+    ++*count_of(user);
     return fd;
 }
 

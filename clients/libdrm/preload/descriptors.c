@@ -56,7 +56,7 @@ SHOWN ssize_t pwrite(int fd, const void *bytes, size_t size, off_t offset)
     return is_not_written(fd) ? -1 : REAL(pwrite)(fd, bytes, size, offset);
 }
 
-SHOWN ALSO(pwrite64, pwrite);
+ALSO(pwrite64, pwrite);
 
 SHOWN void *mmap(void *address, size_t length, int protection, int flags, int fd, off_t offset)
 {
@@ -79,7 +79,7 @@ SHOWN void *mmap(void *address, size_t length, int protection, int flags, int fd
 
 _Static_assert(sizeof(off_t) == sizeof(off64_t), "this is for systems of 64 bits");
 
-SHOWN ALSO(mmap64, mmap);
+ALSO(mmap64, mmap);
 
 /* The system call itself. */
 static long call_system(long number, const long *word)

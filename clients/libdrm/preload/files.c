@@ -107,9 +107,8 @@ SHOWN int openat(int folder, const char *path, int flags, ...)
     return opens(folder, path, flags, &fd) ? fd : REAL(openat)(folder, path, flags, mode);
 }
 
-/* Sizes have 64 bits in any case. */
-SHOWN ALSO(open64, open);
-SHOWN ALSO(openat64, openat);
+ALSO(open64, open);
+ALSO(openat64, openat);
 
 /* Programs that were compiled with checks call these instead. */
 SHOWN int __open_2(const char *path, int flags)
@@ -122,8 +121,8 @@ SHOWN int __openat_2(int folder, const char *path, int flags)
     return openat(folder, path, flags);
 }
 
-SHOWN ALSO(__open64_2, __open_2);
-SHOWN ALSO(__openat64_2, __openat_2);
+ALSO(__open64_2, __open_2);
+ALSO(__openat64_2, __openat_2);
 
 static bool opens_stream(const char *path, const char *mode, FILE **stream)
 {
@@ -148,7 +147,7 @@ SHOWN FILE *fopen(const char *path, const char *mode)
     return opens_stream(path, mode, &stream) ? stream : REAL(fopen)(path, mode);
 }
 
-SHOWN ALSO(fopen64, fopen);
+ALSO(fopen64, fopen);
 
 /* Returns whether the path is the device's. Then the result of stat is in `result`. */
 static bool tells(int folder, const char *path, bool follows, struct stat *status, int *result)
@@ -184,70 +183,67 @@ __attribute__((noinline)) static bool is_no_path(const char *path)
     return path == NULL || path[0] == '\0';
 }
 
-/* Each function of stat, of either width. They are the same if the size of a file has 64 bits. */
-#define STAT_FUNCTIONS(suffix)                                                                     \
-    SHOWN int stat##suffix(const char *path, struct stat##suffix *status)                          \
-    {                                                                                              \
-        int result;                                                                                \
-                                                                                                   \
-        return tells(AT_FDCWD, path, true, (struct stat *)status, &result)                         \
-                   ? result                                                                        \
-                   : REAL(stat##suffix)(path, status);                                             \
-    }                                                                                              \
-    SHOWN int lstat##suffix(const char *path, struct stat##suffix *status)                         \
-    {                                                                                              \
-        int result;                                                                                \
-                                                                                                   \
-        return tells(AT_FDCWD, path, false, (struct stat *)status, &result)                        \
-                   ? result                                                                        \
-                   : REAL(lstat##suffix)(path, status);                                            \
-    }                                                                                              \
-    SHOWN int fstatat##suffix(int folder, const char *path, struct stat##suffix *status,           \
-                              int flags)                                                           \
-    {                                                                                              \
-        bool follows = !(flags & AT_SYMLINK_NOFOLLOW);                                             \
-        int result;                                                                                \
-                                                                                                   \
-        if (tells(folder, path, follows, (struct stat *)status, &result))                          \
-            return result;                                                                         \
-        result = REAL(fstatat##suffix)(folder, path, status, flags);                               \
-        return is_no_path(path) ? told_of_descriptor(folder, (struct stat *)status, result)        \
-                                : result;                                                          \
-    }                                                                                              \
-    SHOWN int fstat##suffix(int fd, struct stat##suffix *status)                                   \
-    {                                                                                              \
-        return told_of_descriptor(fd, (struct stat *)status, REAL(fstat##suffix)(fd, status));     \
-    }
+SHOWN int stat(const char *path, struct stat *status)
+{
+    int result;
 
-STAT_FUNCTIONS()
-STAT_FUNCTIONS(64)
+    return tells(AT_FDCWD, path, true, status, &result) ? result : REAL(stat)(path, status);
+}
+
+SHOWN int lstat(const char *path, struct stat *status)
+{
+    int result;
+
+    return tells(AT_FDCWD, path, false, status, &result) ? result : REAL(lstat)(path, status);
+}
+
+SHOWN int fstatat(int folder, const char *path, struct stat *status, int flags)
+{
+    int result;
+
+    if (tells(folder, path, !(flags & AT_SYMLINK_NOFOLLOW), status, &result))
+        return result;
+    result = REAL(fstatat)(folder, path, status, flags);
+    return is_no_path(path) ? told_of_descriptor(folder, status, result) : result;
+}
+
+SHOWN int fstat(int fd, struct stat *status)
+{
+    return told_of_descriptor(fd, status, REAL(fstat)(fd, status));
+}
+
+/* Sizes have 64 bits in any case. */
+ALSO(stat64, stat);
+ALSO(lstat64, lstat);
+ALSO(fstatat64, fstatat);
+ALSO(fstat64, fstat);
 
 /* What calls of stat were before glibc 2.33. */
-#define OLD_STAT_FUNCTIONS(suffix)                                                                 \
-    SHOWN int __xstat##suffix(int version, const char *path, struct stat##suffix *status)          \
-    {                                                                                              \
-        (void)version;                                                                             \
-        return stat##suffix(path, status);                                                         \
-    }                                                                                              \
-    SHOWN int __lxstat##suffix(int version, const char *path, struct stat##suffix *status)         \
-    {                                                                                              \
-        (void)version;                                                                             \
-        return lstat##suffix(path, status);                                                        \
-    }                                                                                              \
-    SHOWN int __fxstat##suffix(int version, int fd, struct stat##suffix *status)                   \
-    {                                                                                              \
-        (void)version;                                                                             \
-        return fstat##suffix(fd, status);                                                          \
-    }
-
 int __xstat(int, const char *, struct stat *);
 int __lxstat(int, const char *, struct stat *);
 int __fxstat(int, int, struct stat *);
-int __xstat64(int, const char *, struct stat64 *);
-int __lxstat64(int, const char *, struct stat64 *);
-int __fxstat64(int, int, struct stat64 *);
-OLD_STAT_FUNCTIONS()
-OLD_STAT_FUNCTIONS(64)
+
+SHOWN int __xstat(int version, const char *path, struct stat *status)
+{
+    (void)version;
+    return stat(path, status);
+}
+
+SHOWN int __lxstat(int version, const char *path, struct stat *status)
+{
+    (void)version;
+    return lstat(path, status);
+}
+
+SHOWN int __fxstat(int version, int fd, struct stat *status)
+{
+    (void)version;
+    return fstat(fd, status);
+}
+
+ALSO(__xstat64, __xstat);
+ALSO(__lxstat64, __lxstat);
+ALSO(__fxstat64, __fxstat);
 
 SHOWN int statx(int folder, const char *path, int flags, unsigned mask, struct statx *wide)
 {

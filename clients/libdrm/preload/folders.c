@@ -122,14 +122,11 @@ SHOWN struct dirent *readdir(DIR *stream)
     return listing != NULL ? next_given(listing) : REAL(readdir)(stream);
 }
 
-_Static_assert(sizeof(struct dirent) == sizeof(struct dirent64), "this is for systems of 64 bits");
+_Static_assert(sizeof(struct dirent) == sizeof(struct dirent64)
+                   && sizeof(glob_t) == sizeof(glob64_t),
+               "this is for systems of 64 bits");
 
-SHOWN struct dirent64 *readdir64(DIR *stream)
-{
-    struct listing *listing = listing_of(stream);
-
-    return listing != NULL ? (struct dirent64 *)next_given(listing) : REAL(readdir64)(stream);
-}
+ALSO(readdir64, readdir);
 
 /* glibc's header says that no program is to use it; some do. */
 #pragma GCC diagnostic ignored "-Wdeprecated-declarations"
@@ -147,10 +144,7 @@ SHOWN int readdir_r(DIR *stream, struct dirent *room, struct dirent **found)
     return 0;
 }
 
-SHOWN int readdir64_r(DIR *stream, struct dirent64 *room, struct dirent64 **found)
-{
-    return readdir_r(stream, (struct dirent *)room, (struct dirent **)found);
-}
+ALSO(readdir64_r, readdir_r);
 
 SHOWN long telldir(DIR *stream)
 {
@@ -211,27 +205,25 @@ static void close_for_glob(void *stream)
     closedir(stream);
 }
 
-#define GLOB_FUNCTION(suffix)                                                                      \
-    static struct dirent##suffix *read_for_glob##suffix(void *stream)                              \
-    {                                                                                              \
-        return readdir##suffix(stream);                                                            \
-    }                                                                                              \
-    SHOWN int glob##suffix(const char *pattern, int flags, int (*report)(const char *, int),       \
-                           glob##suffix##_t *found)                                                \
-    {                                                                                              \
-        if (is_served() && !(flags & GLOB_ALTDIRFUNC)) {                                           \
-            flags |= GLOB_ALTDIRFUNC;                                                              \
-            found->gl_opendir = open_for_glob;                                                     \
-            found->gl_readdir = read_for_glob##suffix;                                             \
-            found->gl_closedir = close_for_glob;                                                   \
-            found->gl_stat = stat##suffix;                                                         \
-            found->gl_lstat = lstat##suffix;                                                       \
-        }                                                                                          \
-        return REAL(glob##suffix)(pattern, flags, report, found);                                  \
-    }
+static struct dirent *read_for_glob(void *stream)
+{
+    return readdir(stream);
+}
 
-GLOB_FUNCTION()
-GLOB_FUNCTION(64)
+SHOWN int glob(const char *pattern, int flags, int (*report)(const char *, int), glob_t *found)
+{
+    if (is_served() && !(flags & GLOB_ALTDIRFUNC)) {
+        flags |= GLOB_ALTDIRFUNC;
+        found->gl_opendir = open_for_glob;
+        found->gl_readdir = read_for_glob;
+        found->gl_closedir = close_for_glob;
+        found->gl_stat = stat;
+        found->gl_lstat = lstat;
+    }
+    return REAL(glob)(pattern, flags, report, found);
+}
+
+ALSO(glob64, glob);
 
 /* A thread that the child does not have may have held the list. */
 static void begin_anew(void)

@@ -39,46 +39,21 @@ static void say(const char *what, int error)
     fprintf(stderr, PROGRAM ": %s: %s\n", what, strerror(error));
 }
 
-/* Sends the descriptor of the notifications, and waits until the supervisor has received it. */
+/* Says which descriptor has the notifications, and waits until the supervisor has it. */
 static bool hand_in(int channel, int listener)
 {
-    union {
-        struct cmsghdr head;
-        char room[CMSG_SPACE(sizeof listener)];
-    } control;
-    char byte = 0;
-    struct iovec part = {&byte, 1};
-    struct msghdr message = {.msg_iov = &part, .msg_iovlen = 1};
-
-    memset(&control, 0, sizeof control);
-    message.msg_control = &control;
-    message.msg_controllen = sizeof control;
-    control.head.cmsg_level = SOL_SOCKET;
-    control.head.cmsg_type = SCM_RIGHTS;
-    control.head.cmsg_len = CMSG_LEN(sizeof listener);
-    memcpy(CMSG_DATA(&control.head), &listener, sizeof listener);
-    return sendmsg(channel, &message, 0) == 1 && read(channel, &byte, 1) == 1;
+    return write(channel, &listener, sizeof listener) == sizeof listener
+           && read(channel, &(char){0}, 1) == 1;
 }
 
-/* Receives a descriptor. Returns -1 on failure. */
-static int take_in(int channel)
+/* Returns that descriptor of a process, or -1. */
+static int take_in(int channel, int process)
 {
-    union {
-        struct cmsghdr head;
-        char room[CMSG_SPACE(sizeof(int))];
-    } control;
-    char byte;
-    struct iovec part = {&byte, 1};
-    struct msghdr message = {.msg_iov = &part, .msg_iovlen = 1};
-    int listener = -1;
+    int listener;
 
-    memset(&control, 0, sizeof control);
-    message.msg_control = &control;
-    message.msg_controllen = sizeof control;
-    if (recvmsg(channel, &message, MSG_CMSG_CLOEXEC) == 1
-        && message.msg_controllen >= CMSG_LEN(sizeof listener))
-        memcpy(&listener, CMSG_DATA(&control.head), sizeof listener);
-    return listener;
+    if (read(channel, &listener, sizeof listener) != sizeof listener)
+        return -1;
+    return (int)syscall(SYS_pidfd_getfd, process, listener, 0);
 }
 
 /* Becomes the command. The kernel kills it if the supervisor ends. */
@@ -146,9 +121,9 @@ static struct command start(char **words, const sigset_t *heeded, const sigset_t
         run(words, channel[1], before);
     }
     close(channel[1]);
-    command.listener = command.process < 0 ? -1 : take_in(channel[0]);
-    command.signals = signalfd(-1, heeded, SFD_CLOEXEC);
     command.end = (int)syscall(SYS_pidfd_open, command.process, 0);
+    command.listener = command.end < 0 ? -1 : take_in(channel[0], command.end);
+    command.signals = signalfd(-1, heeded, SFD_CLOEXEC);
     if (command.listener < 0 || command.signals < 0 || command.end < 0
         || !is_allowed(command.process) || write(channel[0], "", 1) != 1) {
         close(channel[0]);
