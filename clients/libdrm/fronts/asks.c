@@ -74,20 +74,14 @@ bool channel_make(struct channel *channel, int *other)
     return true;
 }
 
-/* What a request sends: the struct and the lists, and descriptors, each of which may be -1. */
+/* What is sent: bytes, and descriptors, each of which may be -1. */
 struct sent {
+    struct channel *channel; /* whose bytes begin with the packet, but for `ask` */
     struct ask ask;
-    struct iovec parts[2 + MOST_LISTS];
-    size_t count_parts;
+    size_t length;
     int other;  /* the display's end of a socket for answers */
     int memory; /* the caller's number of a PRIME descriptor */
     int aside;  /* the file with the lists */
-    union {
-        uint64_t aligned;
-        uint8_t bytes[sizeof(struct drm_mode_crtc)];
-    } argument;                   /* the struct of a request with lists */
-    void *copies[1 + MOST_LISTS]; /* of another process's memory */
-    size_t count_copies;
 };
 
 /* What is answered. `bytes` has what follows the reply. */
@@ -112,8 +106,8 @@ static int send_packet(int fd, const struct sent *sent, int memory)
         struct cmsghdr head;
         char room[CMSG_SPACE(MOST_SENT * sizeof(int))];
     } control;
-    struct msghdr message = {.msg_iov = (struct iovec *)(uintptr_t)sent->parts,
-                             .msg_iovlen = sent->count_parts};
+    struct iovec part = {sent->channel->bytes, sent->length};
+    struct msghdr message = {.msg_iov = &part, .msg_iovlen = 1};
 
     for (at = 0; at < MOST_SENT; at++) {
         if (all[at] >= 0) {
@@ -208,100 +202,99 @@ static int send_at_last(struct sent *sent, int fd, bool is_callers)
 
 /* Sends a packet on a descriptor of the caller's, or on a socket of the front end, and takes the
  * answer. Returns 0, or a negative errno if there is none. */
-static int exchange(struct channel *channel, struct sent *sent, int fd, bool is_callers,
-                    struct answer *answer)
+static int exchange(struct sent *sent, int fd, bool is_callers, struct answer *answer)
 {
+    struct channel *channel = sent->channel;
     int failed;
 
     sent->ask.form = PACKET_FORM;
     sent->ask.channel = channel->number;
     sent->ask.tag = ++channel->tag;
     sent->ask.flags |= sent->other >= 0 ? HAS_CHANNEL : 0;
-    sent->parts[0] = (struct iovec){&sent->ask, sizeof sent->ask};
     if (caller_now() != NULL) {
         sent->ask.process = caller_now()->process;
         sent->ask.user = caller_now()->user;
     }
+    memcpy(channel->bytes, &sent->ask, sizeof sent->ask);
     failed = send_at_last(sent, fd, is_callers);
-    if (sent->other >= 0)
-        close(sent->other);
-    if (failed) {
-        /* a socket that the display doesn't have is of no use, and neither is its end */
-        if (sent->other >= 0)
-            channel_end(channel);
+    if (failed)
         return failed;
-    }
     failed = take_answer(channel, answer);
     channel->number = answer->reply.channel;
-    if (channel->number == 0)
-        channel_end(channel);
     return failed;
 }
 
-/* The same for a thread, whose socket for answers is taken until channel_let. */
-static int exchange_on(struct sent *sent, int fd, bool is_callers, struct channel **channel,
-                       struct answer *answer)
+/* A socket that the display doesn't have is of no use. */
+static void end_sent(const struct sent *sent)
 {
-    *channel = channel_take(&sent->other);
-    return *channel == NULL ? -errno : exchange(*channel, sent, fd, is_callers, answer);
+    if (sent->other >= 0)
+        close(sent->other);
+    if (sent->aside >= 0)
+        close(sent->aside);
+    if (sent->channel->number == 0)
+        channel_end(sent->channel);
+}
+
+/* Begins a packet on a thread's socket for answers, which is taken until end_packet. */
+static int begin_packet(struct sent *sent, const struct ask *ask)
+{
+    *sent =
+        (struct sent){.ask = *ask, .length = sizeof *ask, .other = -1, .memory = -1, .aside = -1};
+    sent->channel = channel_take(&sent->other);
+    return sent->channel == NULL ? -errno : 0;
+}
+
+static void end_packet(const struct sent *sent)
+{
+    end_sent(sent);
+    channel_let(sent->channel);
 }
 
 int channel_note(struct channel *channel, int other, int way)
 {
-    struct sent sent = {
-        .ask = {.kind = ASK_NOTHING}, .count_parts = 1, .other = other, .memory = -1, .aside = -1};
+    struct sent sent = {channel, {.kind = ASK_NOTHING}, sizeof sent.ask, other, -1, -1};
     struct answer answer;
+    int failed = exchange(&sent, way, false, &answer);
 
-    return exchange(channel, &sent, way, false, &answer);
+    end_sent(&sent);
+    return failed;
 }
 
 /* Asks for a descriptor. */
-static int ask_for_descriptor(struct sent *sent, int fd, bool is_callers, struct reply *reply)
+static int ask_for_descriptor(const struct ask *ask, int fd, bool is_callers, uint64_t *place)
 {
-    struct channel *channel;
     struct answer answer;
-    int failed = exchange_on(sent, fd, is_callers, &channel, &answer);
+    struct sent sent;
+    int failed = begin_packet(&sent, ask);
 
-    if (channel != NULL)
-        channel_let(channel);
     if (failed)
         return failed;
-    *reply = answer.reply;
-    return reply->result != 0 ? reply->result : answer.descriptor;
-}
-
-/* A program whose card is the root socket opens that. */
-static enum node asked_node(enum node node)
-{
-    const char *path = node_path(node), *root = node_path(NODE_ROOT);
-
-    return path != NULL && root != NULL && strcmp(path, root) == 0 ? NODE_ROOT : node;
+    failed = exchange(&sent, fd, is_callers, &answer);
+    end_packet(&sent);
+    if (failed)
+        return failed;
+    *place = answer.reply.place;
+    return answer.reply.result != 0 ? answer.reply.result : answer.descriptor;
 }
 
 int ask_to_open(int way, enum node node, int flags)
 {
-    struct sent sent = {.ask = {.kind = ASK_OPEN,
-                                .request = asked_node(node),
-                                .open_flags = (uint64_t)(unsigned)flags},
-                        .count_parts = 1,
-                        .memory = -1,
-                        .aside = -1};
-    struct reply reply;
+    const char *path = node_path(node), *root = node_path(NODE_ROOT);
+    /* a program whose card is the root socket opens that */
+    bool is_root = path != NULL && root != NULL && strcmp(path, root) == 0;
+    const struct ask ask = {.kind = ASK_OPEN,
+                            .request = is_root ? NODE_ROOT : node,
+                            .open_flags = (uint64_t)(unsigned)flags};
+    uint64_t place;
 
-    return ask_for_descriptor(&sent, way, false, &reply);
+    return ask_for_descriptor(&ask, way, false, &place);
 }
 
 int ask_for_memory(int fd, uint64_t offset, uint64_t length, uint64_t *place)
 {
-    struct sent sent = {.ask = {.kind = ASK_MAP, .offset = offset, .length = length},
-                        .count_parts = 1,
-                        .memory = -1,
-                        .aside = -1};
-    struct reply reply = {0};
-    int memory = ask_for_descriptor(&sent, fd, true, &reply);
+    const struct ask ask = {.kind = ASK_MAP, .offset = offset, .length = length};
 
-    *place = reply.place;
-    return memory;
+    return ask_for_descriptor(&ask, fd, true, place);
 }
 
 /* Copies between this process and the caller. If that is this process, a wrong address is found out
@@ -320,12 +313,9 @@ static int copy(const struct iovec *here, const struct iovec *there, size_t coun
         return 0;
     if (copied >= 0 || caller != NULL || (errno != EPERM && errno != ENOSYS))
         return -EFAULT;
-    for (at = 0; at < count; at++) {
-        if (is_to_there)
-            memcpy(there[at].iov_base, here[at].iov_base, here[at].iov_len);
-        else
-            memcpy(here[at].iov_base, there[at].iov_base, here[at].iov_len);
-    }
+    for (at = 0; at < count; at++)
+        memcpy(is_to_there ? there[at].iov_base : here[at].iov_base,
+               is_to_there ? here[at].iov_base : there[at].iov_base, here[at].iov_len);
     return 0;
 }
 
@@ -341,85 +331,63 @@ int caller_takes(const struct iovec *here, const struct iovec *there, size_t cou
     return count == 0 ? 0 : copy(here, there, count, true);
 }
 
-/* Adds bytes of the caller, whose own are sent from where they are. */
-static int add_part(struct sent *sent, uint64_t address, size_t size)
-{
-    void *bytes = (void *)(uintptr_t)address;
-
-    if (caller_now() != NULL && size > 0) {
-        bytes = malloc(size);
-        if (bytes == NULL)
-            return -ENOMEM;
-        sent->copies[sent->count_copies++] = bytes;
-        if (caller_reads(bytes, address, size) != 0)
-            return -EFAULT;
-    }
-    sent->parts[sent->count_parts++] = (struct iovec){bytes, size};
-    return 0;
-}
-
-static int add_list(struct sent *sent, uint64_t address, uint64_t count, size_t size)
-{
-    if (address == 0 || count == 0)
-        return 0;
-    if (count > MOST_LONG / size)
-        return -ENOMEM;
-    sent->ask.lists[sent->count_parts - 2] = (struct list){address, count * size};
-    return add_part(sent, address, count * size);
-}
-
 static uint32_t least(uint32_t one, uint32_t other)
 {
     return one < other ? one : other;
 }
 
+static struct list list_of(uint64_t address, uint64_t count, size_t size)
+{
+    return (struct list){address, address == 0 ? 0 : count * size};
+}
+
 /* A commit has as many properties as its objects together. An object more than a device has is
  * unknown, and what follows it is not looked at. */
-static int add_commit(struct sent *sent, const struct drm_mode_atomic *commit)
+static int find_lists_of_commit(struct ask *ask, const struct drm_mode_atomic *commit)
 {
-    uint32_t at, read = least(commit->count_objs, MOST_COMMITTED);
-    int failed = add_list(sent, commit->objs_ptr, read, sizeof(uint32_t));
-    uint32_t counts[MOST_COMMITTED] = {0};
+    uint32_t counts[MOST_COMMITTED], at, objects = least(commit->count_objs, MOST_COMMITTED);
     uint64_t count = 0;
 
-    if (!failed && read > 0)
-        failed = caller_reads(counts, commit->count_props_ptr, read * sizeof *counts);
-    for (at = 0; at < read; at++)
+    if (caller_reads(counts, commit->count_props_ptr, objects * sizeof *counts) != 0)
+        return -EFAULT;
+    for (at = 0; at < objects; at++)
         count += counts[at];
-    if (!failed)
-        failed = add_list(sent, commit->count_props_ptr, read, sizeof(uint32_t));
-    if (!failed)
-        failed = add_list(sent, commit->props_ptr, count, sizeof(uint32_t));
-    return failed ? failed : add_list(sent, commit->prop_values_ptr, count, sizeof(uint64_t));
+    ask->lists[0] = list_of(commit->objs_ptr, objects, sizeof(uint32_t));
+    ask->lists[1] = list_of(commit->count_props_ptr, objects, sizeof(uint32_t));
+    ask->lists[2] = list_of(commit->props_ptr, count, sizeof(uint32_t));
+    ask->lists[3] = list_of(commit->prop_values_ptr, count, sizeof(uint64_t));
+    return 0;
 }
 
 /* The lists that a request reads, and the descriptor that it imports. What it writes is in the
  * answer. */
-static int add_lists(struct sent *sent, uint32_t request, const void *argument)
+static int find_lists(struct sent *sent, const void *argument)
 {
     const struct drm_mode_crtc *crtc = argument;
     const struct drm_mode_create_blob *blob = argument;
     const struct drm_mode_create_lease *lease = argument;
     const struct drm_mode_fb_dirty_cmd *dirty = argument;
     const struct drm_prime_handle *prime = argument;
+    struct list *list = &sent->ask.lists[0];
 
-    switch (request) {
+    switch (sent->ask.request) {
     case DRM_IOCTL_MODE_ATOMIC:
-        return add_commit(sent, argument);
+        return find_lists_of_commit(&sent->ask, argument);
     case DRM_IOCTL_MODE_SETCRTC:
         /* more than one connector is refused */
-        return add_list(sent, crtc->set_connectors_ptr, crtc->count_connectors == 1,
-                        sizeof(uint32_t));
+        *list = list_of(crtc->set_connectors_ptr, crtc->count_connectors == 1, sizeof(uint32_t));
+        return 0;
     case DRM_IOCTL_MODE_CREATEPROPBLOB:
-        return add_list(sent, blob->data, blob->length, 1);
+        *list = list_of(blob->data, blob->length, 1);
+        return 0;
     case DRM_IOCTL_MODE_CREATE_LEASE:
-        return add_list(sent, lease->object_ids, least(lease->object_count, MOST_COMMITTED),
+        *list = list_of(lease->object_ids, least(lease->object_count, MOST_COMMITTED),
                         sizeof(uint32_t));
+        return 0;
     case DRM_IOCTL_MODE_DIRTYFB:
-        return dirty->num_clips > DRM_MODE_FB_DIRTY_MAX_CLIPS
-                   ? 0
-                   : add_list(sent, dirty->clips_ptr, dirty->num_clips,
-                              sizeof(struct drm_clip_rect));
+        if (dirty->num_clips <= DRM_MODE_FB_DIRTY_MAX_CLIPS)
+            *list = list_of(dirty->clips_ptr, dirty->num_clips, sizeof(struct drm_clip_rect));
+        return 0;
     case DRM_IOCTL_PRIME_FD_TO_HANDLE:
         sent->ask.flags |= HAS_MEMORY;
         sent->memory = prime->fd;
@@ -429,79 +397,52 @@ static int add_lists(struct sent *sent, uint32_t request, const void *argument)
     }
 }
 
-/* Writes a part into a file. */
-static int write_part(int file, const struct iovec *part)
+/* Maps a new file for long lists. Returns NULL if there is no memory. */
+static uint8_t *map_aside(struct sent *sent, size_t length)
 {
-    size_t written = 0;
+    void *mapped = MAP_FAILED;
 
-    while (written < part->iov_len) {
-        ssize_t more =
-            REAL(write)(file, (const uint8_t *)part->iov_base + written, part->iov_len - written);
-
-        if (more <= 0)
-            return more < 0 && errno == EFAULT ? -EFAULT : -ENOMEM;
-        written += (size_t)more;
-    }
-    return 0;
+    sent->aside = length > MOST_LONG ? -1 : memfd_create("zirkoshe-lists", MFD_CLOEXEC);
+    if (sent->aside >= 0 && ftruncate(sent->aside, (off_t)length) == 0)
+        mapped = REAL(mmap)(NULL, length, PROT_WRITE, MAP_SHARED, sent->aside, 0);
+    sent->ask.flags |= HAS_LISTS;
+    return mapped == MAP_FAILED ? NULL : mapped;
 }
 
-/* Puts long lists into a file. Returns 0 or a negative errno. */
-static int put_aside(struct sent *sent)
+/* Adds the lists to the packet, or puts long ones into a file. */
+static int add_lists(struct sent *sent)
 {
+    const struct list *lists = sent->ask.lists;
+    uint8_t *place = sent->channel->bytes + sent->length, *next;
     size_t length = 0, at;
     int failed = 0;
 
-    for (at = 2; at < sent->count_parts; at++)
-        length += sent->parts[at].iov_len;
-    if (length <= MOST_INLINE)
-        return 0;
-    sent->aside = length > MOST_LONG ? -1 : memfd_create("zirkoshe-lists", MFD_CLOEXEC);
-    if (sent->aside < 0)
+    for (at = 0; at < MOST_LISTS; at++)
+        length += lists[at].size;
+    if (length > MOST_INLINE)
+        place = map_aside(sent, length);
+    else
+        sent->length += length;
+    if (place == NULL)
         return -ENOMEM;
-    for (at = 2; !failed && at < sent->count_parts; at++)
-        failed = write_part(sent->aside, &sent->parts[at]);
-    sent->count_parts = 2;
-    sent->ask.flags |= HAS_LISTS;
+    for (at = 0, next = place; !failed && at < MOST_LISTS; next += lists[at++].size)
+        failed = caller_reads(next, lists[at].address, lists[at].size);
+    if (length > MOST_INLINE)
+        munmap(place, length);
     return failed;
 }
 
-static bool has_lists(uint32_t request)
-{
-    static const uint32_t requests[] = {
-        DRM_IOCTL_MODE_ATOMIC,       DRM_IOCTL_MODE_SETCRTC, DRM_IOCTL_MODE_CREATEPROPBLOB,
-        DRM_IOCTL_MODE_CREATE_LEASE, DRM_IOCTL_MODE_DIRTYFB, DRM_IOCTL_PRIME_FD_TO_HANDLE};
-    size_t at = 0;
-
-    while (at < sizeof requests / sizeof requests[0] && requests[at] != request)
-        at++;
-    return at < sizeof requests / sizeof requests[0];
-}
-
-/* Gathers what a request sends. */
+/* Gathers what a request sends: its struct and its lists. */
 static int gather(struct sent *sent, uint64_t address)
 {
-    uint32_t request = sent->ask.request, size = _IOC_SIZE(request);
-    int failed;
+    uint8_t *argument = sent->channel->bytes + sent->length;
+    uint32_t size = _IOC_SIZE(sent->ask.request);
+    int failed = caller_reads(argument, address, size);
 
-    if (size > 0 && address == 0)
-        return -EFAULT;
-    if (!has_lists(request))
-        return add_part(sent, address, size);
-    failed = caller_reads(&sent->argument, address, size);
-    sent->parts[sent->count_parts++] = (struct iovec){&sent->argument, size};
+    sent->length += size;
     if (!failed)
-        failed = add_lists(sent, request, &sent->argument);
-    return failed ? failed : put_aside(sent);
-}
-
-static void end_sent(const struct sent *sent)
-{
-    size_t at;
-
-    for (at = 0; at < sent->count_copies; at++)
-        free(sent->copies[at]);
-    if (sent->aside >= 0)
-        close(sent->aside);
+        failed = find_lists(sent, argument);
+    return failed ? failed : add_lists(sent);
 }
 
 /* Writes a line of the trace, unless nobody reads it. The signal of a broken pipe is taken back. */
@@ -557,13 +498,11 @@ static int put_descriptor(struct answer *answer, const struct sent *sent)
     if (answer->descriptor < 0)
         return 0;
     number = caller_gets(answer->descriptor, (int)(is_lease ? lease->flags : prime->flags));
-    if (number < 0)
-        return number;
     if (is_lease)
         lease->fd = (uint32_t)number;
     else
         prime->fd = number;
-    return 0;
+    return number < 0 ? number : 0;
 }
 
 /* Maps a long answer. */
@@ -610,24 +549,22 @@ static uint32_t tracing(void)
 /* Asks once. `reply` says whether the caller then waits. */
 static int ask_once(int fd, uint32_t request, uint64_t address, struct reply *reply)
 {
-    struct sent sent = {.ask = {.kind = ASK_IOCTL, .request = request, .flags = tracing()},
-                        .count_parts = 1,
-                        .memory = -1,
-                        .aside = -1};
-    struct channel *channel = NULL;
-    struct answer answer;
-    int failed = gather(&sent, address);
+    const struct ask ask = {.kind = ASK_IOCTL, .request = request, .flags = tracing()};
+    struct answer answer = {.descriptor = -1};
+    struct sent sent;
+    int failed = begin_packet(&sent, &ask);
 
     memset(reply, 0, sizeof *reply);
+    if (failed)
+        return failed;
+    failed = gather(&sent, address);
     if (!failed)
-        failed = exchange_on(&sent, fd, true, &channel, &answer);
+        failed = exchange(&sent, fd, true, &answer);
     if (!failed) {
         failed = take(&answer, &sent, address);
         *reply = answer.reply;
     }
-    if (channel != NULL)
-        channel_let(channel);
-    end_sent(&sent);
+    end_packet(&sent);
     return failed;
 }
 
