@@ -6,7 +6,10 @@
 #include <fcntl.h>
 #include <stddef.h>
 #include <sys/ioctl.h>
+#include <sys/wait.h>
 #include <unistd.h>
+
+#define NOBODY 65534
 
 static int unknown_request(struct context *context)
 {
@@ -253,6 +256,33 @@ static int mode_call_of_a_render_client(struct context *context)
     return ioctl(context->render, DRM_IOCTL_MODE_GETPROPBLOB, &blob);
 }
 
+/* By a process that isn't root, and that didn't open the file. */
+static int ask_in_a_child(int fd, unsigned long request)
+{
+    pid_t child = fork();
+    int status;
+
+    if (child == 0) {
+        if (setresuid(NOBODY, NOBODY, NOBODY) != 0)
+            _exit(ENOSYS);
+        _exit(ioctl(fd, request, NULL) == 0 ? 0 : errno);
+    }
+    if (child < 0 || waitpid(child, &status, 0) != child)
+        return -1;
+    errno = WEXITSTATUS(status);
+    return errno == 0 ? 0 : -1;
+}
+
+static int drop_master_in_a_child(struct context *context)
+{
+    return ask_in_a_child(context->card, DRM_IOCTL_DROP_MASTER);
+}
+
+static int set_master_in_a_child(struct context *context)
+{
+    return ask_in_a_child(context->card, DRM_IOCTL_SET_MASTER);
+}
+
 const struct trial core_trials[] = {
     {"unknown request", unknown_request},
     {"NULL in place of a structure", null_structure},
@@ -265,6 +295,8 @@ const struct trial core_trials[] = {
     {"SET_VERSION, 1.5", version_above},
     {"SET_VERSION, not current", version_of_a_guest},
     {"GET_CLIENT, second client", second_client},
+    {"DROP_MASTER, child that is not root", drop_master_in_a_child},
+    {"SET_MASTER, child that is not root", set_master_in_a_child},
     {"PRIME_HANDLE_TO_FD, other flags", export_flags},
     {"PRIME_FD_TO_HANDLE, descriptor not open", import_of_a_closed_descriptor},
     {"PRIME_FD_TO_HANDLE, descriptor of something else", import_of_another_file},

@@ -3,7 +3,6 @@
 
 #include "blobs.h"
 #include "crtcs.h"
-#include "framebuffers.h"
 
 /* A CRTC or a plane that shows another framebuffer afterwards. */
 struct shown {
@@ -93,19 +92,13 @@ static int show_changes(struct zirkoshe_client *client, const struct changes *ch
 /* Notes for the older calls what a CRTC shows. */
 static void note_crtc(struct commit *commit, uint32_t crtc_id)
 {
-    const struct plane_state *plane = state_of_primary(&commit->after, crtc_id);
     const struct crtc_state *crtc = state_of_crtc(&commit->after, crtc_id);
-    struct framebuffer framebuffer = {0, 0, 0};
-    struct view view = {crtc->mode, plane->src_x >> 16, plane->src_y >> 16, 0};
     unsigned count;
 
-    if (!crtc->is_active || plane->fb_id == 0) {
+    if (crtc->is_active && state_of_primary(&commit->after, crtc_id)->fb_id != 0)
+        crtc_is_lit(crtc_id, &crtc->mode, state_connector(&commit->after, crtc_id, &count));
+    else
         crtc_is_seen(crtc_id, false);
-        return;
-    }
-    framebuffer_is_known(plane->fb_id, &framebuffer);
-    view.format = framebuffer.format;
-    crtc_is_lit(crtc_id, &view, state_connector(&commit->after, crtc_id, &count));
 }
 
 /* Modes are used by the state now, and those of before no more. */

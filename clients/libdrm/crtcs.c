@@ -12,11 +12,11 @@ struct crtc {
     uint32_t id; /* 0 if the place is free */
     uint32_t connector_id;
     bool is_lit;
-    bool is_sure;   /* no request since can have darkened it */
-    bool is_viewed; /* the view is what a program set, and not a guess */
+    bool is_sure; /* no request since can have darkened it */
+    bool is_set;  /* the mode is what a program set, and not a guess */
     int64_t flip_due;
     struct blanking blanking;
-    struct view view;
+    struct drm_mode_modeinfo mode;
 };
 
 static struct crtc crtcs[MOST_CRTCS];
@@ -78,7 +78,7 @@ static void begin(struct crtc *crtc, const struct drm_mode_modeinfo *mode)
 
     if (crtc->is_lit)
         crtc->blanking.count = last_vblank(&crtc->blanking, now).sequence;
-    crtc->view.mode = *mode;
+    crtc->mode = *mode;
     crtc->blanking.begin = now;
     crtc->blanking.period = period_of(mode);
     crtc->is_lit = true;
@@ -94,7 +94,7 @@ static void end(struct crtc *crtc)
     last = last_vblank(&crtc->blanking, time_now());
     crtc->blanking.count = last.sequence;
     crtc->is_lit = false;
-    crtc->is_viewed = false;
+    crtc->is_set = false;
     crtc->flip_due = 0;
     events_hasten(crtc->id, last.sequence, last.time);
 }
@@ -107,30 +107,26 @@ void crtc_is_seen(uint32_t crtc_id, bool is_lit)
     if (!is_lit)
         end(crtc);
     else if (!crtc->is_lit)
-        begin(crtc, crtc->view.mode.clock != 0 ? &crtc->view.mode : all_modes(&count));
+        begin(crtc, crtc->mode.clock != 0 ? &crtc->mode : all_modes(&count));
     crtc->is_sure = true;
 }
 
-void crtc_is_lit(uint32_t crtc_id, const struct view *view, uint32_t connector_id)
+void crtc_is_lit(uint32_t crtc_id, const struct drm_mode_modeinfo *mode, uint32_t connector_id)
 {
     struct crtc *crtc = find(crtc_id);
 
     crtc->connector_id = connector_id;
-    if (crtc->is_lit && memcmp(&crtc->view.mode, &view->mode, sizeof view->mode) != 0)
+    if (crtc->is_lit && memcmp(&crtc->mode, mode, sizeof *mode) != 0)
         end(crtc);
     if (!crtc->is_lit)
-        begin(crtc, &view->mode);
-    crtc->view = *view;
-    crtc->is_viewed = true;
+        begin(crtc, mode);
+    crtc->is_set = true;
     crtc->is_sure = true;
 }
 
-bool crtc_is_viewed(uint32_t crtc_id, struct view *view)
+bool crtc_is_set(uint32_t crtc_id)
 {
-    const struct crtc *crtc = find(crtc_id);
-
-    *view = crtc->view;
-    return crtc->is_viewed;
+    return find(crtc_id)->is_set;
 }
 
 bool crtc_is_surely_lit(uint32_t crtc_id)
@@ -155,7 +151,7 @@ void crtcs_are_unsure(void)
 
 struct drm_mode_modeinfo crtc_mode(uint32_t crtc_id)
 {
-    return find(crtc_id)->view.mode;
+    return find(crtc_id)->mode;
 }
 
 struct blanking crtc_blanking(uint32_t crtc_id)

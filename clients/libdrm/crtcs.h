@@ -24,13 +24,6 @@ struct vblank {
     int64_t time;
 };
 
-/* What a CRTC is set to: a mode, the corner of the framebuffer that it shows, and that
- * framebuffer's format, or 0 */
-struct view {
-    struct drm_mode_modeinfo mode;
-    uint32_t x, y, format;
-};
-
 /* The last vertical blanking at a time, and the one of a number; times that no clock reaches are
  * the last one that it has. */
 struct vblank last_vblank(const struct blanking *blanking, int64_t now);
@@ -43,11 +36,9 @@ bool has_passed(uint64_t sequence, uint64_t wanted);
  * waiting events are due at once. */
 void crtc_is_seen(uint32_t crtc_id, bool is_lit);
 
-/* Notes that it was lit in this way, with this connector. */
-void crtc_is_lit(uint32_t crtc_id, const struct view *view, uint32_t connector_id);
-
-/* Returns whether a program set it, and to what. */
-bool crtc_is_viewed(uint32_t crtc_id, struct view *view);
+/* Notes that a program lit it in this mode, with this connector; returns whether one did. */
+void crtc_is_lit(uint32_t crtc_id, const struct drm_mode_modeinfo *mode, uint32_t connector_id);
+bool crtc_is_set(uint32_t crtc_id);
 
 /* Whether it shows something, as the server last said, and no request since can have darkened it.
  * A client of the server can. */

@@ -8,12 +8,18 @@
 
 /* What is wrong with another framebuffer on a CRTC that a program set: what is shown must be in it,
  * and the format must stay. */
-static int refuse_framebuffer(const struct view *view, const struct framebuffer *framebuffer)
+static int refuse_framebuffer(uint32_t crtc_id, const struct framebuffer *framebuffer)
 {
-    if (!framebuffer_contains(framebuffer, view->x, view->y, view->mode.hdisplay,
-                              view->mode.vdisplay))
+    const struct plane_state *primary = state_of_primary(state_now(), crtc_id);
+    struct framebuffer shown = {0, 0, 0};
+
+    if (!crtc_is_set(crtc_id))
+        return 0;
+    if (!framebuffer_contains_source(framebuffer, primary->src_x, primary->src_y, primary->src_w,
+                                     primary->src_h))
         return -ENOSPC;
-    return view->format != 0 && framebuffer->format != 0 && view->format != framebuffer->format
+    framebuffer_is_known(primary->fb_id, &shown);
+    return shown.format != 0 && framebuffer->format != 0 && shown.format != framebuffer->format
                ? -EINVAL
                : 0;
 }
@@ -23,13 +29,10 @@ static int refuse_shown(struct connection *connection,
                         const struct drm_mode_crtc_page_flip_target *flip)
 {
     struct framebuffer framebuffer;
-    struct view view;
     int failed =
         flip->fb_id == 0 ? -ENOENT : framebuffer_find(connection, flip->fb_id, &framebuffer);
 
-    if (failed || !crtc_is_viewed(flip->crtc_id, &view))
-        return failed;
-    return refuse_framebuffer(&view, &framebuffer);
+    return failed ? failed : refuse_framebuffer(flip->crtc_id, &framebuffer);
 }
 
 /* Refuses as the core and the driver do. If this refuses nothing, the server refuses a caller
@@ -133,24 +136,17 @@ static void complete(struct connection *connection,
     events_add(&connection->events, &event, next.sequence, next.time);
 }
 
-/* Whether the framebuffer is known, and nothing against it. */
-static bool is_expected_to_fit(const struct drm_mode_crtc_page_flip_target *flip)
-{
-    struct framebuffer framebuffer;
-    struct view view;
-
-    return framebuffer_is_known(flip->fb_id, &framebuffer)
-           && (!crtc_is_viewed(flip->crtc_id, &view)
-               || refuse_framebuffer(&view, &framebuffer) == 0);
-}
-
 /* Whether a flip is refused by nothing that is known: then SETCRTC alone decides. */
 static bool is_expected_to_flip(struct connection *connection,
                                 const struct drm_mode_crtc_page_flip_target *flip)
 {
+    struct framebuffer framebuffer;
+
     return (flip->flags & ~(uint32_t)DRM_MODE_PAGE_FLIP_EVENT) == 0 && flip->sequence == 0
-           && is_expected_to_fit(flip) && crtc_is_surely_lit(flip->crtc_id)
-           && crtc_connector(flip->crtc_id) != 0 && !crtc_flips(flip->crtc_id)
+           && framebuffer_is_known(flip->fb_id, &framebuffer)
+           && refuse_framebuffer(flip->crtc_id, &framebuffer) == 0
+           && crtc_is_surely_lit(flip->crtc_id) && crtc_connector(flip->crtc_id) != 0
+           && !crtc_flips(flip->crtc_id)
            && (!(flip->flags & DRM_MODE_PAGE_FLIP_EVENT)
                || events_have_room(&connection->events, 1));
 }

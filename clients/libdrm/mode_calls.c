@@ -41,7 +41,7 @@ int answer_get_resources(struct connection *connection, void *argument)
 int answer_get_crtc(struct connection *connection, void *argument)
 {
     struct drm_mode_crtc *crtc = argument;
-    struct view view;
+    const struct plane_state *primary;
     uint32_t fb_id;
     int failed = zirkoshe_drmModeGetCrtc(&connection->client, crtc->crtc_id, &fb_id);
 
@@ -49,12 +49,10 @@ int answer_get_crtc(struct connection *connection, void *argument)
         return failed;
     crtc_is_seen(crtc->crtc_id, fb_id != 0);
     state_crtc_is_seen(crtc->crtc_id, fb_id);
+    primary = state_of_primary(state_now(), crtc->crtc_id);
     crtc->fb_id = fb_id;
-    crtc->x = crtc->y = 0;
-    if (crtc_is_viewed(crtc->crtc_id, &view)) {
-        crtc->x = view.x;
-        crtc->y = view.y;
-    }
+    crtc->x = fb_id != 0 ? primary->src_x >> 16 : 0;
+    crtc->y = fb_id != 0 ? primary->src_y >> 16 : 0;
     crtc->gamma_size = 0;
     crtc->mode_valid = fb_id != 0;
     memset(&crtc->mode, 0, sizeof crtc->mode);
@@ -106,15 +104,13 @@ static int find_fb(struct zirkoshe_client *client, const struct drm_mode_crtc *c
 /* Checks the mode, and its position in the framebuffer, as the core does. If the framebuffer does
  * not exist, the server refuses the request. */
 static int check_view(struct connection *connection, const struct drm_mode_crtc *crtc,
-                      uint32_t fb_id, struct view *view)
+                      uint32_t fb_id)
 {
     struct framebuffer shown;
     int failed;
 
-    *view = (struct view){crtc->mode, crtc->x, crtc->y, 0};
     if (fb_id == 0 || framebuffer_find(connection, fb_id, &shown) != 0)
         return 0;
-    view->format = shown.format;
     if (!connection->has_aspect_ratios && (crtc->mode.flags & DRM_MODE_FLAG_PIC_AR_MASK))
         return -EINVAL;
     failed = check_mode(&crtc->mode);
@@ -126,8 +122,7 @@ static int check_view(struct connection *connection, const struct drm_mode_crtc 
 }
 
 /* Records what a CRTC shows. Its primary plane covers it. */
-static void note_crtc(const struct drm_mode_crtc *crtc, uint32_t fb_id, const struct view *view,
-                      uint32_t connector_id)
+static void note_crtc(const struct drm_mode_crtc *crtc, uint32_t fb_id, uint32_t connector_id)
 {
     uint32_t width = crtc->mode.hdisplay, height = crtc->mode.vdisplay;
     const struct plane_state primary = {
@@ -143,7 +138,7 @@ static void note_crtc(const struct drm_mode_crtc *crtc, uint32_t fb_id, const st
 
     state_crtc_is_set(crtc->crtc_id, connector_id, fb_id != 0 ? &primary : NULL, &crtc->mode);
     if (fb_id != 0)
-        crtc_is_lit(crtc->crtc_id, view, connector_id);
+        crtc_is_lit(crtc->crtc_id, &crtc->mode, connector_id);
     else
         crtc_is_seen(crtc->crtc_id, false);
 }
@@ -155,7 +150,6 @@ int answer_set_crtc(struct connection *connection, void *argument)
     const struct drm_mode_crtc *crtc = argument;
     struct zirkoshe_client *client = &connection->client;
     uint32_t connector_id = 0, fb_id;
-    struct view view;
     int failed;
 
     if (crtc->x > MOST_CORNER || crtc->y > MOST_CORNER)
@@ -163,7 +157,7 @@ int answer_set_crtc(struct connection *connection, void *argument)
     failed = find_fb(client, crtc, &fb_id);
     if (failed)
         return failed;
-    failed = check_view(connection, crtc, fb_id, &view);
+    failed = check_view(connection, crtc, fb_id);
     if (failed)
         return refuse(client, crtc->crtc_id, failed);
     if (crtc->count_connectors > 1)
@@ -174,7 +168,7 @@ int answer_set_crtc(struct connection *connection, void *argument)
         return failed;
     failed = zirkoshe_drmModeSetCrtc(client, crtc->crtc_id, fb_id, connector_id);
     if (!failed)
-        note_crtc(crtc, fb_id, &view, connector_id);
+        note_crtc(crtc, fb_id, connector_id);
     return failed;
 }
 

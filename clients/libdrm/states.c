@@ -167,8 +167,10 @@ void state_crtc_is_seen(uint32_t crtc_id, uint32_t fb_id)
 
     if (fb_id == 0 && crtc->is_active)
         plane->fb_id = plane->crtc_id = 0;
-    if (fb_id != 0 && !crtc->is_active)
+    if (fb_id != 0 && !crtc->is_active) {
         set_mode(crtc, crtc->mode_id != 0 ? &crtc->mode : all_modes(&count));
+        plane->src_x = plane->src_y = 0;
+    }
     if (fb_id != 0 && plane->fb_id != fb_id) {
         plane->fb_id = fb_id;
         plane->crtc_id = crtc_id;
