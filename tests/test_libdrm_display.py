@@ -176,7 +176,9 @@ drop by the opener: done
             words = [*NOBODY, program, "many"]
             with subprocess.Popen(words, **PIPES, env={**given, "LD_PRELOAD": loaded}) as opens, ended_in_time(opens):
                 expect("what a user may open", opens.stdout.readline(), "opened 56, then EMFILE\n")
-                expect_end(run(program, "many", env=given, input="\n", stdin=None), 0, "", f"opened 8, then {errno.ENODEV}\n")
+                expect_end(
+                    run(program, "many", env=given, input="\n", stdin=None), 0, "", f"opened 8, then {errno.ENODEV}\n"
+                )
                 opens.communicate("\n", timeout=SECONDS)
 
     def test_blanking_is_one_clock(self):
@@ -263,6 +265,16 @@ opens a link to a folder done, its file done, changes the mode done, owner done,
             for word in ("getcrtc", "create_dumb", "open"):
                 expect_within(word, other.takes(word), AT_ONCE)
             expect("whether the first waited", one.took() > STALL_SECONDS - 1, True)
+
+    def test_requests_that_only_read_run_at_once(self):
+        """One is answered late, and another client's isn't delayed."""
+        given = environment(self.folder)
+        with served(self.folder, more=("--stall", f"getcrtc:1={STALL_SECONDS * 1000}")):
+            with asking(env=given) as one, asking(env=given) as other:
+                one.ask("getcrtc")
+                time.sleep(0.2)
+                expect_within("another's read", other.takes("getcrtc"), AT_ONCE)
+                expect("whether the first waited", one.took() > STALL_SECONDS - 1, True)
 
     def test_process_that_is_killed_in_mid_call_delays_nobody(self):
         """A look doesn't wait for its answer, and an opening for a second at most."""

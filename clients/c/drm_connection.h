@@ -118,18 +118,23 @@ static inline int zirkoshe_exchange(struct zirkoshe_client *client, struct zirko
 {
     int64_t until = zirkoshe_now() + client->timeout;
     struct zirkoshe_fields length = {frame->bytes, 4, false};
+    size_t taken = 0;
     int failed;
 
     zirkoshe_put_at(frame->bytes, 4, frame->length);
     failed = zirkoshe_send_all(client->socket, frame->bytes, 4 + frame->length, until);
     if (!failed)
-        failed = zirkoshe_take_all(client->socket, frame->bytes, 4, until, -ECONNRESET);
+        failed = zirkoshe_take_some(client->socket, frame->bytes, 4, sizeof frame->bytes, &taken,
+                                    until, -ECONNRESET);
     if (failed)
         return failed;
     frame->length = zirkoshe_take_u32(&length);
-    if (frame->length < ZIRKOSHE_LEAST_LENGTH || frame->length > ZIRKOSHE_MOST_LENGTH)
+    /* nothing follows an answer */
+    if (frame->length < ZIRKOSHE_LEAST_LENGTH || frame->length > ZIRKOSHE_MOST_LENGTH
+        || taken > 4 + frame->length)
         return -EPROTO;
-    return zirkoshe_take_all(client->socket, frame->bytes + 4, frame->length, until, -EPROTO);
+    return zirkoshe_take_all(client->socket, frame->bytes + taken, 4 + frame->length - taken, until,
+                             -EPROTO);
 }
 
 /* The error of a refusal's frame. The client keeps the rule. */

@@ -174,27 +174,34 @@ static inline int zirkoshe_send_all(int fd, const unsigned char *bytes, size_t s
     return 0;
 }
 
-/* Receives `size` bytes. If the connection ends before the first, it returns `at_end`. */
-static inline int zirkoshe_take_all(int fd, unsigned char *bytes, size_t size, int64_t until,
-                                    int at_end)
+/* Receives at least `size` bytes, and at most `room`, whose number it writes to `taken`. If the
+ * connection ends before the first, it returns `at_end`. */
+static inline int zirkoshe_take_some(int fd, unsigned char *bytes, size_t size, size_t room,
+                                     size_t *taken, int64_t until, int at_end)
 {
-    while (size > 0) {
-        ssize_t taken = recv(fd, bytes, size, 0);
+    *taken = 0;
+    while (*taken < size) {
+        ssize_t more = recv(fd, bytes + *taken, room - *taken, 0);
         int failed = 0;
 
-        if (taken == 0)
-            return at_end;
-        if (taken < 0)
+        if (more == 0)
+            return *taken == 0 ? at_end : -EPROTO;
+        if (more < 0)
             failed = zirkoshe_is_not_ready(errno) ? zirkoshe_wait(fd, POLLIN, until) : -errno;
         if (failed)
             return failed;
-        if (taken > 0) {
-            bytes += taken;
-            size -= ZIRKOSHE_CAST(size_t, taken);
-            at_end = -EPROTO;
-        }
+        *taken += more > 0 ? ZIRKOSHE_CAST(size_t, more) : 0;
     }
     return 0;
+}
+
+/* Receives exactly `size` bytes. */
+static inline int zirkoshe_take_all(int fd, unsigned char *bytes, size_t size, int64_t until,
+                                    int at_end)
+{
+    size_t taken;
+
+    return zirkoshe_take_some(fd, bytes, size, size, &taken, until, at_end);
 }
 
 #endif
