@@ -115,13 +115,19 @@ def displayed(folder, program=None, **variables):
 
 
 @contextlib.contextmanager
-def served(folder, cards=64, renders=8, roots=8, more=(), **variables):
-    """A server in this folder, once it listens, with a display that has these variables."""
+def listening_server(folder, cards=64, renders=8, roots=8, more=()):
+    """A server in this folder, once it listens."""
     with server(folder, cards, renders, roots, more=more) as started:
         wait_until(lambda: all((folder / name).exists() for name in CLASSES))
         connect(folder / "root").close()
-        with displayed(folder, **variables):
-            yield started
+        yield started
+
+
+@contextlib.contextmanager
+def served(folder, cards=64, renders=8, roots=8, more=(), **variables):
+    """A server in this folder, with a display that has these variables."""
+    with listening_server(folder, cards, renders, roots, more) as started, displayed(folder, **variables):
+        yield started
 
 
 def in_time(run_once):

@@ -24,11 +24,19 @@ from support import (  # noqa: E402
     expect_end,
     run,
     run_tests,
-    server,
     want_program,
 )
 
-from libdrm_support import LIBRARY, compiled, displayed, environment, library, served, supervisor  # noqa: E402
+from libdrm_support import (  # noqa: E402
+    LIBRARY,
+    compiled,
+    displayed,
+    environment,
+    library,
+    listening_server,
+    served,
+    supervisor,
+)
 
 WITH_SERVER = REPOSITORY / "tools/with-server"
 CASES = "tests/libdrm_display.c"
@@ -245,7 +253,7 @@ opens a link to a folder done, its file done, changes the mode done, owner done,
     def test_both_kinds_of_programs_see_one_display(self):
         """A program under the supervisor sees what one with the library set, and the other way round."""
         program = compiled(CASES)
-        with server(self.folder, 64, 8, 8), displayed(self.folder) as channel:
+        with listening_server(self.folder), displayed(self.folder) as channel:
             loaded = ([program], {"env": environment(self.folder)})
             supervised = ([supervisor(), program], supervised_by(self.folder, channel))
             for (words, one), (others, other) in ((loaded, supervised), (supervised, loaded)):
@@ -283,7 +291,7 @@ opens a link to a folder done, its file done, changes the mode done, owner done,
         for at, words in enumerate(([program], [path, program])):
             folder = self.folder / str(at)
             folder.mkdir()
-            with server(folder, 64, 8, 8, more=stall), displayed(folder) as channel:
+            with listening_server(folder, more=stall), displayed(folder) as channel:
                 options = supervised_by(folder, channel) if at else {"env": environment(folder)}
                 ran = run(*words, "killed-waiting", **options)
             expect_end(ran, 0, "", "stat at once 1, opening in a while 1\n")
@@ -299,7 +307,7 @@ opens a link to a folder done, its file done, changes the mode done, owner done,
             raise Skipped("the compiler has no sanitizers")
         program = compiled(GARBAGE)
         # what only the loop's set of descriptors refers to would be a leak
-        with server(folder, 64, 8, 8), displayed(folder, built.stdout.strip(), ASAN_OPTIONS="detect_leaks=0"):
+        with listening_server(folder), displayed(folder, built.stdout.strip(), ASAN_OPTIONS="detect_leaks=0"):
             ran = run(program, REQUESTS, env=environment(folder), timeout=SECONDS * 20)
         text = "processes that ended badly 0, the display answers afterwards: yes\n"
         expect_end(ran, 0, "", text)

@@ -402,11 +402,15 @@ bool buffers_may_be_closed(void)
     return looks > 0;
 }
 
+bool buffers_look(void)
+{
+    return looks > 0 && looks-- > 0;
+}
+
 void buffers_close_tokens(void)
 {
     struct export *closed;
 
-    looks--;
     while ((closed = take_export(NULL)) != NULL) {
         struct connection *owner = closed->owner;
 

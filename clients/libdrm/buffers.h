@@ -60,11 +60,13 @@ int buffers_export(struct connection *connection, uint32_t handle, uint32_t toke
  */
 int buffers_import(struct connection *connection, int fd, uint32_t *handle);
 
-/* A descriptor that is readable when PRIME descriptors may have been closed, or -1; notes that they
- * may be, returns whether they may be, and closes the tokens whose descriptors are all closed. */
+/* A descriptor that is readable when PRIME descriptors may have been closed, or -1. Notes that they
+ * may be. Returns whether they may be, and whether to look now. Closes the tokens whose descriptors
+ * are all closed. */
 int buffers_watch(void);
 void buffers_are_closed(void);
 bool buffers_may_be_closed(void);
+bool buffers_look(void);
 void buffers_close_tokens(void);
 
 /* The least offset of a handle's memory in its connection; which handle has an offset, 0 for none;

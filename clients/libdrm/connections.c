@@ -81,7 +81,6 @@ void connection_release(struct connection *connection)
 {
     if (--connection->users > 0)
         return;
-    events_end(&connection->events);
     zirkoshe_close(&connection->client);
     free(connection);
 }
@@ -159,6 +158,7 @@ int connection_let_go(struct connection *connection, int failed)
 void connection_close(struct connection *connection)
 {
     take(connection);
+    events_end(&connection->events);
     buffers_clear(connection);
     zirkoshe_disconnect(&connection->client);
     standings_changed();

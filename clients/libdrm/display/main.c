@@ -85,14 +85,17 @@ static struct task *task_of(struct source *source)
     return (struct task *)((char *)source - offsetof(struct task, source));
 }
 
+/* At the end, nothing more is taken. */
 static void see_ready(struct source *source)
 {
     switch (source->kind) {
     case SOURCE_LISTENER:
-        accept_opener(source->fd);
+        if (!is_to_end)
+            accept_opener(source->fd);
         break;
     case SOURCE_PEER:
-        peer_answer((struct peer *)source);
+        if (!is_to_end)
+            peer_answer((struct peer *)source);
         break;
     case SOURCE_TASK:
         task_go_on(task_of(source));
@@ -120,7 +123,7 @@ static void close_tokens(struct task *task)
 /* Closes the tokens of buffers that are closed, before what comes later is answered. */
 static void attend_to_buffers(void)
 {
-    struct task *task = buffers_may_be_closed() ? task_make(close_tokens, NULL) : NULL;
+    struct task *task = buffers_look() ? task_make(close_tokens, NULL) : NULL;
 
     if (task != NULL)
         task_begin(task, false);
@@ -140,7 +143,8 @@ static void see_round(int count)
             buffers_are_closed();
     }
     attend_to_buffers();
-    peers_answer();
+    if (!is_to_end)
+        peers_answer();
     for (at = 0; at < count; at++) {
         struct source *source = ready[at].data.ptr;
 

@@ -12,7 +12,9 @@
 
 #define STACK ((size_t)512 * 1024)
 #define PAGE ((size_t)4096)
+/* Tasks that are kept for others at most, and with which room for what is written */
 #define MOST_KEPT 16
+#define MOST_ROOM_KEPT ((size_t)1024 * 1024)
 #define LATE SECOND
 
 struct fiber {
@@ -75,7 +77,7 @@ void task_free(struct task *task)
 {
     struct fiber *fiber = (struct fiber *)task;
 
-    if (count_kept < MOST_KEPT) {
+    if (count_kept < MOST_KEPT && task->written.room <= MOST_ROOM_KEPT) {
         task->next = kept;
         kept = task;
         count_kept++;

@@ -33,15 +33,20 @@ static long number_in(const char *status, const char *name)
     return found == NULL ? -1 : atol(found + strlen(name));
 }
 
-/* A task is a thread of a process. */
-const struct caller *caller_now(void)
+bool caller_waits(void)
+{
+    uint64_t id = call->notice.id;
+
+    return ioctl(call->listener, SECCOMP_IOCTL_NOTIF_ID_VALID, &id) == 0;
+}
+
+/* Finds the process, of which a task is a thread, and its user. */
+static void find_process(void)
 {
     char path[32], status[1024];
     ssize_t length = 0;
     int fd;
 
-    if (caller.process != 0)
-        return &caller;
     snprintf(path, sizeof path, "/proc/%d/status", (int)caller.task);
     fd = open(path, O_RDONLY | O_CLOEXEC);
     if (fd >= 0) {
@@ -51,6 +56,15 @@ const struct caller *caller_now(void)
     status[length > 0 ? length : 0] = '\0';
     caller.process = (pid_t)number_in(status, "\nTgid:");
     caller.user = (uid_t)number_in(status, "\nUid:");
+}
+
+/* The number of a task that doesn't wait any more can be another one's. */
+const struct caller *caller_now(void)
+{
+    if (!caller_waits())
+        caller = (struct caller){-1, -1, (uid_t)-1};
+    else if (caller.process == 0)
+        find_process();
     return &caller;
 }
 
@@ -87,8 +101,10 @@ int caller_file(int fd)
     error = errno;
     if (process >= 0)
         close(process);
-    if (file >= 0)
+    if (file >= 0 && caller_waits())
         return file;
+    if (file >= 0)
+        close(file);
     caller_file_end(-1);
     return -error;
 }

@@ -31,14 +31,6 @@ static void let_kernel_answer(const struct call *call)
     respond(call, 0, SECCOMP_USER_NOTIF_FLAG_CONTINUE);
 }
 
-/* Returns whether the caller still waits. If not, its id can be another task's. */
-static bool is_waiting(const struct call *call)
-{
-    uint64_t id = call->notice.id;
-
-    return ioctl(call->listener, SECCOMP_IOCTL_NOTIF_ID_VALID, &id) == 0;
-}
-
 /* Returns the arguments of an opening, from the path on. */
 static const __u64 *words_of_opening(const struct seccomp_notif *notice)
 {
@@ -151,7 +143,7 @@ static void answer_opening(struct call *call)
     } else if (entry->kind == KIND_NODE) {
         call->node = entry->node;
         begin_answer(call);
-    } else if (is_waiting(call)) {
+    } else if (caller_waits()) {
         respond(call, open_entry(entry, (int)words[1]), 0);
     }
 }
@@ -176,7 +168,7 @@ static void answer_request_on_memory(const struct call *call)
 {
     const __u64 *words = call->notice.data.args;
 
-    if (is_prime((int)words[0]) && is_waiting(call))
+    if (is_prime((int)words[0]) && caller_waits())
         respond(call, ask_of_memory((uint32_t)words[1], words[2]), 0);
     else
         let_kernel_answer(call);
@@ -187,7 +179,7 @@ static void answer_look_at_file(const struct call *call)
 {
     int result;
 
-    if (is_waiting(call) && answer_look(&call->notice, &result))
+    if (caller_waits() && answer_look(&call->notice, &result))
         respond(call, result, 0);
     else
         let_kernel_answer(call);
@@ -206,7 +198,7 @@ void answer_call(int listener, const struct seccomp_notif *notice)
         answer_opening(&call);
     else if (!is_mapping && _IOC_TYPE(words[1]) == DMA_BUF_BASE)
         answer_request_on_memory(&call);
-    else if (is_caller_node((int)words[is_mapping ? 4 : 0], &call.node) && is_waiting(&call))
+    else if (is_caller_node((int)words[is_mapping ? 4 : 0], &call.node) && caller_waits())
         begin_answer(&call);
     else
         let_kernel_answer(&call);

@@ -27,9 +27,11 @@ struct call {
     enum node node; /* of an opening */
 };
 
-/* callers.c: sets the call that this thread answers. Copies a text of the caller, and returns 0,
+/* callers.c: sets the call that this thread answers, and returns whether its caller still waits.
+ * Copies a text of the caller, and returns 0,
  * -EFAULT or -ENAMETOOLONG. Writes the path of a descriptor of the caller. */
 void answer_for(const struct call *call);
+bool caller_waits(void);
 int copy_text_from_caller(char *text, size_t room, uint64_t address);
 void name_caller_descriptor(char *path, size_t room, int fd);
 
