@@ -22,6 +22,7 @@ from support import (  # noqa: E402
     REPOSITORY,
     SECONDS,
     FolderCase,
+    Skipped,
     connect,
     ended_in_time,
     expect,
@@ -39,6 +40,7 @@ from blocks import worked_rows  # noqa: E402
 from libdrm_support import LIBRARY, compiled, environment, library, said, served, wait_until  # noqa: E402
 
 EBADF = 9
+VGEM_MMAP = pathlib.Path("/usr/libexec/igt-gpu-tools/benchmarks/vgem_mmap")
 # the number of the system call on x86-64
 RECVMSG = "47"
 
@@ -397,6 +399,23 @@ class LibdrmTests(FolderCase):
             expect("modes", [mode["name"] for mode in connector["modes"]], MODES)
             expect("power", connector["properties"]["DPMS"]["value"], 0)
         expect("primary planes", [plane["properties"]["type"]["value"] for plane in node["planes"]], [1, 1])
+
+    def test_igt_finds_the_card_and_maps_a_buffer(self):
+        """The Debian package is intel-gpu-tools. The second program asks for a driver by its name."""
+        for name in ("lsgpu", "umockdev-run"):
+            want_program(name)
+        library()
+        words = [REPOSITORY / "tools/with-server", "--libdrm", "--udev"]
+        ran = run(*words, "lsgpu")
+        expect(
+            "what lsgpu prints",
+            (ran.returncode, ran.stdout.split(), ran.stderr),
+            (0, ["card0", "drm:/dev/dri/card0"], ""),
+        )
+        if not VGEM_MMAP.exists():
+            raise Skipped(f"there is no {VGEM_MMAP}")
+        ran = run(*words, VGEM_MMAP, env={**os.environ, "DRM_SERVER_DRIVER": "vgem"})
+        expect("status and error output of vgem_mmap", (ran.returncode, ran.stderr), (0, ""))
 
     def test_lease_client_is_refused_and_revoked(self):
         folder = self.folder
