@@ -25,7 +25,7 @@ const MOST: usize = 262_144;
 /// The most bytes that are removed from a stream at once. Most requests have fewer.
 const PIECE: usize = 64;
 
-/// The stream has failed, or it lacks bytes that were handed on and stayed in it (own).
+/// The stream has failed, or bytes that were handed on and stayed in it are missing (own).
 #[derive(Clone, Copy, Debug)]
 pub struct Lost;
 
