@@ -38,6 +38,8 @@ BESIDE = tuple(
         "libdrm_errnos",
         "kernel_standings",
         "command_line",
+        "crates",
+        "crate_times",
     )
 )
 TOOLS = (
@@ -45,6 +47,9 @@ TOOLS = (
     "../bench/instructions",
     "../tools/check",
     "../tools/beside-kernel",
+    "../tools/prove",
+    "../tools/try-tests",
+    "../tools/public_api",
     "../clients/libdrm/logind",
     *BESIDE,
 )
@@ -153,7 +158,8 @@ class LintersTests(FolderCase):
 
     def test_types_of_what_tests_share_are_clean_by_a_strict_mypy(self):
         expect_clean(self.folder, "mypy", "--cache-dir", self.folder / "cache", "support.py", cwd=TESTS)
-        for tool in ("../tools/check", "../tools/kernels.py", "../clients/libdrm/logind"):
+        tools = ("check", "kernels.py", "prove", "try-tests", "public_api")
+        for tool in (*(f"../tools/{name}" for name in tools), "../clients/libdrm/logind"):
             expect_clean(self.folder, "mypy", "--cache-dir", self.folder / "cache", tool, cwd=TESTS)
 
     def test_python_is_as_black_formats_it(self):
