@@ -135,10 +135,19 @@ class GateTests(FolderCase):
         after = ["tools/prove", "tests/all drm_server_main"]
         expect("the gate", ended(self.folder), (0, NOTHING, "5 passed, 0 failed", [*QUICK, *after]))
 
-    def test_gate_goes_on_after_a_quick_part_that_fails(self):
+    def test_gate_continues_after_a_quick_part_that_fails(self):
         gate(self.folder, tries=1)
         after = ["tools/prove", "tests/all drm_server_main"]
         expect("the gate", ended(self.folder), (0, NOTHING, "5 passed, 0 failed", [*QUICK, *after]))
+
+    def test_gate_ends_its_quick_part_in_time(self):
+        """`timeout` reports that the time is over."""
+        gate(self.folder)
+        write_script(self.folder / "bin/timeout", '"$2"; exit 124')
+        path = f"{self.folder / 'bin'}{os.pathsep}{os.environ['PATH']}"
+        ran = run(self.folder / "test", env={**os.environ, "PATH": path})
+        expect("the gate", (ran.returncode, ran.stdout.splitlines()[-1]), (0, "5 passed, 0 failed"))
+        expect("the quick part", "quick: eight minutes are over; nothing is proved" in ran.stdout.splitlines(), True)
 
     def test_gate_ends_after_a_proof_that_fails(self):
         gate(self.folder, proves=1)
