@@ -113,28 +113,39 @@ static inline int zirkoshe_abandon(struct zirkoshe_client *client, int error)
     return error;
 }
 
-/* Sends a frame, and takes the frame that answers it in its place. */
-static inline int zirkoshe_exchange(struct zirkoshe_client *client, struct zirkoshe_frame *frame)
+static inline int zirkoshe_send_frame(struct zirkoshe_client *client, struct zirkoshe_frame *frame,
+                                      int64_t until)
 {
-    int64_t until = zirkoshe_now() + client->timeout;
-    struct zirkoshe_fields length = {frame->bytes, 4, false};
-    size_t taken = 0;
-    int failed;
-
     zirkoshe_put_at(frame->bytes, 4, frame->length);
-    failed = zirkoshe_send_all(client->socket, frame->bytes, 4 + frame->length, until);
-    if (!failed)
-        failed = zirkoshe_take_some(client->socket, frame->bytes, 4, sizeof frame->bytes, &taken,
-                                    until, -ECONNRESET);
+    return zirkoshe_send_all(client->socket, frame->bytes, 4 + frame->length, until);
+}
+
+/* Takes the frame of an answer. If it is the last one, nothing follows it. */
+static inline int zirkoshe_take_frame(struct zirkoshe_client *client, struct zirkoshe_frame *frame,
+                                      bool is_last, int64_t until)
+{
+    struct zirkoshe_fields length = {frame->bytes, 4, false};
+    size_t room = is_last ? sizeof frame->bytes : 4, taken = 0;
+    int failed =
+        zirkoshe_take_some(client->socket, frame->bytes, 4, room, &taken, until, -ECONNRESET);
+
     if (failed)
         return failed;
     frame->length = zirkoshe_take_u32(&length);
-    /* nothing follows an answer */
     if (frame->length < ZIRKOSHE_LEAST_LENGTH || frame->length > ZIRKOSHE_MOST_LENGTH
         || taken > 4 + frame->length)
         return -EPROTO;
     return zirkoshe_take_all(client->socket, frame->bytes + taken, 4 + frame->length - taken, until,
                              -EPROTO);
+}
+
+/* Sends a frame, and takes the frame that answers it in its place. */
+static inline int zirkoshe_exchange(struct zirkoshe_client *client, struct zirkoshe_frame *frame)
+{
+    int64_t until = zirkoshe_now() + client->timeout;
+    int failed = zirkoshe_send_frame(client, frame, until);
+
+    return failed ? failed : zirkoshe_take_frame(client, frame, true, until);
 }
 
 /* The error of a refusal's frame. The client keeps the rule. */
@@ -152,17 +163,14 @@ static inline int zirkoshe_refusal(struct zirkoshe_client *client, bool is_apart
     return -rule->error;
 }
 
-/* Asks, and returns the fields of the answer, which has this number. The client is held. */
-static inline int zirkoshe_ask_held(struct zirkoshe_client *client, struct zirkoshe_frame *frame,
-                                    uint16_t wanted, struct zirkoshe_fields *fields)
+/* Reads a frame whose receiving returned `failed`: the fields of the answer, which has this number,
+ * or the error. */
+static inline int zirkoshe_read_frame(struct zirkoshe_client *client,
+                                      const struct zirkoshe_frame *frame, int failed,
+                                      uint16_t wanted, struct zirkoshe_fields *fields)
 {
     uint32_t number;
-    int failed;
 
-    client->rule = 0;
-    if (client->socket < 0)
-        return -ENOTCONN;
-    failed = zirkoshe_exchange(client, frame);
     if (failed)
         return zirkoshe_abandon(client, failed);
     fields->next = frame->bytes + 4;
@@ -172,6 +180,16 @@ static inline int zirkoshe_ask_held(struct zirkoshe_client *client, struct zirko
     if (number == ZIRKOSHE_ANSWER_DENIED || number == ZIRKOSHE_ANSWER_APART)
         return zirkoshe_refusal(client, number == ZIRKOSHE_ANSWER_APART, fields);
     return number == wanted ? 0 : zirkoshe_abandon(client, -EPROTO);
+}
+
+/* Asks, and returns the fields of the answer, which has this number. The client is held. */
+static inline int zirkoshe_ask_held(struct zirkoshe_client *client, struct zirkoshe_frame *frame,
+                                    uint16_t wanted, struct zirkoshe_fields *fields)
+{
+    client->rule = 0;
+    if (client->socket < 0)
+        return -ENOTCONN;
+    return zirkoshe_read_frame(client, frame, zirkoshe_exchange(client, frame), wanted, fields);
 }
 
 /* The same when it is this thread's turn. If it returns 0, the turn lasts until zirkoshe_end. */
@@ -221,6 +239,36 @@ static inline int zirkoshe_call(struct zirkoshe_client *client, uint16_t number,
     if (!failed && count > 0)
         memcpy(taken, found, count * sizeof found[0]);
     return failed;
+}
+
+/* Sends a call whose answer zirkoshe_finish_call takes. Several may be sent before the first answer
+ * is taken. The client is held by zirkoshe_lock until then. */
+static inline int zirkoshe_begin_call(struct zirkoshe_client *client, uint16_t number,
+                                      const char *layout, const uint64_t *values)
+{
+    struct zirkoshe_frame frame;
+    int failed;
+
+    if (client->socket < 0)
+        return -ENOTCONN;
+    zirkoshe_write(&frame, number, layout, values);
+    failed = zirkoshe_send_frame(client, &frame, zirkoshe_now() + client->timeout);
+    return failed ? zirkoshe_abandon(client, failed) : 0;
+}
+
+/* Takes the answer to the first call that was sent and has none yet. The answer has no fields. */
+static inline int zirkoshe_finish_call(struct zirkoshe_client *client, bool is_last)
+{
+    struct zirkoshe_frame frame;
+    struct zirkoshe_fields fields = {NULL, 0, false};
+    int failed;
+
+    client->rule = 0;
+    if (client->socket < 0)
+        return -ENOTCONN;
+    failed = zirkoshe_take_frame(client, &frame, is_last, zirkoshe_now() + client->timeout);
+    failed = zirkoshe_read_frame(client, &frame, failed, ZIRKOSHE_ANSWER_DONE, &fields);
+    return failed || zirkoshe_is_whole(&fields) ? failed : zirkoshe_abandon(client, -EPROTO);
 }
 
 /* A call that no frame takes isn't sent. */

@@ -60,32 +60,50 @@ static void find_changes(struct commit *commit, bool darkens, struct changes *ch
     }
 }
 
-static int show(struct zirkoshe_client *client, uint32_t plane_id, const struct shown *shown)
+static int begin_to_show(struct zirkoshe_client *client, uint32_t plane_id,
+                         const struct shown *shown)
 {
+    const uint64_t of_crtc[] = {shown->crtc_id, shown->fb_id, shown->connector_id};
+    const uint64_t of_plane[] = {plane_id, shown->crtc_id, shown->fb_id};
+
     return plane_id == 0
-               ? zirkoshe_drmModeSetCrtc(client, shown->crtc_id, shown->fb_id, shown->connector_id)
-               : zirkoshe_drmModeSetPlane(client, plane_id, shown->crtc_id, shown->fb_id);
+               ? zirkoshe_begin_call(client, ZIRKOSHE_CALL_MODE_SETCRTC, "III", of_crtc)
+               : zirkoshe_begin_call(client, ZIRKOSHE_CALL_MODE_SETPLANE, "III", of_plane);
 }
 
-/* Takes back the first changes, the last of them first. The rule of the denial stays. */
-static void take_back(struct zirkoshe_client *client, const struct changes *changes, unsigned count)
+/* Takes back the changes that were made, the last of them first. The rule of the denial stays. */
+static void take_back(struct zirkoshe_client *client, const struct changes *changes,
+                      const int *failures)
 {
     uint32_t rule = client->rule;
+    unsigned at;
 
-    while (count-- > 0)
-        show(client, changes->all[count].plane_id, &changes->all[count].before);
+    for (at = changes->count; at-- > 0;) {
+        const struct change *change = &changes->all[at];
+
+        if (failures[at] == 0 && begin_to_show(client, change->plane_id, &change->before) == 0)
+            zirkoshe_finish_call(client, true);
+    }
     client->rule = rule;
 }
 
+/* Sends all calls before the first answer is there. Returns the first failure. */
 static int show_changes(struct zirkoshe_client *client, const struct changes *changes)
 {
+    int failures[MOST_OBJECTS], failed = 0;
+    uint32_t rule = 0;
     unsigned at;
-    int failed = 0;
 
-    for (at = 0; !failed && at < changes->count; at++)
-        failed = show(client, changes->all[at].plane_id, &changes->all[at].after);
+    for (at = 0; at < changes->count; at++)
+        begin_to_show(client, changes->all[at].plane_id, &changes->all[at].after);
+    for (at = 0; at < changes->count; at++) {
+        failures[at] = zirkoshe_finish_call(client, at + 1 == changes->count);
+        rule = failed ? rule : client->rule;
+        failed = failed ? failed : failures[at];
+    }
+    client->rule = rule;
     if (failed)
-        take_back(client, changes, at - 1);
+        take_back(client, changes, failures);
     return failed;
 }
 
