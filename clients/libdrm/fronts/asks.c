@@ -413,9 +413,10 @@ static uint8_t *map_aside(struct sent *sent, size_t length)
 static int add_lists(struct sent *sent)
 {
     const struct list *lists = sent->ask.lists;
+    struct iovec here[MOST_LISTS], there[MOST_LISTS];
     uint8_t *place = sent->channel->bytes + sent->length, *next;
     size_t length = 0, at;
-    int failed = 0;
+    int failed;
 
     for (at = 0; at < MOST_LISTS; at++)
         length += lists[at].size;
@@ -425,8 +426,11 @@ static int add_lists(struct sent *sent)
         sent->length += length;
     if (place == NULL)
         return -ENOMEM;
-    for (at = 0, next = place; !failed && at < MOST_LISTS; next += lists[at++].size)
-        failed = caller_reads(next, lists[at].address, lists[at].size);
+    for (at = 0, next = place; at < MOST_LISTS; next += lists[at++].size) {
+        here[at] = (struct iovec){next, lists[at].size};
+        there[at] = (struct iovec){(void *)(uintptr_t)lists[at].address, lists[at].size};
+    }
+    failed = length == 0 ? 0 : copy(here, there, MOST_LISTS, false);
     if (length > MOST_INLINE)
         munmap(place, length);
     return failed;
