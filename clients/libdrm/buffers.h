@@ -1,7 +1,7 @@
 /* The memory of objects, and the descriptors that represent PRIME tokens.
  *
  * The server keeps no pixels. An object that is mapped or exported gets shared memory of its size
- * (a memfd), which its mappings show, whoever made the handle. A PRIME descriptor is that memory,
+ * (a memfd), which all mappings of it show. A PRIME descriptor is that memory,
  * opened anew, with a lock on one byte far after its end, which stays while any process has the
  * descriptor. The kernel reports when a file of exported memory is closed everywhere, and unmapped
  * (inotify): then the token is closed.

@@ -4,7 +4,7 @@
 #include <stdlib.h>
 
 #define MOST_CHANNELS 16384
-/* Users but root leave some for others. */
+/* Users other than root leave some of them. */
 #define MOST_OF_USER (MOST_CHANNELS / 4 * 3)
 
 static struct channel *channels[MOST_CHANNELS]; /* the first place is never used */

@@ -40,7 +40,7 @@ void loop_end(void);
 struct peer {
     struct source source;
     struct connection *connection; /* of a file */
-    uid_t user;                    /* who opened the file */
+    uid_t user;                    /* the user that opened the file */
     bool is_supervisor;            /* it is believed whose process it names */
     bool is_busy;                  /* a task answers a packet of it */
     bool is_ending;                /* a task answers what is left */
@@ -104,16 +104,16 @@ struct written {
     uint32_t count; /* how many writes to its memory */
 };
 
-/* Something that is done at once, or waits for the server while others are done */
+/* Work of the display, which can wait for the server while other tasks run */
 struct task {
     struct task *next; /* of those that wait to begin, or are free */
     void (*run)(struct task *task);
     struct peer *peer; /* whose packet is answered */
     bool is_reading;   /* it changes nothing that another task can see */
-    bool is_late;      /* others go on meanwhile */
+    bool is_late;      /* others run meanwhile */
     int64_t begun;
     struct source source; /* what it waits for */
-    int64_t until;        /* or the time at which it goes on */
+    int64_t until;        /* or the time at which it continues */
     struct packet packet;
     struct ucred caller;
     struct written written;
@@ -128,18 +128,18 @@ void task_free(struct task *task);
 void task_begin(struct task *task, bool is_reading);
 void tasks_begin(void);
 
-/* The task that is done now. Goes on with one whose wait is over, and with all whose time is. */
+/* The task that runs now. Continues one whose wait is over, and all whose time has come. */
 struct task *task_now(void);
 void task_go_on(struct task *task);
 void tasks_go_on(void);
 
-/* How long the loop may wait, in milliseconds, or -1. Whether anything is done, but for what is
- * late. */
+/* Returns how long the loop may wait, in milliseconds, or -1, and whether no task is left but late
+ * ones. */
 int tasks_timeout(void);
 bool tasks_are_done(void);
 
-/* packets.c: receives a packet into a task; false if there is none. Returns whether it changes
- * nothing. Answers it. */
+/* packets.c: receives a packet into a task; false if there is none. Returns whether its request
+ * only reads. Answers it. */
 bool packet_receive(struct task *task);
 bool packet_is_reading(const struct task *task);
 void packet_answer(struct task *task);

@@ -129,7 +129,7 @@ static void attend_to_buffers(void)
         task_begin(task, false);
 }
 
-/* What the server answers goes on at once. */
+/* Sees the ends of files first, then packets, and then runs the tasks. */
 static void see_round(int count)
 {
     int at;

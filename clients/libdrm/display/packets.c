@@ -143,7 +143,7 @@ static const struct channel *find_channel(struct packet *packet, bool is_supervi
     return found;
 }
 
-/* Finds out who asks, and where the answer goes. A supervisor speaks for its callers. */
+/* Finds the caller, and the socket for the answer. A supervisor names its callers. */
 static void find_caller(struct task *task)
 {
     struct packet *packet = &task->packet;
@@ -222,7 +222,7 @@ static void answer_open(struct task *task)
         close(descriptor);
 }
 
-/* Gives the memory at an offset. */
+/* Sends the memory at an offset. */
 static void answer_map(struct task *task)
 {
     const struct ask *ask = &task->packet.ask;

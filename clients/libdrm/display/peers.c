@@ -6,10 +6,10 @@
 #include <sys/epoll.h>
 #include <sys/un.h>
 
-/* The server has 64 clients at once on each socket. Users but root leave some for others. */
+/* The server has 64 clients at once on each socket. Users other than root leave some of them. */
 #define MOST_FILES_OF_USER 56
 #define MOST_USERS 64
-/* Openers that have not asked yet, at most: the first of them goes if there are more. */
+/* The most openers that have not sent a packet. If there are more, the first one is closed. */
 #define MOST_OPENERS 256
 /* How long a task waits for another one before it looks again, in milliseconds */
 #define PAUSE 10
@@ -30,7 +30,7 @@ struct peer *peer_add(int fd)
     if (made == NULL)
         return NULL;
     made->source = (struct source){.kind = SOURCE_PEER, .fd = fd};
-    /* the loop is told once of each packet, since a peer has one answered at a time */
+    /* the loop sees each packet once, since one packet of a peer is answered at a time */
     if (source_add(&made->source, EPOLLIN | EPOLLET))
         return made;
     free(made);
@@ -137,7 +137,7 @@ int file_make(struct connection *connection, uint64_t flags, uid_t user)
     return fd;
 }
 
-/* Lets the next round look for another packet of a peer. */
+/* Has the next round look for another packet of a peer. */
 static void wait_for_next(struct peer *peer)
 {
     if (peer->is_waiting || peer->is_ending)
@@ -191,7 +191,7 @@ void peers_answer(void)
     }
 }
 
-/* What holders of a file asked before its end is answered: another thread may wait for it. */
+/* Answers what holders of a file sent before its end, since another thread may wait for it. */
 static void end(struct task *task)
 {
     struct peer *peer = task->peer;

@@ -1,7 +1,7 @@
-/* What the display does at once. A task has a stack of its own, so that it can wait for the server
- * in the middle of an answer. Tasks that only read run together, and one that changes something
- * runs alone, as under a kernel's lock. One for which the server takes longer than a second is
- * late, and holds up nobody any more. */
+/* The tasks of the display. Each has its own stack, so that it can wait for the server in the
+ * middle of an answer. Tasks that only read run together, and one that changes something runs
+ * alone, as under a kernel's lock. If the server takes longer than a second, the task is late, and
+ * others run. */
 #include "display.h"
 
 #include <limits.h>
@@ -162,7 +162,7 @@ void task_go_on(struct task *task)
     enter((struct fiber *)task);
 }
 
-/* Goes on with the next task whose time has come; false if there is none. */
+/* Continues the next task whose time has come; false if there is none. */
 static bool go_on_with_next(int64_t time)
 {
     struct fiber *each = running;

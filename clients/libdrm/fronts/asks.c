@@ -449,7 +449,7 @@ static int gather(struct sent *sent, uint64_t address)
     return failed ? failed : add_lists(sent);
 }
 
-/* Writes a line of the trace, unless nobody reads it. The signal of a broken pipe is taken back. */
+/* Writes a line of the trace. If it has no reader, the signal of the broken pipe is taken back. */
 static void trace(const uint8_t *line, size_t length)
 {
     const struct timespec at_once = {0, 0};

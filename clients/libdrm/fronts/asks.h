@@ -48,7 +48,7 @@ void channel_end(struct channel *channel);
 int caller_reads(void *to, uint64_t address, size_t size);
 int caller_takes(const struct iovec *here, const struct iovec *there, size_t count);
 
-/* What each front end has of its own: */
+/* What each front end defines: */
 
 /* Takes a socket for answers, with the end for the display if it is new (or else -1), and lets it
  * go. Returns NULL with errno if there is none. */
@@ -69,7 +69,7 @@ const struct caller *caller_now(void);
 int caller_file(int fd);
 void caller_file_end(int fd);
 
-/* Gives the caller a descriptor that was opened here. Returns its number there, or a negative
+/* Hands a descriptor that was opened here to the caller. Returns its number there, or a negative
  * errno. */
 int caller_gets(int fd, int flags);
 

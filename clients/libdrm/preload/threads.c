@@ -27,8 +27,8 @@ static OF_THREAD struct channel *own;
 static OF_THREAD struct before before;
 static pthread_key_t at_end;
 
-/* A socket of the process, for threads that can't make one at the limit of descriptors: they use it
- * in turn. */
+/* A socket of the process, for threads that can't make one at the limit of descriptors. They use it
+ * one after the other. */
 static struct channel spare = {.fd = -1};
 static pthread_mutex_t spare_turn = PTHREAD_MUTEX_INITIALIZER;
 
@@ -39,8 +39,7 @@ static void end_thread(void *given)
     own = NULL;
 }
 
-/* A thread that the child doesn't have may have had the turn. The child makes a spare of its own.
- */
+/* A thread that the child doesn't have may have had the turn. The child makes another spare. */
 static void begin_anew(void)
 {
     pthread_mutex_init(&spare_turn, NULL);

@@ -12,8 +12,8 @@ static _Thread_local const struct call *call;
 static _Thread_local struct caller caller;
 static _Thread_local unsigned held; /* how many of the caller's descriptors this thread has */
 
-/* Taken while a thread has a descriptor of a caller's: whoever waits for the end of a process finds
- * its files closed. */
+/* Held while a thread has a descriptor of a caller's, so that the files of a process that has ended
+ * are closed before the next request. */
 static pthread_mutex_t files_turn = PTHREAD_MUTEX_INITIALIZER;
 static pthread_mutex_t channels_turn = PTHREAD_MUTEX_INITIALIZER;
 static struct channel *free_channels;
