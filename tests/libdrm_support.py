@@ -31,6 +31,8 @@ NOT_STARTED = 125
 # the status of a program whose calls belong in one frame and took longer, and how often it is run then
 TOO_SLOW = 75
 TRIES = 10
+# the number of the system call on x86-64
+RECVMSG = "47"
 COMPILER = ["cc", "-std=gnu11", "-Wall", "-Wextra", "-Wpedantic", "-Werror", "-O2", "-pthread"]
 
 
@@ -93,6 +95,11 @@ def wait_until(holds):
         if time.monotonic() > until:
             raise AssertionError("it took too long")
         time.sleep(0.01)
+
+
+def waits_for_an_answer(process):
+    """Whether a process sleeps in recvmsg, which is how a thread waits for its answer, by the number of the system call."""
+    return pathlib.Path(f"/proc/{process}/syscall").read_text().split()[0] == RECVMSG
 
 
 @contextlib.contextmanager

@@ -37,12 +37,19 @@ from zirkoshe.constants import RULES  # noqa: E402
 from zirkoshe.server import Server  # noqa: E402
 
 from blocks import worked_rows  # noqa: E402
-from libdrm_support import LIBRARY, compiled, environment, library, said, served, wait_until  # noqa: E402
+from libdrm_support import (  # noqa: E402
+    LIBRARY,
+    compiled,
+    environment,
+    library,
+    said,
+    served,
+    wait_until,
+    waits_for_an_answer,
+)
 
 EBADF = 9
 VGEM_MMAP = pathlib.Path("/usr/libexec/igt-gpu-tools/benchmarks/vgem_mmap")
-# the number of the system call on x86-64
-RECVMSG = "47"
 
 # How much more a call may cost than the same by the C client: as a factor, or in nanoseconds.
 MOST_COST, MOST_MORE = 1.6, 30_000
@@ -231,11 +238,6 @@ def has_ended(process):
         return pathlib.Path(f"/proc/{process}/cmdline").read_bytes() == b""
     except OSError:
         return True
-
-
-def waits_for_an_answer(process):
-    """Whether a process sleeps in recvmsg, which is how a thread waits for its answer, by the number of the system call."""
-    return pathlib.Path(f"/proc/{process}/syscall").read_text().split()[0] == RECVMSG
 
 
 class LibdrmTests(FolderCase):

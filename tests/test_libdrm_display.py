@@ -9,6 +9,7 @@ import contextlib
 import errno
 import os
 import shutil
+import signal
 import subprocess
 import sys
 import time
@@ -30,12 +31,15 @@ from support import (  # noqa: E402
 from libdrm_support import (  # noqa: E402
     LIBRARY,
     compiled,
+    display,
     displayed,
     environment,
     library,
     listening_server,
     served,
     supervisor,
+    wait_until,
+    waits_for_an_answer,
 )
 
 WITH_SERVER = REPOSITORY / "tools/with-server"
@@ -87,7 +91,10 @@ for line in sys.stdin:
     if word == "open":
         os.close(os.open("/dev/dri/card0", os.O_RDWR))
     else:
-        fcntl.ioctl(card, GETCRTC if word == "getcrtc" else CREATE_DUMB, struct)
+        try:
+            fcntl.ioctl(card, GETCRTC if word == "getcrtc" else CREATE_DUMB, struct)
+        except OSError as error:
+            sys.exit(print(error.errno))
     print(time.monotonic() - begun, flush=True)
 """
 
@@ -295,6 +302,22 @@ opens a link to a folder done, its file done, changes the mode done, owner done,
                 options = supervised_by(folder, channel) if at else {"env": environment(folder)}
                 ran = run(*words, "killed-waiting", **options)
             expect_end(ran, 0, "", "stat at once 1, opening in a while 1\n")
+
+    def test_program_outlives_the_display(self):
+        """It has stopped, and ends while a program waits for the answer to its opening, and to another request."""
+        given, path = environment(self.folder), self.folder / "display"
+        with listening_server(self.folder), subprocess.Popen([display(), path], env=given) as displaying:
+            wait_until(path.exists)
+            with asking(env=given) as one:
+                displaying.send_signal(signal.SIGSTOP)
+                one.ask("getcrtc")
+                with subprocess.Popen(["cat", "/dev/dri/card0"], stderr=subprocess.PIPE, text=True, env=given) as other:
+                    wait_until(lambda: waits_for_an_answer(other.pid) and waits_for_an_answer(one.process.pid))
+                    displaying.kill()
+                    expect(
+                        "the opening", other.communicate(timeout=SECONDS)[1], "cat: /dev/dri/card0: No such device\n"
+                    )
+                expect("the other request", one.process.communicate(timeout=SECONDS), (f"{errno.ENODEV}\n", None))
 
     def test_random_requests_and_packets(self):
         """Of four processes at once, with AddressSanitizer and UBSan in the display: no report, and it answers afterwards."""

@@ -200,6 +200,13 @@ static int send_at_last(struct sent *sent, int fd, bool is_callers)
     }
 }
 
+static void close_other(struct sent *sent)
+{
+    if (sent->other >= 0)
+        close(sent->other);
+    sent->other = -1;
+}
+
 /* Sends a packet on a descriptor of the caller's, or on a socket of the front end, and takes the
  * answer. Returns 0, or a negative errno if there is none. */
 static int exchange(struct sent *sent, int fd, bool is_callers, struct answer *answer)
@@ -219,16 +226,17 @@ static int exchange(struct sent *sent, int fd, bool is_callers, struct answer *a
     failed = send_at_last(sent, fd, is_callers);
     if (failed)
         return failed;
+    /* the display alone has the other end from now on, so that its end is seen */
+    close_other(sent);
     failed = take_answer(channel, answer);
     channel->number = answer->reply.channel;
     return failed;
 }
 
 /* A socket that the display doesn't have is of no use. */
-static void end_sent(const struct sent *sent)
+static void end_sent(struct sent *sent)
 {
-    if (sent->other >= 0)
-        close(sent->other);
+    close_other(sent);
     if (sent->aside >= 0)
         close(sent->aside);
     if (sent->channel->number == 0)
@@ -244,7 +252,7 @@ static int begin_packet(struct sent *sent, const struct ask *ask)
     return sent->channel == NULL ? -errno : 0;
 }
 
-static void end_packet(const struct sent *sent)
+static void end_packet(struct sent *sent)
 {
     end_sent(sent);
     channel_let(sent->channel);
