@@ -6,6 +6,7 @@
 #include <poll.h>
 #include <pthread.h>
 #include <signal.h>
+#include <stdatomic.h>
 #include <stdbool.h>
 #include <stdint.h>
 #include <stdio.h>
@@ -529,7 +530,7 @@ static void next_master(void)
     printf("busy after a close %d of 500\n", failed);
 }
 
-static int handled = -1;
+static volatile sig_atomic_t handled = -1;
 
 static void on_alarm(int number)
 {
@@ -542,8 +543,7 @@ static void on_alarm(int number)
 static void handler(void)
 {
     struct sigaction action = {.sa_handler = on_alarm};
-    int round, fd = opened();
-    uint64_t value;
+    int round;
 
     sigaction(SIGUSR1, &action, NULL);
     fflush(stdout);
@@ -557,8 +557,12 @@ static void handler(void)
                 kill(self, SIGUSR1);
             _exit(0);
         }
-        while (handled >= 0)
-            drmGetCap(fd, DRM_CAP_DUMB_BUFFER, &value);
+        /* the handler interrupts an allocation */
+        while (handled >= 0) {
+            void *volatile memory = malloc((size_t)(2000 + rand() % 100000));
+
+            free(memory);
+        }
         waitpid(child, NULL, 0);
     }
     printf("closed in a handler 500 times\n");
@@ -594,38 +598,44 @@ static void limit(void)
     printf("gem close %s\n", said(drmIoctl(fd, DRM_IOCTL_GEM_CLOSE, &closing)));
 }
 
+static atomic_bool is_over;
+
 static void *asks(void *given)
 {
     uint64_t value;
-    int round;
 
-    for (round = 0; round < 3000; round++)
+    while (!is_over)
         drmGetCap(*(int *)given, DRM_CAP_DUMB_BUFFER, &value);
     return NULL;
 }
 
+/* A child that was forked during a call of another thread closes the last descriptor. */
 static void forked(void)
 {
-    int fd = opened(), round;
-    pthread_t thread;
+    int round;
 
     fflush(stdout);
-    pthread_create(&thread, NULL, asks, &fd);
-    for (round = 0; round < 100; round++) {
-        pid_t child = fork();
+    for (round = 0; round < 20; round++) {
+        int fd = opened();
+        pthread_t thread;
+        pid_t child;
 
+        is_over = false;
+        pthread_create(&thread, NULL, asks, &fd);
+        usleep(5000);
+        child = fork();
         if (child == 0) {
-            uint64_t value;
-
             alarm(5);
-            drmGetCap(fd, DRM_CAP_DUMB_BUFFER, &value);
+            usleep(50000);
             close(fd);
             _exit(0);
         }
+        is_over = true;
+        pthread_join(thread, NULL);
+        close(fd);
         wait_for(child);
     }
-    pthread_join(thread, NULL);
-    printf("children that closed during another thread's calls 100\n");
+    printf("children that closed 20\n");
 }
 
 static void room(void)

@@ -221,7 +221,7 @@ drop by the opener: done
         finds("handler", "closed in a handler 500 times\n")
 
     def test_child_that_closes_during_another_threads_calls(self):
-        finds("forked", "children that closed during another thread's calls 100\n")
+        finds("forked", "children that closed 20\n")
 
     def test_requests_at_the_limit_of_descriptors(self):
         """An export needs one. All else works, also in a thread that asks for the first time."""
