@@ -5,6 +5,7 @@ Each test is a function of a folder of its own. The last line is `N passed, M fa
 its headers, or no such program, a test is skipped, and told so. Standard library only.
 """
 import contextlib
+import json
 import os
 import pathlib
 import re
@@ -100,6 +101,13 @@ SWAY = f"""\
 xwayland disable
 exec weston-presentation-shm > frames
 exec sleep {SHOWING} && swaymsg exit
+"""
+
+
+SWAY_OF_ANOTHER_MODE = """\
+xwayland disable
+output * mode 1024x768
+exec sleep 4 && drm_info -j > seen && swaymsg exit
 """
 
 
@@ -490,6 +498,17 @@ handles 8
             ran = ran_by("sway", "-c", own / "config")
         expect("status", ran.returncode, 0)
         expect("that frames are shown", (own / "frames").read_text("utf-8").count("\n") > SHOWING, True)
+
+    def test_drm_info_beside_sway_tells_its_mode(self):
+        """Which is not the preferred one."""
+        for name in ("sway", "swaymsg", "drm_info"):
+            want_program(name)
+        with compositor(self.folder) as (own, ran_by):
+            (own / "config").write_text(SWAY_OF_ANOTHER_MODE, "utf-8")
+            ran = ran_by("sway", "-c", own / "config")
+        expect("status", ran.returncode, 0)
+        seen = json.loads((own / "seen").read_text("utf-8"))["/dev/dri/card0"]
+        expect("modes", [crtc["mode"]["name"] for crtc in seen["crtcs"]], ["1024x768", "1024x768"])
 
     def test_tinywl_lights_its_outputs(self):
         """The compositor that wlroots' source has, which no package has: it is looked for in PATH."""
