@@ -71,15 +71,6 @@ pub fn parts_of(line: &[u8]) -> (&[u8], Option<&[u8]>)
 
 /// Returns the script part of a line: the text before its first ` -> `, or the whole of a comment (own). Does not
 /// allocate.
-///
-/// # Examples
-///
-/// ```rust
-/// use drm_checks::script_of;
-///
-/// let script = script_of(b"open a card -> client 1");
-/// assert!(rt; script == b"open a card".as_slice());
-/// ```
 pub fn script_of(line: &[u8]) -> &[u8]
     ensures { result.now ≡ script_part line.now }
 {

@@ -37,14 +37,6 @@ impl Totals {
     ghost use Rattle.drm_checks.specs.Totals.{added, no_files};
 
     /// Returns the totals of no files. Does not allocate.
-    ///
-    /// # Examples
-    ///
-    /// ```rust
-    /// use drm_checks::Totals;
-    ///
-    /// assert!(rt; Totals::new().failed == 0);
-    /// ```
     pub fn new() -> Totals
         ensures { result ≡ no_files }
     {
@@ -56,17 +48,6 @@ impl Totals {
     }
 
     /// Returns the totals with one more file. No count exceeds 2^64 - 1. Does not allocate.
-    ///
-    /// # Examples
-    ///
-    /// ```rust
-    /// use drm_checks::{Report, Totals};
-    /// use drm_runs::ScriptEnd;
-    ///
-    /// let report = Report { end: ScriptEnd::Done, passed: 2, failed: 1 };
-    /// let totals = Totals::new().add(&report);
-    /// assert!(rt; totals.passed == 2 && totals.failed == 1);
-    /// ```
     pub fn add(self, report: &Report) -> Totals
         ensures { result ≡ added self report.now }
     {
@@ -85,19 +66,6 @@ impl Totals {
 /// Writes `N passed, M failed`. Each expectation, and each file without an expectation, counts once. Does not allocate.
 ///
 /// It makes at most `turns` calls of the sink and subtracts them.
-///
-/// # Examples
-///
-/// ```rust
-/// use drm_checks::{Totals, write_totals};
-/// use drm_streams::ToWrite;
-///
-/// let alloc = rt.alloc();
-/// let mut turns = 1000;
-/// let mut sink = ToWrite::new(Vec::new(alloc));
-/// write_totals(&Totals::new(), &mut sink, &mut turns);
-/// assert!(rt; sink.into_inner().as_slice() == b"0 passed, 0 failed\n".as_slice());
-/// ```
 pub fn write_totals<K: Sink>(totals: &Totals, sink: &mut K, turns: &mut u64) -> Written
     requires { (K.trace sink.old).counts.calls + turns.old < 2 ^ 48 }
     ensures { WritesOut result (K.trace sink.old) (K.trace sink.new) (totals_text totals.now) turns.old turns.new }
@@ -112,19 +80,6 @@ pub fn write_totals<K: Sink>(totals: &Totals, sink: &mut K, turns: &mut u64) -> 
 /// Writes `NAME: no expected answers`. Does not allocate.
 ///
 /// It makes at most `turns` calls of the sink and subtracts them.
-///
-/// # Examples
-///
-/// ```rust
-/// use drm_checks::write_silent;
-/// use drm_streams::ToWrite;
-///
-/// let alloc = rt.alloc();
-/// let mut turns = 1000;
-/// let mut sink = ToWrite::new(Vec::new(alloc));
-/// write_silent("a.script", &mut sink, &mut turns);
-/// assert!(rt; sink.into_inner().as_slice() == b"a.script: no expected answers\n".as_slice());
-/// ```
 pub fn write_silent<K: Sink>(name: &str, sink: &mut K, turns: &mut u64) -> Written
     requires { (K.trace sink.old).counts.calls + turns.old < 2 ^ 48 }
     ensures { WritesOut result (K.trace sink.old) (K.trace sink.new) (silent_text name.now) turns.old turns.new }
@@ -135,19 +90,6 @@ pub fn write_silent<K: Sink>(name: &str, sink: &mut K, turns: &mut u64) -> Writt
 /// Writes `NAME:N: malformed` for line `number`, from 1. Does not allocate.
 ///
 /// It makes at most `turns` calls of the sink and subtracts them.
-///
-/// # Examples
-///
-/// ```rust
-/// use drm_checks::write_malformed;
-/// use drm_streams::ToWrite;
-///
-/// let alloc = rt.alloc();
-/// let mut turns = 1000;
-/// let mut sink = ToWrite::new(Vec::new(alloc));
-/// write_malformed("a.script", 2, &mut sink, &mut turns);
-/// assert!(rt; sink.into_inner().as_slice() == b"a.script:2: malformed\n".as_slice());
-/// ```
 pub fn write_malformed<K: Sink>(name: &str, number: u64, sink: &mut K, turns: &mut u64) -> Written
     requires { (K.trace sink.old).counts.calls + turns.old < 2 ^ 48 }
     ensures { WritesOut result (K.trace sink.old) (K.trace sink.new) (malformed_text name.now number) turns.old turns.new }

@@ -54,19 +54,6 @@ impl From<AllocError> for UpdateFault {
 ///
 /// - `Malformed` if the line can't be used, with its number and the cause. The interpreter is unchanged.
 /// - `NoMemory` if memory for the device is refused. No later line creates one.
-///
-/// # Examples
-///
-/// ```rust
-/// use drm_checks::use_line;
-/// use drm_runs::{Interpreter, Setup};
-/// use drm_table::Answer;
-///
-/// let alloc = rt.alloc();
-/// let mut interpreter = Interpreter::new(Setup::usual());
-/// let Ok(came) = use_line(&mut interpreter, alloc, 1, b"open a card -> done") else { return };
-/// assert!(rt; came == Some(Ok(Answer::Opened { client: 1 })));
-/// ```
 pub fn use_line(
     interpreter: &mut Interpreter,
     alloc: Global,
@@ -111,18 +98,6 @@ fn put_line(updated: &mut Vec<u8>, line: &[u8]) -> Result<(), AllocError>
 /// # Errors
 ///
 /// `AllocError` if memory is refused. `updated` may then end with a part of the line.
-///
-/// # Examples
-///
-/// ```rust
-/// use drm_checks::put_answered;
-/// use drm_table::Answer;
-///
-/// let alloc = rt.alloc();
-/// let mut text = Vec::new(alloc);
-/// let Ok(_put) = put_answered(&mut text, b"close a", &Ok(Answer::Closed)) else { return };
-/// assert!(rt; text.as_slice() == b"close a -> closed\n".as_slice());
-/// ```
 pub fn put_answered(
     updated: &mut Vec<u8>,
     script: &[u8],

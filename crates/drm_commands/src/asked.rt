@@ -1,15 +1,6 @@
 //! The arguments of the commands.
 
 /// The device that the command line describes (own).
-///
-/// # Examples
-///
-/// ```rust
-/// use drm_commands::AskedDevice;
-///
-/// let device = AskedDevice { topology: None, limits: Some("4 8 8 8 8 4 4 50") };
-/// assert!(rt; device.topology.is_none());
-/// ```
 #[derive(Clone, Copy, Debug, PartialEq, Eq)]
 pub struct AskedDevice<'a> {
     /// The file of its topology. By default it has the test topology.
@@ -19,16 +10,6 @@ pub struct AskedDevice<'a> {
 }
 
 /// The arguments of `drm_server run` (own).
-///
-/// # Examples
-///
-/// ```rust
-/// use drm_commands::{AskedDevice, Running};
-///
-/// let device = AskedDevice { topology: None, limits: None };
-/// let running = Running { path: None, device, journal: None };
-/// assert!(rt; running.journal.is_none());
-/// ```
 #[derive(Clone, Copy, Debug, PartialEq, Eq)]
 pub struct Running<'a> {
     /// The file of the script, or `None` for standard input.
@@ -40,17 +21,6 @@ pub struct Running<'a> {
 }
 
 /// The arguments of `drm_server check` and `drm_server update` (own).
-///
-/// # Examples
-///
-/// ```rust
-/// use drm_commands::{AskedDevice, Checking};
-///
-/// let alloc = rt.alloc();
-/// let device = AskedDevice { topology: None, limits: None };
-/// let checking = Checking { files: Vec::new(alloc), device };
-/// assert!(rt; checking.files.is_empty());
-/// ```
 #[derive(Debug, PartialEq, Eq, Drop)]
 pub struct Checking<'a> {
     /// The files.
@@ -60,22 +30,6 @@ pub struct Checking<'a> {
 }
 
 /// The arguments of `drm_server explain` (own).
-///
-/// # Examples
-///
-/// ```rust
-/// use drm_commands::{AskedDevice, Explaining};
-///
-/// let device = AskedDevice { topology: None, limits: None };
-/// let explaining = Explaining {
-///     path: "/dev/null",
-///     device,
-///     client: Some("a"),
-///     line: None,
-///     is_json: false,
-/// };
-/// assert!(rt; explaining.line.is_none());
-/// ```
 #[derive(Clone, Copy, Debug, PartialEq, Eq)]
 pub struct Explaining<'a> {
     /// The file of the script.
@@ -91,16 +45,6 @@ pub struct Explaining<'a> {
 }
 
 /// The arguments of `drm_server shrink` (own).
-///
-/// # Examples
-///
-/// ```rust
-/// use drm_commands::{AskedDevice, Shrinking};
-///
-/// let device = AskedDevice { topology: None, limits: None };
-/// let shrinking = Shrinking { path: "/dev/null", device, line: 1 };
-/// assert!(rt; shrinking.line == 1);
-/// ```
 #[derive(Clone, Copy, Debug, PartialEq, Eq)]
 pub struct Shrinking<'a> {
     /// The file of the script.

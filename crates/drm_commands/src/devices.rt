@@ -89,16 +89,6 @@ pub struct TopologyText<'a> {
 /// - `Fault::Read` if the file can't be read.
 ///
 /// Both are logged.
-///
-/// # Examples
-///
-/// ```rust
-/// use drm_commands::{AskedDevice, read_asked};
-///
-/// let device = AskedDevice { topology: Some("/dev/null"), limits: None };
-/// let Ok(text) = read_asked(&rt, device) else { return };
-/// assert!(rt; text.is_some());
-/// ```
 pub fn read_asked<'a, R: Files + AllocGlobal + Log>(
     rt: &R,
     asked: AskedDevice<'a>,
@@ -153,17 +143,6 @@ pub(crate) fn asked_setup<R: Log>(
 ///
 /// - `Fault::ScriptLine`, which is logged, if a line of the topology can't be used.
 /// - `Fault::Memory` if memory is refused.
-///
-/// # Examples
-///
-/// ```rust
-/// use drm_commands::asked_device;
-/// use drm_device::Limits;
-///
-/// let alloc = rt.alloc();
-/// let Ok(device) = asked_device(&rt, alloc, None, Limits::PROGRAM) else { return };
-/// assert!(rt; device.journal().is_empty());
-/// ```
 pub fn asked_device<R: Log>(
     rt: &R,
     alloc: Global,

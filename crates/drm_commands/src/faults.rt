@@ -16,15 +16,6 @@ use std::marker::Model;
 const LINE: usize = 64;
 
 /// The reason the program ends with a status other than 0 (own).
-///
-/// # Examples
-///
-/// ```rust
-/// use drm_commands::Fault;
-///
-/// let fault = Fault::ScriptLine(3);
-/// assert!(rt; fault.status() == 2);
-/// ```
 #[derive(Clone, Copy, Debug, PartialEq, Eq)]
 pub enum Fault {
     /// The line with this number, from 1, is malformed.
@@ -52,15 +43,6 @@ pub enum Fault {
 }
 
 /// The line of a fault, without a line end (own). Empty if there is no fault.
-///
-/// # Examples
-///
-/// ```rust
-/// use drm_commands::Fault;
-///
-/// let line = Fault::Read.line();
-/// assert!(rt; line.as_str() == "fault: read");
-/// ```
 #[derive(Drop)]
 pub struct FaultLine {
     text: ArrayString<LINE>,
@@ -78,14 +60,6 @@ impl FaultLine {
     ghost use Rattle.std.specs.Prelude.{◌≡◌, []};
 
     /// Returns the line of no fault. Does not allocate.
-    ///
-    /// # Examples
-    ///
-    /// ```rust
-    /// use drm_commands::FaultLine;
-    ///
-    /// assert!(rt; FaultLine::empty().as_str().is_empty());
-    /// ```
     pub fn empty() -> FaultLine
         ensures { result ≡ [] }
     {
@@ -95,15 +69,6 @@ impl FaultLine {
     }
 
     /// Returns the text of the line. Does not allocate.
-    ///
-    /// # Examples
-    ///
-    /// ```rust
-    /// use drm_commands::Fault;
-    ///
-    /// let line = Fault::Turns.line();
-    /// assert!(rt; line.as_str() == "fault: turns");
-    /// ```
     pub fn as_str(&self) -> &str
         ensures { result.now ≡ self.now }
     {
@@ -145,14 +110,6 @@ fn push_words(text: &mut ArrayString<LINE>, fault: Fault)
 impl Fault {
     /// Returns the exit status: 1 for a fault outside, 2 for a malformed script, 3 for a refused command line. Does not
     /// allocate.
-    ///
-    /// # Examples
-    ///
-    /// ```rust
-    /// use drm_commands::Fault;
-    ///
-    /// assert!(rt; Fault::CommandLine.status() == 3);
-    /// ```
     pub fn status(self) -> u8
         ensures { result ≡ faults.fault_status self }
     {
@@ -165,14 +122,6 @@ impl Fault {
     }
 
     /// Returns the line of the fault: `fault: ` and its words. Does not allocate.
-    ///
-    /// # Examples
-    ///
-    /// ```rust
-    /// use drm_commands::Fault;
-    ///
-    /// assert!(rt; Fault::ScriptLine(3).line().as_str() == "fault: script line 3");
-    /// ```
     pub fn line(self) -> FaultLine
         ensures { result ≡ faults.fault_line self }
     {

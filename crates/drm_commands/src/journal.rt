@@ -48,44 +48,17 @@ pub struct JournalFile<'a, F: Drop> {
 
 impl<'a, F: Drop> JournalFile<'a, F> {
     /// Returns the path.
-    ///
-    /// # Examples
-    ///
-    /// ```rust
-    /// use drm_commands::create_trace;
-    ///
-    /// let Ok(file) = create_trace(&rt, "/dev/null", None, None) else { return };
-    /// assert!(rt; file.path() == "/dev/null");
-    /// ```
     pub fn path(&self) -> &'a str {
         self.path
     }
 
     /// Returns the open file.
-    ///
-    /// # Examples
-    ///
-    /// ```rust
-    /// use drm_commands::create_trace;
-    ///
-    /// let Ok(named) = create_trace(&rt, "/dev/null", None, None) else { return };
-    /// let file = named.file();
-    /// ```
     pub fn file(&self) -> &F {
         &self.file
     }
 }
 
 /// The files that a journal must not replace (own).
-///
-/// # Examples
-///
-/// ```rust
-/// use drm_commands::FilesRead;
-///
-/// let read = FilesRead { topology: None, script: Some("a.script") };
-/// assert!(rt; read.topology.is_none());
-/// ```
 #[derive(Clone, Copy, Debug, PartialEq, Eq)]
 pub struct FilesRead<'a> {
     /// The file of the topology.
@@ -134,15 +107,6 @@ pub(crate) fn create_journal<'a, R: Files + Log>(
 /// - `Fault::Write` if it can't be created.
 ///
 /// Both are logged.
-///
-/// # Examples
-///
-/// ```rust
-/// use drm_commands::create_trace;
-///
-/// let Ok(trace) = create_trace(&rt, "/dev/null", None, None) else { return };
-/// assert!(rt; trace.path() == "/dev/null");
-/// ```
 pub fn create_trace<'a, R: Files + Log>(
     rt: &R,
     path: &'a str,
@@ -165,16 +129,6 @@ pub fn create_trace<'a, R: Files + Log>(
 /// - `Fault::Write` if it can't be created.
 ///
 /// Both are logged.
-///
-/// # Examples
-///
-/// ```rust
-/// use drm_commands::{FilesRead, create_asked};
-///
-/// let read = FilesRead { topology: None, script: None };
-/// let Ok(journal) = create_asked(&rt, None, read) else { return };
-/// assert!(rt; journal.is_none());
-/// ```
 pub fn create_asked<'a, R: Files + Log>(
     rt: &R,
     path: Option<&'a str>,
@@ -242,19 +196,6 @@ fn compare<R: Files + AllocGlobal + Log>(
 /// - `Fault::Write`, which is logged, if the file can't be written.
 /// - `Fault::Memory` if memory is refused.
 /// - The faults of `asked_device`.
-///
-/// # Examples
-///
-/// ```rust
-/// use drm_commands::{FilesRead, create_asked, write_noted};
-/// use drm_device::Limits;
-///
-/// let alloc = rt.alloc();
-/// let read = FilesRead { topology: None, script: None };
-/// let Ok(journal) = create_asked(&rt, None, read) else { return };
-/// let written = write_noted(&rt, alloc, journal, None, Limits::PROGRAM, &[]);
-/// assert!(rt; written.is_ok());
-/// ```
 pub fn write_noted<R: Files + AllocGlobal + Log>(
     rt: &R,
     alloc: Global,
@@ -282,19 +223,6 @@ pub fn write_noted<R: Files + AllocGlobal + Log>(
 ///
 /// - `Fault::Write` if the file differs. The first line that does is logged.
 /// - `Fault::Read`, which is logged, if the file can't be read.
-///
-/// # Examples
-///
-/// ```rust
-/// use drm_commands::{FilesRead, complete_journal, create_asked};
-/// use drm_device::Limits;
-///
-/// let alloc = rt.alloc();
-/// let read = FilesRead { topology: None, script: None };
-/// let Ok(Some(journal)) = create_asked(&rt, Some("/dev/null"), read) else { return };
-/// let written = complete_journal(&rt, alloc, journal, None, Limits::PROGRAM, &[], 4);
-/// assert!(rt; written.is_ok());
-/// ```
 pub fn complete_journal<R: Files + AllocGlobal + Log>(
     rt: &R,
     alloc: Global,

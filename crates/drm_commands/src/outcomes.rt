@@ -60,15 +60,6 @@ pub fn outcome_of_fault(fault: Fault) -> Outcome
 }
 
 /// Returns the outcome for this fault, or status 0 and no line if there is none (own). Does not allocate.
-///
-/// # Examples
-///
-/// ```rust
-/// use drm_commands::outcome_by;
-///
-/// let outcome = outcome_by(None);
-/// assert!(rt; outcome.status == 0 && outcome.line.as_str().is_empty());
-/// ```
 pub fn outcome_by(fault: Option<Fault>) -> Outcome
     ensures status { result.status ≡ status_by fault }
     ensures line { result.line ≡ line_by fault }

@@ -53,17 +53,6 @@ fn update_files<R: Files + AllocGlobal + Log>(
 
 /// Updates each file, up to the first that can't be updated, and returns the outcome of the program (own). That file
 /// and the later ones are unchanged. Allocates the devices and the texts.
-///
-/// # Examples
-///
-/// ```rust
-/// use drm_commands::{AskedDevice, Checking, update};
-///
-/// let alloc = rt.alloc();
-/// let device = AskedDevice { topology: None, limits: None };
-/// let checking = Checking { files: Vec::new(alloc), device };
-/// assert!(rt; update(&rt, alloc, &checking).status == 0);
-/// ```
 pub fn update<R: Files + AllocGlobal + Log>(
     rt: &R,
     alloc: Global,

@@ -29,10 +29,14 @@ use std::marker::Model;
 ///
 /// ```rust
 /// use drm_device::{Device, Limits, Topology};
+/// use drm_table::{Answer, Call, Event, Opening};
 ///
 /// let alloc = rt.alloc();
 /// let Some(topology) = Topology::new(2, &[1, 2], &[3, 2], &[5, 6]) else { return };
 /// let Ok(mut device) = Device::new(alloc, topology, Limits::PROGRAM) else { return };
+/// let opening = Opening::Primary { root: false, universal: true };
+/// assert!(rt; device.step(Event::Open(opening)) == Ok(Answer::Opened { client: 1 }));
+/// assert!(rt; device.step(Event::Ask(1, Call::SetMaster)) == Ok(Answer::Done));
 /// ```
 pub struct Device {
     limits: Limits,
@@ -89,17 +93,6 @@ pub enum NewFault {
 impl Device {
     /// Returns a device that no client has opened yet. The whole journal is reserved. Without memory, or where a limit
     /// is out of its range, there is no device.
-    ///
-    /// # Examples
-    ///
-    /// ```rust
-    /// use drm_device::{Device, Limits, Topology};
-    ///
-    /// let alloc = rt.alloc();
-    /// let Some(topology) = Topology::new(2, &[1, 2], &[3, 2], &[5, 6]) else { return };
-    /// let Ok(mut device) = Device::new(alloc, topology, Limits::PROGRAM) else { return };
-    /// assert!(rt; device.journal().is_empty());
-    /// ```
     pub fn new(alloc: Global, topology: Topology, limits: Limits) -> Result<Device, NewFault>
         ensures ok { IfOk result (λ device. device ≡ record { topology = topology; limits = limits; journal = [] }) }
         ensures bad_limits { (result ≡ Err NewFault.BadLimits) ↔ (are_in_range limits ≡ false) }
@@ -132,20 +125,6 @@ impl Device {
     /// Answers one event. A denial is an answer: it names the first rule that fails, and is recorded. A fault, for a
     /// full journal (own) or refused memory, leaves the device unchanged and isn't recorded. The lists of an answer
     /// have at most 251 ids together, which one frame takes.
-    ///
-    /// # Examples
-    ///
-    /// ```rust
-    /// use drm_device::{Device, Limits, Topology};
-    /// use drm_table::{Answer, Call, Event, Opening};
-    ///
-    /// let alloc = rt.alloc();
-    /// let Some(topology) = Topology::new(2, &[1, 2], &[3, 2], &[5, 6]) else { return };
-    /// let Ok(mut device) = Device::new(alloc, topology, Limits::PROGRAM) else { return };
-    /// let opening = Opening::Primary { root: false, universal: true };
-    /// assert!(rt; device.step(Event::Open(opening)) == Ok(Answer::Opened { client: 1 }));
-    /// assert!(rt; device.step(Event::Ask(1, Call::SetMaster)) == Ok(Answer::Done));
-    /// ```
     pub fn step(&mut self, event: Event) -> Result<Answer, Apart>
         ensures step { Step (rows_of self.old) event result (rows_of self.new) }
         ensures few { FitsOneFrame result }
@@ -163,23 +142,6 @@ impl Device {
 
     /// Answers one event as [`step`](Device::step) does, and writes what resulted from it to a place of the caller's,
     /// so that an answer is moved less.
-    ///
-    /// # Examples
-    ///
-    /// ```rust
-    /// use drm_device::{Device, Limits, Topology};
-    /// use drm_table::{Answer, Call, Event, Opening};
-    ///
-    /// let alloc = rt.alloc();
-    /// let Some(topology) = Topology::new(2, &[1, 2], &[3, 2], &[5, 6]) else { return };
-    /// let Ok(mut device) = Device::new(alloc, topology, Limits::PROGRAM) else { return };
-    /// let opening = Opening::Primary { root: false, universal: true };
-    /// assert!(rt; device.step(Event::Open(opening)) == Ok(Answer::Opened { client: 1 }));
-    /// assert!(rt; device.step(Event::Ask(1, Call::SetMaster)) == Ok(Answer::Done));
-    /// let mut outcome = Ok(Answer::Done);
-    /// device.step_at(&Event::Ask(1, Call::Version), &mut outcome);
-    /// assert!(rt; outcome == Ok(Answer::Version { major: 1, minor: 0, patch: 0 }));
-    /// ```
     pub fn step_at(&mut self, event: &Event, outcome: &mut Result<Answer, Apart>)
         ensures step { Step (rows_of self.old) event.now outcome.new (rows_of self.new) }
         ensures few { FitsOneFrame outcome.new }
@@ -317,23 +279,6 @@ impl Device {
     }
 
     /// Returns the events that were carried out or denied, the oldest first.
-    ///
-    /// # Examples
-    ///
-    /// ```rust
-    /// use drm_device::{Device, Limits, Topology};
-    /// use drm_table::{Answer, Call, Event, Opening};
-    ///
-    /// let alloc = rt.alloc();
-    /// let Some(topology) = Topology::new(2, &[1, 2], &[3, 2], &[5, 6]) else { return };
-    /// let Ok(mut device) = Device::new(alloc, topology, Limits::PROGRAM) else { return };
-    /// let opening = Opening::Primary { root: false, universal: true };
-    /// assert!(rt; device.step(Event::Open(opening)) == Ok(Answer::Opened { client: 1 }));
-    /// assert!(rt; device.step(Event::Ask(1, Call::SetMaster)) == Ok(Answer::Done));
-    /// let mut outcome = Ok(Answer::Done);
-    /// device.step_at(&Event::Ask(1, Call::Version), &mut outcome);
-    /// assert!(rt; device.journal() == [Event::Open(opening), Event::Ask(1, Call::SetMaster), Event::Ask(1, Call::Version)].as_slice());
-    /// ```
     pub fn journal(&self) -> &[Event]
         ensures events { result.now ≡ self.now.journal }
         ensures found_room { FoundRoom (start_of self.now) self.now.journal }
@@ -344,23 +289,6 @@ impl Device {
     }
 
     /// Returns up to 16 rows of a kind, after the first `from`, in the order of their numbers (own). Does not allocate.
-    ///
-    /// # Examples
-    ///
-    /// ```rust
-    /// use drm_device::{Device, Limits, Topology};
-    /// use drm_table::{Answer, AuditKind, Call, Event, Opening};
-    ///
-    /// let alloc = rt.alloc();
-    /// let Some(topology) = Topology::new(2, &[1, 2], &[3, 2], &[5, 6]) else { return };
-    /// let Ok(mut device) = Device::new(alloc, topology, Limits::PROGRAM) else { return };
-    /// let opening = Opening::Primary { root: false, universal: true };
-    /// assert!(rt; device.step(Event::Open(opening)) == Ok(Answer::Opened { client: 1 }));
-    /// assert!(rt; device.step(Event::Ask(1, Call::SetMaster)) == Ok(Answer::Done));
-    /// let mut outcome = Ok(Answer::Done);
-    /// device.step_at(&Event::Ask(1, Call::Version), &mut outcome);
-    /// assert!(rt; device.audit(AuditKind::Client, 0).rows().len() == 1);
-    /// ```
     pub fn audit(&self, kind: AuditKind, from: u32) -> AuditPage
         ensures page { result ≡ audit_page (rows_of self.now) kind from }
         ensures few { length (rising_rows (audit_rows (rows_of self.now) kind)) < 2 ^ 31 }
@@ -370,23 +298,6 @@ impl Device {
 
     /// Returns the number of steps for which the journal has room, without the room that is reserved for the closings
     /// of the open clients.
-    ///
-    /// # Examples
-    ///
-    /// ```rust
-    /// use drm_device::{Device, Limits, Topology};
-    /// use drm_table::{Answer, Call, Event, Opening};
-    ///
-    /// let alloc = rt.alloc();
-    /// let Some(topology) = Topology::new(2, &[1, 2], &[3, 2], &[5, 6]) else { return };
-    /// let Ok(mut device) = Device::new(alloc, topology, Limits::PROGRAM) else { return };
-    /// let opening = Opening::Primary { root: false, universal: true };
-    /// assert!(rt; device.step(Event::Open(opening)) == Ok(Answer::Opened { client: 1 }));
-    /// assert!(rt; device.step(Event::Ask(1, Call::SetMaster)) == Ok(Answer::Done));
-    /// let mut outcome = Ok(Answer::Done);
-    /// device.step_at(&Event::Ask(1, Call::Version), &mut outcome);
-    /// assert!(rt; device.journal_left() < Limits::PROGRAM.journal);
-    /// ```
     pub fn journal_left(&self) -> u32
         ensures left { result + length self.now.journal + length (rows_of self.now).clients ≡ self.now.limits.journal }
     {

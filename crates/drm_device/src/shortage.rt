@@ -23,15 +23,6 @@ pub struct Shortage {
 impl Shortage {
     /// Creates a shortage that ends with the event of this number among those that add a row. With 0 it is over. Does
     /// not allocate.
-    ///
-    /// # Examples
-    ///
-    /// ```rust
-    /// use drm_device::Shortage;
-    ///
-    /// let none = Shortage::new(0);
-    /// assert!(rt; none.left() == 0);
-    /// ```
     pub const fn new(left: u64) -> Shortage {
         Shortage {
             left: AtomicU64::new(left),
@@ -40,30 +31,11 @@ impl Shortage {
 
     /// Returns the number of events that are left, with the one to which memory is refused. It is 0 if the shortage is
     /// over.
-    ///
-    /// # Examples
-    ///
-    /// ```rust
-    /// use drm_device::Shortage;
-    ///
-    /// let shortage = Shortage::new(7);
-    /// assert!(rt; shortage.left() == 7);
-    /// ```
     pub fn left(&self) -> u64 {
         self.left.load(Ordering::SeqCst)
     }
 
     /// Makes the shortage begin anew with this number of events. With 0 it is over.
-    ///
-    /// # Examples
-    ///
-    /// ```rust
-    /// use drm_device::Shortage;
-    ///
-    /// let shortage = Shortage::new(7);
-    /// shortage.set(0);
-    /// assert!(rt; shortage.left() == 0);
-    /// ```
     pub fn set(&self, left: u64) {
         self.left.store(left, Ordering::SeqCst);
     }

@@ -33,25 +33,6 @@ fn owner_since(ledger: &Ledger) -> Option<At>
 /// # Errors
 ///
 /// `AllocError` if memory is refused. There is then no explanation.
-///
-/// # Examples
-///
-/// ```rust
-/// use drm_explanations::explain;
-/// use drm_modes::Topology;
-/// use drm_rights::{Ledger, Step};
-/// use drm_table::{Answer, Event, Opening};
-///
-/// let alloc = rt.alloc();
-/// let answer = Answer::Opened { client: 1 };
-/// let opened = Step { event: Event::Open(Opening::Render), answer };
-/// let Ok(ledger) = Ledger::new(alloc).note(opened) else { return };
-/// let Some(topology) = Topology::new(2, &[1, 2], &[3, 2], &[5, 6]) else { return };
-/// let mut labels = [0; 26];
-/// labels[0] = 1;
-/// let Ok(explanation) = explain(alloc, &ledger, &topology, &labels, None) else { return };
-/// assert!(rt; explanation.clients.len() == 1 && explanation.leases.is_empty());
-/// ```
 pub fn explain(
     alloc: Global,
     ledger: &Ledger,
@@ -90,25 +71,6 @@ impl Explanation {
     ghost use Rattle.drm_explanations.specs.Rows as rows;
 
     /// Returns the row of a client, or `None` if it was never opened. Does not allocate.
-    ///
-    /// # Examples
-    ///
-    /// ```rust
-    /// use drm_explanations::explain;
-    /// use drm_modes::Topology;
-    /// use drm_rights::{Ledger, Step};
-    /// use drm_table::{Answer, Event, Opening};
-    ///
-    /// let alloc = rt.alloc();
-    /// let answer = Answer::Opened { client: 1 };
-    /// let opened = Step { event: Event::Open(Opening::Render), answer };
-    /// let Ok(ledger) = Ledger::new(alloc).note(opened) else { return };
-    /// let Some(topology) = Topology::new(2, &[1, 2], &[3, 2], &[5, 6]) else { return };
-    /// let mut labels = [0; 26];
-    /// labels[0] = 1;
-    /// let Ok(explanation) = explain(alloc, &ledger, &topology, &labels, None) else { return };
-    /// assert!(rt; explanation.client(1).is_some() && explanation.client(2).is_none());
-    /// ```
     pub fn client(&self, client: u64) -> Option<&ClientRow>
         ensures { option_copied result ≡ find (λ row. row.client == client) self.now.clients.items }
     {
@@ -116,25 +78,6 @@ impl Explanation {
     }
 
     /// Returns the lease of a lessee, or `None` if the master is no lessee. Does not allocate.
-    ///
-    /// # Examples
-    ///
-    /// ```rust
-    /// use drm_explanations::explain;
-    /// use drm_modes::Topology;
-    /// use drm_rights::{Ledger, Step};
-    /// use drm_table::{Answer, Event, Opening};
-    ///
-    /// let alloc = rt.alloc();
-    /// let answer = Answer::Opened { client: 1 };
-    /// let opened = Step { event: Event::Open(Opening::Render), answer };
-    /// let Ok(ledger) = Ledger::new(alloc).note(opened) else { return };
-    /// let Some(topology) = Topology::new(2, &[1, 2], &[3, 2], &[5, 6]) else { return };
-    /// let mut labels = [0; 26];
-    /// labels[0] = 1;
-    /// let Ok(explanation) = explain(alloc, &ledger, &topology, &labels, None) else { return };
-    /// assert!(rt; explanation.lease(1).is_none());
-    /// ```
     pub fn lease(&self, master: u64) -> Option<&LeaseRow>
         ensures { option_copied result ≡ find (λ row. row.master == master) self.now.leases.items }
     {

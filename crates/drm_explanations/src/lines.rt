@@ -81,15 +81,6 @@ pub fn lines_of(
 }
 
 /// The subject of a line of an explanation (own). Clients and masters are numbers of steps.
-///
-/// # Examples
-///
-/// ```rust
-/// use drm_explanations::Subject;
-///
-/// let subject = Subject::Client(1);
-/// assert!(rt; subject != Subject::Device);
-/// ```
 #[derive(Clone, Copy, PartialEq, Eq, Debug)]
 pub enum Subject {
     /// The device's master.

@@ -45,16 +45,6 @@ pub struct Name {
 
 impl Name {
     /// Returns the name of a client, with these labels. Does not allocate.
-    ///
-    /// # Examples
-    ///
-    /// ```rust
-    /// use drm_explanations::Name;
-    ///
-    /// let mut labels = [0; 26];
-    /// labels[0] = 1;
-    /// assert!(rt; Name::of(&labels, 1).label() == Some('a'));
-    /// ```
     pub fn of(labels: &Labels, client: u64) -> Name {
         Name {
             client,
@@ -63,16 +53,6 @@ impl Name {
     }
 
     /// Returns the label that names the client, or `None`. Does not allocate.
-    ///
-    /// # Examples
-    ///
-    /// ```rust
-    /// use drm_explanations::Name;
-    ///
-    /// let mut labels = [0; 26];
-    /// labels[0] = 1;
-    /// assert!(rt; Name::of(&labels, 2).label().is_none());
-    /// ```
     pub fn label(&self) -> Option<char> {
         self.label
     }

@@ -31,20 +31,6 @@ fn closes(step: &Step, client: u64) -> bool
 
 /// Returns the number of the step that closed a client, from 1, or `None` if the client is open. It is the first such
 /// step after the opening. Does not allocate.
-///
-/// # Examples
-///
-/// ```rust
-/// use drm_explanations::closed_at;
-/// use drm_rights::{Ledger, Step};
-/// use drm_table::{Answer, Event, Opening};
-///
-/// let alloc = rt.alloc();
-/// let answer = Answer::Opened { client: 1 };
-/// let opened = Step { event: Event::Open(Opening::Render), answer };
-/// let Ok(ledger) = Ledger::new(alloc).note(opened) else { return };
-/// assert!(rt; closed_at(ledger.steps(), 1).is_none());
-/// ```
 pub fn closed_at(steps: &[Step], client: u64) -> Option<u64>
     ensures step { result ≡ rows.closed_step (history_of steps.now) client }
     ensures closed { IfSome result (λ number. has_closed (history_of steps.now) client ≡ true) }

@@ -3,15 +3,6 @@
 use serde::Serialize;
 
 /// A step with its caller and its call, or with `open` or `close` (own).
-///
-/// # Examples
-///
-/// ```rust
-/// use drm_explanations::At;
-///
-/// let opened = At { step: 1, client: 1, call: "open" };
-/// assert!(rt; opened.call == "open");
-/// ```
 #[derive(Clone, Copy, PartialEq, Eq, Debug, Serialize)]
 pub struct At {
     /// The number of the step, from 1.
@@ -42,15 +33,6 @@ pub struct DeviceRow {
 }
 
 /// The kind of a client's opening (drm-uapi, render nodes; lease tokens are own).
-///
-/// # Examples
-///
-/// ```rust
-/// use drm_explanations::Node;
-///
-/// let node = Node::Render;
-/// assert!(rt; node != Node::Primary);
-/// ```
 #[derive(Clone, Copy, PartialEq, Eq, Debug, Serialize)]
 #[serde(rename_all = "snake_case")]
 pub enum Node {
@@ -60,15 +42,6 @@ pub enum Node {
 }
 
 /// The reason a client is authenticated (drm(7)).
-///
-/// # Examples
-///
-/// ```rust
-/// use drm_explanations::AuthenticatedBy;
-///
-/// let by = AuthenticatedBy::Root;
-/// assert!(rt; by != AuthenticatedBy::Master);
-/// ```
 #[derive(Clone, Copy, PartialEq, Eq, Debug, Serialize)]
 #[serde(rename_all = "snake_case")]
 pub enum AuthenticatedBy {
@@ -139,15 +112,6 @@ pub struct StandingRow {
 }
 
 /// The kind of key under which an object was published (drm-gem(7), drm-mm, drm-uapi).
-///
-/// # Examples
-///
-/// ```rust
-/// use drm_explanations::PublishedBy;
-///
-/// let published_by = PublishedBy::Name;
-/// assert!(rt; published_by != PublishedBy::Token);
-/// ```
 #[derive(Clone, Copy, PartialEq, Eq, Debug, Serialize)]
 #[serde(rename_all = "snake_case")]
 pub enum PublishedBy {

@@ -103,15 +103,6 @@ impl Model for Files {
 impl Files {
     /// Creates a table without clients. At most `clients` may be open at once, and each may have the handles from 1 to
     /// `handles`. Does not allocate.
-    ///
-    /// # Examples
-    ///
-    /// ```rust
-    /// use drm_files::Files;
-    ///
-    /// let alloc = rt.alloc();
-    /// assert!(rt; Files::new(alloc, 4, 100).len() == 0);
-    /// ```
     pub fn new(alloc: Global, clients: u32, handles: u32) -> Files
         requires { 1 ≤ handles }
         ensures { result ≡ empty_files clients handles }
@@ -130,17 +121,6 @@ impl Files {
     /// # Errors
     ///
     /// `Full` if the limit of clients is reached (own), `NoMemory` if memory is refused. The state is then unchanged.
-    ///
-    /// # Examples
-    ///
-    /// ```rust
-    /// use drm_files::Files;
-    ///
-    /// let alloc = rt.alloc();
-    /// let mut files = Files::new(alloc, 4, 100);
-    /// let Ok(()) = files.open(1, false, false, true) else { return };
-    /// assert!(rt; files.flags_of(1).is_some() && files.flags_of(2).is_none());
-    /// ```
     pub fn open(
         &mut self,
         client: u32,
@@ -175,19 +155,6 @@ impl Files {
 
     /// Closes an open client, and returns its handles with their objects, which the caller must release. Does not
     /// allocate.
-    ///
-    /// # Examples
-    ///
-    /// ```rust
-    /// use drm_files::Files;
-    ///
-    /// let alloc = rt.alloc();
-    /// let mut files = Files::new(alloc, 4, 100);
-    /// let Ok(()) = files.open(1, false, false, true) else { return };
-    /// let Ok(()) = files.open(2, true, false, false) else { return };
-    /// let mut rest = files.close(2);
-    /// assert!(rt; rest.take_next().is_none() && files.len() == 1);
-    /// ```
     pub fn close(&mut self, client: u32) -> FileRest
         requires open_client { is_open_client self.old client ≡ true }
         ensures rest { result ≡ left_by self.old client }
@@ -201,19 +168,6 @@ impl Files {
     }
 
     /// Returns the number of open clients.
-    ///
-    /// # Examples
-    ///
-    /// ```rust
-    /// use drm_files::Files;
-    ///
-    /// let alloc = rt.alloc();
-    /// let mut files = Files::new(alloc, 4, 100);
-    /// let Ok(()) = files.open(1, false, false, true) else { return };
-    /// let Ok(()) = files.open(2, true, false, false) else { return };
-    /// let mut rest = files.close(2);
-    /// assert!(rt; files.len() == 1);
-    /// ```
     pub fn len(&self) -> usize
         ensures { result ≡ length self.now.clients }
     {
@@ -221,19 +175,6 @@ impl Files {
     }
 
     /// Returns whether the limit of clients is reached.
-    ///
-    /// # Examples
-    ///
-    /// ```rust
-    /// use drm_files::Files;
-    ///
-    /// let alloc = rt.alloc();
-    /// let mut files = Files::new(alloc, 4, 100);
-    /// let Ok(()) = files.open(1, false, false, true) else { return };
-    /// let Ok(()) = files.open(2, true, false, false) else { return };
-    /// let mut rest = files.close(2);
-    /// assert!(rt; !files.is_full());
-    /// ```
     pub fn is_full(&self) -> bool
         ensures full { result ≡ nat_le self.now.limit (length self.now.clients) }
         ensures lists { AreFiles self.now }
@@ -242,19 +183,6 @@ impl Files {
     }
 
     /// Returns whether an open client has a free handle.
-    ///
-    /// # Examples
-    ///
-    /// ```rust
-    /// use drm_files::Files;
-    ///
-    /// let alloc = rt.alloc();
-    /// let mut files = Files::new(alloc, 4, 100);
-    /// let Ok(()) = files.open(1, false, false, true) else { return };
-    /// let Ok(()) = files.open(2, true, false, false) else { return };
-    /// let mut rest = files.close(2);
-    /// assert!(rt; files.has_room(1));
-    /// ```
     pub fn has_room(&self, client: u32) -> bool
         requires open_client { is_open_client self.now client ≡ true }
         ensures { result ≡ is_some (free_handle self.now client) }
@@ -270,22 +198,6 @@ impl Files {
     /// # Errors
     ///
     /// `Full` if the client has every handle (own), `NoMemory` if memory is refused. The state is then unchanged.
-    ///
-    /// # Examples
-    ///
-    /// ```rust
-    /// use drm_files::Files;
-    /// use drm_gem::ObjectKey;
-    ///
-    /// let alloc = rt.alloc();
-    /// let mut files = Files::new(alloc, 4, 100);
-    /// let Ok(()) = files.open(1, false, false, true) else { return };
-    /// let Ok(()) = files.open(2, true, false, false) else { return };
-    /// let mut rest = files.close(2);
-    /// let object = ObjectKey::from_number(7);
-    /// let Ok(handle) = files.add_handle(1, object, None) else { return };
-    /// assert!(rt; handle == 1);
-    /// ```
     pub fn add_handle(
         &mut self,
         client: u32,
@@ -321,22 +233,6 @@ impl Files {
     }
 
     /// Returns the object of a handle of an open client, if the client has that handle. Does not allocate.
-    ///
-    /// # Examples
-    ///
-    /// ```rust
-    /// use drm_files::Files;
-    /// use drm_gem::ObjectKey;
-    ///
-    /// let alloc = rt.alloc();
-    /// let mut files = Files::new(alloc, 4, 100);
-    /// let Ok(()) = files.open(1, false, false, true) else { return };
-    /// let Ok(()) = files.open(2, true, false, false) else { return };
-    /// let mut rest = files.close(2);
-    /// let object = ObjectKey::from_number(7);
-    /// let Ok(handle) = files.add_handle(1, object, None) else { return };
-    /// assert!(rt; files.object_of(1, handle) == Some(object));
-    /// ```
     pub fn object_of(&self, client: u32, handle: u32) -> Option<ObjectKey>
         requires open_client { is_open_client self.now client ≡ true }
         ensures object { result ≡ option_map (λ row. row.object) (find (is_handle client handle) self.now.holds) }
@@ -348,23 +244,6 @@ impl Files {
     }
 
     /// Removes a handle of an open client, if the client has it, and returns its object. Does not allocate.
-    ///
-    /// # Examples
-    ///
-    /// ```rust
-    /// use drm_files::Files;
-    /// use drm_gem::ObjectKey;
-    ///
-    /// let alloc = rt.alloc();
-    /// let mut files = Files::new(alloc, 4, 100);
-    /// let Ok(()) = files.open(1, false, false, true) else { return };
-    /// let Ok(()) = files.open(2, true, false, false) else { return };
-    /// let mut rest = files.close(2);
-    /// let object = ObjectKey::from_number(7);
-    /// let Ok(handle) = files.add_handle(1, object, None) else { return };
-    /// assert!(rt; files.drop_handle(1, handle) == Some(object));
-    /// assert!(rt; files.object_of(1, handle).is_none());
-    /// ```
     pub fn drop_handle(&mut self, client: u32, handle: u32) -> Option<ObjectKey>
         requires open_client { is_open_client self.old client ≡ true }
         ensures object { result ≡ option_map (λ row. row.object) (find (is_handle client handle) self.old.holds) }
@@ -383,23 +262,6 @@ impl Files {
     }
 
     /// Returns the flags of a client, if it is open.
-    ///
-    /// # Examples
-    ///
-    /// ```rust
-    /// use drm_files::Files;
-    /// use drm_gem::ObjectKey;
-    ///
-    /// let alloc = rt.alloc();
-    /// let mut files = Files::new(alloc, 4, 100);
-    /// let Ok(()) = files.open(1, false, false, true) else { return };
-    /// let Ok(()) = files.open(2, true, false, false) else { return };
-    /// let mut rest = files.close(2);
-    /// let object = ObjectKey::from_number(7);
-    /// let Ok(handle) = files.add_handle(1, object, None) else { return };
-    /// assert!(rt; files.drop_handle(1, handle) == Some(object));
-    /// assert!(rt; matches!(files.flags_of(1), Some(flags) if flags.universal && !flags.render));
-    /// ```
     pub fn flags_of(&self, client: u32) -> Option<FileFlags>
         ensures flags { result ≡ option_map (λ row. row.flags) (find (is_client client) self.now.clients) }
         ensures lists { AreFiles self.now }
@@ -409,24 +271,6 @@ impl Files {
     }
 
     /// Sets an open client as authenticated (drm-uapi). Does not allocate.
-    ///
-    /// # Examples
-    ///
-    /// ```rust
-    /// use drm_files::Files;
-    /// use drm_gem::ObjectKey;
-    ///
-    /// let alloc = rt.alloc();
-    /// let mut files = Files::new(alloc, 4, 100);
-    /// let Ok(()) = files.open(1, false, false, true) else { return };
-    /// let Ok(()) = files.open(2, true, false, false) else { return };
-    /// let mut rest = files.close(2);
-    /// let object = ObjectKey::from_number(7);
-    /// let Ok(handle) = files.add_handle(1, object, None) else { return };
-    /// assert!(rt; files.drop_handle(1, handle) == Some(object));
-    /// files.set_authenticated(1);
-    /// assert!(rt; matches!(files.flags_of(1), Some(flags) if flags.authenticated));
-    /// ```
     pub fn set_authenticated(&mut self, client: u32)
         requires open_client { is_open_client self.old client ≡ true }
         ensures { self.new ≡ with_authenticated self.old client }
@@ -438,25 +282,6 @@ impl Files {
     }
 
     /// Turns universal planes of an open client on or off (drm-uapi, client capabilities). Does not allocate.
-    ///
-    /// # Examples
-    ///
-    /// ```rust
-    /// use drm_files::Files;
-    /// use drm_gem::ObjectKey;
-    ///
-    /// let alloc = rt.alloc();
-    /// let mut files = Files::new(alloc, 4, 100);
-    /// let Ok(()) = files.open(1, false, false, true) else { return };
-    /// let Ok(()) = files.open(2, true, false, false) else { return };
-    /// let mut rest = files.close(2);
-    /// let object = ObjectKey::from_number(7);
-    /// let Ok(handle) = files.add_handle(1, object, None) else { return };
-    /// assert!(rt; files.drop_handle(1, handle) == Some(object));
-    /// files.set_authenticated(1);
-    /// files.set_universal(1, false);
-    /// assert!(rt; matches!(files.flags_of(1), Some(flags) if !flags.universal));
-    /// ```
     pub fn set_universal(&mut self, client: u32, on: bool)
         requires open_client { is_open_client self.old client ≡ true }
         ensures { self.new ≡ with_universal self.old client on }
@@ -465,27 +290,6 @@ impl Files {
     }
 
     /// Turns a capability of an open client on or off (drm-uapi, client capabilities). Does not allocate.
-    ///
-    /// # Examples
-    ///
-    /// ```rust
-    /// use drm_files::{ClientCapability, Files};
-    /// use drm_gem::ObjectKey;
-    ///
-    /// let alloc = rt.alloc();
-    /// let mut files = Files::new(alloc, 4, 100);
-    /// let Ok(()) = files.open(1, false, false, true) else { return };
-    /// let Ok(()) = files.open(2, true, false, false) else { return };
-    /// let mut rest = files.close(2);
-    /// let object = ObjectKey::from_number(7);
-    /// let Ok(handle) = files.add_handle(1, object, None) else { return };
-    /// assert!(rt; files.drop_handle(1, handle) == Some(object));
-    /// files.set_authenticated(1);
-    /// files.set_universal(1, false);
-    /// assert!(rt; matches!(files.flags_of(1), Some(flags) if !flags.universal));
-    /// files.set_capability(1, ClientCapability::UniversalPlanes, true);
-    /// assert!(rt; matches!(files.flags_of(1), Some(flags) if flags.universal));
-    /// ```
     pub fn set_capability(&mut self, client: u32, capability: ClientCapability, on: bool)
         requires open_client { is_open_client self.old client ≡ true }
         ensures { self.new ≡ with_capability self.old client capability on }

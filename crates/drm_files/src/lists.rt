@@ -20,20 +20,6 @@ const HOLD_KIND: u32 = 6;
 
 impl Files {
     /// Returns the handles of an open client from a number on, in rising order, 64 at most (own). Does not allocate.
-    ///
-    /// # Examples
-    ///
-    /// ```rust
-    /// use drm_files::Files;
-    /// use drm_gem::ObjectKey;
-    ///
-    /// let alloc = rt.alloc();
-    /// let mut files = Files::new(alloc, 4, 100);
-    /// let Ok(()) = files.open(1, false, false, true) else { return };
-    /// let object = ObjectKey::from_number(7);
-    /// let Ok(handle) = files.add_handle(1, object, None) else { return };
-    /// assert!(rt; files.handles_of(1, 0).ids() == [handle].as_slice());
-    /// ```
     pub fn handles_of(&self, client: u32, from: u32) -> ShownList
         requires open_client { is_open_client self.now client ≡ true }
         ensures { result ≡ take 64 (filter (λ h. nat_le from h) (handles_of self.now client)) }
@@ -45,20 +31,6 @@ impl Files {
     }
 
     /// Returns the client at a position of the list of clients, from 0. Does not allocate.
-    ///
-    /// # Examples
-    ///
-    /// ```rust
-    /// use drm_files::Files;
-    /// use drm_gem::ObjectKey;
-    ///
-    /// let alloc = rt.alloc();
-    /// let mut files = Files::new(alloc, 4, 100);
-    /// let Ok(()) = files.open(1, false, false, true) else { return };
-    /// let object = ObjectKey::from_number(7);
-    /// let Ok(handle) = files.add_handle(1, object, None) else { return };
-    /// assert!(rt; matches!(files.nth_client(0), Some(row) if row.client == 1));
-    /// ```
     pub fn nth_client(&self, position: usize) -> Option<FileClient>
         ensures { result ≡ slice_get self.now.clients position }
     {
@@ -74,20 +46,6 @@ impl Files {
     ///
     /// Clients are kind 1, in the order of their numbers. Handles are kind 6, in the order of clients and then of
     /// handles. No other kind has rows here.
-    ///
-    /// # Examples
-    ///
-    /// ```rust
-    /// use drm_files::Files;
-    /// use drm_gem::ObjectKey;
-    ///
-    /// let alloc = rt.alloc();
-    /// let mut files = Files::new(alloc, 4, 100);
-    /// let Ok(()) = files.open(1, false, false, true) else { return };
-    /// let object = ObjectKey::from_number(7);
-    /// let Ok(handle) = files.add_handle(1, object, None) else { return };
-    /// assert!(rt; files.nth(6, 0).is_some() && files.nth(2, 0).is_none());
-    /// ```
     pub fn nth(&self, kind: u32, i: usize) -> Option<FileRow>
         ensures { result ≡ nth_row self.now kind i }
     {
@@ -99,20 +57,6 @@ impl Files {
     }
 
     /// Returns the handle at a position of the list of handles, from 0. It skips whole clients. Does not allocate.
-    ///
-    /// # Examples
-    ///
-    /// ```rust
-    /// use drm_files::Files;
-    /// use drm_gem::ObjectKey;
-    ///
-    /// let alloc = rt.alloc();
-    /// let mut files = Files::new(alloc, 4, 100);
-    /// let Ok(()) = files.open(1, false, false, true) else { return };
-    /// let object = ObjectKey::from_number(7);
-    /// let Ok(handle) = files.add_handle(1, object, None) else { return };
-    /// assert!(rt; matches!(files.nth_handle(0), Some(row) if row.handle == handle));
-    /// ```
     pub fn nth_handle(&self, position: usize) -> Option<FileHandle>
         ensures { result ≡ slice_get self.now.holds position }
     {

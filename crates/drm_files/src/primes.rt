@@ -21,19 +21,6 @@ impl Files {
     ///
     /// A further import of the object returns this handle. Returns `None` if no handle of the client for the object has
     /// an export order. Looks at no other handle.
-    ///
-    /// # Examples
-    ///
-    /// ```rust
-    /// use drm_files::Files;
-    /// use drm_gem::ObjectKey;
-    ///
-    /// let alloc = rt.alloc();
-    /// let mut files = Files::new(alloc, 4, 100);
-    /// let Ok(()) = files.open(1, false, false, true) else { return };
-    /// let object = ObjectKey::from_number(7);
-    /// assert!(rt; files.prime_handle(1, object).is_none());
-    /// ```
     pub fn prime_handle(&self, client: u32, object: ObjectKey) -> Option<u32>
         requires open_client { is_open_client self.now client ≡ true }
         ensures handle { result ≡ prime_handle self.now client object }
@@ -49,21 +36,6 @@ impl Files {
     ///
     /// If the handle has one already, nothing changes. Looks at the client's handles for the object whose export order
     /// is greater, and at no other.
-    ///
-    /// # Examples
-    ///
-    /// ```rust
-    /// use drm_files::Files;
-    /// use drm_gem::ObjectKey;
-    ///
-    /// let alloc = rt.alloc();
-    /// let mut files = Files::new(alloc, 4, 100);
-    /// let Ok(()) = files.open(1, false, false, true) else { return };
-    /// let object = ObjectKey::from_number(7);
-    /// let Ok(handle) = files.add_handle(1, object, None) else { return };
-    /// files.set_prime(1, handle, 5);
-    /// assert!(rt; files.prime_handle(1, object) == Some(handle));
-    /// ```
     pub fn set_prime(&mut self, client: u32, handle: u32, export_order: u32)
         requires open_client { is_open_client self.old client ≡ true }
         requires held { is_some (find (is_handle client handle) self.old.holds) ≡ true }

@@ -24,6 +24,8 @@ use std::marker::Model;
 /// let object = ObjectKey::from_number(7);
 /// let Ok(handle) = files.add_handle(1, object, None) else { return };
 /// let mut rest = files.close(1);
+/// assert!(rt; rest.take_next() == Some((handle, object)));
+/// assert!(rt; rest.take_next().is_none());
 /// ```
 pub struct FileRest {
     handles: IdTable<Held>,
@@ -60,22 +62,6 @@ impl FileRest {
     }
 
     /// Removes the first handle and returns it with its object, or returns `None` if none is left. Does not allocate.
-    ///
-    /// # Examples
-    ///
-    /// ```rust
-    /// use drm_files::Files;
-    /// use drm_gem::ObjectKey;
-    ///
-    /// let alloc = rt.alloc();
-    /// let mut files = Files::new(alloc, 4, 100);
-    /// let Ok(()) = files.open(1, false, false, true) else { return };
-    /// let object = ObjectKey::from_number(7);
-    /// let Ok(handle) = files.add_handle(1, object, None) else { return };
-    /// let mut rest = files.close(1);
-    /// assert!(rt; rest.take_next() == Some((handle, object)));
-    /// assert!(rt; rest.take_next().is_none());
-    /// ```
     pub fn take_next(&mut self) -> Option<(u32, ObjectKey)>
         ensures first { result ≡ slice_get self.old 0 }
         ensures rest { self.new ≡ drop 1 self.old }

@@ -25,18 +25,6 @@ pub enum ClientCapability {
 }
 
 /// The flags of a client (drm-uapi: primary and render nodes, authentication).
-///
-/// # Examples
-///
-/// ```rust
-/// use drm_files::{FileFlags, Files};
-///
-/// let alloc = rt.alloc();
-/// let mut files = Files::new(alloc, 4, 100);
-/// let Ok(()) = files.open(1, false, true, true) else { return };
-/// let flags = FileFlags { render: false, root: true, authenticated: true, universal: true };
-/// assert!(rt; files.flags_of(1) == Some(flags));
-/// ```
 #[derive(Clone, Copy, PartialEq, Eq, Debug)]
 pub struct FileFlags {
     /// Whether it opened the render node.
@@ -65,18 +53,6 @@ impl FileFlags {
 }
 
 /// An open client.
-///
-/// # Examples
-///
-/// ```rust
-/// use drm_files::{FileClient, FileFlags, Files};
-///
-/// let alloc = rt.alloc();
-/// let mut files = Files::new(alloc, 4, 100);
-/// let Ok(()) = files.open(1, false, true, true) else { return };
-/// let flags = FileFlags { render: false, root: true, authenticated: true, universal: true };
-/// assert!(rt; files.nth_client(0) == Some(FileClient { client: 1, flags }));
-/// ```
 #[derive(Clone, Copy, PartialEq, Eq, Debug)]
 pub struct FileClient {
     /// Its number.

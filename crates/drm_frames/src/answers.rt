@@ -133,14 +133,6 @@ impl Model for AnswerText {
 
 impl AnswerText {
     /// Creates an empty buffer. Does not allocate.
-    ///
-    /// # Examples
-    ///
-    /// ```rust
-    /// use drm_frames::AnswerText;
-    ///
-    /// assert!(rt; AnswerText::new().as_slice().is_empty());
-    /// ```
     pub fn new() -> AnswerText
         ensures { result ≡ [] }
     {
@@ -152,17 +144,6 @@ impl AnswerText {
     /// Writes a result's frame over the last one. Does not allocate.
     ///
     /// The four lists of resources must have at most 251 ids together.
-    ///
-    /// # Examples
-    ///
-    /// ```rust
-    /// use drm_frames::AnswerText;
-    /// use drm_table::Answer;
-    ///
-    /// let mut text = AnswerText::new();
-    /// text.write(&Ok(Answer::Number { value: 7 }));
-    /// assert!(rt; text.as_slice().len() == 14);
-    /// ```
     #[tactic(auto, unfolding(crate::specs::Answers::answer_text))]
     pub fn write(&mut self, outcome: &Result<Answer, Apart>)
         requires { FitsOneFrame outcome.now }
@@ -176,17 +157,6 @@ impl AnswerText {
     }
 
     /// Returns the bytes of the last frame.
-    ///
-    /// # Examples
-    ///
-    /// ```rust
-    /// use drm_frames::AnswerText;
-    /// use drm_table::Answer;
-    ///
-    /// let mut text = AnswerText::new();
-    /// text.write(&Ok(Answer::Done));
-    /// assert!(rt; text.as_slice() == [2, 0, 0, 0, 0x00, 0x10].as_slice());
-    /// ```
     pub fn as_slice(&self) -> &[u8]
         ensures bytes { result.now ≡ self.now }
         ensures short { length result.now ≤ 1028 }

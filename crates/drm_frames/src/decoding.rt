@@ -5,14 +5,6 @@ use crate::frame::Frame;
 use crate::number::{u16_in, u32_in};
 
 /// The frame at the front of bytes, if it is complete.
-///
-/// # Examples
-///
-/// ```rust
-/// use drm_frames::{Decoded, decode};
-///
-/// assert!(rt; matches!(decode(&[2, 0]), Decoded::NeedMore));
-/// ```
 #[derive(Debug, Drop)]
 pub enum Decoded<'a> {
     /// A frame, and the number of its bytes.

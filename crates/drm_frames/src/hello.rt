@@ -7,15 +7,6 @@ use crate::number::u32_in;
 use crate::text::FrameBytes;
 
 /// The first frame of a client (own).
-///
-/// # Examples
-///
-/// ```rust
-/// use drm_frames::{Hello, encode_hello};
-///
-/// let hello = Hello { version: 1, lease: None };
-/// assert!(rt; encode_hello(hello).as_slice().len() == 18);
-/// ```
 #[derive(Clone, Copy, Debug, PartialEq, Eq)]
 pub struct Hello {
     /// The version of the protocol: 1, or 2, which opens the client with universal planes off.
@@ -28,14 +19,6 @@ pub struct Hello {
 ///
 /// Returns `None` if the number, the version or the fields are not those of a hello. A token other than 0 without a
 /// lease is such a case.
-///
-/// # Examples
-///
-/// ```rust
-/// use drm_frames::{Frame, hello_of};
-///
-/// assert!(rt; hello_of(&Frame::new(0x02, &[])).is_none());
-/// ```
 #[tactic(auto, unfolding(crate::specs::Hellos::hello_in))]
 pub fn hello_of(frame: &Frame<'_>) -> Option<Hello>
     ensures { result ≡ hello_in frame.now }

@@ -39,16 +39,6 @@ impl FrameBytes {
     }
 
     /// Returns the bytes.
-    ///
-    /// # Examples
-    ///
-    /// ```rust
-    /// use drm_frames::encode_call;
-    /// use drm_table::Call;
-    ///
-    /// let frame = encode_call(&Call::GetMagic);
-    /// assert!(rt; frame.as_slice() == [2, 0, 0, 0, 0x02, 0x00].as_slice());
-    /// ```
     pub fn as_slice(&self) -> &[u8]
         ensures bytes { result.now ≡ self.now }
         ensures short { length result.now ≤ 1028 }

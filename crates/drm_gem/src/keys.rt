@@ -31,15 +31,6 @@ impl Model for ObjectKey {
 
 impl ObjectKey {
     /// Returns the key with this number. It may be that of no object. Does not allocate.
-    ///
-    /// # Examples
-    ///
-    /// ```rust
-    /// use drm_gem::ObjectKey;
-    ///
-    /// let key = ObjectKey::from_number(7);
-    /// assert!(rt; key == ObjectKey::from_number(7));
-    /// ```
     pub fn from_number(number: u32) -> ObjectKey
         ensures { result ≡ number }
     {
@@ -47,15 +38,6 @@ impl ObjectKey {
     }
 
     /// Returns the key's number.
-    ///
-    /// # Examples
-    ///
-    /// ```rust
-    /// use drm_gem::ObjectKey;
-    ///
-    /// let key = ObjectKey::from_number(7);
-    /// assert!(rt; key.number() == 7);
-    /// ```
     pub fn number(self) -> u32
         ensures { result ≡ self }
     {

@@ -81,15 +81,6 @@ impl Model for Objects {
 
 impl Objects {
     /// Creates a table without objects. At most `limit` may exist at once. Does not allocate.
-    ///
-    /// # Examples
-    ///
-    /// ```rust
-    /// use drm_gem::Objects;
-    ///
-    /// let alloc = rt.alloc();
-    /// assert!(rt; Objects::new(alloc, 2).nth_object(0).is_none());
-    /// ```
     pub fn new(alloc: Global, limit: u32) -> Objects
         ensures { result ≡ record { limit = limit; objects = [] } }
     {
@@ -106,18 +97,6 @@ impl Objects {
     /// # Errors
     ///
     /// `Full` if the limit is reached (own), `NoMemory` if memory is refused. The objects are then unchanged.
-    ///
-    /// # Examples
-    ///
-    /// ```rust
-    /// use drm_gem::Objects;
-    ///
-    /// let alloc = rt.alloc();
-    /// let mut objects = Objects::new(alloc, 2);
-    /// let Ok(key) = objects.create(1, 4096) else { return };
-    /// let Ok(other) = objects.create(2, 8192) else { return };
-    /// assert!(rt; other != key);
-    /// ```
     pub fn create(&mut self, birth: u32, size: u64) -> Result<ObjectKey, CreateFault>
         requires unused { IsUnusedBirth self.old birth }
         ensures room { OnOk result (length self.old.objects < self.old.limit) }
@@ -156,18 +135,6 @@ impl Objects {
     }
 
     /// Returns the object with this key, if it exists.
-    ///
-    /// # Examples
-    ///
-    /// ```rust
-    /// use drm_gem::Objects;
-    ///
-    /// let alloc = rt.alloc();
-    /// let mut objects = Objects::new(alloc, 2);
-    /// let Ok(key) = objects.create(1, 4096) else { return };
-    /// let Ok(other) = objects.create(2, 8192) else { return };
-    /// assert!(rt; objects.get(key).is_some());
-    /// ```
     pub fn get(&self, key: ObjectKey) -> Option<Object>
         ensures { result ≡ object_at self.now key }
     {
@@ -175,19 +142,6 @@ impl Objects {
     }
 
     /// Adds a handle to the object's count. The object must exist.
-    ///
-    /// # Examples
-    ///
-    /// ```rust
-    /// use drm_gem::Objects;
-    ///
-    /// let alloc = rt.alloc();
-    /// let mut objects = Objects::new(alloc, 2);
-    /// let Ok(key) = objects.create(1, 4096) else { return };
-    /// let Ok(other) = objects.create(2, 8192) else { return };
-    /// objects.hold(key);
-    /// assert!(rt; objects.holds(key) == 2);
-    /// ```
     pub fn hold(&mut self, key: ObjectKey)
         requires { passes (λ x. nat_lt x.holds u32.MAX) self.old key ≡ true }
         ensures { self.new ≡ changed_at key held self.old }
@@ -202,19 +156,6 @@ impl Objects {
 
     /// Removes a handle from the object's count. If nothing refers to the object then, it is freed and returned
     /// (drm-gem(7)).
-    ///
-    /// # Examples
-    ///
-    /// ```rust
-    /// use drm_gem::Objects;
-    ///
-    /// let alloc = rt.alloc();
-    /// let mut objects = Objects::new(alloc, 2);
-    /// let Ok(key) = objects.create(1, 4096) else { return };
-    /// let Ok(other) = objects.create(2, 8192) else { return };
-    /// objects.hold(key);
-    /// assert!(rt; objects.unhold(key).is_none());
-    /// ```
     pub fn unhold(&mut self, key: ObjectKey) -> Option<Dead>
         requires { passes (λ x. nat_le 1 x.holds) self.old key ≡ true }
         ensures dead { result ≡ dead_after unheld self.old key }
@@ -230,21 +171,6 @@ impl Objects {
     }
 
     /// Adds a token or framebuffer to the object's count. The object must exist.
-    ///
-    /// # Examples
-    ///
-    /// ```rust
-    /// use drm_gem::Objects;
-    ///
-    /// let alloc = rt.alloc();
-    /// let mut objects = Objects::new(alloc, 2);
-    /// let Ok(key) = objects.create(1, 4096) else { return };
-    /// let Ok(other) = objects.create(2, 8192) else { return };
-    /// objects.hold(key);
-    /// assert!(rt; objects.unhold(key).is_none());
-    /// objects.refer(key);
-    /// assert!(rt; objects.refs(key) == 1);
-    /// ```
     pub fn refer(&mut self, key: ObjectKey)
         requires { passes (λ x. nat_lt x.refs u32.MAX) self.old key ≡ true }
         ensures { self.new ≡ changed_at key referred self.old }
@@ -259,21 +185,6 @@ impl Objects {
 
     /// Removes a token or framebuffer from the object's count. If nothing refers to the object then, it is freed and
     /// returned.
-    ///
-    /// # Examples
-    ///
-    /// ```rust
-    /// use drm_gem::Objects;
-    ///
-    /// let alloc = rt.alloc();
-    /// let mut objects = Objects::new(alloc, 2);
-    /// let Ok(key) = objects.create(1, 4096) else { return };
-    /// let Ok(other) = objects.create(2, 8192) else { return };
-    /// objects.hold(key);
-    /// assert!(rt; objects.unhold(key).is_none());
-    /// objects.refer(key);
-    /// assert!(rt; objects.unrefer(key).is_none());
-    /// ```
     pub fn unrefer(&mut self, key: ObjectKey) -> Option<Dead>
         requires { passes (λ x. nat_le 1 x.refs) self.old key ≡ true }
         ensures dead { result ≡ dead_after unreferred self.old key }
@@ -289,22 +200,6 @@ impl Objects {
     }
 
     /// Returns the number of handles that name the object.
-    ///
-    /// # Examples
-    ///
-    /// ```rust
-    /// use drm_gem::Objects;
-    ///
-    /// let alloc = rt.alloc();
-    /// let mut objects = Objects::new(alloc, 2);
-    /// let Ok(key) = objects.create(1, 4096) else { return };
-    /// let Ok(other) = objects.create(2, 8192) else { return };
-    /// objects.hold(key);
-    /// assert!(rt; objects.unhold(key).is_none());
-    /// objects.refer(key);
-    /// assert!(rt; objects.unrefer(key).is_none());
-    /// assert!(rt; objects.holds(key) == 1);
-    /// ```
     pub fn holds(&self, key: ObjectKey) -> u32
         requires { is_there self.now key ≡ true }
         ensures { option_map (λ x. x.holds) (object_at self.now key) ≡ Some result }
@@ -313,22 +208,6 @@ impl Objects {
     }
 
     /// Returns the number of tokens and framebuffers that refer to the object.
-    ///
-    /// # Examples
-    ///
-    /// ```rust
-    /// use drm_gem::Objects;
-    ///
-    /// let alloc = rt.alloc();
-    /// let mut objects = Objects::new(alloc, 2);
-    /// let Ok(key) = objects.create(1, 4096) else { return };
-    /// let Ok(other) = objects.create(2, 8192) else { return };
-    /// objects.hold(key);
-    /// assert!(rt; objects.unhold(key).is_none());
-    /// objects.refer(key);
-    /// assert!(rt; objects.unrefer(key).is_none());
-    /// assert!(rt; objects.refs(key) == 0);
-    /// ```
     pub fn refs(&self, key: ObjectKey) -> u32
         requires { is_there self.now key ≡ true }
         ensures { option_map (λ x. x.refs) (object_at self.now key) ≡ Some result }
@@ -337,22 +216,6 @@ impl Objects {
     }
 
     /// Returns the number of the step that created the object.
-    ///
-    /// # Examples
-    ///
-    /// ```rust
-    /// use drm_gem::Objects;
-    ///
-    /// let alloc = rt.alloc();
-    /// let mut objects = Objects::new(alloc, 2);
-    /// let Ok(key) = objects.create(1, 4096) else { return };
-    /// let Ok(other) = objects.create(2, 8192) else { return };
-    /// objects.hold(key);
-    /// assert!(rt; objects.unhold(key).is_none());
-    /// objects.refer(key);
-    /// assert!(rt; objects.unrefer(key).is_none());
-    /// assert!(rt; objects.birth(key) == 1);
-    /// ```
     pub fn birth(&self, key: ObjectKey) -> u32
         requires { is_there self.now key ≡ true }
         ensures { option_map (λ x. x.step_number) (object_at self.now key) ≡ Some result }
@@ -361,22 +224,6 @@ impl Objects {
     }
 
     /// Returns the object's size in bytes.
-    ///
-    /// # Examples
-    ///
-    /// ```rust
-    /// use drm_gem::Objects;
-    ///
-    /// let alloc = rt.alloc();
-    /// let mut objects = Objects::new(alloc, 2);
-    /// let Ok(key) = objects.create(1, 4096) else { return };
-    /// let Ok(other) = objects.create(2, 8192) else { return };
-    /// objects.hold(key);
-    /// assert!(rt; objects.unhold(key).is_none());
-    /// objects.refer(key);
-    /// assert!(rt; objects.unrefer(key).is_none());
-    /// assert!(rt; objects.size(key) == 4096);
-    /// ```
     pub fn size(&self, key: ObjectKey) -> u64
         requires { is_there self.now key ≡ true }
         ensures { option_map (λ x. x.size) (object_at self.now key) ≡ Some result }
@@ -385,22 +232,6 @@ impl Objects {
     }
 
     /// Returns the object's stamp, which represents its contents (own).
-    ///
-    /// # Examples
-    ///
-    /// ```rust
-    /// use drm_gem::Objects;
-    ///
-    /// let alloc = rt.alloc();
-    /// let mut objects = Objects::new(alloc, 2);
-    /// let Ok(key) = objects.create(1, 4096) else { return };
-    /// let Ok(other) = objects.create(2, 8192) else { return };
-    /// objects.hold(key);
-    /// assert!(rt; objects.unhold(key).is_none());
-    /// objects.refer(key);
-    /// assert!(rt; objects.unrefer(key).is_none());
-    /// assert!(rt; objects.stamp(key) == 0);
-    /// ```
     pub fn stamp(&self, key: ObjectKey) -> u64
         requires { is_there self.now key ≡ true }
         ensures { option_map (λ x. x.stamp) (object_at self.now key) ≡ Some result }
@@ -409,23 +240,6 @@ impl Objects {
     }
 
     /// Sets the object's stamp (own).
-    ///
-    /// # Examples
-    ///
-    /// ```rust
-    /// use drm_gem::Objects;
-    ///
-    /// let alloc = rt.alloc();
-    /// let mut objects = Objects::new(alloc, 2);
-    /// let Ok(key) = objects.create(1, 4096) else { return };
-    /// let Ok(other) = objects.create(2, 8192) else { return };
-    /// objects.hold(key);
-    /// assert!(rt; objects.unhold(key).is_none());
-    /// objects.refer(key);
-    /// assert!(rt; objects.unrefer(key).is_none());
-    /// objects.set_stamp(key, 77);
-    /// assert!(rt; objects.stamp(key) == 77);
-    /// ```
     pub fn set_stamp(&mut self, key: ObjectKey, stamp: u64)
         requires { is_there self.old key ≡ true }
         ensures { self.new ≡ changed_at key (stamped stamp) self.old }
@@ -436,23 +250,6 @@ impl Objects {
 
     /// Returns the row at a position, from 0, of the rows of an audit's kind (own). Objects are kind 3, in the order in
     /// which they were created. No other kind has rows here. Does not allocate.
-    ///
-    /// # Examples
-    ///
-    /// ```rust
-    /// use drm_gem::Objects;
-    ///
-    /// let alloc = rt.alloc();
-    /// let mut objects = Objects::new(alloc, 2);
-    /// let Ok(key) = objects.create(1, 4096) else { return };
-    /// let Ok(other) = objects.create(2, 8192) else { return };
-    /// objects.hold(key);
-    /// assert!(rt; objects.unhold(key).is_none());
-    /// objects.refer(key);
-    /// assert!(rt; objects.unrefer(key).is_none());
-    /// objects.set_stamp(key, 77);
-    /// assert!(rt; objects.nth(3, 0) == objects.get(key) && objects.nth(4, 0).is_none());
-    /// ```
     pub fn nth(&self, kind: u32, i: usize) -> Option<Object>
         ensures { result ≡ nth_row self.now kind i }
     {
@@ -463,23 +260,6 @@ impl Objects {
     }
 
     /// Returns the object at a position, from 0, in the order in which they were created. Does not allocate.
-    ///
-    /// # Examples
-    ///
-    /// ```rust
-    /// use drm_gem::Objects;
-    ///
-    /// let alloc = rt.alloc();
-    /// let mut objects = Objects::new(alloc, 2);
-    /// let Ok(key) = objects.create(1, 4096) else { return };
-    /// let Ok(other) = objects.create(2, 8192) else { return };
-    /// objects.hold(key);
-    /// assert!(rt; objects.unhold(key).is_none());
-    /// objects.refer(key);
-    /// assert!(rt; objects.unrefer(key).is_none());
-    /// objects.set_stamp(key, 77);
-    /// assert!(rt; objects.nth_object(0) == objects.get(key));
-    /// ```
     pub fn nth_object(&self, position: usize) -> Option<Object>
         ensures { result ≡ slice_get self.now.objects position }
     {

@@ -46,15 +46,6 @@ impl Model for Groups {
 
 impl Groups {
     /// Creates a table in which no group has a number. Does not allocate.
-    ///
-    /// # Examples
-    ///
-    /// ```rust
-    /// use drm_id_alloc::Groups;
-    ///
-    /// let alloc = rt.alloc();
-    /// assert!(rt; !Groups::new(alloc).has(3, 500));
-    /// ```
     pub fn new(alloc: Global) -> Groups
         ensures { (g n : ℕ) → has result g n ≡ false }
     {
@@ -69,17 +60,6 @@ impl Groups {
     /// # Errors
     ///
     /// If memory is refused, nothing changes.
-    ///
-    /// # Examples
-    ///
-    /// ```rust
-    /// use drm_id_alloc::Groups;
-    ///
-    /// let alloc = rt.alloc();
-    /// let mut groups = Groups::new(alloc);
-    /// let Ok(()) = groups.note(3, 500) else { return };
-    /// let Ok(()) = groups.note(3, 7) else { return };
-    /// ```
     pub fn note(&mut self, group: u32, number: u32) -> Result<(), NoMemory>
         ensures ok { OnOk result (IsAdded (has self.old) group number (has self.new)) }
         ensures err { OnErr result (self.new ≡ self.old) }
@@ -94,19 +74,6 @@ impl Groups {
     }
 
     /// Removes a number from a group, if the group has it. Does not allocate.
-    ///
-    /// # Examples
-    ///
-    /// ```rust
-    /// use drm_id_alloc::Groups;
-    ///
-    /// let alloc = rt.alloc();
-    /// let mut groups = Groups::new(alloc);
-    /// let Ok(()) = groups.note(3, 500) else { return };
-    /// let Ok(()) = groups.note(3, 7) else { return };
-    /// groups.forget(3, 500);
-    /// assert!(rt; !groups.has(3, 500));
-    /// ```
     pub fn forget(&mut self, group: u32, number: u32)
         ensures { IsTaken (has self.old) group number (has self.new) }
     {
@@ -121,19 +88,6 @@ impl Groups {
     }
 
     /// Returns the lowest number of a group that is not below `from`.
-    ///
-    /// # Examples
-    ///
-    /// ```rust
-    /// use drm_id_alloc::Groups;
-    ///
-    /// let alloc = rt.alloc();
-    /// let mut groups = Groups::new(alloc);
-    /// let Ok(()) = groups.note(3, 500) else { return };
-    /// let Ok(()) = groups.note(3, 7) else { return };
-    /// groups.forget(3, 500);
-    /// assert!(rt; groups.next(3, 0) == Some(7));
-    /// ```
     pub fn next(&self, group: u32, from: u32) -> Option<u32>
         ensures least { result ≡ least (has self.now group) from u32.MAX }
         ensures none_above { IfNone result ((n : ℕ) → from ≤ n → has self.now group n ≡ false) }
@@ -143,19 +97,6 @@ impl Groups {
 
     /// Returns the number at a position among those of a group, from 0, in rising order. The cost does not depend on
     /// the position.
-    ///
-    /// # Examples
-    ///
-    /// ```rust
-    /// use drm_id_alloc::Groups;
-    ///
-    /// let alloc = rt.alloc();
-    /// let mut groups = Groups::new(alloc);
-    /// let Ok(()) = groups.note(3, 500) else { return };
-    /// let Ok(()) = groups.note(3, 7) else { return };
-    /// groups.forget(3, 500);
-    /// assert!(rt; groups.nth(3, 0) == Some(7));
-    /// ```
     pub fn nth(&self, group: u32, position: usize) -> Option<u32>
         ensures { result ≡ slice_get (numbers_of self.now group) position }
     {
@@ -163,19 +104,6 @@ impl Groups {
     }
 
     /// Returns the number of numbers in a group.
-    ///
-    /// # Examples
-    ///
-    /// ```rust
-    /// use drm_id_alloc::Groups;
-    ///
-    /// let alloc = rt.alloc();
-    /// let mut groups = Groups::new(alloc);
-    /// let Ok(()) = groups.note(3, 500) else { return };
-    /// let Ok(()) = groups.note(3, 7) else { return };
-    /// groups.forget(3, 500);
-    /// assert!(rt; groups.len(3) == 1 && groups.len(4) == 0);
-    /// ```
     pub fn len(&self, group: u32) -> usize
         ensures { result ≡ length (numbers_of self.now group) }
     {
@@ -186,19 +114,6 @@ impl Groups {
     }
 
     /// Returns whether a group has a number.
-    ///
-    /// # Examples
-    ///
-    /// ```rust
-    /// use drm_id_alloc::Groups;
-    ///
-    /// let alloc = rt.alloc();
-    /// let mut groups = Groups::new(alloc);
-    /// let Ok(()) = groups.note(3, 500) else { return };
-    /// let Ok(()) = groups.note(3, 7) else { return };
-    /// groups.forget(3, 500);
-    /// assert!(rt; groups.has(3, 7) && !groups.has(4, 7));
-    /// ```
     pub fn has(&self, group: u32, number: u32) -> bool
         ensures { result ≡ has self.now group number }
     {

@@ -54,16 +54,6 @@ impl<T: Drop> IdTable<T> {
     ghost use Rattle.drm_id_alloc.specs.Table.{empty_table, least_free, next_cyclic, is_free, with_entry, without_entry};
 
     /// Creates an empty table. It keeps the allocator for later entries. Does not allocate.
-    ///
-    /// # Examples
-    ///
-    /// ```rust
-    /// use drm_id_alloc::IdTable;
-    ///
-    /// let alloc = rt.alloc();
-    /// let empty: IdTable<u8> = IdTable::new(alloc, 1, 9);
-    /// assert!(rt; empty.len() == 0 && empty.last_given().is_none());
-    /// ```
     pub fn new(alloc: Global, first: u32, last: u32) -> Self
         requires { first ≤ last }
         ensures { result ≡ empty_table first last }
@@ -82,17 +72,6 @@ impl<T: Drop> IdTable<T> {
     /// # Errors
     ///
     /// If no number is free or memory is refused, the table is unchanged, and the error has the value.
-    ///
-    /// # Examples
-    ///
-    /// ```rust
-    /// use drm_id_alloc::IdTable;
-    ///
-    /// let alloc = rt.alloc();
-    /// let mut table: IdTable<u8> = IdTable::new(alloc, 1, 2);
-    /// let Ok(id) = table.add(7) else { return };
-    /// assert!(rt; id == 1);
-    /// ```
     pub fn add(&mut self, value: T) -> Result<u32, AddFault<T>>
         ensures given { IfOk result (λ id. least_free self.old ≡ Some id) }
         ensures fresh { IfOk result (λ id. map.get self.old.slots id ≡ None) }
@@ -182,19 +161,6 @@ impl<T: Drop> IdTable<T> {
     }
 
     /// Returns the number that [`IdTable::add_cyclic`] returns next, or `None` if no number is free.
-    ///
-    /// # Examples
-    ///
-    /// ```rust
-    /// use drm_id_alloc::{AddFault, IdTable};
-    ///
-    /// let alloc = rt.alloc();
-    /// let mut table: IdTable<u8> = IdTable::new(alloc, 1, 2);
-    /// let Ok(id) = table.add(7) else { return };
-    /// let Ok(other) = table.add_cyclic(8) else { return };
-    /// assert!(rt; table.add(9) == Err(AddFault::Full(9)));
-    /// assert!(rt; table.next_in_turn().is_none());
-    /// ```
     pub fn next_in_turn(&self) -> Option<u32>
         ensures next { result ≡ next_cyclic self.now }
         ensures fresh { IfSome result (λ id. map.get self.now.slots id ≡ None) }
@@ -230,19 +196,6 @@ impl<T: Drop> IdTable<T> {
     }
 
     /// Returns the value at the number, if there is one.
-    ///
-    /// # Examples
-    ///
-    /// ```rust
-    /// use drm_id_alloc::{AddFault, IdTable};
-    ///
-    /// let alloc = rt.alloc();
-    /// let mut table: IdTable<u8> = IdTable::new(alloc, 1, 2);
-    /// let Ok(id) = table.add(7) else { return };
-    /// let Ok(other) = table.add_cyclic(8) else { return };
-    /// assert!(rt; table.add(9) == Err(AddFault::Full(9)));
-    /// assert!(rt; table.get(id) == Some(&7));
-    /// ```
     pub fn get(&self, id: u32) -> Option<&T>
         ensures value { option_copied result ≡ map.get self.now.slots id }
         ensures low { OnSome result (self.now.first ≤ id) }
@@ -256,19 +209,6 @@ impl<T: Drop> IdTable<T> {
     /// # Errors
     ///
     /// If the number has no value, the table is unchanged, and the error is the new value.
-    ///
-    /// # Examples
-    ///
-    /// ```rust
-    /// use drm_id_alloc::{AddFault, IdTable};
-    ///
-    /// let alloc = rt.alloc();
-    /// let mut table: IdTable<u8> = IdTable::new(alloc, 1, 2);
-    /// let Ok(id) = table.add(7) else { return };
-    /// let Ok(other) = table.add_cyclic(8) else { return };
-    /// assert!(rt; table.add(9) == Err(AddFault::Full(9)));
-    /// assert!(rt; table.replace(id, 5) == Ok(7));
-    /// ```
     pub fn replace(&mut self, id: u32, value: T) -> Result<T, T>
         ensures had { IfOk result (λ old. map.get self.old.slots id ≡ Some old) }
         ensures ok { OnOk result (self.new ≡ with_entry self.old id value) }
@@ -284,20 +224,6 @@ impl<T: Drop> IdTable<T> {
 
     /// Removes the value of a number, which is then free, and returns the value. If the number has no value, the table
     /// is unchanged. The last number that was returned stays the last. Does not allocate.
-    ///
-    /// # Examples
-    ///
-    /// ```rust
-    /// use drm_id_alloc::{AddFault, IdTable};
-    ///
-    /// let alloc = rt.alloc();
-    /// let mut table: IdTable<u8> = IdTable::new(alloc, 1, 2);
-    /// let Ok(id) = table.add(7) else { return };
-    /// let Ok(other) = table.add_cyclic(8) else { return };
-    /// assert!(rt; table.add(9) == Err(AddFault::Full(9)));
-    /// assert!(rt; table.replace(id, 5) == Ok(7));
-    /// assert!(rt; table.remove(id) == Some(5));
-    /// ```
     pub fn remove(&mut self, id: u32) -> Option<T>
         ensures value { result ≡ map.get self.old.slots id }
         ensures after { self.new ≡ without_entry self.old id }
@@ -311,21 +237,6 @@ impl<T: Drop> IdTable<T> {
     }
 
     /// Returns the lowest number not below `from` that is in use.
-    ///
-    /// # Examples
-    ///
-    /// ```rust
-    /// use drm_id_alloc::{AddFault, IdTable};
-    ///
-    /// let alloc = rt.alloc();
-    /// let mut table: IdTable<u8> = IdTable::new(alloc, 1, 2);
-    /// let Ok(id) = table.add(7) else { return };
-    /// let Ok(other) = table.add_cyclic(8) else { return };
-    /// assert!(rt; table.add(9) == Err(AddFault::Full(9)));
-    /// assert!(rt; table.replace(id, 5) == Ok(7));
-    /// assert!(rt; table.remove(id) == Some(5));
-    /// assert!(rt; table.next(1) == Some(2));
-    /// ```
     pub fn next(&self, from: u32) -> Option<u32>
         ensures least { result ≡ least (map.contains_key self.now.slots) from u32.MAX }
         ensures none_above { IfNone result ((k : ℕ) → from ≤ k → map.contains_key self.now.slots k ≡ false) }
@@ -338,21 +249,6 @@ impl<T: Drop> IdTable<T> {
 
     /// Returns the number at a position among those in use, from 0, in rising order. The cost does not depend on the
     /// position.
-    ///
-    /// # Examples
-    ///
-    /// ```rust
-    /// use drm_id_alloc::{AddFault, IdTable};
-    ///
-    /// let alloc = rt.alloc();
-    /// let mut table: IdTable<u8> = IdTable::new(alloc, 1, 2);
-    /// let Ok(id) = table.add(7) else { return };
-    /// let Ok(other) = table.add_cyclic(8) else { return };
-    /// assert!(rt; table.add(9) == Err(AddFault::Full(9)));
-    /// assert!(rt; table.replace(id, 5) == Ok(7));
-    /// assert!(rt; table.remove(id) == Some(5));
-    /// assert!(rt; table.nth(0) == Some(2));
-    /// ```
     pub fn nth(&self, position: usize) -> Option<u32>
         ensures nth { result ≡ slice_get (map.keys self.now.slots) position }
         ensures present { IfSome result (λ id. IsTrue (map.contains_key self.now.slots id)) }
@@ -365,21 +261,6 @@ impl<T: Drop> IdTable<T> {
     }
 
     /// Returns the number of numbers in use.
-    ///
-    /// # Examples
-    ///
-    /// ```rust
-    /// use drm_id_alloc::{AddFault, IdTable};
-    ///
-    /// let alloc = rt.alloc();
-    /// let mut table: IdTable<u8> = IdTable::new(alloc, 1, 2);
-    /// let Ok(id) = table.add(7) else { return };
-    /// let Ok(other) = table.add_cyclic(8) else { return };
-    /// assert!(rt; table.add(9) == Err(AddFault::Full(9)));
-    /// assert!(rt; table.replace(id, 5) == Ok(7));
-    /// assert!(rt; table.remove(id) == Some(5));
-    /// assert!(rt; table.len() == 1);
-    /// ```
     pub fn len(&self) -> usize
         ensures len { result ≡ map.len self.now.slots }
         ensures bound { (k : ℕ) → IsTrue (map.contains_key self.now.slots k) → k ≤ u32.MAX }
@@ -388,21 +269,6 @@ impl<T: Drop> IdTable<T> {
     }
 
     /// Returns whether no number is free.
-    ///
-    /// # Examples
-    ///
-    /// ```rust
-    /// use drm_id_alloc::{AddFault, IdTable};
-    ///
-    /// let alloc = rt.alloc();
-    /// let mut table: IdTable<u8> = IdTable::new(alloc, 1, 2);
-    /// let Ok(id) = table.add(7) else { return };
-    /// let Ok(other) = table.add_cyclic(8) else { return };
-    /// assert!(rt; table.add(9) == Err(AddFault::Full(9)));
-    /// assert!(rt; table.replace(id, 5) == Ok(7));
-    /// assert!(rt; table.remove(id) == Some(5));
-    /// assert!(rt; !table.is_full());
-    /// ```
     pub fn is_full(&self) -> bool
         ensures { IsTrue result ↔ (least_free self.now ≡ None) }
     {
@@ -411,21 +277,6 @@ impl<T: Drop> IdTable<T> {
     }
 
     /// Returns the last number that [`IdTable::add_cyclic`] returned, or `None` before the first.
-    ///
-    /// # Examples
-    ///
-    /// ```rust
-    /// use drm_id_alloc::{AddFault, IdTable};
-    ///
-    /// let alloc = rt.alloc();
-    /// let mut table: IdTable<u8> = IdTable::new(alloc, 1, 2);
-    /// let Ok(id) = table.add(7) else { return };
-    /// let Ok(other) = table.add_cyclic(8) else { return };
-    /// assert!(rt; table.add(9) == Err(AddFault::Full(9)));
-    /// assert!(rt; table.replace(id, 5) == Ok(7));
-    /// assert!(rt; table.remove(id) == Some(5));
-    /// assert!(rt; table.last_given() == Some(2));
-    /// ```
     pub fn last_given(&self) -> Option<u32>
         ensures last_given { result ≡ self.now.last_given }
         ensures low { IfSome result (λ id. self.now.first ≤ id) }

@@ -61,16 +61,6 @@ impl<T: Drop> IndexArray<T> {
     ghost use Rattle.drm_index_array.specs.declared.marks.Mark.{Mark};
 
     /// Creates an empty array. It keeps the allocator for later entries. Does not allocate.
-    ///
-    /// # Examples
-    ///
-    /// ```rust
-    /// use drm_index_array::IndexArray;
-    ///
-    /// let alloc = rt.alloc();
-    /// let empty: IndexArray<u8> = IndexArray::new(alloc);
-    /// assert!(rt; empty.len() == 0);
-    /// ```
     pub fn new(alloc: Global) -> Self
         ensures { result ≡ empty_array }
     {
@@ -83,17 +73,6 @@ impl<T: Drop> IndexArray<T> {
     }
 
     /// Returns the number of entries.
-    ///
-    /// # Examples
-    ///
-    /// ```rust
-    /// use drm_index_array::IndexArray;
-    ///
-    /// let alloc = rt.alloc();
-    /// let mut array: IndexArray<u8> = IndexArray::new(alloc);
-    /// let Ok(()) = array.insert(300, 7) else { return };
-    /// assert!(rt; array.len() == 1);
-    /// ```
     pub fn len(&self) -> usize
         ensures len { result ≡ map.len self.now.items }
         ensures bound { (k : ℕ) → IsTrue (map.contains_key self.now.items k) → k ≤ u32.MAX }
@@ -106,17 +85,6 @@ impl<T: Drop> IndexArray<T> {
     /// # Errors
     ///
     /// If the index has an entry or memory is refused, the array is unchanged, and the error has the value.
-    ///
-    /// # Examples
-    ///
-    /// ```rust
-    /// use drm_index_array::{IndexArray, InsertFault};
-    ///
-    /// let alloc = rt.alloc();
-    /// let mut array: IndexArray<u8> = IndexArray::new(alloc);
-    /// let Ok(()) = array.insert(300, 7) else { return };
-    /// assert!(rt; array.insert(300, 8) == Err(InsertFault::Taken(8)));
-    /// ```
     pub fn insert(&mut self, index: u32, value: T) -> Result<(), InsertFault<T>>
         ensures ok { OnOk result (self.new ≡ with_item self.old index value) }
         ensures unmarked { OnOk result ((mark : Mark) → set.contains (marked_with self.new mark) index ≡ false) }
@@ -136,18 +104,6 @@ impl<T: Drop> IndexArray<T> {
     }
 
     /// Returns the value at the index, if there is one.
-    ///
-    /// # Examples
-    ///
-    /// ```rust
-    /// use drm_index_array::{IndexArray, InsertFault};
-    ///
-    /// let alloc = rt.alloc();
-    /// let mut array: IndexArray<u8> = IndexArray::new(alloc);
-    /// let Ok(()) = array.insert(300, 7) else { return };
-    /// assert!(rt; array.insert(300, 8) == Err(InsertFault::Taken(8)));
-    /// assert!(rt; array.get(300) == Some(&7));
-    /// ```
     pub fn get(&self, index: u32) -> Option<&T>
         ensures value { option_copied result ≡ map.get self.now.items index }
         ensures bound { (k : ℕ) → IsTrue (map.contains_key self.now.items k) → k ≤ u32.MAX }
@@ -162,21 +118,6 @@ impl<T: Drop> IndexArray<T> {
     }
 
     /// Returns the value at the index for writing, if there is one. The entry keeps its marks.
-    ///
-    /// # Examples
-    ///
-    /// ```rust
-    /// use drm_index_array::{IndexArray, InsertFault};
-    ///
-    /// let alloc = rt.alloc();
-    /// let mut array: IndexArray<u8> = IndexArray::new(alloc);
-    /// let Ok(()) = array.insert(300, 7) else { return };
-    /// assert!(rt; array.insert(300, 8) == Err(InsertFault::Taken(8)));
-    /// if let Some(value) = array.get_mut(300) {
-    ///     *value = 9;
-    /// }
-    /// assert!(rt; array.get(300) == Some(&9));
-    /// ```
     pub fn get_mut(&mut self, index: u32) -> Option<&mut T>
         ensures* writes_back { sem 𝓛 (lends_get T.row self.entry index result) }
         ensures value { option_copied_mut result ≡ map.get self.old.items index }
@@ -189,22 +130,6 @@ impl<T: Drop> IndexArray<T> {
 
     /// Removes the entry with its marks, and returns its value. If there is none, the array is unchanged. Does not
     /// allocate.
-    ///
-    /// # Examples
-    ///
-    /// ```rust
-    /// use drm_index_array::{IndexArray, InsertFault};
-    ///
-    /// let alloc = rt.alloc();
-    /// let mut array: IndexArray<u8> = IndexArray::new(alloc);
-    /// let Ok(()) = array.insert(300, 7) else { return };
-    /// assert!(rt; array.insert(300, 8) == Err(InsertFault::Taken(8)));
-    /// if let Some(value) = array.get_mut(300) {
-    ///     *value = 9;
-    /// }
-    /// assert!(rt; array.remove(300) == Some(9));
-    /// assert!(rt; array.get(300).is_none());
-    /// ```
     pub fn remove(&mut self, index: u32) -> Option<T>
         ensures value { result ≡ map.get self.old.items index }
         ensures after { self.new ≡ without_item self.old index }
@@ -218,23 +143,6 @@ impl<T: Drop> IndexArray<T> {
     }
 
     /// Sets the mark of the entry at the index, and returns whether there is one.
-    ///
-    /// # Examples
-    ///
-    /// ```rust
-    /// use drm_index_array::{IndexArray, InsertFault, Mark};
-    ///
-    /// let alloc = rt.alloc();
-    /// let mut array: IndexArray<u8> = IndexArray::new(alloc);
-    /// let Ok(()) = array.insert(300, 7) else { return };
-    /// assert!(rt; array.insert(300, 8) == Err(InsertFault::Taken(8)));
-    /// if let Some(value) = array.get_mut(300) {
-    ///     *value = 9;
-    /// }
-    /// assert!(rt; array.remove(300) == Some(9));
-    /// let Ok(()) = array.insert(40, 1) else { return };
-    /// assert!(rt; array.set_mark(40, Mark::M0));
-    /// ```
     pub fn set_mark(&mut self, index: u32, mark: Mark) -> bool
         ensures result { IsTrue result ↔ IsSome (map.get self.old.items index) }
         ensures present { OnTrue result (self.new ≡ with_mark self.old index mark) }
@@ -244,24 +152,6 @@ impl<T: Drop> IndexArray<T> {
     }
 
     /// Clears the mark of the entry at the index, and returns whether there is one.
-    ///
-    /// # Examples
-    ///
-    /// ```rust
-    /// use drm_index_array::{IndexArray, InsertFault, Mark};
-    ///
-    /// let alloc = rt.alloc();
-    /// let mut array: IndexArray<u8> = IndexArray::new(alloc);
-    /// let Ok(()) = array.insert(300, 7) else { return };
-    /// assert!(rt; array.insert(300, 8) == Err(InsertFault::Taken(8)));
-    /// if let Some(value) = array.get_mut(300) {
-    ///     *value = 9;
-    /// }
-    /// assert!(rt; array.remove(300) == Some(9));
-    /// let Ok(()) = array.insert(40, 1) else { return };
-    /// assert!(rt; array.set_mark(40, Mark::M0));
-    /// assert!(rt; array.clear_mark(40, Mark::M0));
-    /// ```
     pub fn clear_mark(&mut self, index: u32, mark: Mark) -> bool
         ensures result { IsTrue result ↔ IsSome (map.get self.old.items index) }
         ensures present { OnTrue result (self.new ≡ without_mark self.old index mark) }
@@ -286,25 +176,6 @@ impl<T: Drop> IndexArray<T> {
     }
 
     /// Returns whether the index has an entry with the mark.
-    ///
-    /// # Examples
-    ///
-    /// ```rust
-    /// use drm_index_array::{IndexArray, InsertFault, Mark};
-    ///
-    /// let alloc = rt.alloc();
-    /// let mut array: IndexArray<u8> = IndexArray::new(alloc);
-    /// let Ok(()) = array.insert(300, 7) else { return };
-    /// assert!(rt; array.insert(300, 8) == Err(InsertFault::Taken(8)));
-    /// if let Some(value) = array.get_mut(300) {
-    ///     *value = 9;
-    /// }
-    /// assert!(rt; array.remove(300) == Some(9));
-    /// let Ok(()) = array.insert(40, 1) else { return };
-    /// assert!(rt; array.set_mark(40, Mark::M0));
-    /// assert!(rt; array.clear_mark(40, Mark::M0));
-    /// assert!(rt; !array.marked(40, Mark::M0));
-    /// ```
     pub fn marked(&self, index: u32, mark: Mark) -> bool
         ensures marked { result ≡ set.contains (marked_with self.now mark) index }
         ensures present { (k : ℕ) → IsTrue (set.contains (marked_with self.now mark) k) → IsTrue (map.contains_key self.now.items k) }
@@ -319,25 +190,6 @@ impl<T: Drop> IndexArray<T> {
     }
 
     /// Returns the lowest index not below `from` that has an entry.
-    ///
-    /// # Examples
-    ///
-    /// ```rust
-    /// use drm_index_array::{IndexArray, InsertFault, Mark};
-    ///
-    /// let alloc = rt.alloc();
-    /// let mut array: IndexArray<u8> = IndexArray::new(alloc);
-    /// let Ok(()) = array.insert(300, 7) else { return };
-    /// assert!(rt; array.insert(300, 8) == Err(InsertFault::Taken(8)));
-    /// if let Some(value) = array.get_mut(300) {
-    ///     *value = 9;
-    /// }
-    /// assert!(rt; array.remove(300) == Some(9));
-    /// let Ok(()) = array.insert(40, 1) else { return };
-    /// assert!(rt; array.set_mark(40, Mark::M0));
-    /// assert!(rt; array.clear_mark(40, Mark::M0));
-    /// assert!(rt; array.next(0) == Some(40));
-    /// ```
     pub fn next(&self, from: u32) -> Option<u32>
         ensures least { result ≡ least (map.contains_key self.now.items) from u32.MAX }
         ensures none_above { IfNone result ((k : ℕ) → from ≤ k → map.contains_key self.now.items k ≡ false) }
@@ -354,25 +206,6 @@ impl<T: Drop> IndexArray<T> {
 
     /// Returns the index at a position among those that have an entry, from 0, in rising order. The cost does not
     /// depend on the position.
-    ///
-    /// # Examples
-    ///
-    /// ```rust
-    /// use drm_index_array::{IndexArray, InsertFault, Mark};
-    ///
-    /// let alloc = rt.alloc();
-    /// let mut array: IndexArray<u8> = IndexArray::new(alloc);
-    /// let Ok(()) = array.insert(300, 7) else { return };
-    /// assert!(rt; array.insert(300, 8) == Err(InsertFault::Taken(8)));
-    /// if let Some(value) = array.get_mut(300) {
-    ///     *value = 9;
-    /// }
-    /// assert!(rt; array.remove(300) == Some(9));
-    /// let Ok(()) = array.insert(40, 1) else { return };
-    /// assert!(rt; array.set_mark(40, Mark::M0));
-    /// assert!(rt; array.clear_mark(40, Mark::M0));
-    /// assert!(rt; array.nth(0) == Some(40) && array.nth(1).is_none());
-    /// ```
     pub fn nth(&self, position: usize) -> Option<u32>
         ensures nth { result ≡ slice_get (map.keys self.now.items) position }
         ensures present { IfSome result (λ index. IsTrue (map.contains_key self.now.items index)) }
@@ -389,25 +222,6 @@ impl<T: Drop> IndexArray<T> {
     }
 
     /// Returns the lowest index not below `from` whose entry has the mark.
-    ///
-    /// # Examples
-    ///
-    /// ```rust
-    /// use drm_index_array::{IndexArray, InsertFault, Mark};
-    ///
-    /// let alloc = rt.alloc();
-    /// let mut array: IndexArray<u8> = IndexArray::new(alloc);
-    /// let Ok(()) = array.insert(300, 7) else { return };
-    /// assert!(rt; array.insert(300, 8) == Err(InsertFault::Taken(8)));
-    /// if let Some(value) = array.get_mut(300) {
-    ///     *value = 9;
-    /// }
-    /// assert!(rt; array.remove(300) == Some(9));
-    /// let Ok(()) = array.insert(40, 1) else { return };
-    /// assert!(rt; array.set_mark(40, Mark::M0));
-    /// assert!(rt; array.clear_mark(40, Mark::M0));
-    /// assert!(rt; array.next_marked(0, Mark::M0).is_none());
-    /// ```
     pub fn next_marked(&self, from: u32, mark: Mark) -> Option<u32>
         ensures least { result ≡ least (set.contains (marked_with self.now mark)) from u32.MAX }
         ensures none_above { IfNone result ((k : ℕ) → from ≤ k → set.contains (marked_with self.now mark) k ≡ false) }
@@ -427,19 +241,11 @@ impl<T: Drop> IndexArray<T> {
     /// # Examples
     ///
     /// ```rust
-    /// use drm_index_array::{IndexArray, InsertFault, Mark};
+    /// use drm_index_array::IndexArray;
     ///
     /// let alloc = rt.alloc();
     /// let mut array: IndexArray<u8> = IndexArray::new(alloc);
-    /// let Ok(()) = array.insert(300, 7) else { return };
-    /// assert!(rt; array.insert(300, 8) == Err(InsertFault::Taken(8)));
-    /// if let Some(value) = array.get_mut(300) {
-    ///     *value = 9;
-    /// }
-    /// assert!(rt; array.remove(300) == Some(9));
     /// let Ok(()) = array.insert(40, 1) else { return };
-    /// assert!(rt; array.set_mark(40, Mark::M0));
-    /// assert!(rt; array.clear_mark(40, Mark::M0));
     /// assert!(rt; array.next_vacant(40) == Some(41));
     /// ```
     pub fn next_vacant(&self, from: u32) -> Option<u32>

@@ -7,9 +7,12 @@ ghost use Rattle.std.specs.Prelude.{◌≡◌};
 /// # Examples
 ///
 /// ```rust
-/// use drm_index_array::InsertFault;
+/// use drm_index_array::{IndexArray, InsertFault};
 ///
-/// let taken = InsertFault::Taken(7);
+/// let alloc = rt.alloc();
+/// let mut array: IndexArray<u8> = IndexArray::new(alloc);
+/// let Ok(()) = array.insert(300, 7) else { return };
+/// assert!(rt; array.insert(300, 8) == Err(InsertFault::Taken(8)));
 /// ```
 #[derive(Debug, Drop, PartialEq, Eq)]
 pub enum InsertFault<T> {
@@ -23,15 +26,6 @@ impl<T> InsertFault<T> {
     ghost use Rattle.drm_index_array.specs.InsertFault.{value_of};
 
     /// Returns the value that was not stored.
-    ///
-    /// # Examples
-    ///
-    /// ```rust
-    /// use drm_index_array::InsertFault;
-    ///
-    /// let taken = InsertFault::Taken(7);
-    /// assert!(rt; taken.into_value() == 7);
-    /// ```
     pub fn into_value(self) -> T
         ensures { result ≡ value_of self }
     {

@@ -13,10 +13,15 @@ use std::alloc::{AllocError, Global};
 /// # Examples
 ///
 /// ```rust
-/// use drm_journals::Journal;
+/// use drm_device::Limits;
+/// use drm_journals::journal_of;
+/// use drm_runs::make_device;
+/// use drm_table::{Event, Opening};
 ///
 /// let alloc = rt.alloc();
-/// let journal = Journal { text: Vec::new(alloc), is_whole: true };
+/// let Some(device) = make_device(alloc, Limits::PROGRAM) else { return };
+/// let events = [Event::Open(Opening::Render)];
+/// let Ok(journal) = journal_of(alloc, &events, Limits::PROGRAM, device) else { return };
 /// assert!(rt; journal.is_whole);
 /// ```
 #[derive(Drop)]
@@ -42,21 +47,6 @@ pub struct Journal {
 /// # Errors
 ///
 /// `AllocError` if memory is refused. There is then no text. The device is dropped in any case.
-///
-/// # Examples
-///
-/// ```rust
-/// use drm_device::Limits;
-/// use drm_journals::journal_of;
-/// use drm_runs::make_device;
-/// use drm_table::{Event, Opening};
-///
-/// let alloc = rt.alloc();
-/// let Some(device) = make_device(alloc, Limits::PROGRAM) else { return };
-/// let events = [Event::Open(Opening::Render)];
-/// let Ok(journal) = journal_of(alloc, &events, Limits::PROGRAM, device) else { return };
-/// assert!(rt; journal.is_whole);
-/// ```
 pub fn journal_of(
     alloc: Global,
     events: &[Event],

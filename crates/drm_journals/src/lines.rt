@@ -178,18 +178,6 @@ fn put_closed(text: &mut Vec<u8>, client: u32) -> Result<(), AllocError>
 /// # Errors
 ///
 /// `AllocError` if memory is refused. The text may then end with a part of the words.
-///
-/// # Examples
-///
-/// ```rust
-/// use drm_journals::put_words;
-/// use drm_table::{Call, Event};
-///
-/// let alloc = rt.alloc();
-/// let mut text = Vec::new(alloc);
-/// let Ok(()) = put_words(&mut text, &Event::Ask(3, Call::Version)) else { return };
-/// assert!(rt; text.as_slice() == b"client 3 version".as_slice());
-/// ```
 pub fn put_words(text: &mut Vec<u8>, event: &Event) -> Result<(), AllocError>
     ensures { OnOk result (text.new.items ≡ text.old.items ++ words_text event.now) }
 {

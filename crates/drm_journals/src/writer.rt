@@ -216,20 +216,6 @@ impl JournalWriter {
     /// # Errors
     ///
     /// `AllocError` if memory is refused. The text may then end with a part of the line. The device is dropped.
-    ///
-    /// # Examples
-    ///
-    /// ```rust
-    /// use drm_device::Limits;
-    /// use drm_journals::JournalWriter;
-    /// use drm_runs::make_device;
-    ///
-    /// let alloc = rt.alloc();
-    /// let Some(empty) = make_device(alloc, Limits::PROGRAM) else { return };
-    /// let mut text = Vec::new(alloc);
-    /// let Ok(mut writer) = JournalWriter::begin(alloc, Limits::PROGRAM, empty, &mut text) else { return };
-    /// assert!(rt; writer.is_whole());
-    /// ```
     pub fn begin(
         alloc: Global,
         limits: Limits,
@@ -255,23 +241,6 @@ impl JournalWriter {
     ///
     /// `AllocError` if memory is refused. The text may then end with a part of the line, and nothing is to be written
     /// any more.
-    ///
-    /// # Examples
-    ///
-    /// ```rust
-    /// use drm_device::Limits;
-    /// use drm_journals::JournalWriter;
-    /// use drm_runs::make_device;
-    /// use drm_table::{Call, Event, Opening};
-    ///
-    /// let alloc = rt.alloc();
-    /// let Some(fresh) = make_device(alloc, Limits::PROGRAM) else { return };
-    /// let mut text = Vec::new(alloc);
-    /// let Ok(mut writer) = JournalWriter::begin(alloc, Limits::PROGRAM, fresh, &mut text) else { return };
-    /// let Ok(()) = writer.write(&mut text, &Event::Open(Opening::Render)) else { return };
-    /// let Ok(()) = writer.write(&mut text, &Event::Ask(1, Call::Version)) else { return };
-    /// assert!(rt; text.ends_with(b"a version -> version 1 0 0\n"));
-    /// ```
     pub fn write(&mut self, text: &mut Vec<u8>, event: &Event) -> Result<(), AllocError>
         ensures { OnOk result ((limits : SomeLimits) (first : DeviceValue) (events : List AnEvent) (front : List ℕ)
             → IsWritten limits first events (front ++ text.old.items) self.old
@@ -295,20 +264,6 @@ impl JournalWriter {
 
     /// Returns whether each event so far has a line. If more clients were open at once than there are labels, the other
     /// events have comments. Does not allocate.
-    ///
-    /// # Examples
-    ///
-    /// ```rust
-    /// use drm_device::Limits;
-    /// use drm_journals::JournalWriter;
-    /// use drm_runs::make_device;
-    ///
-    /// let alloc = rt.alloc();
-    /// let Some(unused) = make_device(alloc, Limits::PROGRAM) else { return };
-    /// let mut text = Vec::new(alloc);
-    /// let Ok(mut writer) = JournalWriter::begin(alloc, Limits::PROGRAM, unused, &mut text) else { return };
-    /// assert!(rt; writer.is_whole());
-    /// ```
     pub fn is_whole(&self) -> bool
         ensures { result ≡ self.now.is_whole }
     {

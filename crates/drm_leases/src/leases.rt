@@ -41,7 +41,7 @@ const GRANT_KIND: u32 = 7;
 /// # Examples
 ///
 /// ```rust
-/// use drm_leases::Leases;
+/// use drm_leases::{Leased, Leases};
 /// use drm_masters::Masters;
 /// use drm_modes::{Modes, Topology};
 ///
@@ -52,6 +52,8 @@ const GRANT_KIND: u32 = 7;
 /// let Ok(_first) = masters.on_open(1, 1) else { return };
 /// let mut leases = Leases::new(alloc, 8);
 /// let Ok(leased) = leases.create(&mut masters, &modes, 1, true, &[1, 3, 7], 2) else { return };
+/// let Leased { m, id, token } = leased;
+/// assert!(rt; id == 1 && token == 1 && matches!(masters.master(2), Some(row) if row.key == m));
 /// ```
 pub struct Leases {
     granted: Granted,
@@ -81,15 +83,6 @@ impl Model for Leases {
 
 impl Leases {
     /// Creates a table without leases. It can allocate the tokens from 1 to `last`. Does not allocate memory.
-    ///
-    /// # Examples
-    ///
-    /// ```rust
-    /// use drm_leases::Leases;
-    ///
-    /// let alloc = rt.alloc();
-    /// assert!(rt; Leases::new(alloc, 8).last_given().is_none());
-    /// ```
     pub fn new(alloc: Global, last: u32) -> Leases
         requires { 1 ≤ last }
         ensures { result ≡ sets.no_leases last }
@@ -118,23 +111,6 @@ impl Leases {
     ///
     /// `Denied` with the first failing rule, in the order 35, 30 to 34, 43. Each rule is over all ids, and 34 over the
     /// added planes too. `NoMemory` if no rule denies it, and memory is refused. The state is then unchanged.
-    ///
-    /// # Examples
-    ///
-    /// ```rust
-    /// use drm_leases::Leases;
-    /// use drm_masters::Masters;
-    /// use drm_modes::{Modes, Topology};
-    ///
-    /// let alloc = rt.alloc();
-    /// let Some(topology) = Topology::new(2, &[1, 2], &[3, 2], &[5, 6]) else { return };
-    /// let modes = Modes::new(alloc, topology, 4);
-    /// let mut masters = Masters::new(alloc, 4, 4);
-    /// let Ok(_first) = masters.on_open(1, 1) else { return };
-    /// let mut leases = Leases::new(alloc, 8);
-    /// let Ok(leased) = leases.create(&mut masters, &modes, 1, true, &[1, 3, 7], 2) else { return };
-    /// assert!(rt; leased.id == 1 && leased.token == 1);
-    /// ```
     pub fn create(
         &mut self,
         masters: &mut Masters,
@@ -173,25 +149,6 @@ impl Leases {
 
     /// Returns the first rule that denies [`create`](Leases::create), or `None` if it creates a lease, for which it
     /// needs memory. Returns `None` too if the client belongs to no master. Does not allocate.
-    ///
-    /// # Examples
-    ///
-    /// ```rust
-    /// use drm_leases::Leases;
-    /// use drm_masters::Masters;
-    /// use drm_modes::{Modes, Topology};
-    /// use drm_table::Rule;
-    ///
-    /// let alloc = rt.alloc();
-    /// let Some(topology) = Topology::new(2, &[1, 2], &[3, 2], &[5, 6]) else { return };
-    /// let modes = Modes::new(alloc, topology, 4);
-    /// let mut masters = Masters::new(alloc, 4, 4);
-    /// let Ok(_first) = masters.on_open(1, 1) else { return };
-    /// let mut leases = Leases::new(alloc, 8);
-    /// let Ok(leased) = leases.create(&mut masters, &modes, 1, true, &[1, 3, 7], 2) else { return };
-    /// assert!(rt; leases.create_refusal(&masters, &modes, 1, true, &[2, 4, 8]).is_none());
-    /// assert!(rt; leases.create_refusal(&masters, &modes, 1, true, &[1, 3, 7]) == Some(Rule::LeasedOut));
-    /// ```
     pub fn create_refusal(
         &self,
         masters: &Masters,
@@ -219,23 +176,6 @@ impl Leases {
 
     /// Returns whether the lease of a lessee has a mode object. Returns `false` if no lessee with a lease has the key.
     /// Does not allocate.
-    ///
-    /// # Examples
-    ///
-    /// ```rust
-    /// use drm_leases::Leases;
-    /// use drm_masters::Masters;
-    /// use drm_modes::{Modes, Topology};
-    ///
-    /// let alloc = rt.alloc();
-    /// let Some(topology) = Topology::new(2, &[1, 2], &[3, 2], &[5, 6]) else { return };
-    /// let modes = Modes::new(alloc, topology, 4);
-    /// let mut masters = Masters::new(alloc, 4, 4);
-    /// let Ok(_first) = masters.on_open(1, 1) else { return };
-    /// let mut leases = Leases::new(alloc, 8);
-    /// let Ok(leased) = leases.create(&mut masters, &modes, 1, true, &[1, 3, 7], 2) else { return };
-    /// assert!(rt; leases.holds(leased.m, 1) && !leases.holds(leased.m, 2));
-    /// ```
     pub fn holds(&self, master: MasterKey, mode_object: u32) -> bool
         ensures { result ≡ option_map_or (λ m. sets.is_granted self.now.grants m mode_object) (sets.lessee_at self.now.lendings master) false }
     {
@@ -247,24 +187,6 @@ impl Leases {
 
     /// Returns what a client of a master sees of the fixed mode objects (drm-uapi, leases and universal planes).
     /// `master` is the number of the step that created it. Does not allocate.
-    ///
-    /// # Examples
-    ///
-    /// ```rust
-    /// use drm_leases::Leases;
-    /// use drm_masters::Masters;
-    /// use drm_modes::{Modes, Topology};
-    ///
-    /// let alloc = rt.alloc();
-    /// let Some(topology) = Topology::new(2, &[1, 2], &[3, 2], &[5, 6]) else { return };
-    /// let modes = Modes::new(alloc, topology, 4);
-    /// let mut masters = Masters::new(alloc, 4, 4);
-    /// let Ok(_first) = masters.on_open(1, 1) else { return };
-    /// let mut leases = Leases::new(alloc, 8);
-    /// let Ok(leased) = leases.create(&mut masters, &modes, 1, true, &[1, 3, 7], 2) else { return };
-    /// let lessee = leases.view(&masters, 2, true);
-    /// assert!(rt; leases.view(&masters, 1, true).sees(&modes, 2) && !lessee.sees(&modes, 2));
-    /// ```
     pub fn view(&self, masters: &Masters, master: u32, universal: bool) -> View
         ensures controlled { AreControlled self.now.grants masters.now.masters master result.controlled }
         ensures universal { result.universal ≡ universal }
@@ -276,24 +198,6 @@ impl Leases {
     }
 
     /// Returns whether the lease of a direct lessee of the master has a mode object. Does not allocate.
-    ///
-    /// # Examples
-    ///
-    /// ```rust
-    /// use drm_leases::Leases;
-    /// use drm_masters::Masters;
-    /// use drm_modes::{Modes, Topology};
-    ///
-    /// let alloc = rt.alloc();
-    /// let Some(topology) = Topology::new(2, &[1, 2], &[3, 2], &[5, 6]) else { return };
-    /// let modes = Modes::new(alloc, topology, 4);
-    /// let mut masters = Masters::new(alloc, 4, 4);
-    /// let Ok(_first) = masters.on_open(1, 1) else { return };
-    /// let mut leases = Leases::new(alloc, 8);
-    /// let Ok(leased) = leases.create(&mut masters, &modes, 1, true, &[1, 3, 7], 2) else { return };
-    /// let Some(owner) = masters.master(1) else { return };
-    /// assert!(rt; leases.leased_out(&masters, owner.key, 3));
-    /// ```
     pub fn leased_out(&self, masters: &Masters, master: MasterKey, mode_object: u32) -> bool
         requires there { masters_sets.is_there masters.now.masters master ≡ true }
         requires agreed { AreAgreed self.now masters.now }
@@ -307,24 +211,6 @@ impl Leases {
 
     /// Returns the ids of the direct lessees of the master whose lease is not empty, in rising order (drm-uapi, leases;
     /// the order is own). Does not allocate.
-    ///
-    /// # Examples
-    ///
-    /// ```rust
-    /// use drm_leases::Leases;
-    /// use drm_masters::Masters;
-    /// use drm_modes::{Modes, Topology};
-    ///
-    /// let alloc = rt.alloc();
-    /// let Some(topology) = Topology::new(2, &[1, 2], &[3, 2], &[5, 6]) else { return };
-    /// let modes = Modes::new(alloc, topology, 4);
-    /// let mut masters = Masters::new(alloc, 4, 4);
-    /// let Ok(_first) = masters.on_open(1, 1) else { return };
-    /// let mut leases = Leases::new(alloc, 8);
-    /// let Ok(leased) = leases.create(&mut masters, &modes, 1, true, &[1, 3, 7], 2) else { return };
-    /// let Some(owner) = masters.master(1) else { return };
-    /// assert!(rt; leases.list(&masters, owner.key).ids() == [1].as_slice());
-    /// ```
     pub fn list(&self, masters: &Masters, master: MasterKey) -> ShownList
         requires { masters_sets.is_there masters.now.masters master ≡ true }
         ensures { result ≡ sets.lessee_ids self.now.grants masters.now.masters masters.now.last_lessee (masters_sets.step_number_at masters.now.masters master) }
@@ -339,23 +225,6 @@ impl Leases {
 
     /// Returns the mode objects in the lease of a lessee, in rising order. The list is empty if no lessee with a lease
     /// has the key. Does not allocate.
-    ///
-    /// # Examples
-    ///
-    /// ```rust
-    /// use drm_leases::Leases;
-    /// use drm_masters::Masters;
-    /// use drm_modes::{Modes, Topology};
-    ///
-    /// let alloc = rt.alloc();
-    /// let Some(topology) = Topology::new(2, &[1, 2], &[3, 2], &[5, 6]) else { return };
-    /// let modes = Modes::new(alloc, topology, 4);
-    /// let mut masters = Masters::new(alloc, 4, 4);
-    /// let Ok(_first) = masters.on_open(1, 1) else { return };
-    /// let mut leases = Leases::new(alloc, 8);
-    /// let Ok(leased) = leases.create(&mut masters, &modes, 1, true, &[1, 3, 7], 2) else { return };
-    /// assert!(rt; leases.objects_of(leased.m).ids() == [1, 3, 7].as_slice());
-    /// ```
     pub fn objects_of(&self, master: MasterKey) -> ShownList
         ensures { result ≡ option_map_or (sets.granted_objects self.now.grants) (sets.lessee_at self.now.lendings master) [] }
     {
@@ -366,23 +235,6 @@ impl Leases {
     }
 
     /// Returns the lessee that a token opens, if the token is open. Does not allocate.
-    ///
-    /// # Examples
-    ///
-    /// ```rust
-    /// use drm_leases::Leases;
-    /// use drm_masters::Masters;
-    /// use drm_modes::{Modes, Topology};
-    ///
-    /// let alloc = rt.alloc();
-    /// let Some(topology) = Topology::new(2, &[1, 2], &[3, 2], &[5, 6]) else { return };
-    /// let modes = Modes::new(alloc, topology, 4);
-    /// let mut masters = Masters::new(alloc, 4, 4);
-    /// let Ok(_first) = masters.on_open(1, 1) else { return };
-    /// let mut leases = Leases::new(alloc, 8);
-    /// let Ok(leased) = leases.create(&mut masters, &modes, 1, true, &[1, 3, 7], 2) else { return };
-    /// assert!(rt; leases.token_master(leased.token) == Some(leased.m));
-    /// ```
     pub fn token_master(&self, token: u32) -> Option<MasterKey>
         ensures { result ≡ option_and_then (sets.key_at self.now.lendings) (sets.token_master self.now.tokens token) }
     {
@@ -392,23 +244,6 @@ impl Leases {
 
     /// Returns the open token of a lessee, if it has one. The lessee is named by the number of the step that created
     /// it. Does not allocate.
-    ///
-    /// # Examples
-    ///
-    /// ```rust
-    /// use drm_leases::Leases;
-    /// use drm_masters::Masters;
-    /// use drm_modes::{Modes, Topology};
-    ///
-    /// let alloc = rt.alloc();
-    /// let Some(topology) = Topology::new(2, &[1, 2], &[3, 2], &[5, 6]) else { return };
-    /// let modes = Modes::new(alloc, topology, 4);
-    /// let mut masters = Masters::new(alloc, 4, 4);
-    /// let Ok(_first) = masters.on_open(1, 1) else { return };
-    /// let mut leases = Leases::new(alloc, 8);
-    /// let Ok(leased) = leases.create(&mut masters, &modes, 1, true, &[1, 3, 7], 2) else { return };
-    /// assert!(rt; leases.token_of(2) == Some(leased.token));
-    /// ```
     pub fn token_of(&self, master: u32) -> Option<u32>
         ensures { result ≡ sets.token_of self.now.tokens master }
     {
@@ -448,27 +283,6 @@ impl Leases {
     /// It removes their open tokens, and releases each lessee whose token it removes. Such a lessee is freed unless a
     /// client or a lessee below it holds it. No other master is released: the own master of a client that closed
     /// stays until [`Masters::release`].
-    ///
-    /// # Examples
-    ///
-    /// ```rust
-    /// use drm_leases::Leases;
-    /// use drm_masters::Masters;
-    /// use drm_modes::{Modes, Topology};
-    ///
-    /// let alloc = rt.alloc();
-    /// let Some(topology) = Topology::new(2, &[1, 2], &[3, 2], &[5, 6]) else { return };
-    /// let modes = Modes::new(alloc, topology, 4);
-    /// let mut masters = Masters::new(alloc, 4, 4);
-    /// let Ok(_first) = masters.on_open(1, 1) else { return };
-    /// let mut leases = Leases::new(alloc, 8);
-    /// let Ok(leased) = leases.create(&mut masters, &modes, 1, true, &[1, 3, 7], 2) else { return };
-    /// assert!(rt; leases.redeem(leased.token) == Some(leased.m));
-    /// if masters.of_key(leased.m).is_some() {
-    ///     leases.revoke(&mut masters, leased.m);
-    /// }
-    /// assert!(rt; leases.objects_of(leased.m).ids().is_empty());
-    /// ```
     pub fn revoke(&mut self, masters: &mut Masters, master: MasterKey)
         requires there { masters_sets.is_there masters.old.masters master ≡ true }
         requires agreed { AreAgreed self.old masters.old }
@@ -487,28 +301,6 @@ impl Leases {
     ///
     /// It removes their open tokens, and releases each lessee whose token it removes. The master's own lease and open
     /// token remain, and no other master is released.
-    ///
-    /// # Examples
-    ///
-    /// ```rust
-    /// use drm_leases::Leases;
-    /// use drm_masters::Masters;
-    /// use drm_modes::{Modes, Topology};
-    ///
-    /// let alloc = rt.alloc();
-    /// let Some(topology) = Topology::new(2, &[1, 2], &[3, 2], &[5, 6]) else { return };
-    /// let modes = Modes::new(alloc, topology, 4);
-    /// let mut masters = Masters::new(alloc, 4, 4);
-    /// let Ok(_first) = masters.on_open(1, 1) else { return };
-    /// let mut leases = Leases::new(alloc, 8);
-    /// let Ok(leased) = leases.create(&mut masters, &modes, 1, true, &[1, 3, 7], 2) else { return };
-    /// assert!(rt; leases.redeem(leased.token) == Some(leased.m));
-    /// if masters.of_key(leased.m).is_some() {
-    ///     leases.revoke(&mut masters, leased.m);
-    /// }
-    /// let Some(owner) = masters.master(1) else { return };
-    /// leases.revoke_below(&mut masters, owner.key);
-    /// ```
     pub fn revoke_below(&mut self, masters: &mut Masters, master: MasterKey)
         requires there { masters_sets.is_there masters.old.masters master ≡ true }
         requires agreed { AreAgreed self.old masters.old }
@@ -524,29 +316,6 @@ impl Leases {
     }
 
     /// Returns the token that was allocated last, or `None` before the first.
-    ///
-    /// # Examples
-    ///
-    /// ```rust
-    /// use drm_leases::Leases;
-    /// use drm_masters::Masters;
-    /// use drm_modes::{Modes, Topology};
-    ///
-    /// let alloc = rt.alloc();
-    /// let Some(topology) = Topology::new(2, &[1, 2], &[3, 2], &[5, 6]) else { return };
-    /// let modes = Modes::new(alloc, topology, 4);
-    /// let mut masters = Masters::new(alloc, 4, 4);
-    /// let Ok(_first) = masters.on_open(1, 1) else { return };
-    /// let mut leases = Leases::new(alloc, 8);
-    /// let Ok(leased) = leases.create(&mut masters, &modes, 1, true, &[1, 3, 7], 2) else { return };
-    /// assert!(rt; leases.redeem(leased.token) == Some(leased.m));
-    /// if masters.of_key(leased.m).is_some() {
-    ///     leases.revoke(&mut masters, leased.m);
-    /// }
-    /// let Some(owner) = masters.master(1) else { return };
-    /// leases.revoke_below(&mut masters, owner.key);
-    /// assert!(rt; leases.last_given() == Some(leased.token));
-    /// ```
     pub fn last_given(&self) -> Option<u32>
         ensures { result ≡ self.now.last_given }
     {
@@ -555,29 +324,6 @@ impl Leases {
 
     /// Returns the row at a position, from 0, of the rows of an audit's kind (own). Grants are kind 7, in the order of
     /// lessees and of ids in a lease. No other kind has rows here. Does not allocate.
-    ///
-    /// # Examples
-    ///
-    /// ```rust
-    /// use drm_leases::Leases;
-    /// use drm_masters::Masters;
-    /// use drm_modes::{Modes, Topology};
-    ///
-    /// let alloc = rt.alloc();
-    /// let Some(topology) = Topology::new(2, &[1, 2], &[3, 2], &[5, 6]) else { return };
-    /// let modes = Modes::new(alloc, topology, 4);
-    /// let mut masters = Masters::new(alloc, 4, 4);
-    /// let Ok(_first) = masters.on_open(1, 1) else { return };
-    /// let mut leases = Leases::new(alloc, 8);
-    /// let Ok(leased) = leases.create(&mut masters, &modes, 1, true, &[1, 3, 7], 2) else { return };
-    /// assert!(rt; leases.redeem(leased.token) == Some(leased.m));
-    /// if masters.of_key(leased.m).is_some() {
-    ///     leases.revoke(&mut masters, leased.m);
-    /// }
-    /// let Some(owner) = masters.master(1) else { return };
-    /// leases.revoke_below(&mut masters, owner.key);
-    /// assert!(rt; leases.nth(7, 0) == leases.nth_grant(0) && leases.nth(2, 0).is_none());
-    /// ```
     pub fn nth(&self, kind: u32, i: usize) -> Option<Grant>
         ensures { result ≡ sets.nth_row self.now kind i }
     {
@@ -588,29 +334,6 @@ impl Leases {
     }
 
     /// Returns the grant at a position, from 0, in the order of lessees and of ids in a lease. Does not allocate.
-    ///
-    /// # Examples
-    ///
-    /// ```rust
-    /// use drm_leases::Leases;
-    /// use drm_masters::Masters;
-    /// use drm_modes::{Modes, Topology};
-    ///
-    /// let alloc = rt.alloc();
-    /// let Some(topology) = Topology::new(2, &[1, 2], &[3, 2], &[5, 6]) else { return };
-    /// let modes = Modes::new(alloc, topology, 4);
-    /// let mut masters = Masters::new(alloc, 4, 4);
-    /// let Ok(_first) = masters.on_open(1, 1) else { return };
-    /// let mut leases = Leases::new(alloc, 8);
-    /// let Ok(leased) = leases.create(&mut masters, &modes, 1, true, &[1, 3, 7], 2) else { return };
-    /// assert!(rt; leases.redeem(leased.token) == Some(leased.m));
-    /// if masters.of_key(leased.m).is_some() {
-    ///     leases.revoke(&mut masters, leased.m);
-    /// }
-    /// let Some(owner) = masters.master(1) else { return };
-    /// leases.revoke_below(&mut masters, owner.key);
-    /// assert!(rt; leases.nth_grant(0).is_none());
-    /// ```
     pub fn nth_grant(&self, position: usize) -> Option<Grant>
         ensures { result ≡ slice_get self.now.grants position }
     {

@@ -53,24 +53,6 @@ pub struct LeaseRecord {
 }
 
 /// A lease that was created.
-///
-/// # Examples
-///
-/// ```rust
-/// use drm_leases::{Leased, Leases};
-/// use drm_masters::Masters;
-/// use drm_modes::{Modes, Topology};
-///
-/// let alloc = rt.alloc();
-/// let Some(topology) = Topology::new(2, &[1, 2], &[3, 2], &[5, 6]) else { return };
-/// let modes = Modes::new(alloc, topology, 4);
-/// let mut masters = Masters::new(alloc, 4, 4);
-/// let Ok(_first) = masters.on_open(1, 1) else { return };
-/// let mut leases = Leases::new(alloc, 8);
-/// let Ok(leased) = leases.create(&mut masters, &modes, 1, true, &[1, 3, 7], 2) else { return };
-/// let Leased { m, id, token } = leased;
-/// assert!(rt; id == 1 && token == 1 && matches!(masters.master(2), Some(row) if row.key == m));
-/// ```
 #[derive(Clone, Copy, PartialEq, Eq, Debug)]
 pub struct Leased {
     /// The lessee.

@@ -25,14 +25,6 @@ pub enum Controlled {
 
 impl Controlled {
     /// Returns whether the mode object is among them. Does not allocate.
-    ///
-    /// # Examples
-    ///
-    /// ```rust
-    /// use drm_leases::Controlled;
-    ///
-    /// assert!(rt; Controlled::All.has(7));
-    /// ```
     pub fn has(self, mode_object: u32) -> bool
         ensures { result ≡ is_controlled self mode_object }
     {
@@ -68,19 +60,6 @@ pub struct View {
 impl View {
     /// Returns whether the client sees a fixed mode object. All clients see an encoder. Of the rest a client sees what
     /// its master controls, but primary and cursor planes only with universal planes on. Does not allocate.
-    ///
-    /// # Examples
-    ///
-    /// ```rust
-    /// use drm_leases::{Controlled, View};
-    /// use drm_modes::{Modes, Topology};
-    ///
-    /// let alloc = rt.alloc();
-    /// let Some(topology) = Topology::new(1, &[1], &[1], &[3]) else { return };
-    /// let modes = Modes::new(alloc, topology, 4);
-    /// let view = View { controlled: Controlled::Lease(0b1), universal: true };
-    /// assert!(rt; view.sees(&modes, 1) && view.sees(&modes, 3) && !view.sees(&modes, 4));
-    /// ```
     pub fn sees(self, modes: &Modes, id: u32) -> bool
         ensures { result ≡ is_in_view modes.now.topology self id }
     {

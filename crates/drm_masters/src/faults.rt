@@ -7,12 +7,11 @@ use drm_table::Rule;
 /// # Examples
 ///
 /// ```rust
-/// use drm_masters::{Masters, NoMemory, SetDone};
+/// use drm_masters::{Masters, SetDone};
 ///
 /// let alloc = rt.alloc();
-/// let mut masters = Masters::new(alloc, 4, 0);
+/// let mut masters = Masters::new(alloc, 4, 4);
 /// let Ok(_first) = masters.on_open(1, 1) else { return };
-/// assert!(rt; masters.member(1).is_none() || masters.magic(1) != Err(NoMemory));
 /// assert!(rt; masters.member(1).is_none() || masters.set(1, false, 2) == Ok(SetDone::Already));
 /// ```
 #[derive(Clone, Copy, PartialEq, Eq, Debug)]
@@ -30,14 +29,12 @@ pub enum SetDone {
 /// # Examples
 ///
 /// ```rust
-/// use drm_masters::{Masters, NoMemory, SetDone, SetFault};
+/// use drm_masters::{Masters, SetFault};
 /// use drm_table::Rule;
 ///
 /// let alloc = rt.alloc();
-/// let mut masters = Masters::new(alloc, 4, 0);
+/// let mut masters = Masters::new(alloc, 4, 4);
 /// let Ok(_first) = masters.on_open(1, 1) else { return };
-/// assert!(rt; masters.member(1).is_none() || masters.magic(1) != Err(NoMemory));
-/// assert!(rt; masters.member(1).is_none() || masters.set(1, false, 2) == Ok(SetDone::Already));
 /// let Ok(_second) = masters.on_open(2, 2) else { return };
 /// let denied = Err(SetFault::Denied(Rule::MasterPerm));
 /// assert!(rt; masters.member(2).is_none() || masters.set(2, false, 3) == denied);
@@ -55,17 +52,11 @@ pub enum SetFault {
 /// # Examples
 ///
 /// ```rust
-/// use drm_masters::{LesseeFault, Masters, NoMemory, SetDone, SetFault};
-/// use drm_table::Rule;
+/// use drm_masters::{LesseeFault, Masters};
 ///
 /// let alloc = rt.alloc();
 /// let mut masters = Masters::new(alloc, 4, 0);
 /// let Ok(_first) = masters.on_open(1, 1) else { return };
-/// assert!(rt; masters.member(1).is_none() || masters.magic(1) != Err(NoMemory));
-/// assert!(rt; masters.member(1).is_none() || masters.set(1, false, 2) == Ok(SetDone::Already));
-/// let Ok(_second) = masters.on_open(2, 2) else { return };
-/// let denied = Err(SetFault::Denied(Rule::MasterPerm));
-/// assert!(rt; masters.member(2).is_none() || masters.set(2, false, 3) == denied);
 /// let Some(owner) = masters.master(1) else { return };
 /// assert!(rt; masters.make_lessee(owner.key, 4) == Err(LesseeFault::Full));
 /// ```

@@ -79,15 +79,6 @@ impl Masters {
     ///
     /// It can hold at most `clients` clients, whose magics are 1 to `clients`. The lessee ids under each owner are 1 to
     /// `lessees`, at most 64.
-    ///
-    /// # Examples
-    ///
-    /// ```rust
-    /// use drm_masters::Masters;
-    ///
-    /// let alloc = rt.alloc();
-    /// assert!(rt; Masters::new(alloc, 4, 4).device_master().is_none());
-    /// ```
     pub fn new(alloc: Global, clients: u32, lessees: u32) -> Masters
         requires few { lessees ≤ 64 }
         ensures { result ≡ record { members = []; masters = []; device_master = None; last_magic = clients; last_lessee = lessees } }
@@ -109,17 +100,6 @@ impl Masters {
     }
 
     /// Returns a client's relation to its master, if it belongs to one. Does not allocate.
-    ///
-    /// # Examples
-    ///
-    /// ```rust
-    /// use drm_masters::Masters;
-    ///
-    /// let alloc = rt.alloc();
-    /// let mut masters = Masters::new(alloc, 4, 4);
-    /// let Ok(is_first) = masters.on_open(1, 1) else { return };
-    /// assert!(rt; matches!(masters.member(1), Some(row) if row.is_master && row.master == 1));
-    /// ```
     pub fn member(&self, client: u32) -> Option<Member>
         ensures member { result ≡ sets.member_of self.now.members client }
         ensures are { sets.AreMasters self.now }
@@ -128,17 +108,6 @@ impl Masters {
     }
 
     /// Returns the key of a client's master, if it belongs to one. Does not allocate.
-    ///
-    /// # Examples
-    ///
-    /// ```rust
-    /// use drm_masters::Masters;
-    ///
-    /// let alloc = rt.alloc();
-    /// let mut masters = Masters::new(alloc, 4, 4);
-    /// let Ok(is_first) = masters.on_open(1, 1) else { return };
-    /// assert!(rt; masters.master_of(1).is_some() && masters.master_of(2).is_none());
-    /// ```
     pub fn master_of(&self, client: u32) -> Option<MasterKey>
         ensures { result ≡ option_and_then (λ x. sets.key_of self.now.masters x.master) (sets.member_of self.now.members client) }
     {
@@ -148,17 +117,6 @@ impl Masters {
     }
 
     /// Returns the master with a step number, if it exists. Does not allocate.
-    ///
-    /// # Examples
-    ///
-    /// ```rust
-    /// use drm_masters::Masters;
-    ///
-    /// let alloc = rt.alloc();
-    /// let mut masters = Masters::new(alloc, 4, 4);
-    /// let Ok(is_first) = masters.on_open(1, 1) else { return };
-    /// assert!(rt; matches!(masters.master(1), Some(row) if row.lessor.is_none() && !row.kept));
-    /// ```
     pub fn master(&self, step_number: u32) -> Option<Master>
         ensures master { result ≡ sets.master_at self.now.masters step_number }
         ensures keyed { IfSome result (λ x. sets.IsKeyOf self.now.masters step_number x.key) }
@@ -167,19 +125,6 @@ impl Masters {
     }
 
     /// Returns the master that a key names, if it exists. Does not allocate.
-    ///
-    /// # Examples
-    ///
-    /// ```rust
-    /// use drm_masters::Masters;
-    ///
-    /// let alloc = rt.alloc();
-    /// let mut masters = Masters::new(alloc, 4, 4);
-    /// let Ok(is_first) = masters.on_open(1, 1) else { return };
-    /// if let Some(row) = masters.master(1) {
-    ///     assert!(rt; masters.of_key(row.key) == Some(row));
-    /// }
-    /// ```
     pub fn of_key(&self, master: MasterKey) -> Option<Master>
         ensures { result ≡ find (sets.is_key master) self.now.masters }
     {
@@ -188,17 +133,6 @@ impl Masters {
 
     /// Returns the depth of a master below its owner: 0 without a lessor, else one more than its lessor's (own).
     /// `master` is the number of the step that created it. Does not allocate.
-    ///
-    /// # Examples
-    ///
-    /// ```rust
-    /// use drm_masters::Masters;
-    ///
-    /// let alloc = rt.alloc();
-    /// let mut masters = Masters::new(alloc, 4, 4);
-    /// let Ok(is_first) = masters.on_open(1, 1) else { return };
-    /// assert!(rt; masters.depth(1) == 0);
-    /// ```
     pub fn depth(&self, master: u32) -> u32
         ensures { result ≡ sets.depth_of self.now.masters master }
     {
@@ -206,18 +140,6 @@ impl Masters {
     }
 
     /// Returns the key of a master's lessor, if it is a lessee. Does not allocate.
-    ///
-    /// # Examples
-    ///
-    /// ```rust
-    /// use drm_masters::Masters;
-    ///
-    /// let alloc = rt.alloc();
-    /// let mut masters = Masters::new(alloc, 4, 4);
-    /// let Ok(is_first) = masters.on_open(1, 1) else { return };
-    /// let Some(row) = masters.master(1) else { return };
-    /// assert!(rt; masters.lessor_of(row.key).is_none());
-    /// ```
     pub fn lessor_of(&self, master: MasterKey) -> Option<MasterKey>
         requires { sets.is_there self.now.masters master ≡ true }
         ensures { result ≡ option_and_then (sets.key_of self.now.masters) (sets.lessor_of self.now.masters (sets.step_number_at self.now.masters master)) }
@@ -229,17 +151,6 @@ impl Masters {
 
     /// Returns the direct lessee of a master at a position, from 0, in the order in which they were created. Masters
     /// are named by the numbers of the steps that created them. Does not allocate.
-    ///
-    /// # Examples
-    ///
-    /// ```rust
-    /// use drm_masters::Masters;
-    ///
-    /// let alloc = rt.alloc();
-    /// let mut masters = Masters::new(alloc, 4, 4);
-    /// let Ok(is_first) = masters.on_open(1, 1) else { return };
-    /// assert!(rt; masters.nth_lessee(1, 0).is_none());
-    /// ```
     pub fn nth_lessee(&self, lessor: u32, position: usize) -> Option<u32>
         ensures { result ≡ slice_get (sets.lessees_of self.now.masters lessor) position }
     {
@@ -247,17 +158,6 @@ impl Masters {
     }
 
     /// Returns the number of the step that created the device's master, if the device has one.
-    ///
-    /// # Examples
-    ///
-    /// ```rust
-    /// use drm_masters::Masters;
-    ///
-    /// let alloc = rt.alloc();
-    /// let mut masters = Masters::new(alloc, 4, 4);
-    /// let Ok(is_first) = masters.on_open(1, 1) else { return };
-    /// assert!(rt; masters.device_master() == Some(1));
-    /// ```
     pub fn device_master(&self) -> Option<u32>
         ensures { result ≡ self.now.device_master }
     {
@@ -266,17 +166,6 @@ impl Masters {
 
     /// Returns whether the client is current (`drm_is_current_master`; for a lessee drm-uapi, leases). It is if it is a
     /// master and the owner of its master is the device's. A client without a master is not. Does not allocate.
-    ///
-    /// # Examples
-    ///
-    /// ```rust
-    /// use drm_masters::Masters;
-    ///
-    /// let alloc = rt.alloc();
-    /// let mut masters = Masters::new(alloc, 4, 4);
-    /// let Ok(is_first) = masters.on_open(1, 1) else { return };
-    /// assert!(rt; masters.is_current(1) && !masters.is_current(2));
-    /// ```
     pub fn is_current(&self, client: u32) -> bool
         ensures { result ≡ sets.is_current self.now client }
     {
@@ -288,18 +177,6 @@ impl Masters {
 
     /// Returns whether a client is current ([`is_current`](Masters::is_current)), for one whose row is at hand
     /// ([`member`](Masters::member)), so that it need not be found again. Does not allocate.
-    ///
-    /// # Examples
-    ///
-    /// ```rust
-    /// use drm_masters::Masters;
-    ///
-    /// let alloc = rt.alloc();
-    /// let mut masters = Masters::new(alloc, 4, 4);
-    /// let Ok(is_first) = masters.on_open(1, 1) else { return };
-    /// let Some(member) = masters.member(1) else { return };
-    /// assert!(rt; masters.is_current_member(member));
-    /// ```
     pub fn is_current_member(&self, member: Member) -> bool
         ensures { result ≡ sets.is_current_member self.now member }
     {
@@ -316,17 +193,6 @@ impl Masters {
     /// # Errors
     ///
     /// If memory is refused, nothing changes.
-    ///
-    /// # Examples
-    ///
-    /// ```rust
-    /// use drm_masters::Masters;
-    ///
-    /// let alloc = rt.alloc();
-    /// let mut masters = Masters::new(alloc, 4, 4);
-    /// let Ok(is_first) = masters.on_open(1, 1) else { return };
-    /// assert!(rt; is_first);
-    /// ```
     pub fn on_open(&mut self, client: u32, birth: u32) -> Result<bool, NoMemory>
         requires new_client { is_some (sets.member_of self.old.members client) ≡ false }
         requires room { length self.old.members < self.old.last_magic }
@@ -405,22 +271,6 @@ impl Masters {
     /// # Errors
     ///
     /// `Denied` with the rule, or `NoMemory` if memory for a new master is refused. The state is then unchanged.
-    ///
-    /// # Examples
-    ///
-    /// ```rust
-    /// use drm_masters::{Masters, SetDone};
-    ///
-    /// let alloc = rt.alloc();
-    /// let mut masters = Masters::new(alloc, 4, 4);
-    /// let Ok(_first) = masters.on_open(1, 1) else { return };
-    /// let Some(owner) = masters.master(1) else { return };
-    /// let Ok((lessee, _id)) = masters.make_lessee(owner.key, 2) else { return };
-    /// let Ok(()) = masters.on_redeem(3, lessee) else { return };
-    /// if masters.member(1).is_some() {
-    ///     assert!(rt; masters.set(1, false, 9) == Ok(SetDone::Already));
-    /// }
-    /// ```
     #[tactic(auto, unfolding(crate::specs::Calls::set_checks))]
     pub fn set(&mut self, client: u32, root: bool, birth: u32) -> Result<SetDone, SetFault>
         requires open_client { is_some (sets.member_of self.old.members client) ≡ true }
@@ -455,19 +305,6 @@ impl Masters {
 
     /// Returns whether [`set`](Masters::set) creates a master for a client, which is what it needs memory for. Returns
     /// `false` if the client belongs to no master. Does not allocate.
-    ///
-    /// # Examples
-    ///
-    /// ```rust
-    /// use drm_masters::Masters;
-    ///
-    /// let alloc = rt.alloc();
-    /// let mut masters = Masters::new(alloc, 4, 4);
-    /// let Ok(_first) = masters.on_open(1, 1) else { return };
-    /// let Ok(_second) = masters.on_open(2, 2) else { return };
-    /// let Ok(()) = masters.drop_master(1, false) else { return };
-    /// assert!(rt; masters.sets_new(2, true) && !masters.sets_new(2, false) && !masters.sets_new(1, true));
-    /// ```
     pub fn sets_new(&self, client: u32, root: bool) -> bool
         ensures { result ≡ option_map_or (λ x. calls.sets_new self.now x root) (sets.member_of self.now.members client) false }
     {
@@ -492,25 +329,6 @@ impl Masters {
     /// - 26: the client was never a master and is not root.
     /// - 28: the client is not current.
     /// - 29: the client is a lessee.
-    ///
-    /// # Examples
-    ///
-    /// ```rust
-    /// use drm_masters::{Masters, SetDone};
-    ///
-    /// let alloc = rt.alloc();
-    /// let mut masters = Masters::new(alloc, 4, 4);
-    /// let Ok(_first) = masters.on_open(1, 1) else { return };
-    /// let Some(owner) = masters.master(1) else { return };
-    /// let Ok((lessee, _id)) = masters.make_lessee(owner.key, 2) else { return };
-    /// let Ok(()) = masters.on_redeem(3, lessee) else { return };
-    /// if masters.member(1).is_some() {
-    ///     assert!(rt; masters.set(1, false, 9) == Ok(SetDone::Already));
-    /// }
-    /// if masters.member(1).is_some() {
-    ///     assert!(rt; masters.drop_master(1, false) == Ok(()));
-    /// }
-    /// ```
     #[tactic(auto, unfolding(crate::specs::Calls::drop_checks))]
     pub fn drop_master(&mut self, client: u32, root: bool) -> Result<(), Rule>
         requires { is_some (sets.member_of self.old.members client) ≡ true }
@@ -541,28 +359,6 @@ impl Masters {
     /// # Errors
     ///
     /// If memory is refused, nothing changes.
-    ///
-    /// # Examples
-    ///
-    /// ```rust
-    /// use drm_masters::{Masters, SetDone};
-    ///
-    /// let alloc = rt.alloc();
-    /// let mut masters = Masters::new(alloc, 4, 4);
-    /// let Ok(_first) = masters.on_open(1, 1) else { return };
-    /// let Some(owner) = masters.master(1) else { return };
-    /// let Ok((lessee, _id)) = masters.make_lessee(owner.key, 2) else { return };
-    /// let Ok(()) = masters.on_redeem(3, lessee) else { return };
-    /// if masters.member(1).is_some() {
-    ///     assert!(rt; masters.set(1, false, 9) == Ok(SetDone::Already));
-    /// }
-    /// if masters.member(1).is_some() {
-    ///     assert!(rt; masters.drop_master(1, false) == Ok(()));
-    /// }
-    /// if masters.member(1).is_some() {
-    ///     assert!(rt; masters.magic(1) == Ok(1));
-    /// }
-    /// ```
     pub fn magic(&mut self, client: u32) -> Result<u32, NoMemory>
         requires { is_some (sets.member_of self.old.members client) ≡ true }
         ensures given { IfOk result (λ n. IfSome (sets.member_of self.old.members client) (λ x. calls.GaveMagic self.old x x.magic n self.new)) }
@@ -587,32 +383,6 @@ impl Masters {
     /// # Errors
     ///
     /// Rule 25 if no client has the number there, or the number is spent. The state is then unchanged.
-    ///
-    /// # Examples
-    ///
-    /// ```rust
-    /// use drm_masters::{Masters, SetDone};
-    /// use drm_table::Rule;
-    ///
-    /// let alloc = rt.alloc();
-    /// let mut masters = Masters::new(alloc, 4, 4);
-    /// let Ok(_first) = masters.on_open(1, 1) else { return };
-    /// let Some(owner) = masters.master(1) else { return };
-    /// let Ok((lessee, _id)) = masters.make_lessee(owner.key, 2) else { return };
-    /// let Ok(()) = masters.on_redeem(3, lessee) else { return };
-    /// if masters.member(1).is_some() {
-    ///     assert!(rt; masters.set(1, false, 9) == Ok(SetDone::Already));
-    /// }
-    /// if masters.member(1).is_some() {
-    ///     assert!(rt; masters.drop_master(1, false) == Ok(()));
-    /// }
-    /// if masters.member(1).is_some() {
-    ///     assert!(rt; masters.magic(1) == Ok(1));
-    /// }
-    /// if masters.member(1).is_some() {
-    ///     assert!(rt; masters.auth(1, 7) == Err(Rule::NoMagic));
-    /// }
-    /// ```
     pub fn auth(&mut self, client: u32, number: u32) -> Result<u32, Rule>
         requires { is_some (sets.member_of self.old.members client) ≡ true }
         ensures authenticated { IfSome (sets.member_of self.old.members client) (λ x. calls.AuthenticatedBy self.old x.master number result self.new) }
@@ -632,34 +402,6 @@ impl Masters {
     ///
     /// The client's own master is returned and stays until its release. If it was the device's, the device has none.
     /// Any other master is freed if nothing else holds it. For a client without a master, nothing changes.
-    ///
-    /// # Examples
-    ///
-    /// ```rust
-    /// use drm_masters::{Masters, SetDone};
-    /// use drm_table::Rule;
-    ///
-    /// let alloc = rt.alloc();
-    /// let mut masters = Masters::new(alloc, 4, 4);
-    /// let Ok(_first) = masters.on_open(1, 1) else { return };
-    /// let Some(owner) = masters.master(1) else { return };
-    /// let Ok((lessee, _id)) = masters.make_lessee(owner.key, 2) else { return };
-    /// let Ok(()) = masters.on_redeem(3, lessee) else { return };
-    /// if masters.member(1).is_some() {
-    ///     assert!(rt; masters.set(1, false, 9) == Ok(SetDone::Already));
-    /// }
-    /// if masters.member(1).is_some() {
-    ///     assert!(rt; masters.drop_master(1, false) == Ok(()));
-    /// }
-    /// if masters.member(1).is_some() {
-    ///     assert!(rt; masters.magic(1) == Ok(1));
-    /// }
-    /// if masters.member(1).is_some() {
-    ///     assert!(rt; masters.auth(1, 7) == Err(Rule::NoMagic));
-    /// }
-    /// assert!(rt; masters.on_close(1).is_some());
-    /// assert!(rt; masters.member(1).is_none());
-    /// ```
     pub fn on_close(&mut self, client: u32) -> Option<MasterKey>
         ensures { calls.ClosedBy self.old (sets.member_of self.old.members client) result self.new }
     {
@@ -686,19 +428,6 @@ impl Masters {
     /// # Errors
     ///
     /// `Full` if each id is taken under the owner, `NoMemory` if memory is refused. The state is then unchanged.
-    ///
-    /// # Examples
-    ///
-    /// ```rust
-    /// use drm_masters::Masters;
-    ///
-    /// let alloc = rt.alloc();
-    /// let mut masters = Masters::new(alloc, 4, 4);
-    /// let Ok(_first) = masters.on_open(1, 1) else { return };
-    /// let Some(owner) = masters.master(1) else { return };
-    /// let Ok((lessee, id)) = masters.make_lessee(owner.key, 2) else { return };
-    /// assert!(rt; id == 1);
-    /// ```
     pub fn make_lessee(
         &mut self,
         master: MasterKey,
@@ -724,20 +453,6 @@ impl Masters {
     }
 
     /// Returns the lessee with this id under the owner of `master`. Does not allocate.
-    ///
-    /// # Examples
-    ///
-    /// ```rust
-    /// use drm_masters::Masters;
-    ///
-    /// let alloc = rt.alloc();
-    /// let mut masters = Masters::new(alloc, 4, 4);
-    /// let Ok(_first) = masters.on_open(1, 1) else { return };
-    /// let Some(owner) = masters.master(1) else { return };
-    /// let Ok((lessee, id)) = masters.make_lessee(owner.key, 2) else { return };
-    /// let Some(owner) = masters.master(1) else { return };
-    /// assert!(rt; masters.lessee(owner.key, id) == Some(lessee));
-    /// ```
     pub fn lessee(&self, master: MasterKey, id: u32) -> Option<MasterKey>
         requires { sets.is_there self.now.masters master ≡ true }
         ensures lessee { result ≡ option_map (λ x. x.key) (sets.lessee_of self.now.masters (sets.step_number_at self.now.masters master) id) }
@@ -749,19 +464,6 @@ impl Masters {
     }
 
     /// Returns the highest id that a lessee may have.
-    ///
-    /// # Examples
-    ///
-    /// ```rust
-    /// use drm_masters::Masters;
-    ///
-    /// let alloc = rt.alloc();
-    /// let mut masters = Masters::new(alloc, 4, 4);
-    /// let Ok(_first) = masters.on_open(1, 1) else { return };
-    /// let Some(owner) = masters.master(1) else { return };
-    /// let Ok((lessee, id)) = masters.make_lessee(owner.key, 2) else { return };
-    /// assert!(rt; masters.last_lessee() == 4);
-    /// ```
     pub fn last_lessee(&self) -> u32
         ensures { result ≡ self.now.last_lessee }
     {
@@ -769,19 +471,6 @@ impl Masters {
     }
 
     /// Returns the lowest id that no lessee of the master's owner has, or `None` if each is taken. Does not allocate.
-    ///
-    /// # Examples
-    ///
-    /// ```rust
-    /// use drm_masters::Masters;
-    ///
-    /// let alloc = rt.alloc();
-    /// let mut masters = Masters::new(alloc, 4, 4);
-    /// let Ok(_first) = masters.on_open(1, 1) else { return };
-    /// let Some(owner) = masters.master(1) else { return };
-    /// let Ok((lessee, id)) = masters.make_lessee(owner.key, 2) else { return };
-    /// assert!(rt; masters.free_lessee(1) == Some(2));
-    /// ```
     pub fn free_lessee(&self, master: u32) -> Option<u32>
         ensures { result ≡ sets.free_lessee self.now master }
     {
@@ -791,22 +480,6 @@ impl Masters {
 
     /// Releases a kept master. It is freed, and so are those above it, as far as nothing else holds them. Does not
     /// allocate.
-    ///
-    /// # Examples
-    ///
-    /// ```rust
-    /// use drm_masters::Masters;
-    ///
-    /// let alloc = rt.alloc();
-    /// let mut masters = Masters::new(alloc, 4, 4);
-    /// let Ok(_first) = masters.on_open(1, 1) else { return };
-    /// let Some(owner) = masters.master(1) else { return };
-    /// let Ok((lessee, id)) = masters.make_lessee(owner.key, 2) else { return };
-    /// if let Some(row) = masters.master(2) {
-    ///     masters.release(row.key);
-    /// }
-    /// assert!(rt; masters.master(2).is_none());
-    /// ```
     pub fn release(&mut self, master: MasterKey)
         requires { sets.is_there self.old.masters master ≡ true }
         ensures { self.new ≡ sets.swept (calls.with_kept (sets.step_number_at self.old.masters master) false self.old) }
@@ -820,22 +493,6 @@ impl Masters {
 
     /// Returns the client at a position, from 0, in the order of their numbers, among those that belong to a master.
     /// Does not allocate.
-    ///
-    /// # Examples
-    ///
-    /// ```rust
-    /// use drm_masters::Masters;
-    ///
-    /// let alloc = rt.alloc();
-    /// let mut masters = Masters::new(alloc, 4, 4);
-    /// let Ok(_first) = masters.on_open(1, 1) else { return };
-    /// let Some(owner) = masters.master(1) else { return };
-    /// let Ok((lessee, id)) = masters.make_lessee(owner.key, 2) else { return };
-    /// if let Some(row) = masters.master(2) {
-    ///     masters.release(row.key);
-    /// }
-    /// assert!(rt; matches!(masters.nth_member(0), Some(row) if row.client == 1));
-    /// ```
     pub fn nth_member(&self, position: usize) -> Option<Member>
         ensures { result ≡ slice_get self.now.members position }
     {
@@ -843,22 +500,6 @@ impl Masters {
     }
 
     /// Returns the master at a position, from 0, in the order in which they were created. Does not allocate.
-    ///
-    /// # Examples
-    ///
-    /// ```rust
-    /// use drm_masters::Masters;
-    ///
-    /// let alloc = rt.alloc();
-    /// let mut masters = Masters::new(alloc, 4, 4);
-    /// let Ok(_first) = masters.on_open(1, 1) else { return };
-    /// let Some(owner) = masters.master(1) else { return };
-    /// let Ok((lessee, id)) = masters.make_lessee(owner.key, 2) else { return };
-    /// if let Some(row) = masters.master(2) {
-    ///     masters.release(row.key);
-    /// }
-    /// assert!(rt; matches!(masters.nth_master(0), Some(row) if row.step_number == 1));
-    /// ```
     pub fn nth_master(&self, position: usize) -> Option<Master>
         ensures { result ≡ slice_get self.now.masters position }
     {
@@ -869,22 +510,6 @@ impl Masters {
     ///
     /// Clients that belong to a master are kind 1, in the order of their numbers. Masters are kind 2, in the order in
     /// which they were created. No other kind has rows here.
-    ///
-    /// # Examples
-    ///
-    /// ```rust
-    /// use drm_masters::Masters;
-    ///
-    /// let alloc = rt.alloc();
-    /// let mut masters = Masters::new(alloc, 4, 4);
-    /// let Ok(_first) = masters.on_open(1, 1) else { return };
-    /// let Some(owner) = masters.master(1) else { return };
-    /// let Ok((lessee, id)) = masters.make_lessee(owner.key, 2) else { return };
-    /// if let Some(row) = masters.master(2) {
-    ///     masters.release(row.key);
-    /// }
-    /// assert!(rt; masters.nth(2, 0).is_some() && masters.nth(3, 0).is_none());
-    /// ```
     pub fn nth(&self, kind: u32, i: usize) -> Option<MasterRow>
         ensures { result ≡ sets.nth_row self.now kind i }
     {

@@ -41,19 +41,6 @@ impl MasterKey {
     }
 
     /// Returns the key as a number, which another table can use as an index. Does not allocate.
-    ///
-    /// # Examples
-    ///
-    /// ```rust
-    /// use drm_masters::Masters;
-    ///
-    /// let alloc = rt.alloc();
-    /// let mut masters = Masters::new(alloc, 4, 4);
-    /// let Ok(_first) = masters.on_open(1, 1) else { return };
-    /// let Some(key) = masters.master_of(1) else { return };
-    /// let Some(row) = masters.master(1) else { return };
-    /// assert!(rt; row.key.number() == key.number());
-    /// ```
     pub fn number(self) -> u32
         ensures { result ≡ self }
     {
@@ -66,19 +53,11 @@ impl MasterKey {
 /// # Examples
 ///
 /// ```rust
-/// use drm_masters::{LesseeFault, Magic, Masters, NoMemory, SetDone, SetFault};
-/// use drm_table::Rule;
+/// use drm_masters::{Magic, Masters};
 ///
 /// let alloc = rt.alloc();
-/// let mut masters = Masters::new(alloc, 4, 0);
+/// let mut masters = Masters::new(alloc, 4, 4);
 /// let Ok(_first) = masters.on_open(1, 1) else { return };
-/// assert!(rt; masters.member(1).is_none() || masters.magic(1) != Err(NoMemory));
-/// assert!(rt; masters.member(1).is_none() || masters.set(1, false, 2) == Ok(SetDone::Already));
-/// let Ok(_second) = masters.on_open(2, 2) else { return };
-/// let denied = Err(SetFault::Denied(Rule::MasterPerm));
-/// assert!(rt; masters.member(2).is_none() || masters.set(2, false, 3) == denied);
-/// let Some(owner) = masters.master(1) else { return };
-/// assert!(rt; masters.make_lessee(owner.key, 4) == Err(LesseeFault::Full));
 /// if masters.member(1).is_some() {
 ///     assert!(rt; masters.magic(1) == Ok(1));
 /// }
@@ -98,24 +77,12 @@ pub struct Magic {
 /// # Examples
 ///
 /// ```rust
-/// use drm_masters::{LesseeFault, Magic, Masters, Member, NoMemory, SetDone, SetFault};
-/// use drm_table::Rule;
+/// use drm_masters::{Masters, Member};
 ///
 /// let alloc = rt.alloc();
-/// let mut masters = Masters::new(alloc, 4, 0);
+/// let mut masters = Masters::new(alloc, 4, 4);
 /// let Ok(_first) = masters.on_open(1, 1) else { return };
-/// assert!(rt; masters.member(1).is_none() || masters.magic(1) != Err(NoMemory));
-/// assert!(rt; masters.member(1).is_none() || masters.set(1, false, 2) == Ok(SetDone::Already));
-/// let Ok(_second) = masters.on_open(2, 2) else { return };
-/// let denied = Err(SetFault::Denied(Rule::MasterPerm));
-/// assert!(rt; masters.member(2).is_none() || masters.set(2, false, 3) == denied);
-/// let Some(owner) = masters.master(1) else { return };
-/// assert!(rt; masters.make_lessee(owner.key, 4) == Err(LesseeFault::Full));
-/// if masters.member(1).is_some() {
-///     assert!(rt; masters.magic(1) == Ok(1));
-/// }
-/// let magic = Some(Magic { number: 1, spent: false });
-/// let member = Member { client: 1, once_master: true, is_master: true, master: 1, magic };
+/// let member = Member { client: 1, once_master: true, is_master: true, master: 1, magic: None };
 /// assert!(rt; masters.nth_member(0) == Some(member));
 /// ```
 #[derive(Clone, Copy, PartialEq, Eq, Debug)]
@@ -137,22 +104,11 @@ pub struct Member {
 /// # Examples
 ///
 /// ```rust
-/// use drm_masters::{LesseeFault, MasterRow, Masters, NoMemory, SetDone, SetFault};
-/// use drm_table::Rule;
+/// use drm_masters::{MasterRow, Masters};
 ///
 /// let alloc = rt.alloc();
-/// let mut masters = Masters::new(alloc, 4, 0);
+/// let mut masters = Masters::new(alloc, 4, 4);
 /// let Ok(_first) = masters.on_open(1, 1) else { return };
-/// assert!(rt; masters.member(1).is_none() || masters.magic(1) != Err(NoMemory));
-/// assert!(rt; masters.member(1).is_none() || masters.set(1, false, 2) == Ok(SetDone::Already));
-/// let Ok(_second) = masters.on_open(2, 2) else { return };
-/// let denied = Err(SetFault::Denied(Rule::MasterPerm));
-/// assert!(rt; masters.member(2).is_none() || masters.set(2, false, 3) == denied);
-/// let Some(owner) = masters.master(1) else { return };
-/// assert!(rt; masters.make_lessee(owner.key, 4) == Err(LesseeFault::Full));
-/// if masters.member(1).is_some() {
-///     assert!(rt; masters.magic(1) == Ok(1));
-/// }
 /// assert!(rt; matches!(masters.nth(1, 0), Some(MasterRow::Client(row)) if row.client == 1));
 /// ```
 #[derive(Clone, Copy, PartialEq, Eq, Debug)]
@@ -168,22 +124,11 @@ pub enum MasterRow {
 /// # Examples
 ///
 /// ```rust
-/// use drm_masters::{LesseeFault, Master, Masters, NoMemory, SetDone, SetFault};
-/// use drm_table::Rule;
+/// use drm_masters::{Master, Masters};
 ///
 /// let alloc = rt.alloc();
-/// let mut masters = Masters::new(alloc, 4, 0);
+/// let mut masters = Masters::new(alloc, 4, 4);
 /// let Ok(_first) = masters.on_open(1, 1) else { return };
-/// assert!(rt; masters.member(1).is_none() || masters.magic(1) != Err(NoMemory));
-/// assert!(rt; masters.member(1).is_none() || masters.set(1, false, 2) == Ok(SetDone::Already));
-/// let Ok(_second) = masters.on_open(2, 2) else { return };
-/// let denied = Err(SetFault::Denied(Rule::MasterPerm));
-/// assert!(rt; masters.member(2).is_none() || masters.set(2, false, 3) == denied);
-/// let Some(owner) = masters.master(1) else { return };
-/// assert!(rt; masters.make_lessee(owner.key, 4) == Err(LesseeFault::Full));
-/// if masters.member(1).is_some() {
-///     assert!(rt; masters.magic(1) == Ok(1));
-/// }
 /// let Some(key) = masters.master_of(1) else { return };
 /// let master = Master { key, step_number: 1, lessor: None, lessee_id: 0, kept: false };
 /// assert!(rt; masters.nth_master(0) == Some(master));

@@ -47,15 +47,6 @@ impl PlaneKind {
     ghost use Rattle.drm_modes.specs.PlaneKinds.{crtc_of_kind};
 
     /// Returns the CRTC of a primary or a cursor plane, or `None` for an overlay plane.
-    ///
-    /// # Examples
-    ///
-    /// ```rust
-    /// use drm_modes::PlaneKind;
-    ///
-    /// let kind = PlaneKind::Primary(1);
-    /// assert!(rt; kind.crtc() == Some(1) && PlaneKind::Overlay.crtc().is_none());
-    /// ```
     pub fn crtc(self) -> Option<u32>
         ensures { result ≡ crtc_of_kind self }
     {

@@ -66,21 +66,6 @@ impl Modes {
     /// Creates a table without framebuffers, in which all CRTCs and planes are dark. Does not allocate.
     ///
     /// At most `framebuffers` may exist at once. Their ids follow those of the fixed objects.
-    ///
-    /// # Examples
-    ///
-    /// ```rust
-    /// use drm_gem::ObjectKey;
-    /// use drm_modes::{Modes, Shape, Topology};
-    ///
-    /// let alloc = rt.alloc();
-    /// let Some(topology) = Topology::new(2, &[1, 2], &[3, 2], &[5, 6]) else { return };
-    /// let mut modes = Modes::new(alloc, topology, 4);
-    /// let shape = Shape { width: 640, height: 480, pitch: 2560, bpp: 32 };
-    /// let object = ObjectKey::from_number(7);
-    /// let Ok(framebuffer) = modes.addfb(1, shape, object) else { return };
-    /// assert!(rt; modes.object_count() == 8);
-    /// ```
     pub fn new(alloc: Global, topology: Topology, framebuffers: u32) -> Modes
         requires some { 1 ≤ framebuffers }
         requires few { framebuffers ≤ 64 }
@@ -106,21 +91,6 @@ impl Modes {
 
     /// Returns the kind of the fixed mode object with this id, or `None` if there is none (drm-uapi, mode setting).
     /// Does not allocate.
-    ///
-    /// # Examples
-    ///
-    /// ```rust
-    /// use drm_gem::ObjectKey;
-    /// use drm_modes::{Kind, Modes, Shape, Topology};
-    ///
-    /// let alloc = rt.alloc();
-    /// let Some(topology) = Topology::new(2, &[1, 2], &[3, 2], &[5, 6]) else { return };
-    /// let mut modes = Modes::new(alloc, topology, 4);
-    /// let shape = Shape { width: 640, height: 480, pitch: 2560, bpp: 32 };
-    /// let object = ObjectKey::from_number(7);
-    /// let Ok(framebuffer) = modes.addfb(1, shape, object) else { return };
-    /// assert!(rt; modes.kind(3) == Some(Kind::Plane));
-    /// ```
     pub fn kind(&self, id: u32) -> Option<Kind>
         ensures kind { result ≡ kind_of self.now.topology id }
         ensures is { IfSome result (λ kind. is_of_kind self.now.topology kind id ≡ true) }
@@ -130,21 +100,6 @@ impl Modes {
 
     /// Returns the number of fixed mode objects. Their ids are 1 to this number (drm-uapi, mode setting; the ids are
     /// own). Does not allocate.
-    ///
-    /// # Examples
-    ///
-    /// ```rust
-    /// use drm_gem::ObjectKey;
-    /// use drm_modes::{Modes, Shape, Topology};
-    ///
-    /// let alloc = rt.alloc();
-    /// let Some(topology) = Topology::new(2, &[1, 2], &[3, 2], &[5, 6]) else { return };
-    /// let mut modes = Modes::new(alloc, topology, 4);
-    /// let shape = Shape { width: 640, height: 480, pitch: 2560, bpp: 32 };
-    /// let object = ObjectKey::from_number(7);
-    /// let Ok(framebuffer) = modes.addfb(1, shape, object) else { return };
-    /// assert!(rt; framebuffer > modes.object_count());
-    /// ```
     pub fn object_count(&self) -> u32
         ensures count { result ≡ object_count self.now.topology }
         ensures few { result ≤ 64 }
@@ -153,21 +108,6 @@ impl Modes {
     }
 
     /// Returns whether an id is that of a fixed mode object of a kind (drm-uapi, mode setting). Does not allocate.
-    ///
-    /// # Examples
-    ///
-    /// ```rust
-    /// use drm_gem::ObjectKey;
-    /// use drm_modes::{Kind, Modes, Shape, Topology};
-    ///
-    /// let alloc = rt.alloc();
-    /// let Some(topology) = Topology::new(2, &[1, 2], &[3, 2], &[5, 6]) else { return };
-    /// let mut modes = Modes::new(alloc, topology, 4);
-    /// let shape = Shape { width: 640, height: 480, pitch: 2560, bpp: 32 };
-    /// let object = ObjectKey::from_number(7);
-    /// let Ok(framebuffer) = modes.addfb(1, shape, object) else { return };
-    /// assert!(rt; modes.is_of_kind(Kind::Crtc, 2));
-    /// ```
     pub fn is_of_kind(&self, kind: Kind, id: u32) -> bool
         ensures { result ≡ is_of_kind self.now.topology kind id }
     {
@@ -176,21 +116,6 @@ impl Modes {
 
     /// Returns the ids of the fixed mode objects of a kind (drm-uapi, mode setting), in rising order (own). Does not
     /// allocate.
-    ///
-    /// # Examples
-    ///
-    /// ```rust
-    /// use drm_gem::ObjectKey;
-    /// use drm_modes::{Kind, Modes, Shape, Topology};
-    ///
-    /// let alloc = rt.alloc();
-    /// let Some(topology) = Topology::new(2, &[1, 2], &[3, 2], &[5, 6]) else { return };
-    /// let mut modes = Modes::new(alloc, topology, 4);
-    /// let shape = Shape { width: 640, height: 480, pitch: 2560, bpp: 32 };
-    /// let object = ObjectKey::from_number(7);
-    /// let Ok(framebuffer) = modes.addfb(1, shape, object) else { return };
-    /// assert!(rt; modes.ids(Kind::Connector).ids() == [7, 8].as_slice());
-    /// ```
     pub fn ids(&self, kind: Kind) -> ShownList
         ensures { result ≡ ids_of_kind self.now.topology kind }
     {
@@ -199,20 +124,6 @@ impl Modes {
 
     /// Appends the ids of the fixed mode objects of a kind (drm-uapi, mode setting), in rising order (own). The list must
     /// have room for them. Does not allocate.
-    ///
-    /// # Examples
-    ///
-    /// ```rust
-    /// use drm_modes::{Kind, Modes, Topology};
-    /// use drm_table::ShownList;
-    ///
-    /// let alloc = rt.alloc();
-    /// let Some(topology) = Topology::new(2, &[1, 2], &[3, 2], &[5, 6]) else { return };
-    /// let modes = Modes::new(alloc, topology, 4);
-    /// let mut list = ShownList::new();
-    /// modes.append_ids(Kind::Crtc, &mut list);
-    /// assert!(rt; list.ids() == [1, 2].as_slice());
-    /// ```
     pub fn append_ids(&self, kind: Kind, list: &mut ShownList)
         requires room { length list.old + length (ids_of_kind self.now.topology kind) ≤ 64 }
         ensures { list.new ≡ list.old ++ ids_of_kind self.now.topology kind }
@@ -222,21 +133,6 @@ impl Modes {
 
     /// Returns the encoder of a connector, or `None` if the id is not that of a connector (drm-uapi, mode setting).
     /// That a connector has one encoder is own. Does not allocate.
-    ///
-    /// # Examples
-    ///
-    /// ```rust
-    /// use drm_gem::ObjectKey;
-    /// use drm_modes::{Modes, Shape, Topology};
-    ///
-    /// let alloc = rt.alloc();
-    /// let Some(topology) = Topology::new(2, &[1, 2], &[3, 2], &[5, 6]) else { return };
-    /// let mut modes = Modes::new(alloc, topology, 4);
-    /// let shape = Shape { width: 640, height: 480, pitch: 2560, bpp: 32 };
-    /// let object = ObjectKey::from_number(7);
-    /// let Ok(framebuffer) = modes.addfb(1, shape, object) else { return };
-    /// assert!(rt; modes.encoder_of(8) == Some(6));
-    /// ```
     pub fn encoder_of(&self, connector: u32) -> Option<u32>
         ensures { result ≡ encoder_of self.now.topology connector }
     {
@@ -245,21 +141,6 @@ impl Modes {
 
     /// Returns the kind of a plane, or `None` if the id is not that of a plane (drm-uapi, universal planes). Does not
     /// allocate.
-    ///
-    /// # Examples
-    ///
-    /// ```rust
-    /// use drm_gem::ObjectKey;
-    /// use drm_modes::{Modes, PlaneKind, Shape, Topology};
-    ///
-    /// let alloc = rt.alloc();
-    /// let Some(topology) = Topology::new(2, &[1, 2], &[3, 2], &[5, 6]) else { return };
-    /// let mut modes = Modes::new(alloc, topology, 4);
-    /// let shape = Shape { width: 640, height: 480, pitch: 2560, bpp: 32 };
-    /// let object = ObjectKey::from_number(7);
-    /// let Ok(framebuffer) = modes.addfb(1, shape, object) else { return };
-    /// assert!(rt; modes.plane_kind(4) == Some(PlaneKind::Overlay));
-    /// ```
     pub fn plane_kind(&self, id: u32) -> Option<PlaneKind>
         ensures { result ≡ plane_kind self.now.topology id }
     {
@@ -268,21 +149,6 @@ impl Modes {
 
     /// Returns the CRTC of a primary or cursor plane, or `None` for any other id (drm-uapi, universal planes). Does not
     /// allocate.
-    ///
-    /// # Examples
-    ///
-    /// ```rust
-    /// use drm_gem::ObjectKey;
-    /// use drm_modes::{Modes, Shape, Topology};
-    ///
-    /// let alloc = rt.alloc();
-    /// let Some(topology) = Topology::new(2, &[1, 2], &[3, 2], &[5, 6]) else { return };
-    /// let mut modes = Modes::new(alloc, topology, 4);
-    /// let shape = Shape { width: 640, height: 480, pitch: 2560, bpp: 32 };
-    /// let object = ObjectKey::from_number(7);
-    /// let Ok(framebuffer) = modes.addfb(1, shape, object) else { return };
-    /// assert!(rt; modes.crtc_of_plane(4).is_none());
-    /// ```
     pub fn crtc_of_plane(&self, id: u32) -> Option<u32>
         ensures { result ≡ crtc_of_plane self.now.topology id }
     {
@@ -291,21 +157,6 @@ impl Modes {
 
     /// Returns the primary and cursor planes of the CRTCs in a list (drm-uapi, universal planes), in rising order
     /// (own). Does not allocate.
-    ///
-    /// # Examples
-    ///
-    /// ```rust
-    /// use drm_gem::ObjectKey;
-    /// use drm_modes::{Modes, Shape, Topology};
-    ///
-    /// let alloc = rt.alloc();
-    /// let Some(topology) = Topology::new(2, &[1, 2], &[3, 2], &[5, 6]) else { return };
-    /// let mut modes = Modes::new(alloc, topology, 4);
-    /// let shape = Shape { width: 640, height: 480, pitch: 2560, bpp: 32 };
-    /// let object = ObjectKey::from_number(7);
-    /// let Ok(framebuffer) = modes.addfb(1, shape, object) else { return };
-    /// assert!(rt; modes.planes_of(&[1, 2]).ids().is_empty());
-    /// ```
     pub fn planes_of(&self, crtcs: &[u32]) -> ShownList
         ensures { result ≡ planes_of self.now.topology crtcs.now }
     {
@@ -314,21 +165,6 @@ impl Modes {
 
     /// Returns the possible CRTCs of a plane or an encoder: bit i is CRTC i + 1. Returns 0 for any other id. Does not
     /// allocate.
-    ///
-    /// # Examples
-    ///
-    /// ```rust
-    /// use drm_gem::ObjectKey;
-    /// use drm_modes::{Modes, Shape, Topology};
-    ///
-    /// let alloc = rt.alloc();
-    /// let Some(topology) = Topology::new(2, &[1, 2], &[3, 2], &[5, 6]) else { return };
-    /// let mut modes = Modes::new(alloc, topology, 4);
-    /// let shape = Shape { width: 640, height: 480, pitch: 2560, bpp: 32 };
-    /// let object = ObjectKey::from_number(7);
-    /// let Ok(framebuffer) = modes.addfb(1, shape, object) else { return };
-    /// assert!(rt; modes.possible_crtcs(4) == 2);
-    /// ```
     pub fn possible_crtcs(&self, id: u32) -> u32
         ensures { result ≡ possible_crtcs self.now.topology id }
     {
@@ -337,21 +173,6 @@ impl Modes {
 
     /// Returns whether a CRTC is a possible one of a plane or an encoder. Returns `false` if the ids are not theirs.
     /// Does not allocate.
-    ///
-    /// # Examples
-    ///
-    /// ```rust
-    /// use drm_gem::ObjectKey;
-    /// use drm_modes::{Modes, Shape, Topology};
-    ///
-    /// let alloc = rt.alloc();
-    /// let Some(topology) = Topology::new(2, &[1, 2], &[3, 2], &[5, 6]) else { return };
-    /// let mut modes = Modes::new(alloc, topology, 4);
-    /// let shape = Shape { width: 640, height: 480, pitch: 2560, bpp: 32 };
-    /// let object = ObjectKey::from_number(7);
-    /// let Ok(framebuffer) = modes.addfb(1, shape, object) else { return };
-    /// assert!(rt; modes.drives(5, 1));
-    /// ```
     pub fn drives(&self, id: u32, crtc: u32) -> bool
         ensures { result ≡ drives self.now.topology id crtc }
     {
@@ -360,21 +181,6 @@ impl Modes {
 
     /// Returns whether a CRTC is a possible one of a connector's encoder. Returns `false` if the ids are not theirs.
     /// Does not allocate.
-    ///
-    /// # Examples
-    ///
-    /// ```rust
-    /// use drm_gem::ObjectKey;
-    /// use drm_modes::{Modes, Shape, Topology};
-    ///
-    /// let alloc = rt.alloc();
-    /// let Some(topology) = Topology::new(2, &[1, 2], &[3, 2], &[5, 6]) else { return };
-    /// let mut modes = Modes::new(alloc, topology, 4);
-    /// let shape = Shape { width: 640, height: 480, pitch: 2560, bpp: 32 };
-    /// let object = ObjectKey::from_number(7);
-    /// let Ok(framebuffer) = modes.addfb(1, shape, object) else { return };
-    /// assert!(rt; modes.reaches(7, 1));
-    /// ```
     pub fn reaches(&self, connector: u32, crtc: u32) -> bool
         ensures { result ≡ reaches self.now.topology connector crtc }
     {
@@ -383,23 +189,6 @@ impl Modes {
 
     /// Returns the possible CRTCs of a plane or an encoder among those that are seen: bit i is the i-th of `visible`
     /// (drm-uapi, leases; for planes own). Returns 0 for any other id. Does not allocate.
-    ///
-    /// # Examples
-    ///
-    /// ```rust
-    /// use drm_gem::ObjectKey;
-    /// use drm_modes::{Modes, Shape, Topology};
-    /// use drm_table::ShownList;
-    ///
-    /// let alloc = rt.alloc();
-    /// let Some(topology) = Topology::new(2, &[1, 2], &[3, 2], &[5, 6]) else { return };
-    /// let mut modes = Modes::new(alloc, topology, 4);
-    /// let shape = Shape { width: 640, height: 480, pitch: 2560, bpp: 32 };
-    /// let object = ObjectKey::from_number(7);
-    /// let Ok(framebuffer) = modes.addfb(1, shape, object) else { return };
-    /// let none_seen = ShownList::new();
-    /// assert!(rt; modes.mask(4, &none_seen) == 0);
-    /// ```
     pub fn mask(&self, id: u32, visible: &ShownList) -> u32
         requires { AreCrtcs self.now.topology visible.now }
         ensures mask { result ≡ mask_over self.now.topology id visible.now }
@@ -415,21 +204,6 @@ impl Modes {
     /// # Errors
     ///
     /// `Full` if no id is free (own), `NoMemory` if memory is refused. The state is then unchanged.
-    ///
-    /// # Examples
-    ///
-    /// ```rust
-    /// use drm_gem::ObjectKey;
-    /// use drm_modes::{Modes, Shape, Topology};
-    ///
-    /// let alloc = rt.alloc();
-    /// let Some(topology) = Topology::new(2, &[1, 2], &[3, 2], &[5, 6]) else { return };
-    /// let mut modes = Modes::new(alloc, topology, 4);
-    /// let shape = Shape { width: 640, height: 480, pitch: 2560, bpp: 32 };
-    /// let object = ObjectKey::from_number(7);
-    /// let Ok(framebuffer) = modes.addfb(1, shape, object) else { return };
-    /// assert!(rt; framebuffer == 9);
-    /// ```
     pub fn addfb(&mut self, client: u32, shape: Shape, object: ObjectKey) -> Result<u32, AddFbFault>
         ensures given { IfOk result (λ f. free_framebuffer self.old ≡ Some f) }
         ensures low { IfOk result (λ f. first_framebuffer self.old.topology ≤ f) }
@@ -455,21 +229,6 @@ impl Modes {
     }
 
     /// Returns whether no id is free. Does not allocate.
-    ///
-    /// # Examples
-    ///
-    /// ```rust
-    /// use drm_gem::ObjectKey;
-    /// use drm_modes::{Modes, Shape, Topology};
-    ///
-    /// let alloc = rt.alloc();
-    /// let Some(topology) = Topology::new(2, &[1, 2], &[3, 2], &[5, 6]) else { return };
-    /// let mut modes = Modes::new(alloc, topology, 4);
-    /// let shape = Shape { width: 640, height: 480, pitch: 2560, bpp: 32 };
-    /// let object = ObjectKey::from_number(7);
-    /// let Ok(framebuffer) = modes.addfb(1, shape, object) else { return };
-    /// assert!(rt; !modes.is_full());
-    /// ```
     pub fn is_full(&self) -> bool
         ensures { IsTrue result ↔ (free_framebuffer self.now ≡ None) }
     {
@@ -477,21 +236,6 @@ impl Modes {
     }
 
     /// Returns the framebuffer with an id, if there is one. Does not allocate.
-    ///
-    /// # Examples
-    ///
-    /// ```rust
-    /// use drm_gem::ObjectKey;
-    /// use drm_modes::{Modes, Shape, Topology};
-    ///
-    /// let alloc = rt.alloc();
-    /// let Some(topology) = Topology::new(2, &[1, 2], &[3, 2], &[5, 6]) else { return };
-    /// let mut modes = Modes::new(alloc, topology, 4);
-    /// let shape = Shape { width: 640, height: 480, pitch: 2560, bpp: 32 };
-    /// let object = ObjectKey::from_number(7);
-    /// let Ok(framebuffer) = modes.addfb(1, shape, object) else { return };
-    /// assert!(rt; matches!(modes.fb(framebuffer), Some(row) if row.object == object));
-    /// ```
     pub fn fb(&self, id: u32) -> Option<Fb>
         ensures found { result ≡ option_map fb_of (find (is_framebuffer id) self.now.framebuffers) }
         ensures there { is_some result ≡ has_framebuffer self.now id }
@@ -502,21 +246,6 @@ impl Modes {
 
     /// Returns the ids of a client's framebuffers (drm-uapi, mode setting), in rising order (own). Looks at all
     /// framebuffers. Does not allocate.
-    ///
-    /// # Examples
-    ///
-    /// ```rust
-    /// use drm_gem::ObjectKey;
-    /// use drm_modes::{Modes, Shape, Topology};
-    ///
-    /// let alloc = rt.alloc();
-    /// let Some(topology) = Topology::new(2, &[1, 2], &[3, 2], &[5, 6]) else { return };
-    /// let mut modes = Modes::new(alloc, topology, 4);
-    /// let shape = Shape { width: 640, height: 480, pitch: 2560, bpp: 32 };
-    /// let object = ObjectKey::from_number(7);
-    /// let Ok(framebuffer) = modes.addfb(1, shape, object) else { return };
-    /// assert!(rt; modes.framebuffers_of(1).ids() == [framebuffer].as_slice());
-    /// ```
     pub fn framebuffers_of(&self, client: u32) -> ShownList
         ensures { result ≡ framebuffers_of self.now client }
     {
@@ -569,24 +298,6 @@ impl Modes {
     /// planes that show it are dark afterwards. Does not allocate.
     ///
     /// Returns `None` if the client has no framebuffer. Looks at no framebuffer of another client.
-    ///
-    /// # Examples
-    ///
-    /// ```rust
-    /// use drm_gem::ObjectKey;
-    /// use drm_modes::{Modes, Shape, Topology};
-    ///
-    /// let alloc = rt.alloc();
-    /// let Some(topology) = Topology::new(2, &[1, 2], &[3, 2], &[5, 6]) else { return };
-    /// let mut modes = Modes::new(alloc, topology, 4);
-    /// let shape = Shape { width: 640, height: 480, pitch: 2560, bpp: 32 };
-    /// let object = ObjectKey::from_number(7);
-    /// let Ok(framebuffer) = modes.addfb(1, shape, object) else { return };
-    /// assert!(rt; modes.rmfb(2, framebuffer).is_none());
-    /// assert!(rt; modes.rmfb(1, framebuffer) == Some(object));
-    /// let Ok(framebuffer) = modes.addfb(1, shape, object) else { return };
-    /// assert!(rt; modes.take_first_fb_of(1) == Some((framebuffer, object)));
-    /// ```
     pub fn take_first_fb_of(&mut self, client: u32) -> Option<(u32, ObjectKey)>
         ensures first { result ≡ option_map (λ row. (row.framebuffer, row.object)) (find (is_made_by client) self.old.framebuffers) }
         ensures removed { IfSome result (λ taken. self.new ≡ without_framebuffer self.old taken.0) }
@@ -613,28 +324,6 @@ impl Modes {
 
     /// Sets the framebuffer that a CRTC shows, or makes the CRTC dark if it is 0 (drm-uapi, mode setting). Does not
     /// allocate.
-    ///
-    /// # Examples
-    ///
-    /// ```rust
-    /// use drm_gem::ObjectKey;
-    /// use drm_modes::{Kind, Modes, Shape, Topology};
-    ///
-    /// let alloc = rt.alloc();
-    /// let Some(topology) = Topology::new(2, &[1, 2], &[3, 2], &[5, 6]) else { return };
-    /// let mut modes = Modes::new(alloc, topology, 4);
-    /// let shape = Shape { width: 640, height: 480, pitch: 2560, bpp: 32 };
-    /// let object = ObjectKey::from_number(7);
-    /// let Ok(framebuffer) = modes.addfb(1, shape, object) else { return };
-    /// assert!(rt; modes.rmfb(2, framebuffer).is_none());
-    /// assert!(rt; modes.rmfb(1, framebuffer) == Some(object));
-    /// let Ok(framebuffer) = modes.addfb(1, shape, object) else { return };
-    /// assert!(rt; modes.take_first_fb_of(1) == Some((framebuffer, object)));
-    /// let Ok(framebuffer) = modes.addfb(1, shape, object) else { return };
-    /// if modes.is_of_kind(Kind::Crtc, 1) && modes.fb(framebuffer).is_some() {
-    ///     modes.setcrtc(1, framebuffer);
-    /// }
-    /// ```
     pub fn setcrtc(&mut self, crtc: u32, framebuffer: u32)
         requires crtc { is_crtc self.old.topology crtc ≡ true }
         requires there { can_show self.old framebuffer ≡ true }
@@ -645,31 +334,6 @@ impl Modes {
 
     /// Sets the framebuffer that a plane shows, or makes the plane dark if it is 0 (drm-uapi, mode setting). Does not
     /// allocate.
-    ///
-    /// # Examples
-    ///
-    /// ```rust
-    /// use drm_gem::ObjectKey;
-    /// use drm_modes::{Kind, Modes, Shape, Topology};
-    ///
-    /// let alloc = rt.alloc();
-    /// let Some(topology) = Topology::new(2, &[1, 2], &[3, 2], &[5, 6]) else { return };
-    /// let mut modes = Modes::new(alloc, topology, 4);
-    /// let shape = Shape { width: 640, height: 480, pitch: 2560, bpp: 32 };
-    /// let object = ObjectKey::from_number(7);
-    /// let Ok(framebuffer) = modes.addfb(1, shape, object) else { return };
-    /// assert!(rt; modes.rmfb(2, framebuffer).is_none());
-    /// assert!(rt; modes.rmfb(1, framebuffer) == Some(object));
-    /// let Ok(framebuffer) = modes.addfb(1, shape, object) else { return };
-    /// assert!(rt; modes.take_first_fb_of(1) == Some((framebuffer, object)));
-    /// let Ok(framebuffer) = modes.addfb(1, shape, object) else { return };
-    /// if modes.is_of_kind(Kind::Crtc, 1) && modes.fb(framebuffer).is_some() {
-    ///     modes.setcrtc(1, framebuffer);
-    /// }
-    /// if modes.is_of_kind(Kind::Plane, 3) && modes.fb(framebuffer).is_some() {
-    ///     modes.setplane(3, framebuffer);
-    /// }
-    /// ```
     pub fn setplane(&mut self, plane: u32, framebuffer: u32)
         requires plane { is_plane self.old.topology plane ≡ true }
         requires there { can_show self.old framebuffer ≡ true }
@@ -689,32 +353,6 @@ impl Modes {
 
     /// Returns the framebuffer that a CRTC or a plane shows, or 0 if it is dark or the id is another's. Does not
     /// allocate.
-    ///
-    /// # Examples
-    ///
-    /// ```rust
-    /// use drm_gem::ObjectKey;
-    /// use drm_modes::{Kind, Modes, Shape, Topology};
-    ///
-    /// let alloc = rt.alloc();
-    /// let Some(topology) = Topology::new(2, &[1, 2], &[3, 2], &[5, 6]) else { return };
-    /// let mut modes = Modes::new(alloc, topology, 4);
-    /// let shape = Shape { width: 640, height: 480, pitch: 2560, bpp: 32 };
-    /// let object = ObjectKey::from_number(7);
-    /// let Ok(framebuffer) = modes.addfb(1, shape, object) else { return };
-    /// assert!(rt; modes.rmfb(2, framebuffer).is_none());
-    /// assert!(rt; modes.rmfb(1, framebuffer) == Some(object));
-    /// let Ok(framebuffer) = modes.addfb(1, shape, object) else { return };
-    /// assert!(rt; modes.take_first_fb_of(1) == Some((framebuffer, object)));
-    /// let Ok(framebuffer) = modes.addfb(1, shape, object) else { return };
-    /// if modes.is_of_kind(Kind::Crtc, 1) && modes.fb(framebuffer).is_some() {
-    ///     modes.setcrtc(1, framebuffer);
-    /// }
-    /// if modes.is_of_kind(Kind::Plane, 3) && modes.fb(framebuffer).is_some() {
-    ///     modes.setplane(3, framebuffer);
-    /// }
-    /// assert!(rt; modes.shown(1) == framebuffer && modes.shown(2) == 0);
-    /// ```
     pub fn shown(&self, id: u32) -> u32
         ensures { result ≡ shown_by self.now id }
     {
@@ -728,32 +366,6 @@ impl Modes {
     ///
     /// Framebuffers are kind 8, in the order of ids. What CRTCs and planes show is kind 9, in the order of their ids.
     /// No other kind has rows here.
-    ///
-    /// # Examples
-    ///
-    /// ```rust
-    /// use drm_gem::ObjectKey;
-    /// use drm_modes::{Kind, Modes, Shape, Topology};
-    ///
-    /// let alloc = rt.alloc();
-    /// let Some(topology) = Topology::new(2, &[1, 2], &[3, 2], &[5, 6]) else { return };
-    /// let mut modes = Modes::new(alloc, topology, 4);
-    /// let shape = Shape { width: 640, height: 480, pitch: 2560, bpp: 32 };
-    /// let object = ObjectKey::from_number(7);
-    /// let Ok(framebuffer) = modes.addfb(1, shape, object) else { return };
-    /// assert!(rt; modes.rmfb(2, framebuffer).is_none());
-    /// assert!(rt; modes.rmfb(1, framebuffer) == Some(object));
-    /// let Ok(framebuffer) = modes.addfb(1, shape, object) else { return };
-    /// assert!(rt; modes.take_first_fb_of(1) == Some((framebuffer, object)));
-    /// let Ok(framebuffer) = modes.addfb(1, shape, object) else { return };
-    /// if modes.is_of_kind(Kind::Crtc, 1) && modes.fb(framebuffer).is_some() {
-    ///     modes.setcrtc(1, framebuffer);
-    /// }
-    /// if modes.is_of_kind(Kind::Plane, 3) && modes.fb(framebuffer).is_some() {
-    ///     modes.setplane(3, framebuffer);
-    /// }
-    /// assert!(rt; modes.nth(8, 0).is_some() && modes.nth(7, 0).is_none());
-    /// ```
     pub fn nth(&self, kind: u32, i: usize) -> Option<ModeRow>
         ensures { result ≡ nth_row self.now kind i }
     {
@@ -765,32 +377,6 @@ impl Modes {
     }
 
     /// Returns the framebuffer at a position of the list of framebuffers, from 0. Does not allocate.
-    ///
-    /// # Examples
-    ///
-    /// ```rust
-    /// use drm_gem::ObjectKey;
-    /// use drm_modes::{Kind, Modes, Shape, Topology};
-    ///
-    /// let alloc = rt.alloc();
-    /// let Some(topology) = Topology::new(2, &[1, 2], &[3, 2], &[5, 6]) else { return };
-    /// let mut modes = Modes::new(alloc, topology, 4);
-    /// let shape = Shape { width: 640, height: 480, pitch: 2560, bpp: 32 };
-    /// let object = ObjectKey::from_number(7);
-    /// let Ok(framebuffer) = modes.addfb(1, shape, object) else { return };
-    /// assert!(rt; modes.rmfb(2, framebuffer).is_none());
-    /// assert!(rt; modes.rmfb(1, framebuffer) == Some(object));
-    /// let Ok(framebuffer) = modes.addfb(1, shape, object) else { return };
-    /// assert!(rt; modes.take_first_fb_of(1) == Some((framebuffer, object)));
-    /// let Ok(framebuffer) = modes.addfb(1, shape, object) else { return };
-    /// if modes.is_of_kind(Kind::Crtc, 1) && modes.fb(framebuffer).is_some() {
-    ///     modes.setcrtc(1, framebuffer);
-    /// }
-    /// if modes.is_of_kind(Kind::Plane, 3) && modes.fb(framebuffer).is_some() {
-    ///     modes.setplane(3, framebuffer);
-    /// }
-    /// assert!(rt; matches!(modes.nth_framebuffer(0), Some(row) if row.framebuffer == framebuffer));
-    /// ```
     pub fn nth_framebuffer(&self, position: usize) -> Option<Framebuffer>
         ensures { result ≡ slice_get self.now.framebuffers position }
     {
@@ -801,32 +387,6 @@ impl Modes {
 
     /// Returns the entry at a position of the list of CRTCs and planes that show something, from 0. Looks at all CRTCs
     /// and planes. Does not allocate.
-    ///
-    /// # Examples
-    ///
-    /// ```rust
-    /// use drm_gem::ObjectKey;
-    /// use drm_modes::{Kind, Modes, Shape, Topology};
-    ///
-    /// let alloc = rt.alloc();
-    /// let Some(topology) = Topology::new(2, &[1, 2], &[3, 2], &[5, 6]) else { return };
-    /// let mut modes = Modes::new(alloc, topology, 4);
-    /// let shape = Shape { width: 640, height: 480, pitch: 2560, bpp: 32 };
-    /// let object = ObjectKey::from_number(7);
-    /// let Ok(framebuffer) = modes.addfb(1, shape, object) else { return };
-    /// assert!(rt; modes.rmfb(2, framebuffer).is_none());
-    /// assert!(rt; modes.rmfb(1, framebuffer) == Some(object));
-    /// let Ok(framebuffer) = modes.addfb(1, shape, object) else { return };
-    /// assert!(rt; modes.take_first_fb_of(1) == Some((framebuffer, object)));
-    /// let Ok(framebuffer) = modes.addfb(1, shape, object) else { return };
-    /// if modes.is_of_kind(Kind::Crtc, 1) && modes.fb(framebuffer).is_some() {
-    ///     modes.setcrtc(1, framebuffer);
-    /// }
-    /// if modes.is_of_kind(Kind::Plane, 3) && modes.fb(framebuffer).is_some() {
-    ///     modes.setplane(3, framebuffer);
-    /// }
-    /// assert!(rt; matches!(modes.nth_shown(1), Some(row) if row.engine == 3 && row.framebuffer == framebuffer));
-    /// ```
     pub fn nth_shown(&self, position: usize) -> Option<Shown>
         ensures { result ≡ slice_get (shown_rows self.now) position }
     {

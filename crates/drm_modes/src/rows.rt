@@ -24,21 +24,6 @@ pub struct Shape {
 }
 
 /// A framebuffer: an object whose pixels can be shown (drm-uapi, mode setting).
-///
-/// # Examples
-///
-/// ```rust
-/// use drm_gem::ObjectKey;
-/// use drm_modes::{Framebuffer, Modes, Shape, Topology};
-///
-/// let alloc = rt.alloc();
-/// let shape = Shape { width: 640, height: 480, pitch: 2560, bpp: 32 };
-/// let Some(topology) = Topology::new(2, &[1, 2], &[3, 2], &[5, 6]) else { return };
-/// let mut modes = Modes::new(alloc, topology, 4);
-/// let object = ObjectKey::from_number(7);
-/// let Ok(framebuffer) = modes.addfb(1, shape, object) else { return };
-/// assert!(rt; modes.nth_framebuffer(0) == Some(Framebuffer { framebuffer, client: 1, shape, object }));
-/// ```
 #[derive(Clone, Copy, PartialEq, Eq, Debug)]
 pub struct Framebuffer {
     /// Its id, above those of the fixed mode objects.

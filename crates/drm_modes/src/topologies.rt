@@ -108,15 +108,6 @@ impl Topology {
     ///
     /// In addition to the conditions of [`Topology::new`], there must be one kind for each plane. The CRTC of a kind
     /// must be a possible one of its plane. A CRTC may have at most one primary and one cursor plane.
-    ///
-    /// # Examples
-    ///
-    /// ```rust
-    /// use drm_modes::{PlaneKind, Topology};
-    ///
-    /// let kinds = [PlaneKind::Primary(1), PlaneKind::Overlay];
-    /// assert!(rt; Topology::with_kinds(2, &[1, 2], &kinds, &[3, 2], &[5, 6]).is_some());
-    /// ```
     pub fn with_kinds(
         crtcs: u32,
         planes: &[u32],
@@ -150,15 +141,6 @@ impl Topology {
     }
 
     /// Returns the kind of the fixed mode object with this id, or `None` if there is none. Does not allocate.
-    ///
-    /// # Examples
-    ///
-    /// ```rust
-    /// use drm_modes::{Kind, Topology};
-    ///
-    /// let Some(topology) = Topology::new(2, &[1, 2], &[3, 2], &[5, 6]) else { return };
-    /// assert!(rt; topology.kind(3) == Some(Kind::Plane) && topology.kind(9).is_none());
-    /// ```
     pub fn kind(&self, id: u32) -> Option<Kind>
         ensures kind { result ≡ fixed.kind_of self.now id }
         ensures is { IfSome result (λ kind. fixed.is_of_kind self.now kind id ≡ true) }
@@ -180,15 +162,6 @@ impl Topology {
     }
 
     /// Returns whether an id is that of an object of a kind. Does not allocate.
-    ///
-    /// # Examples
-    ///
-    /// ```rust
-    /// use drm_modes::{Kind, Topology};
-    ///
-    /// let Some(topology) = Topology::new(2, &[1, 2], &[3, 2], &[5, 6]) else { return };
-    /// assert!(rt; topology.is_of_kind(Kind::Connector, 7));
-    /// ```
     pub fn is_of_kind(&self, kind: Kind, id: u32) -> bool
         ensures { result ≡ fixed.is_of_kind self.now kind id }
     {
@@ -202,15 +175,6 @@ impl Topology {
     }
 
     /// Returns the ids of the objects of a kind, in rising order. Does not allocate.
-    ///
-    /// # Examples
-    ///
-    /// ```rust
-    /// use drm_modes::{Kind, Topology};
-    ///
-    /// let Some(topology) = Topology::new(2, &[1, 2], &[3, 2], &[5, 6]) else { return };
-    /// assert!(rt; topology.ids(Kind::Encoder).ids() == [5, 6].as_slice());
-    /// ```
     pub fn ids(&self, kind: Kind) -> ShownList
         ensures { result ≡ fixed.ids_of_kind self.now kind }
     {
@@ -221,18 +185,6 @@ impl Topology {
     }
 
     /// Appends the ids of the objects of a kind, in rising order. The list must have room for them. Does not allocate.
-    ///
-    /// # Examples
-    ///
-    /// ```rust
-    /// use drm_modes::{Kind, Topology};
-    /// use drm_table::ShownList;
-    ///
-    /// let Some(topology) = Topology::new(2, &[1, 2], &[3, 2], &[5, 6]) else { return };
-    /// let mut list = ShownList::new();
-    /// topology.append_ids(Kind::Encoder, &mut list);
-    /// assert!(rt; list.ids() == [5, 6].as_slice());
-    /// ```
     pub fn append_ids(&self, kind: Kind, list: &mut ShownList)
         requires room { length list.old + length (fixed.ids_of_kind self.now kind) ≤ 64 }
         ensures { list.new ≡ list.old ++ fixed.ids_of_kind self.now kind }
@@ -249,15 +201,6 @@ impl Topology {
     }
 
     /// Returns the number of fixed mode objects.
-    ///
-    /// # Examples
-    ///
-    /// ```rust
-    /// use drm_modes::Topology;
-    ///
-    /// let Some(topology) = Topology::new(2, &[1, 2], &[3, 2], &[5, 6]) else { return };
-    /// assert!(rt; topology.object_count() == 8);
-    /// ```
     pub fn object_count(&self) -> u32
         ensures count { result ≡ fixed.object_count self.now }
         ensures few { result ≤ 64 }
@@ -270,15 +213,6 @@ impl Topology {
     }
 
     /// Returns the number of CRTCs and planes.
-    ///
-    /// # Examples
-    ///
-    /// ```rust
-    /// use drm_modes::Topology;
-    ///
-    /// let Some(topology) = Topology::new(2, &[1, 2], &[3, 2], &[5, 6]) else { return };
-    /// assert!(rt; topology.scanout_count() == 4);
-    /// ```
     pub fn scanout_count(&self) -> u32
         ensures count { result ≡ scanout_count self.now }
         ensures few { result ≤ 64 }
@@ -316,15 +250,6 @@ impl Topology {
 
     /// Returns the possible CRTCs of a plane or an encoder: bit i is CRTC i + 1. Returns 0 for any other id. Does not
     /// allocate.
-    ///
-    /// # Examples
-    ///
-    /// ```rust
-    /// use drm_modes::Topology;
-    ///
-    /// let Some(topology) = Topology::new(2, &[1, 2], &[3, 2], &[5, 6]) else { return };
-    /// assert!(rt; topology.possible_crtcs(5) == 3);
-    /// ```
     pub fn possible_crtcs(&self, id: u32) -> u32
         ensures { result ≡ fixed.possible_crtcs self.now id }
     {
@@ -342,15 +267,6 @@ impl Topology {
 
     /// Returns whether a CRTC is a possible one of a plane or an encoder. Returns `false` if the ids are not theirs.
     /// Does not allocate.
-    ///
-    /// # Examples
-    ///
-    /// ```rust
-    /// use drm_modes::Topology;
-    ///
-    /// let Some(topology) = Topology::new(2, &[1, 2], &[3, 2], &[5, 6]) else { return };
-    /// assert!(rt; topology.drives(6, 2) && !topology.drives(6, 1));
-    /// ```
     pub fn drives(&self, id: u32, crtc: u32) -> bool
         ensures { result ≡ fixed.drives self.now id crtc }
     {
@@ -359,15 +275,6 @@ impl Topology {
     }
 
     /// Returns the kind of a plane, or `None` if the id is not that of a plane. Does not allocate.
-    ///
-    /// # Examples
-    ///
-    /// ```rust
-    /// use drm_modes::{PlaneKind, Topology};
-    ///
-    /// let Some(topology) = Topology::new(2, &[1, 2], &[3, 2], &[5, 6]) else { return };
-    /// assert!(rt; topology.plane_kind(3) == Some(PlaneKind::Overlay));
-    /// ```
     pub fn plane_kind(&self, id: u32) -> Option<PlaneKind>
         ensures { result ≡ fixed.plane_kind self.now id }
     {
@@ -380,15 +287,6 @@ impl Topology {
     }
 
     /// Returns the CRTC of a primary or cursor plane, or `None` for any other id. Does not allocate.
-    ///
-    /// # Examples
-    ///
-    /// ```rust
-    /// use drm_modes::Topology;
-    ///
-    /// let Some(topology) = Topology::new(2, &[1, 2], &[3, 2], &[5, 6]) else { return };
-    /// assert!(rt; topology.crtc_of_plane(3).is_none());
-    /// ```
     pub fn crtc_of_plane(&self, id: u32) -> Option<u32>
         ensures { result ≡ fixed.crtc_of_plane self.now id }
     {
@@ -396,15 +294,6 @@ impl Topology {
     }
 
     /// Returns the primary and cursor planes of the CRTCs in a list, in rising order. Does not allocate.
-    ///
-    /// # Examples
-    ///
-    /// ```rust
-    /// use drm_modes::Topology;
-    ///
-    /// let Some(topology) = Topology::new(2, &[1, 2], &[3, 2], &[5, 6]) else { return };
-    /// assert!(rt; topology.planes_of(&[1]).ids().is_empty());
-    /// ```
     pub fn planes_of(&self, crtcs: &[u32]) -> ShownList
         ensures { result ≡ fixed.planes_of self.now crtcs.now }
     {
@@ -428,15 +317,6 @@ impl Topology {
     }
 
     /// Returns the encoder of a connector, or `None` if the id is not that of a connector. Does not allocate.
-    ///
-    /// # Examples
-    ///
-    /// ```rust
-    /// use drm_modes::Topology;
-    ///
-    /// let Some(topology) = Topology::new(2, &[1, 2], &[3, 2], &[5, 6]) else { return };
-    /// assert!(rt; topology.encoder_of(7) == Some(5));
-    /// ```
     pub fn encoder_of(&self, connector: u32) -> Option<u32>
         ensures { result ≡ fixed.encoder_of self.now connector }
     {
@@ -450,15 +330,6 @@ impl Topology {
 
     /// Returns whether a connector can show the picture of a CRTC: the CRTC is a possible one of the connector's
     /// encoder. Returns `false` if the ids are not theirs. Does not allocate.
-    ///
-    /// # Examples
-    ///
-    /// ```rust
-    /// use drm_modes::Topology;
-    ///
-    /// let Some(topology) = Topology::new(2, &[1, 2], &[3, 2], &[5, 6]) else { return };
-    /// assert!(rt; topology.reaches(8, 2) && !topology.reaches(8, 1));
-    /// ```
     pub fn reaches(&self, connector: u32, crtc: u32) -> bool
         ensures { result ≡ fixed.reaches self.now connector crtc }
     {
@@ -470,17 +341,6 @@ impl Topology {
 
     /// Returns the possible CRTCs of a plane or an encoder among those that are seen: bit i is the i-th of `visible`
     /// (drm-uapi, leases). Returns 0 for any other id. Does not allocate.
-    ///
-    /// # Examples
-    ///
-    /// ```rust
-    /// use drm_modes::Topology;
-    /// use drm_table::ShownList;
-    ///
-    /// let Some(topology) = Topology::new(2, &[1, 2], &[3, 2], &[5, 6]) else { return };
-    /// let none_seen = ShownList::new();
-    /// assert!(rt; topology.mask(5, &none_seen) == 0);
-    /// ```
     pub fn mask(&self, id: u32, visible: &ShownList) -> u32
         requires { AreCrtcs self.now visible.now }
         ensures mask { result ≡ fixed.mask_over self.now id visible.now }

@@ -13,14 +13,6 @@ use std::io::Write;
 pub const MOST_BYTES: usize = 128;
 
 /// What a control line asks for (own).
-///
-/// # Examples
-///
-/// ```rust
-/// use drm_plans::{Control, read_control};
-///
-/// assert!(rt; read_control(b"clear") == Ok(Control::Clear));
-/// ```
 #[derive(Clone, Copy, Debug, PartialEq, Eq)]
 pub enum Control {
     /// To make a rule.

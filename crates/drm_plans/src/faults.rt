@@ -48,15 +48,6 @@ impl fmt::Display for Wanted {
 }
 
 /// The reason a rule or a control line can't be used (own).
-///
-/// # Examples
-///
-/// ```rust
-/// use drm_plans::{RuleCause, RuleKind, read_rule};
-///
-/// let Err(unknown) = read_rule(RuleKind::Stall, b"creat_dumb=5") else { return };
-/// assert!(rt; unknown.cause == RuleCause::NoCall);
-/// ```
 #[derive(Clone, Copy, Debug, PartialEq, Eq, Error)]
 pub enum RuleCause {
     /// The word of a control line is no command.
@@ -133,15 +124,6 @@ fn shown(byte: u8) -> char {
 
 impl RuleFault {
     /// Returns the fault of a control line that is too long. Does not allocate.
-    ///
-    /// # Examples
-    ///
-    /// ```rust
-    /// use drm_plans::{RuleCause, RuleFault};
-    ///
-    /// let long = RuleFault::too_long();
-    /// assert!(rt; long.cause == RuleCause::TooLong);
-    /// ```
     pub fn too_long() -> RuleFault {
         RuleFault::plain(RuleCause::TooLong)
     }

@@ -13,14 +13,6 @@ use std::sync::{Mutex, Wait};
 pub const MOST_RULES: usize = 64;
 
 /// What is done to the answer of a call (own).
-///
-/// # Examples
-///
-/// ```rust
-/// use drm_plans::Due;
-///
-/// assert!(rt; !Due::NOTHING.breaks);
-/// ```
 #[derive(Clone, Copy, Debug, PartialEq, Eq)]
 pub struct Due {
     /// The delay in milliseconds, if there is one.
@@ -63,18 +55,6 @@ impl Plan {
     /// # Errors
     ///
     /// `AllocError` if memory is refused.
-    ///
-    /// # Examples
-    ///
-    /// ```rust
-    /// use drm_plans::Plan;
-    ///
-    /// let alloc = rt.alloc();
-    /// let Ok(empty) = Plan::new(alloc) else { return };
-    /// let mut text = Vec::new(alloc);
-    /// let Ok(()) = empty.list(&rt, &mut text) else { return };
-    /// assert!(rt; text.is_empty());
-    /// ```
     pub fn new(alloc: Global) -> Result<Plan, AllocError> {
         let mut shortages = Vec::with_capacity(alloc, ADDING.len())?;
         for _ in 0..ADDING.len() {
@@ -93,19 +73,6 @@ impl Plan {
     /// # Errors
     ///
     /// A `RuleFault` if there is no room, or for a rule of `fail` whose calls add no row. Nothing changes then.
-    ///
-    /// # Examples
-    ///
-    /// ```rust
-    /// use drm_plans::{Break, Plan, Rule};
-    /// use drm_table::{Call, Event};
-    ///
-    /// let alloc = rt.alloc();
-    /// let Ok(made) = Plan::new(alloc) else { return };
-    /// let end = Rule::Break(Break { client: 4, nth: 1 });
-    /// assert!(rt; made.add(&rt, end).is_ok());
-    /// assert!(rt; made.due(&rt, &Event::Ask(4, Call::Version)).breaks);
-    /// ```
     pub fn add<R: Wait>(&self, rt: &R, rule: Rule) -> Result<(), RuleFault> {
         let has_room = match rule {
             Rule::Fail(fail) => return self.add_fail(fail),
@@ -136,20 +103,6 @@ impl Plan {
     }
 
     /// Forgets all rules. Does not allocate.
-    ///
-    /// # Examples
-    ///
-    /// ```rust
-    /// use drm_plans::{Break, Plan, Rule};
-    /// use drm_table::{Call, Event};
-    ///
-    /// let alloc = rt.alloc();
-    /// let Ok(cleared) = Plan::new(alloc) else { return };
-    /// let gone = Rule::Break(Break { client: 4, nth: 1 });
-    /// assert!(rt; cleared.add(&rt, gone).is_ok());
-    /// cleared.clear(&rt);
-    /// assert!(rt; !cleared.due(&rt, &Event::Ask(4, Call::Version)).breaks);
-    /// ```
     pub fn clear<R: Wait>(&self, rt: &R) {
         let mut counted = self.counted.lock(rt);
         counted.stalls.clear();
@@ -161,18 +114,6 @@ impl Plan {
 
     /// Returns the shortage of the calls to which the event belongs. It is over where there is no rule. Returns `None` for
     /// calls that add no row. Does not allocate.
-    ///
-    /// # Examples
-    ///
-    /// ```rust
-    /// use drm_plans::Plan;
-    /// use drm_table::{Event, Opening};
-    ///
-    /// let alloc = rt.alloc();
-    /// let Ok(short) = Plan::new(alloc) else { return };
-    /// assert!(rt; short.shortage(&Event::Open(Opening::Render)).is_some());
-    /// assert!(rt; short.shortage(&Event::Close(1)).is_none());
-    /// ```
     pub fn shortage(&self, event: &Event) -> Option<&Shortage> {
         self.shortage_of(Calls::of_event(event)?)
     }

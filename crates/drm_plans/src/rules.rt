@@ -18,16 +18,6 @@ const OPEN: &[u8] = b"open";
 const MEMORY: &[u8] = b"memory";
 
 /// The calls that a rule counts (own).
-///
-/// # Examples
-///
-/// ```rust
-/// use drm_plans::Calls;
-/// use drm_table::CallKind;
-///
-/// let found = Calls::of_word(b"addfb");
-/// assert!(rt; found == Some(Calls::OfKind(CallKind::AddFb)));
-/// ```
 #[derive(Clone, Copy, Debug, PartialEq, Eq)]
 pub enum Calls {
     /// The openings of clients, in any way.
@@ -77,17 +67,6 @@ impl Calls {
 
     /// Returns the calls to which an event belongs. Returns `None` for a closing, and for a request without a row or
     /// with other fields than its row has. Does not allocate.
-    ///
-    /// # Examples
-    ///
-    /// ```rust
-    /// use drm_plans::Calls;
-    /// use drm_table::{Event, Opening};
-    ///
-    /// let opening = Event::Open(Opening::Render);
-    /// assert!(rt; Calls::of_event(&opening) == Some(Calls::Openings));
-    /// assert!(rt; Calls::of_event(&Event::Close(1)).is_none());
-    /// ```
     pub fn of_event(event: &Event) -> Option<Calls>
         ensures { result ≡ calls_of_event event.now }
     {
@@ -102,15 +81,6 @@ impl Calls {
     }
 
     /// Returns the word for the calls. Does not allocate.
-    ///
-    /// # Examples
-    ///
-    /// ```rust
-    /// use drm_plans::Calls;
-    ///
-    /// let openings = Calls::Openings;
-    /// assert!(rt; openings.word() == b"open".as_slice());
-    /// ```
     pub fn word(self) -> &'static [u8]
         ensures { result.now ≡ word_of self }
     {
@@ -148,15 +118,6 @@ impl fmt::Display for Calls {
 }
 
 /// A rule that refuses memory (own).
-///
-/// # Examples
-///
-/// ```rust
-/// use drm_plans::{Calls, Fail};
-///
-/// let refusal = Fail { calls: Calls::Openings, nth: 2 };
-/// assert!(rt; refusal.nth == 2);
-/// ```
 #[derive(Clone, Copy, Debug, PartialEq, Eq)]
 pub struct Fail {
     /// Calls that can add a row.
@@ -166,15 +127,6 @@ pub struct Fail {
 }
 
 /// A rule that delays an answer (own).
-///
-/// # Examples
-///
-/// ```rust
-/// use drm_plans::{Calls, Stall};
-///
-/// let delay = Stall { calls: Calls::Openings, nth: 1, millis: 250 };
-/// assert!(rt; delay.millis == 250);
-/// ```
 #[derive(Clone, Copy, Debug, PartialEq, Eq)]
 pub struct Stall {
     /// The calls that are counted.
@@ -186,15 +138,6 @@ pub struct Stall {
 }
 
 /// A rule that closes a connection (own).
-///
-/// # Examples
-///
-/// ```rust
-/// use drm_plans::Break;
-///
-/// let end = Break { client: 3, nth: 1 };
-/// assert!(rt; end.client == 3);
-/// ```
 #[derive(Clone, Copy, Debug, PartialEq, Eq)]
 pub struct Break {
     /// The number of the client, from 1.
@@ -235,14 +178,6 @@ impl fmt::Display for Rule {
 }
 
 /// The kind of a rule (own).
-///
-/// # Examples
-///
-/// ```rust
-/// use drm_plans::RuleKind;
-///
-/// assert!(rt; RuleKind::Fail != RuleKind::Stall);
-/// ```
 #[derive(Clone, Copy, Debug, PartialEq, Eq)]
 pub enum RuleKind {
     /// Of `fail`.

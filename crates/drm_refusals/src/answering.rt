@@ -24,16 +24,6 @@ use drm_table::{Answer, Apart, Event, Limits};
 use std::alloc::{AllocError, Global};
 
 /// An answered line of a script (own).
-///
-/// # Examples
-///
-/// ```rust
-/// use drm_refusals::Line;
-///
-/// let alloc = rt.alloc();
-/// let line = Line { number: 1, answer: String::new(alloc), apart: None };
-/// assert!(rt; line.apart.is_none());
-/// ```
 #[derive(PartialEq, Eq, Debug, Drop)]
 pub struct Line {
     /// The number of the line, from 1.

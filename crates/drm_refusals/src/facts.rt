@@ -31,15 +31,6 @@ pub enum Fact {
 }
 
 /// A client that is not open (own).
-///
-/// # Examples
-///
-/// ```rust
-/// use drm_refusals::ClientFact;
-///
-/// let fact = ClientFact::Closed { client: 1, step: 2 };
-/// assert!(rt; fact != ClientFact::NeverOpened { client: 1 });
-/// ```
 #[derive(Clone, Copy, PartialEq, Eq, Debug)]
 pub enum ClientFact {
     /// The step closed the client.

@@ -79,15 +79,6 @@ impl Ledger {
     ghost use Rattle.drm_trails.specs.Steps.{entry_of, history_of};
 
     /// Returns a ledger without steps. Does not allocate.
-    ///
-    /// # Examples
-    ///
-    /// ```rust
-    /// use drm_rights::Ledger;
-    ///
-    /// let alloc = rt.alloc();
-    /// assert!(rt; Ledger::new(alloc).owner().is_none());
-    /// ```
     pub fn new(alloc: Global) -> Ledger
         ensures { result ≡ [] }
     {
@@ -110,20 +101,6 @@ impl Ledger {
     /// # Errors
     ///
     /// `AllocError` if memory is refused. The ledger is then dropped.
-    ///
-    /// # Examples
-    ///
-    /// ```rust
-    /// use drm_rights::{Ledger, Step};
-    /// use drm_table::{Answer, Event, Opening};
-    ///
-    /// let alloc = rt.alloc();
-    /// let opening = Opening::Primary { root: true, universal: true };
-    /// let answer = Answer::Opened { client: 1 };
-    /// let step = Step { event: Event::Open(opening), answer };
-    /// let Ok(ledger) = Ledger::new(alloc).note(step) else { return };
-    /// assert!(rt; ledger.owner() == Some(1));
-    /// ```
     pub fn note(self, step: Step) -> Result<Ledger, AllocError>
         ensures { IfOk result (λ ledger. ledger ≡ entry_of step ∷ self) }
     {
@@ -227,23 +204,6 @@ impl Ledger {
     }
 
     /// Returns the client that last received this magic under a master, or `None`. Does not allocate.
-    ///
-    /// # Examples
-    ///
-    /// ```rust
-    /// use drm_rights::{Ledger, Step};
-    /// use drm_table::{Answer, Call, Event, Opening};
-    ///
-    /// let alloc = rt.alloc();
-    /// let opening = Opening::Primary { root: true, universal: true };
-    /// let answer = Answer::Opened { client: 1 };
-    /// let step = Step { event: Event::Open(opening), answer };
-    /// let Ok(ledger) = Ledger::new(alloc).note(step) else { return };
-    /// let answer = Answer::Number { value: 7 };
-    /// let step = Step { event: Event::Ask(1, Call::GetMagic), answer };
-    /// let Ok(ledger) = ledger.note(step) else { return };
-    /// assert!(rt; ledger.client_of(1, 7) == Some(1));
-    /// ```
     pub fn client_of(&self, master: u64, magic: u64) -> Option<u64>
         ensures { result ≡ magic_in self.now master magic }
     {
@@ -369,20 +329,6 @@ impl Ledger {
     }
 
     /// Returns the steps, the oldest first. Does not allocate.
-    ///
-    /// # Examples
-    ///
-    /// ```rust
-    /// use drm_rights::{Ledger, Step};
-    /// use drm_table::{Answer, Event, Opening};
-    ///
-    /// let alloc = rt.alloc();
-    /// let opening = Opening::Primary { root: true, universal: true };
-    /// let answer = Answer::Opened { client: 1 };
-    /// let step = Step { event: Event::Open(opening), answer };
-    /// let Ok(ledger) = Ledger::new(alloc).note(step) else { return };
-    /// assert!(rt; ledger.steps().len() == 1);
-    /// ```
     pub fn steps(&self) -> &[Step]
         ensures { history_of result.now ≡ self.now }
     {
@@ -390,20 +336,6 @@ impl Ledger {
     }
 
     /// Returns the steps with the index by which chains are found. Does not allocate.
-    ///
-    /// # Examples
-    ///
-    /// ```rust
-    /// use drm_rights::{Ledger, Step};
-    /// use drm_table::{Answer, Event, Opening};
-    ///
-    /// let alloc = rt.alloc();
-    /// let opening = Opening::Primary { root: true, universal: true };
-    /// let answer = Answer::Opened { client: 1 };
-    /// let step = Step { event: Event::Open(opening), answer };
-    /// let Ok(ledger) = Ledger::new(alloc).note(step) else { return };
-    /// assert!(rt; ledger.trail().object_of(1, 1, 1).is_none());
-    /// ```
     pub fn trail(&self) -> &Trail
         ensures { history_of result.now ≡ self.now }
     {
@@ -411,20 +343,6 @@ impl Ledger {
     }
 
     /// Returns the device's master, or `None`. Does not allocate.
-    ///
-    /// # Examples
-    ///
-    /// ```rust
-    /// use drm_rights::{Ledger, Step};
-    /// use drm_table::{Answer, Event, Opening};
-    ///
-    /// let alloc = rt.alloc();
-    /// let opening = Opening::Primary { root: true, universal: true };
-    /// let answer = Answer::Opened { client: 1 };
-    /// let step = Step { event: Event::Open(opening), answer };
-    /// let Ok(ledger) = Ledger::new(alloc).note(step) else { return };
-    /// assert!(rt; ledger.owner() == Some(1));
-    /// ```
     pub fn owner(&self) -> Option<u64>
         ensures { result ≡ owner_in self.now }
     {
@@ -432,20 +350,6 @@ impl Ledger {
     }
 
     /// Returns the step since which the device's master has been the same, or 0 if it never changed. Does not allocate.
-    ///
-    /// # Examples
-    ///
-    /// ```rust
-    /// use drm_rights::{Ledger, Step};
-    /// use drm_table::{Answer, Event, Opening};
-    ///
-    /// let alloc = rt.alloc();
-    /// let opening = Opening::Primary { root: true, universal: true };
-    /// let answer = Answer::Opened { client: 1 };
-    /// let step = Step { event: Event::Open(opening), answer };
-    /// let Ok(ledger) = Ledger::new(alloc).note(step) else { return };
-    /// assert!(rt; ledger.owner_since() == 1);
-    /// ```
     pub fn owner_since(&self) -> u64
         ensures { result ≡ owner_since_in self.now }
     {
@@ -454,21 +358,6 @@ impl Ledger {
 
     /// Returns the client's master state and the step since which it has it, or `None` if the client was never opened.
     /// Does not allocate.
-    ///
-    /// # Examples
-    ///
-    /// ```rust
-    /// use drm_rights::{Ledger, MasterState, Step};
-    /// use drm_table::{Answer, Event, Opening};
-    ///
-    /// let alloc = rt.alloc();
-    /// let opening = Opening::Primary { root: true, universal: true };
-    /// let answer = Answer::Opened { client: 1 };
-    /// let step = Step { event: Event::Open(opening), answer };
-    /// let Ok(ledger) = Ledger::new(alloc).note(step) else { return };
-    /// let master_state = MasterState { step: 1, client: 1, is_master: true, master: Some(1) };
-    /// assert!(rt; ledger.master_state(1) == Some(master_state));
-    /// ```
     pub fn master_state(&self, client: u64) -> Option<MasterState>
         ensures note { result ≡ master_state_of (standings_in self.now) client }
         ensures is_master { option_map_or (λ master_state. master_state.is_master) result false ≡ is_master_in self.now client }
@@ -478,20 +367,6 @@ impl Ledger {
     }
 
     /// Returns whether the client has an own master. Does not allocate.
-    ///
-    /// # Examples
-    ///
-    /// ```rust
-    /// use drm_rights::{Ledger, Step};
-    /// use drm_table::{Answer, Event, Opening};
-    ///
-    /// let alloc = rt.alloc();
-    /// let opening = Opening::Primary { root: true, universal: true };
-    /// let answer = Answer::Opened { client: 1 };
-    /// let step = Step { event: Event::Open(opening), answer };
-    /// let Ok(ledger) = Ledger::new(alloc).note(step) else { return };
-    /// assert!(rt; ledger.is_master(1) && !ledger.is_master(2));
-    /// ```
     pub fn is_master(&self, client: u64) -> bool
         ensures { result ≡ is_master_in self.now client }
     {
@@ -502,20 +377,6 @@ impl Ledger {
     }
 
     /// Returns the client's master, its own or the one that it joined. Does not allocate.
-    ///
-    /// # Examples
-    ///
-    /// ```rust
-    /// use drm_rights::{Ledger, Step};
-    /// use drm_table::{Answer, Event, Opening};
-    ///
-    /// let alloc = rt.alloc();
-    /// let opening = Opening::Primary { root: true, universal: true };
-    /// let answer = Answer::Opened { client: 1 };
-    /// let step = Step { event: Event::Open(opening), answer };
-    /// let Ok(ledger) = Ledger::new(alloc).note(step) else { return };
-    /// assert!(rt; ledger.master_of(1) == Some(1));
-    /// ```
     pub fn master_of(&self, client: u64) -> Option<u64>
         ensures { result ≡ master_in self.now client }
     {
@@ -526,26 +387,6 @@ impl Ledger {
     }
 
     /// Returns the lessor of a master, or `None` if the master is no lessee. Does not allocate.
-    ///
-    /// # Examples
-    ///
-    /// ```rust
-    /// use drm_rights::{Ledger, Step};
-    /// use drm_table::{Answer, Call, Event, IdList, Opening};
-    ///
-    /// let alloc = rt.alloc();
-    /// let opening = Opening::Primary { root: true, universal: true };
-    /// let answer = Answer::Opened { client: 1 };
-    /// let step = Step { event: Event::Open(opening), answer };
-    /// let Ok(ledger) = Ledger::new(alloc).note(step) else { return };
-    /// let mut ids = IdList::new();
-    /// ids.push(2);
-    /// let call = Call::CreateLease { ids };
-    /// let answer = Answer::Lease { id: 1, token: 1 };
-    /// let step = Step { event: Event::Ask(1, call), answer };
-    /// let Ok(ledger) = ledger.note(step) else { return };
-    /// assert!(rt; ledger.lessor_of(2) == Some(1));
-    /// ```
     pub fn lessor_of(&self, master: u64) -> Option<u64>
         ensures { result ≡ lessor_in self.now master }
     {
@@ -553,26 +394,6 @@ impl Ledger {
     }
 
     /// Returns the top of a master's chain of lessors. Does not allocate.
-    ///
-    /// # Examples
-    ///
-    /// ```rust
-    /// use drm_rights::{Ledger, Step};
-    /// use drm_table::{Answer, Call, Event, IdList, Opening};
-    ///
-    /// let alloc = rt.alloc();
-    /// let opening = Opening::Primary { root: true, universal: true };
-    /// let answer = Answer::Opened { client: 1 };
-    /// let step = Step { event: Event::Open(opening), answer };
-    /// let Ok(ledger) = Ledger::new(alloc).note(step) else { return };
-    /// let mut ids = IdList::new();
-    /// ids.push(2);
-    /// let call = Call::CreateLease { ids };
-    /// let answer = Answer::Lease { id: 1, token: 1 };
-    /// let step = Step { event: Event::Ask(1, call), answer };
-    /// let Ok(ledger) = ledger.note(step) else { return };
-    /// assert!(rt; ledger.owner_of(2) == 1);
-    /// ```
     pub fn owner_of(&self, master: u64) -> u64
         ensures { result ≡ top_in self.now master }
     {
@@ -580,20 +401,6 @@ impl Ledger {
     }
 
     /// Returns whether the client is current: it is a master whose owner is the device's master. Does not allocate.
-    ///
-    /// # Examples
-    ///
-    /// ```rust
-    /// use drm_rights::{Ledger, Step};
-    /// use drm_table::{Answer, Event, Opening};
-    ///
-    /// let alloc = rt.alloc();
-    /// let opening = Opening::Primary { root: true, universal: true };
-    /// let answer = Answer::Opened { client: 1 };
-    /// let step = Step { event: Event::Open(opening), answer };
-    /// let Ok(ledger) = Ledger::new(alloc).note(step) else { return };
-    /// assert!(rt; ledger.is_current(1));
-    /// ```
     pub fn is_current(&self, client: u64) -> bool
         ensures { result ≡ is_current_in self.now client }
     {
@@ -604,26 +411,6 @@ impl Ledger {
     }
 
     /// Returns the leases in the order of their creation, with those that ended. Does not allocate.
-    ///
-    /// # Examples
-    ///
-    /// ```rust
-    /// use drm_rights::{Ledger, Step};
-    /// use drm_table::{Answer, Call, Event, IdList, Opening};
-    ///
-    /// let alloc = rt.alloc();
-    /// let opening = Opening::Primary { root: true, universal: true };
-    /// let answer = Answer::Opened { client: 1 };
-    /// let step = Step { event: Event::Open(opening), answer };
-    /// let Ok(ledger) = Ledger::new(alloc).note(step) else { return };
-    /// let mut ids = IdList::new();
-    /// ids.push(2);
-    /// let call = Call::CreateLease { ids };
-    /// let answer = Answer::Lease { id: 1, token: 1 };
-    /// let step = Step { event: Event::Ask(1, call), answer };
-    /// let Ok(ledger) = ledger.note(step) else { return };
-    /// assert!(rt; ledger.leases().len() == 1);
-    /// ```
     pub fn leases(&self) -> &[Lease]
         ensures { result.now ≡ leases_in self.now }
     {
@@ -631,26 +418,6 @@ impl Ledger {
     }
 
     /// Returns the lease of a lessee, or `None` if the master is no lessee. Does not allocate.
-    ///
-    /// # Examples
-    ///
-    /// ```rust
-    /// use drm_rights::{Ledger, Step};
-    /// use drm_table::{Answer, Call, Event, IdList, Opening};
-    ///
-    /// let alloc = rt.alloc();
-    /// let opening = Opening::Primary { root: true, universal: true };
-    /// let answer = Answer::Opened { client: 1 };
-    /// let step = Step { event: Event::Open(opening), answer };
-    /// let Ok(ledger) = Ledger::new(alloc).note(step) else { return };
-    /// let mut ids = IdList::new();
-    /// ids.push(2);
-    /// let call = Call::CreateLease { ids };
-    /// let answer = Answer::Lease { id: 1, token: 1 };
-    /// let step = Step { event: Event::Ask(1, call), answer };
-    /// let Ok(ledger) = ledger.note(step) else { return };
-    /// assert!(rt; ledger.lease_of(2).is_some());
-    /// ```
     pub fn lease_of(&self, master: u64) -> Option<Lease>
         ensures { result ≡ lending.lease_at (leases_in self.now) master }
     {
@@ -658,26 +425,6 @@ impl Ledger {
     }
 
     /// Returns the first step that ended a master or one above it, or `None`. Does not allocate.
-    ///
-    /// # Examples
-    ///
-    /// ```rust
-    /// use drm_rights::{Ledger, Step};
-    /// use drm_table::{Answer, Call, Event, IdList, Opening};
-    ///
-    /// let alloc = rt.alloc();
-    /// let opening = Opening::Primary { root: true, universal: true };
-    /// let answer = Answer::Opened { client: 1 };
-    /// let step = Step { event: Event::Open(opening), answer };
-    /// let Ok(ledger) = Ledger::new(alloc).note(step) else { return };
-    /// let mut ids = IdList::new();
-    /// ids.push(2);
-    /// let call = Call::CreateLease { ids };
-    /// let answer = Answer::Lease { id: 1, token: 1 };
-    /// let step = Step { event: Event::Ask(1, call), answer };
-    /// let Ok(ledger) = ledger.note(step) else { return };
-    /// assert!(rt; ledger.ended(2).is_none());
-    /// ```
     pub fn ended(&self, master: u64) -> Option<u64>
         ensures step { result ≡ ended_at self.now master }
         ensures ended { is_some result ≡ has_ended self.now master }
@@ -772,29 +519,6 @@ impl Ledger {
     /// # Errors
     ///
     /// `AllocError` if memory is refused.
-    ///
-    /// # Examples
-    ///
-    /// ```rust
-    /// use drm_modes::Topology;
-    /// use drm_rights::{Ledger, Step};
-    /// use drm_table::{Answer, Call, Event, IdList, Opening};
-    ///
-    /// let alloc = rt.alloc();
-    /// let opening = Opening::Primary { root: true, universal: true };
-    /// let answer = Answer::Opened { client: 1 };
-    /// let step = Step { event: Event::Open(opening), answer };
-    /// let Ok(ledger) = Ledger::new(alloc).note(step) else { return };
-    /// let mut ids = IdList::new();
-    /// ids.push(2);
-    /// let call = Call::CreateLease { ids };
-    /// let answer = Answer::Lease { id: 1, token: 1 };
-    /// let step = Step { event: Event::Ask(1, call), answer };
-    /// let Ok(ledger) = ledger.note(step) else { return };
-    /// let Some(topology) = Topology::new(2, &[1, 2], &[3, 2], &[5, 6]) else { return };
-    /// let Ok(leased) = ledger.leased(alloc, &topology, 2) else { return };
-    /// assert!(rt; leased.as_slice() == [2].as_slice());
-    /// ```
     pub fn leased(
         &self,
         alloc: Global,
@@ -819,28 +543,6 @@ impl Ledger {
 
     /// Returns whether a lease has a mode object: its step lent it, and no later one ended the lease. Does not
     /// allocate.
-    ///
-    /// # Examples
-    ///
-    /// ```rust
-    /// use drm_modes::Topology;
-    /// use drm_rights::{Ledger, Step};
-    /// use drm_table::{Answer, Call, Event, IdList, Opening};
-    ///
-    /// let alloc = rt.alloc();
-    /// let opening = Opening::Primary { root: true, universal: true };
-    /// let answer = Answer::Opened { client: 1 };
-    /// let step = Step { event: Event::Open(opening), answer };
-    /// let Ok(ledger) = Ledger::new(alloc).note(step) else { return };
-    /// let mut ids = IdList::new();
-    /// ids.push(2);
-    /// let call = Call::CreateLease { ids };
-    /// let answer = Answer::Lease { id: 1, token: 1 };
-    /// let step = Step { event: Event::Ask(1, call), answer };
-    /// let Ok(ledger) = ledger.note(step) else { return };
-    /// let Some(topology) = Topology::new(2, &[1, 2], &[3, 2], &[5, 6]) else { return };
-    /// assert!(rt; ledger.is_granted(&topology, 2, 2));
-    /// ```
     pub fn is_granted(&self, topology: &Topology, master: u64, mode_object: u32) -> bool
         ensures { result ≡ granted topology.now self.now master mode_object }
     {
@@ -850,28 +552,6 @@ impl Ledger {
     /// Returns whether the client's master controls a mode object (drm-uapi, leases). Does not allocate.
     ///
     /// A master without a lessor controls all. A lessee controls what its lease has.
-    ///
-    /// # Examples
-    ///
-    /// ```rust
-    /// use drm_modes::Topology;
-    /// use drm_rights::{Ledger, Step};
-    /// use drm_table::{Answer, Call, Event, IdList, Opening};
-    ///
-    /// let alloc = rt.alloc();
-    /// let opening = Opening::Primary { root: true, universal: true };
-    /// let answer = Answer::Opened { client: 1 };
-    /// let step = Step { event: Event::Open(opening), answer };
-    /// let Ok(ledger) = Ledger::new(alloc).note(step) else { return };
-    /// let mut ids = IdList::new();
-    /// ids.push(2);
-    /// let call = Call::CreateLease { ids };
-    /// let answer = Answer::Lease { id: 1, token: 1 };
-    /// let step = Step { event: Event::Ask(1, call), answer };
-    /// let Ok(ledger) = ledger.note(step) else { return };
-    /// let Some(topology) = Topology::new(2, &[1, 2], &[3, 2], &[5, 6]) else { return };
-    /// assert!(rt; ledger.controls(&topology, 1, 8));
-    /// ```
     pub fn controls(&self, topology: &Topology, client: u64, mode_object: u32) -> bool
         ensures { result ≡ controls_in topology.now self.now client mode_object }
     {
@@ -885,20 +565,6 @@ impl Ledger {
 
     /// Returns whether a client has universal planes on, and the step since which it does, or `None` if it was never
     /// opened. Does not allocate.
-    ///
-    /// # Examples
-    ///
-    /// ```rust
-    /// use drm_rights::{Capability, Ledger, Step};
-    /// use drm_table::{Answer, Event, Opening};
-    ///
-    /// let alloc = rt.alloc();
-    /// let opening = Opening::Primary { root: true, universal: true };
-    /// let answer = Answer::Opened { client: 1 };
-    /// let step = Step { event: Event::Open(opening), answer };
-    /// let Ok(ledger) = Ledger::new(alloc).note(step) else { return };
-    /// assert!(rt; ledger.capability(1) == Some(Capability { step: 1, client: 1, universal: true }));
-    /// ```
     pub fn capability(&self, client: u64) -> Option<Capability>
         ensures note { result ≡ capability_of (capabilities_in self.now) client }
         ensures universal { option_map_or (λ capability. capability.universal) result false ≡ is_universal_in self.now client }
@@ -907,20 +573,6 @@ impl Ledger {
     }
 
     /// Returns whether a client has universal planes on. Does not allocate.
-    ///
-    /// # Examples
-    ///
-    /// ```rust
-    /// use drm_rights::{Ledger, Step};
-    /// use drm_table::{Answer, Event, Opening};
-    ///
-    /// let alloc = rt.alloc();
-    /// let opening = Opening::Primary { root: true, universal: true };
-    /// let answer = Answer::Opened { client: 1 };
-    /// let step = Step { event: Event::Open(opening), answer };
-    /// let Ok(ledger) = Ledger::new(alloc).note(step) else { return };
-    /// assert!(rt; ledger.has_universal(1));
-    /// ```
     pub fn has_universal(&self, client: u64) -> bool
         ensures { result ≡ is_universal_in self.now client }
     {
@@ -932,30 +584,6 @@ impl Ledger {
 
     /// Returns the client that redeemed the lease of a lessee, or `None`. It has had this master since the step that
     /// opened it. Does not allocate.
-    ///
-    /// # Examples
-    ///
-    /// ```rust
-    /// use drm_rights::{Ledger, Step};
-    /// use drm_table::{Answer, Call, Event, IdList, Opening};
-    ///
-    /// let alloc = rt.alloc();
-    /// let opening = Opening::Primary { root: true, universal: true };
-    /// let answer = Answer::Opened { client: 1 };
-    /// let step = Step { event: Event::Open(opening), answer };
-    /// let Ok(ledger) = Ledger::new(alloc).note(step) else { return };
-    /// let mut ids = IdList::new();
-    /// ids.push(2);
-    /// let call = Call::CreateLease { ids };
-    /// let answer = Answer::Lease { id: 1, token: 1 };
-    /// let step = Step { event: Event::Ask(1, call), answer };
-    /// let Ok(ledger) = ledger.note(step) else { return };
-    /// let opening = Opening::Lease { token: 1, root: false, universal: true };
-    /// let answer = Answer::Opened { client: 3 };
-    /// let step = Step { event: Event::Open(opening), answer };
-    /// let Ok(ledger) = ledger.note(step) else { return };
-    /// assert!(rt; ledger.lease_client(2) == Some(3));
-    /// ```
     pub fn lease_client(&self, lessee: u64) -> Option<u64>
         ensures { result ≡ lease_client_in self.now lessee }
     {
@@ -966,20 +594,6 @@ impl Ledger {
     }
 
     /// Returns whether the client opened as root. Does not allocate.
-    ///
-    /// # Examples
-    ///
-    /// ```rust
-    /// use drm_rights::{Ledger, Step};
-    /// use drm_table::{Answer, Event, Opening};
-    ///
-    /// let alloc = rt.alloc();
-    /// let opening = Opening::Primary { root: true, universal: true };
-    /// let answer = Answer::Opened { client: 1 };
-    /// let step = Step { event: Event::Open(opening), answer };
-    /// let Ok(ledger) = Ledger::new(alloc).note(step) else { return };
-    /// assert!(rt; ledger.is_root(1));
-    /// ```
     pub fn is_root(&self, client: u64) -> bool
         ensures { result ≡ is_root_in self.now client }
     {
@@ -987,26 +601,6 @@ impl Ledger {
     }
 
     /// Returns whether an AUTH_MAGIC named the client's magic. Does not allocate.
-    ///
-    /// # Examples
-    ///
-    /// ```rust
-    /// use drm_rights::{Ledger, Step};
-    /// use drm_table::{Answer, Call, Event, Opening};
-    ///
-    /// let alloc = rt.alloc();
-    /// let opening = Opening::Primary { root: true, universal: true };
-    /// let answer = Answer::Opened { client: 1 };
-    /// let step = Step { event: Event::Open(opening), answer };
-    /// let Ok(ledger) = Ledger::new(alloc).note(step) else { return };
-    /// let answer = Answer::Number { value: 7 };
-    /// let step = Step { event: Event::Ask(1, Call::GetMagic), answer };
-    /// let Ok(ledger) = ledger.note(step) else { return };
-    /// let call = Call::AuthMagic { magic: 7 };
-    /// let step = Step { event: Event::Ask(1, call), answer: Answer::Done };
-    /// let Ok(ledger) = ledger.note(step) else { return };
-    /// assert!(rt; ledger.is_named(1));
-    /// ```
     pub fn is_named(&self, client: u64) -> bool
         ensures { result ≡ is_named_in self.now client }
     {
@@ -1014,27 +608,6 @@ impl Ledger {
     }
 
     /// Returns the first AUTH_MAGIC that named the client's magic, or `None`. Does not allocate.
-    ///
-    /// # Examples
-    ///
-    /// ```rust
-    /// use drm_rights::{Authentication, Ledger, Step};
-    /// use drm_table::{Answer, Call, Event, Opening};
-    ///
-    /// let alloc = rt.alloc();
-    /// let opening = Opening::Primary { root: true, universal: true };
-    /// let answer = Answer::Opened { client: 1 };
-    /// let step = Step { event: Event::Open(opening), answer };
-    /// let Ok(ledger) = Ledger::new(alloc).note(step) else { return };
-    /// let answer = Answer::Number { value: 7 };
-    /// let step = Step { event: Event::Ask(1, Call::GetMagic), answer };
-    /// let Ok(ledger) = ledger.note(step) else { return };
-    /// let call = Call::AuthMagic { magic: 7 };
-    /// let step = Step { event: Event::Ask(1, call), answer: Answer::Done };
-    /// let Ok(ledger) = ledger.note(step) else { return };
-    /// let authentication = Authentication { step: 3, client: 1, by: 1, magic: 7 };
-    /// assert!(rt; ledger.authentication(1) == Some(authentication));
-    /// ```
     pub fn authentication(&self, client: u64) -> Option<Authentication>
         ensures { result ≡ authentication_of (authentications_in self.now) client }
     {
@@ -1043,26 +616,6 @@ impl Ledger {
 
     /// Returns whether the client is authenticated: it opened as root, is a master, or AUTH_MAGIC named its magic
     /// (drm(7)). Does not allocate.
-    ///
-    /// # Examples
-    ///
-    /// ```rust
-    /// use drm_rights::{Ledger, Step};
-    /// use drm_table::{Answer, Call, Event, Opening};
-    ///
-    /// let alloc = rt.alloc();
-    /// let opening = Opening::Primary { root: true, universal: true };
-    /// let answer = Answer::Opened { client: 1 };
-    /// let step = Step { event: Event::Open(opening), answer };
-    /// let Ok(ledger) = Ledger::new(alloc).note(step) else { return };
-    /// let answer = Answer::Number { value: 7 };
-    /// let step = Step { event: Event::Ask(1, Call::GetMagic), answer };
-    /// let Ok(ledger) = ledger.note(step) else { return };
-    /// let call = Call::AuthMagic { magic: 7 };
-    /// let step = Step { event: Event::Ask(1, call), answer: Answer::Done };
-    /// let Ok(ledger) = ledger.note(step) else { return };
-    /// assert!(rt; ledger.is_known(1));
-    /// ```
     pub fn is_known(&self, client: u64) -> bool
         ensures { result ≡ known self.now client }
     {

@@ -61,18 +61,6 @@ impl Setup {
     ghost use Rattle.drm_runs.specs.Script.{limited_to, usual};
 
     /// Returns the setup of a device with this topology and these default limits. Does not allocate.
-    ///
-    /// # Examples
-    ///
-    /// ```rust
-    /// use drm_device::Limits;
-    /// use drm_runs::{Setup, test_topology};
-    ///
-    /// let alloc = rt.alloc();
-    /// let setup = Setup::new(test_topology(), Limits::PROGRAM);
-    /// let Some(device) = setup.make(alloc) else { return };
-    /// assert!(rt; device.journal().is_empty());
-    /// ```
     pub fn new(topology: Topology, limits: Limits) -> Setup
         requires in_range { are_in_range limits ≡ true }
         ensures { result ≡ record { topology = topology; limits = limits } }
@@ -81,16 +69,6 @@ impl Setup {
     }
 
     /// Returns the setup with the test topology and the program's limits. Does not allocate.
-    ///
-    /// # Examples
-    ///
-    /// ```rust
-    /// use drm_runs::Setup;
-    ///
-    /// let alloc = rt.alloc();
-    /// let Some(device) = Setup::usual().make(alloc) else { return };
-    /// assert!(rt; device.journal().is_empty());
-    /// ```
     pub fn usual() -> Setup
         ensures { result ≡ usual }
     {
@@ -117,16 +95,6 @@ impl Setup {
     }
 
     /// Returns an empty device, or `None` if memory is refused.
-    ///
-    /// # Examples
-    ///
-    /// ```rust
-    /// use drm_runs::Setup;
-    ///
-    /// let alloc = rt.alloc();
-    /// let Some(device) = Setup::usual().make(alloc) else { return };
-    /// assert!(rt; device.journal().is_empty());
-    /// ```
     pub fn make(self, alloc: Global) -> Option<Device>
         ensures { IfSome result (λ device. device ≡ record { topology = self.topology; limits = self.limits; journal = [] }) }
     {
@@ -140,14 +108,6 @@ impl Setup {
 
 /// Returns the default topology (own): two CRTCs, two planes, two encoders and two connectors. The first plane is the
 /// primary plane of the first CRTC. Does not allocate.
-///
-/// # Examples
-///
-/// ```rust
-/// use drm_runs::test_topology;
-///
-/// assert!(rt; test_topology().object_count() == 8);
-/// ```
 pub fn test_topology() -> Topology
     ensures { result ≡ script.test_topology }
 {

@@ -8,19 +8,6 @@ use std::alloc::Global;
 use std::marker::Model;
 
 /// The result of a line (own).
-///
-/// # Examples
-///
-/// ```rust
-/// use drm_runs::{Interpreter, LineResult, Setup};
-/// use drm_table::Answer;
-///
-/// let alloc = rt.alloc();
-/// let mut interpreter = Interpreter::new(Setup::usual());
-/// let mut outcome = Ok(Answer::Done);
-/// let result = interpreter.interpret(alloc, b"# a comment", &mut outcome);
-/// assert!(rt; result == LineResult::Unanswered);
-/// ```
 #[derive(Clone, Copy, Debug, PartialEq, Eq)]
 pub enum LineResult {
     /// There is no answer. The line is empty or a comment, or it created the device with its limits.
@@ -92,15 +79,6 @@ impl Interpreter {
     ghost use Rattle.drm_runs.specs.Interpreter.{Asks, HasLimits, Interprets, SetsLimits, at_start, device_made};
 
     /// Returns an interpreter without a device, and with no label bound. Does not allocate.
-    ///
-    /// # Examples
-    ///
-    /// ```rust
-    /// use drm_runs::{Interpreter, Setup};
-    ///
-    /// let interpreter = Interpreter::new(Setup::usual());
-    /// assert!(rt; interpreter.device().is_none());
-    /// ```
     pub fn new(setup: Setup) -> Interpreter
         ensures { result ≡ at_start setup }
     {
@@ -113,15 +91,6 @@ impl Interpreter {
     }
 
     /// Returns the device, or `None` if no line has created it. Does not allocate.
-    ///
-    /// # Examples
-    ///
-    /// ```rust
-    /// use drm_runs::{Interpreter, Setup};
-    ///
-    /// let interpreter = Interpreter::new(Setup::usual());
-    /// assert!(rt; interpreter.device().is_none());
-    /// ```
     pub fn device(&self) -> Option<&Device>
         ensures { option_map (λ device. device.now) result ≡ device_made self.now.device }
     {
@@ -129,16 +98,6 @@ impl Interpreter {
     }
 
     /// Returns the limits of the device, or those of its setup if it does not exist yet. Does not allocate.
-    ///
-    /// # Examples
-    ///
-    /// ```rust
-    /// use drm_device::Limits;
-    /// use drm_runs::{Interpreter, Setup};
-    ///
-    /// let interpreter = Interpreter::new(Setup::usual());
-    /// assert!(rt; interpreter.limits() == Limits::PROGRAM);
-    /// ```
     pub fn limits(&self) -> Limits
         ensures limits { HasLimits self.now.device result }
         ensures in_range { ranges.are_in_range result ≡ true }
@@ -148,15 +107,6 @@ impl Interpreter {
 
     /// Returns the clients that the labels name, the first for `a`. A label that was never bound names client 0. Does
     /// not allocate.
-    ///
-    /// # Examples
-    ///
-    /// ```rust
-    /// use drm_runs::{Interpreter, Setup};
-    ///
-    /// let interpreter = Interpreter::new(Setup::usual());
-    /// assert!(rt; interpreter.labels()[0] == 0);
-    /// ```
     pub fn labels(&self) -> &[u32; Label::COUNT]
         ensures { result.now ≡ self.now.labels }
     {
@@ -283,19 +233,6 @@ impl Interpreter {
     ///
     /// The caller lends the place of the answer, so that it is moved less. Allocates the device, and the rows of a
     /// step.
-    ///
-    /// # Examples
-    ///
-    /// ```rust
-    /// use drm_runs::{Interpreter, LineResult, Setup};
-    /// use drm_table::Answer;
-    ///
-    /// let alloc = rt.alloc();
-    /// let mut interpreter = Interpreter::new(Setup::usual());
-    /// let mut outcome = Ok(Answer::Done);
-    /// let result = interpreter.interpret(alloc, b"open a card", &mut outcome);
-    /// assert!(rt; result == LineResult::Answered && outcome == Ok(Answer::Opened { client: 1 }));
-    /// ```
     pub fn interpret(
         &mut self,
         alloc: Global,

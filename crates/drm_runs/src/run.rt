@@ -149,19 +149,6 @@ pub struct Ran {
 
 /// Runs a script as `run_script` does, on a device that begins with this topology and these default limits. It also
 /// returns the device.
-///
-/// # Examples
-///
-/// ```rust
-/// use drm_runs::{Setup, run_on};
-/// use drm_streams::{FromRead, ToWrite};
-///
-/// let alloc = rt.alloc();
-/// let mut source = FromRead::new(b"open a card\n".as_slice());
-/// let mut sink = ToWrite::new(Vec::new(alloc));
-/// let ran = run_on(alloc, Setup::usual(), &mut source, &mut sink, 1000);
-/// assert!(rt; ran.interpreter.labels()[0] == 1);
-/// ```
 pub fn run_on<S: Source, K: Sink>(
     alloc: Global,
     setup: Setup,

@@ -44,14 +44,6 @@ impl ScriptLines {
     ghost use Rattle.drm_runs.specs.LineSteps.{HoldsLast, ReadsNext, no_lines};
 
     /// Returns the lines of a source that has not been read. Does not allocate.
-    ///
-    /// # Examples
-    ///
-    /// ```rust
-    /// use drm_runs::ScriptLines;
-    ///
-    /// assert!(rt; ScriptLines::new().number() == 0);
-    /// ```
     pub fn new() -> ScriptLines
         ensures { result ≡ no_lines }
     {
@@ -63,19 +55,6 @@ impl ScriptLines {
     }
 
     /// Returns the line that is held, without its end. Does not allocate.
-    ///
-    /// # Examples
-    ///
-    /// ```rust
-    /// use drm_runs::ScriptLines;
-    /// use drm_streams::FromRead;
-    ///
-    /// let mut source = FromRead::new(b"open a card\n".as_slice());
-    /// let mut turns = 1000;
-    /// let mut lines = ScriptLines::new();
-    /// assert!(rt; lines.read_next(&mut source, &mut turns).is_none());
-    /// assert!(rt; lines.line() == b"open a card".as_slice());
-    /// ```
     pub fn line(&self) -> &[u8]
         ensures { result.now ≡ self.now.held }
     {
@@ -83,14 +62,6 @@ impl ScriptLines {
     }
 
     /// Returns the number of lines that were read, which is that of the line that is held. Does not allocate.
-    ///
-    /// # Examples
-    ///
-    /// ```rust
-    /// use drm_runs::ScriptLines;
-    ///
-    /// assert!(rt; ScriptLines::new().number() == 0);
-    /// ```
     pub fn number(&self) -> u64
         ensures { result ≡ self.now.number }
     {
@@ -118,19 +89,6 @@ impl ScriptLines {
     /// - `Malformed`: the line has more than 255 bytes.
     /// - `ReadFault`: the source failed.
     /// - `TurnsUsed`: no turn is left.
-    ///
-    /// # Examples
-    ///
-    /// ```rust
-    /// use drm_runs::ScriptLines;
-    /// use drm_streams::FromRead;
-    ///
-    /// let mut source = FromRead::new(b"open a card\n".as_slice());
-    /// let mut turns = 1000;
-    /// let mut lines = ScriptLines::new();
-    /// assert!(rt; lines.read_next(&mut source, &mut turns).is_none());
-    /// assert!(rt; lines.line() == b"open a card".as_slice());
-    /// ```
     pub fn read_next<S: Source>(&mut self, source: &mut S, turns: &mut u64) -> Option<Stop>
         requires number { self.old.number + 1 < 2 ^ 64 }
         requires countable { (S.trace source.old).counts.calls + turns.old < 2 ^ 48 }

@@ -5,15 +5,6 @@ use drm_streams::Written;
 use std::marker::Model;
 
 /// The end of the run of a script (own).
-///
-/// # Examples
-///
-/// ```rust
-/// use drm_runs::ScriptEnd;
-///
-/// let end = ScriptEnd::Malformed(2);
-/// assert!(rt; end != ScriptEnd::Done);
-/// ```
 #[derive(Clone, Copy, Debug, PartialEq, Eq)]
 pub enum ScriptEnd {
     /// The input ended, and every line was used.
@@ -64,15 +55,6 @@ impl Stop {
     ghost use Rattle.drm_runs.specs.Writing.{end_of_writing};
 
     /// Returns an end at which no line is malformed. Does not allocate.
-    ///
-    /// # Examples
-    ///
-    /// ```rust
-    /// use drm_runs::{ScriptEnd, Stop};
-    ///
-    /// let stop = Stop::of(ScriptEnd::ReadFault);
-    /// assert!(rt; stop.end() == ScriptEnd::ReadFault);
-    /// ```
     pub fn of(end: ScriptEnd) -> Stop
         requires { is_malformed end ≡ false }
         ensures { result ≡ end }
@@ -81,17 +63,6 @@ impl Stop {
     }
 
     /// Returns the end at the line with this number, from 1, for this cause. Does not allocate.
-    ///
-    /// # Examples
-    ///
-    /// ```rust
-    /// use drm_runs::{ScriptEnd, Stop};
-    /// use drm_script::read_line;
-    ///
-    /// let Err(cause) = read_line(b"opn a card") else { return };
-    /// let stop = Stop::malformed(2, cause);
-    /// assert!(rt; stop.end() == ScriptEnd::Malformed(2));
-    /// ```
     pub fn malformed(number: u64, cause: Malformed) -> Stop
         ensures { result ≡ ScriptEnd.Malformed number }
     {
@@ -102,15 +73,6 @@ impl Stop {
     }
 
     /// Returns the end of a script after a text was written, or `None` if it was written whole. Does not allocate.
-    ///
-    /// # Examples
-    ///
-    /// ```rust
-    /// use drm_runs::Stop;
-    /// use drm_streams::Written;
-    ///
-    /// assert!(rt; Stop::of_writing(Written::Whole).is_none());
-    /// ```
     pub fn of_writing(written: Written) -> Option<Stop>
         ensures { result ≡ end_of_writing written }
     {
@@ -122,15 +84,6 @@ impl Stop {
     }
 
     /// Returns the end. Does not allocate.
-    ///
-    /// # Examples
-    ///
-    /// ```rust
-    /// use drm_runs::{ScriptEnd, Stop};
-    ///
-    /// let stop = Stop::of(ScriptEnd::ReadFault);
-    /// assert!(rt; stop.end() == ScriptEnd::ReadFault);
-    /// ```
     pub fn end(&self) -> ScriptEnd
         ensures { result ≡ self.now }
     {
@@ -138,15 +91,6 @@ impl Stop {
     }
 
     /// Returns the cause and the place in the line, or `None` if no line is malformed. Does not allocate.
-    ///
-    /// # Examples
-    ///
-    /// ```rust
-    /// use drm_runs::{ScriptEnd, Stop};
-    ///
-    /// let stop = Stop::of(ScriptEnd::ReadFault);
-    /// assert!(rt; stop.cause().is_none());
-    /// ```
     pub fn cause(&self) -> Option<Malformed>
         ensures { is_some result ≡ is_malformed self.now }
     {

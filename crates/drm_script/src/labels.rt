@@ -6,15 +6,6 @@ ghost use Rattle.drm_script.specs.Fields.{place_of, label_of};
 use std::marker::Model;
 
 /// A label: one letter from `a` to `z` (own). Contracts see its place in the alphabet, from 0.
-///
-/// # Examples
-///
-/// ```rust
-/// use drm_script::Label;
-///
-/// let Some(label) = Label::from_letter(b'c') else { return };
-/// assert!(rt; label.place() == 2);
-/// ```
 #[derive(Clone, Copy, PartialEq, Eq, Debug)]
 pub struct Label {
     place: u8,
@@ -37,15 +28,6 @@ impl Label {
     pub const COUNT: usize = 26;
 
     /// Returns the label with this letter, or `None` if the byte is no letter from `a` to `z`.
-    ///
-    /// # Examples
-    ///
-    /// ```rust
-    /// use drm_script::Label;
-    ///
-    /// assert!(rt; Label::from_letter(b'z').is_some());
-    /// assert!(rt; Label::from_letter(b'A').is_none());
-    /// ```
     #[tactic(auto, unfolding(crate::specs::Fields::place_of))]
     pub fn from_letter(letter: u8) -> Option<Label>
         ensures place { result ≡ place_of letter }
@@ -60,15 +42,6 @@ impl Label {
     }
 
     /// Returns the place in the alphabet, 0 to 25.
-    ///
-    /// # Examples
-    ///
-    /// ```rust
-    /// use drm_script::Label;
-    ///
-    /// let Some(label) = Label::from_letter(b'z') else { return };
-    /// assert!(rt; label.place() == 25);
-    /// ```
     pub fn place(self) -> usize
         ensures place { result ≡ self }
         ensures below { result < Label.COUNT }

@@ -113,17 +113,6 @@ impl LineText {
     /// Replaces the text by the line of an answer, with its end (own). Does not allocate.
     ///
     /// To write many lines, this moves fewer bytes than [`line_of`].
-    ///
-    /// # Examples
-    ///
-    /// ```rust
-    /// use drm_script::LineText;
-    /// use drm_table::Answer;
-    ///
-    /// let mut text = LineText::new();
-    /// text.write(&Ok(Answer::Done));
-    /// assert!(rt; text.as_bytes() == b"done\n".as_slice());
-    /// ```
     pub fn write(&mut self, outcome: &Result<Answer, Apart>)
         ensures line { self.new ≡ answer_line outcome.now }
         ensures nonempty { 0 < length self.new }
@@ -136,15 +125,6 @@ impl LineText {
 }
 
 /// Returns the line of an answer, with its end (own). Does not allocate.
-///
-/// # Examples
-///
-/// ```rust
-/// use drm_script::line_of;
-/// use drm_table::Answer;
-///
-/// assert!(rt; line_of(&Ok(Answer::Number { value: 7 })).as_bytes() == b"number 7\n".as_slice());
-/// ```
 pub fn line_of(outcome: &Result<Answer, Apart>) -> LineText
     ensures line { result ≡ answer_line outcome.now }
     ensures nonempty { 0 < length result }

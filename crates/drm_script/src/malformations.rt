@@ -51,15 +51,6 @@ impl fmt::Display for Wanted {
 }
 
 /// The reason a line of a script cannot be used (own).
-///
-/// # Examples
-///
-/// ```rust
-/// use drm_script::{Malformation, read_line};
-///
-/// let Err(malformed) = read_line(b"a get_magic 1") else { return };
-/// assert!(rt; malformed.cause == Malformation::TooManyWords);
-/// ```
 #[derive(Clone, Copy, Debug, PartialEq, Eq, Error)]
 pub enum Malformation {
     /// More than 255 bytes, without the line end.
@@ -260,15 +251,6 @@ impl Malformed {
 
     /// Returns the report for a line that sets limits when the device already exists. Its column is that of the first
     /// word.
-    ///
-    /// # Examples
-    ///
-    /// ```rust
-    /// use drm_script::{Malformation, Malformed};
-    ///
-    /// let malformed = Malformed::late_limits(b"limits 4 8 8 8 8 4 4 50");
-    /// assert!(rt; malformed.column == 1 && malformed.cause == Malformation::LateLimits);
-    /// ```
     pub fn late_limits(line: &[u8]) -> Malformed
         ensures first { 1 ≤ result.column }
         ensures last { result.column ≤ length line.now + 1 }

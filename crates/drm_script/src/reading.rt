@@ -19,14 +19,6 @@ use drm_table::Limits;
 const LONGEST: usize = 255;
 
 /// The content of a line (own).
-///
-/// # Examples
-///
-/// ```rust
-/// use drm_script::{Reading, read_line};
-///
-/// assert!(rt; read_line(b"# a comment") == Ok(Reading::Skipped));
-/// ```
 #[derive(PartialEq, Eq, Debug, Drop)]
 pub enum Reading {
     /// Nothing: a comment, or no word.

@@ -35,15 +35,6 @@ impl Model for LineText {
 
 impl LineText {
     /// Creates an empty buffer for lines. Does not allocate.
-    ///
-    /// # Examples
-    ///
-    /// ```rust
-    /// use drm_script::LineText;
-    ///
-    /// let text = LineText::new();
-    /// assert!(rt; text.as_bytes().is_empty());
-    /// ```
     pub fn new() -> LineText
         ensures { result ≡ [] }
     {
@@ -60,16 +51,6 @@ impl LineText {
     }
 
     /// Returns the bytes. The last one is the line end, unless nothing was written.
-    ///
-    /// # Examples
-    ///
-    /// ```rust
-    /// use drm_script::line_of;
-    /// use drm_table::Apart;
-    ///
-    /// let line = line_of(&Err(Apart::NoMemory));
-    /// assert!(rt; line.as_bytes() == b"apart 51 NoMemory 12\n".as_slice());
-    /// ```
     pub fn as_bytes(&self) -> &[u8]
         ensures bytes { result.now ≡ self.now }
         ensures fits { length result.now ≤ LINE }
@@ -79,17 +60,6 @@ impl LineText {
 }
 
 /// Appends a number in decimal digits. The text must have room for 20 bytes.
-///
-/// # Examples
-///
-/// ```rust
-/// use arrayvec::ArrayString;
-/// use drm_script::push_number;
-///
-/// let mut text: ArrayString<32> = ArrayString::new();
-/// push_number(&mut text, 4_096);
-/// assert!(rt; text.as_str() == "4096");
-/// ```
 pub fn push_number<const N: usize>(text: &mut ArrayString<N>, number: u64)
     requires room { array_string_len text.old + 20 ≤ N }
     ensures bytes { text.new.bytes ≡ text.old.bytes ++ decimal number }

@@ -21,15 +21,6 @@ const PAGE: u32 = 16;
 const PAGES: u32 = 1 << 27;
 
 /// The end of a listing (own).
-///
-/// # Examples
-///
-/// ```rust
-/// use drm_server::ListEnd;
-///
-/// let end = ListEnd::WriteFault;
-/// assert!(rt; end != ListEnd::Done);
-/// ```
 #[derive(Clone, Copy, Debug, PartialEq, Eq)]
 pub enum ListEnd {
     /// All rows are written.

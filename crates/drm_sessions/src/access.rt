@@ -70,24 +70,6 @@ pub trait Gate {
 }
 
 /// A gate that does nothing.
-///
-/// # Examples
-///
-/// ```rust
-/// use drm_device::{Device, Limits, Topology};
-/// use drm_frames::{FromRead, ToWrite};
-/// use drm_sessions::{Class, NoGate, SessionEnd, serve_alone};
-///
-/// let alloc = rt.alloc();
-/// let Some(topology) = Topology::new(2, &[1, 2], &[3, 2], &[5, 6]) else { return };
-/// let Ok(mut device) = Device::new(alloc, topology, Limits::PROGRAM) else { return };
-/// let hello = [14, 0, 0, 0, 0, 1, 1, 0, 0, 0, 0, 0, 0, 0, 0, 0, 0, 0];
-/// let mut source = FromRead::new(hello.as_slice());
-/// let mut sink = ToWrite::new(Vec::new(alloc));
-/// let card = Class::Card;
-/// let session = serve_alone(&mut device, &mut NoGate, card, &mut source, &mut sink, 1000);
-/// assert!(rt; session.end == SessionEnd::Ended);
-/// ```
 #[derive(Clone, Copy, Debug)]
 pub struct NoGate;
 

@@ -14,27 +14,6 @@ use drm_streams::{Sink, Source};
 use drm_table::{Answer, Apart, Event};
 
 /// A device that one session has alone: each call is a step.
-///
-/// # Examples
-///
-/// ```rust
-/// use drm_device::{Device, Limits, Topology};
-/// use drm_frames::{FromRead, ToWrite};
-/// use drm_sessions::{Alone, Class, Gate, NoGate, serve_lent};
-///
-/// let alloc = rt.alloc();
-/// let Some(topology) = Topology::new(2, &[1, 2], &[3, 2], &[5, 6]) else { return };
-/// let Ok(mut device) = Device::new(alloc, topology, Limits::PROGRAM) else { return };
-/// let mut gate = NoGate;
-/// gate.before(1);
-/// let hello = [14, 0, 0, 0, 0, 1, 1, 0, 0, 0, 0, 0, 0, 0, 0, 0, 0, 0];
-/// let mut sink = ToWrite::new(Vec::new(alloc));
-/// let card = Class::Card;
-/// let mut source = FromRead::new(hello.as_slice());
-/// let mut alone = Alone(&mut device);
-/// let session = serve_lent(&mut alone, &mut gate, card, &mut source, &mut sink, 1000);
-/// assert!(rt; session.steps == 2);
-/// ```
 #[derive(Drop)]
 pub struct Alone<'a>(pub &'a mut Device);
 
@@ -53,27 +32,6 @@ impl Access for Alone<'_> {
 }
 
 /// Serves one session whose results are steps of the lent access. In the rest it is as [`serve`](crate::serve).
-///
-/// # Examples
-///
-/// ```rust
-/// use drm_device::{Device, Limits, Topology};
-/// use drm_frames::{FromRead, ToWrite};
-/// use drm_sessions::{Alone, Class, Gate, NoGate, SessionEnd, serve_lent};
-///
-/// let alloc = rt.alloc();
-/// let Some(topology) = Topology::new(2, &[1, 2], &[3, 2], &[5, 6]) else { return };
-/// let Ok(mut device) = Device::new(alloc, topology, Limits::PROGRAM) else { return };
-/// let mut gate = NoGate;
-/// gate.before(1);
-/// let hello = [14, 0, 0, 0, 0, 1, 1, 0, 0, 0, 0, 0, 0, 0, 0, 0, 0, 0];
-/// let mut sink = ToWrite::new(Vec::new(alloc));
-/// let card = Class::Card;
-/// let mut source = FromRead::new(hello.as_slice());
-/// let mut alone = Alone(&mut device);
-/// let session = serve_lent(&mut alone, &mut gate, card, &mut source, &mut sink, 1000);
-/// assert!(rt; session.end == SessionEnd::Ended);
-/// ```
 pub fn serve_lent<G: Gate, S: Source, K: Sink>(
     alone: &mut Alone<'_>,
     gate: &mut G,
@@ -102,18 +60,15 @@ pub fn serve_lent<G: Gate, S: Source, K: Sink>(
 /// ```rust
 /// use drm_device::{Device, Limits, Topology};
 /// use drm_frames::{FromRead, ToWrite};
-/// use drm_sessions::{Class, Gate, NoGate, SessionEnd, serve_alone};
+/// use drm_sessions::{Class, NoGate, SessionEnd, serve_alone};
 ///
 /// let alloc = rt.alloc();
 /// let Some(topology) = Topology::new(2, &[1, 2], &[3, 2], &[5, 6]) else { return };
 /// let Ok(mut device) = Device::new(alloc, topology, Limits::PROGRAM) else { return };
-/// let mut gate = NoGate;
-/// gate.before(1);
 /// let hello = [14, 0, 0, 0, 0, 1, 1, 0, 0, 0, 0, 0, 0, 0, 0, 0, 0, 0];
-/// let mut sink = ToWrite::new(Vec::new(alloc));
-/// let card = Class::Card;
 /// let mut source = FromRead::new(hello.as_slice());
-/// let session = serve_alone(&mut device, &mut gate, card, &mut source, &mut sink, 1000);
+/// let mut sink = ToWrite::new(Vec::new(alloc));
+/// let session = serve_alone(&mut device, &mut NoGate, Class::Card, &mut source, &mut sink, 1000);
 /// assert!(rt; session.end == SessionEnd::Ended && session.steps == 2);
 /// ```
 pub fn serve_alone<G: Gate, S: Source, K: Sink>(

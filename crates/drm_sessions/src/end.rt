@@ -11,18 +11,15 @@ use std::fmt::{Display, Formatter};
 /// ```rust
 /// use drm_device::{Device, Limits, Topology};
 /// use drm_frames::{FromRead, ToWrite};
-/// use drm_sessions::{Class, Gate, NoGate, SessionEnd, serve_alone};
+/// use drm_sessions::{Class, NoGate, SessionEnd, serve_alone};
 ///
 /// let alloc = rt.alloc();
 /// let Some(topology) = Topology::new(2, &[1, 2], &[3, 2], &[5, 6]) else { return };
 /// let Ok(mut device) = Device::new(alloc, topology, Limits::PROGRAM) else { return };
-/// let mut gate = NoGate;
-/// gate.before(1);
 /// let hello = [14, 0, 0, 0, 0, 1, 1, 0, 0, 0, 0, 0, 0, 0, 0, 0, 0, 0];
-/// let mut sink = ToWrite::new(Vec::new(alloc));
-/// let card = Class::Card;
 /// let mut source = FromRead::new(&hello[..4]);
-/// let session = serve_alone(&mut device, &mut gate, card, &mut source, &mut sink, 1000);
+/// let mut sink = ToWrite::new(Vec::new(alloc));
+/// let session = serve_alone(&mut device, &mut NoGate, Class::Card, &mut source, &mut sink, 1000);
 /// assert!(rt; session.end == SessionEnd::Truncated);
 /// ```
 #[derive(Clone, Copy, Debug, PartialEq, Eq)]
@@ -82,18 +79,15 @@ impl Display for SessionEnd {
 /// ```rust
 /// use drm_device::{Device, Limits, Topology};
 /// use drm_frames::{FromRead, ToWrite};
-/// use drm_sessions::{Class, Gate, NoGate, Session, serve_alone};
+/// use drm_sessions::{Class, NoGate, Session, serve_alone};
 ///
 /// let alloc = rt.alloc();
 /// let Some(topology) = Topology::new(2, &[1, 2], &[3, 2], &[5, 6]) else { return };
 /// let Ok(mut device) = Device::new(alloc, topology, Limits::PROGRAM) else { return };
-/// let mut gate = NoGate;
-/// gate.before(1);
 /// let hello = [14, 0, 0, 0, 0, 1, 1, 0, 0, 0, 0, 0, 0, 0, 0, 0, 0, 0];
-/// let mut sink = ToWrite::new(Vec::new(alloc));
-/// let card = Class::Card;
 /// let mut source = FromRead::new(&hello[..4]);
-/// let session = serve_alone(&mut device, &mut gate, card, &mut source, &mut sink, 1000);
+/// let mut sink = ToWrite::new(Vec::new(alloc));
+/// let session = serve_alone(&mut device, &mut NoGate, Class::Card, &mut source, &mut sink, 1000);
 /// let Session { client, steps, .. } = session;
 /// assert!(rt; client == 0 && steps == 0);
 /// ```

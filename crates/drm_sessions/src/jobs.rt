@@ -14,24 +14,6 @@ use std::sync::Wait;
 use std::thread::{Promise, PromisedHandle, Scope, Threads};
 
 /// A session that is to be served.
-///
-/// # Examples
-///
-/// ```rust
-/// use drm_device::{Device, Limits, Topology};
-/// use drm_frames::{FromRead, ToWrite};
-/// use drm_sessions::{Class, Job, NoGate};
-/// use drm_turns::SharedDevice;
-///
-/// let alloc = rt.alloc();
-/// let hello = [14, 0, 0, 0, 0, 1, 1, 0, 0, 0, 0, 0, 0, 0, 0, 0, 0, 0];
-/// let card = Class::Card;
-/// let Some(topology) = Topology::new(2, &[1, 2], &[3, 2], &[5, 6]) else { return };
-/// let Ok(fresh) = Device::new(alloc, topology, Limits::PROGRAM) else { return };
-/// let Ok((shared, mut participant)) = SharedDevice::new(alloc, fresh) else { return };
-/// let (from, into) = (FromRead::new(hello.as_slice()), ToWrite::new(Vec::new(alloc)));
-/// let job = Job { gate: NoGate, class: card, source: from, sink: into, turns: 1000 };
-/// ```
 #[derive(Drop)]
 pub struct Job<G, S, K> {
     /// What is called before each of its requests.

@@ -173,22 +173,6 @@ fn serve_in_scope<
 /// On a fault the function waits for the threads that were started, and their steps remain. What the lent participant
 /// made itself is unchanged, and without a fault no more are out of it. If memory was refused, no job was started: no
 /// job's participant was taken in, and none is out. If a thread couldn't be started, one more is out.
-///
-/// # Examples
-///
-/// ```rust
-/// use drm_device::{Device, Limits, Topology};
-/// use drm_frames::{FromRead, ToWrite};
-/// use drm_sessions::{Job, NoGate, serve_many};
-/// use drm_turns::SharedDevice;
-///
-/// let alloc = rt.alloc();
-/// let Some(topology) = Topology::new(2, &[1, 2], &[3, 2], &[5, 6]) else { return };
-/// let Ok(fresh) = Device::new(alloc, topology, Limits::PROGRAM) else { return };
-/// let Ok((shared, mut participant)) = SharedDevice::new(alloc, fresh) else { return };
-/// let jobs: Vec<Job<NoGate, FromRead<&[u8]>, ToWrite<Vec<u8>>>> = Vec::new(alloc);
-/// assert!(rt; serve_many(&rt, alloc, &shared, &mut participant, jobs).is_ok());
-/// ```
 pub fn serve_many<
     R: Wait + Threads + Sync,
     G: Gate + Send + Drop,

@@ -173,19 +173,16 @@ fn run_session<A: Access, G: Gate, S: Source, K: Sink>(
 /// ```rust
 /// use drm_device::{Device, Limits, Topology};
 /// use drm_frames::{FromRead, ToWrite};
-/// use drm_sessions::{Alone, Class, Gate, NoGate, SessionEnd, serve};
+/// use drm_sessions::{Alone, Class, NoGate, SessionEnd, serve};
 ///
 /// let alloc = rt.alloc();
 /// let Some(topology) = Topology::new(2, &[1, 2], &[3, 2], &[5, 6]) else { return };
 /// let Ok(mut device) = Device::new(alloc, topology, Limits::PROGRAM) else { return };
-/// let mut gate = NoGate;
-/// gate.before(1);
 /// let hello = [14, 0, 0, 0, 0, 1, 1, 0, 0, 0, 0, 0, 0, 0, 0, 0, 0, 0];
-/// let mut sink = ToWrite::new(Vec::new(alloc));
-/// let card = Class::Card;
 /// let mut source = FromRead::new(hello.as_slice());
+/// let mut sink = ToWrite::new(Vec::new(alloc));
 /// let mut alone = Alone(&mut device);
-/// let session = serve(&mut alone, &mut gate, card, &mut source, &mut sink, 1000);
+/// let session = serve(&mut alone, &mut NoGate, Class::Card, &mut source, &mut sink, 1000);
 /// assert!(rt; session.end == SessionEnd::Ended);
 /// ```
 pub fn serve<A: Access, G: Gate, S: Source, K: Sink>(

@@ -54,23 +54,6 @@ impl<'a, R: Wait, W> Model for Through<'a, R, W> {
 
 impl<'a, R: Wait> Through<'a, R> {
     /// Returns the shared device, through this participant of it.
-    ///
-    /// # Examples
-    ///
-    /// ```rust
-    /// use drm_device::{Device, Limits, Topology};
-    /// use drm_sessions::{Access, Through};
-    /// use drm_table::{Answer, Event, Opening};
-    /// use drm_turns::SharedDevice;
-    ///
-    /// let alloc = rt.alloc();
-    /// let Some(topology) = Topology::new(2, &[1, 2], &[3, 2], &[5, 6]) else { return };
-    /// let Ok(device) = Device::new(alloc, topology, Limits::PROGRAM) else { return };
-    /// let Ok((shared, participant)) = SharedDevice::new(alloc, device) else { return };
-    /// let mut through = Through::new(&rt, &shared, participant);
-    /// let opened = through.call(Event::Open(Opening::Render));
-    /// assert!(rt; opened == Ok(Answer::Opened { client: 1 }));
-    /// ```
     pub fn new(rt: &'a R, shared: &'a SharedDevice, participant: Seat) -> Through<'a, R>
         requires own { participant.table ≡ shared.now }
         ensures participant { result ≡ participant }
@@ -81,23 +64,6 @@ impl<'a, R: Wait> Through<'a, R> {
 
 impl<'a, R: Wait, W: Witness + Drop> Through<'a, R, W> {
     /// Returns the shared device, through this participant of it. The witness receives each call.
-    ///
-    /// # Examples
-    ///
-    /// ```rust
-    /// use drm_device::{Device, Limits, Topology};
-    /// use drm_sessions::{Access, NoWitness, Through};
-    /// use drm_table::{Answer, Event, Opening};
-    /// use drm_turns::SharedDevice;
-    ///
-    /// let alloc = rt.alloc();
-    /// let Some(topology) = Topology::new(2, &[1, 2], &[3, 2], &[5, 6]) else { return };
-    /// let Ok(device) = Device::new(alloc, topology, Limits::PROGRAM) else { return };
-    /// let Ok((shared, participant)) = SharedDevice::new(alloc, device) else { return };
-    /// let mut through = Through::witnessed(&rt, &shared, participant, NoWitness);
-    /// let opened = through.call(Event::Open(Opening::Render));
-    /// assert!(rt; opened == Ok(Answer::Opened { client: 1 }));
-    /// ```
     pub fn witnessed(
         rt: &'a R,
         shared: &'a SharedDevice,
@@ -116,25 +82,6 @@ impl<'a, R: Wait, W: Witness + Drop> Through<'a, R, W> {
     }
 
     /// Returns the participant back.
-    ///
-    /// # Examples
-    ///
-    /// ```rust
-    /// use drm_device::{Device, Limits, Topology};
-    /// use drm_sessions::{Access, Through};
-    /// use drm_table::{Event, Opening};
-    /// use drm_turns::SharedDevice;
-    ///
-    /// let alloc = rt.alloc();
-    /// let Some(topology) = Topology::new(2, &[1, 2], &[3, 2], &[5, 6]) else { return };
-    /// let Ok(device) = Device::new(alloc, topology, Limits::PROGRAM) else { return };
-    /// let Ok((shared, participant)) = SharedDevice::new(alloc, device) else { return };
-    /// let mut through = Through::new(&rt, &shared, participant);
-    /// let opened = through.call(Event::Open(Opening::Render));
-    /// let participant = through.into_seat();
-    /// let Ok(device) = shared.close(participant) else { return };
-    /// assert!(rt; device.journal().len() == 1);
-    /// ```
     pub fn into_seat(self) -> Seat
         ensures participant { result ≡ self.entry }
     {
@@ -197,30 +144,6 @@ pub struct Served {
 /// Each call has a turn of the device, in the history that the participant then has seen. The participant's own entries
 /// are those that it had, and the recorded events of the session with their answers. In the rest it is as
 /// [`serve`](crate::serve).
-///
-/// # Examples
-///
-/// ```rust
-/// use drm_device::{Device, Limits, Topology};
-/// use drm_frames::{FromRead, ToWrite};
-/// use drm_sessions::{Class, NoGate, Served, SessionEnd, serve_through};
-/// use drm_turns::SharedDevice;
-///
-/// let alloc = rt.alloc();
-/// let hello = [14, 0, 0, 0, 0, 1, 1, 0, 0, 0, 0, 0, 0, 0, 0, 0, 0, 0];
-/// let mut sink = ToWrite::new(Vec::new(alloc));
-/// let card = Class::Card;
-/// let Some(topology) = Topology::new(2, &[1, 2], &[3, 2], &[5, 6]) else { return };
-/// let Ok(fresh) = Device::new(alloc, topology, Limits::PROGRAM) else { return };
-/// let Ok((shared, mut participant)) = SharedDevice::new(alloc, fresh) else { return };
-/// let mut source = FromRead::new(hello.as_slice());
-/// let mut gate = NoGate;
-/// let Served { session, participant } =
-///     serve_through(&rt, &shared, participant, &mut gate, card, &mut source, &mut sink, 1000);
-/// let mut source = FromRead::new(hello.as_slice());
-/// let served = serve_through(&rt, &shared, participant, &mut gate, card, &mut source, &mut sink, 1000);
-/// assert!(rt; served.session.end == SessionEnd::Ended);
-/// ```
 pub fn serve_through<R: Wait, G: Gate, S: Source, K: Sink>(
     rt: &R,
     shared: &SharedDevice,
@@ -255,27 +178,6 @@ pub fn serve_through<R: Wait, G: Gate, S: Source, K: Sink>(
 
 /// Serves one session as [`serve_through`] does. The witness receives each call of the session after its turn, in the
 /// order of the calls.
-///
-/// # Examples
-///
-/// ```rust
-/// use drm_device::{Device, Limits, Topology};
-/// use drm_frames::{FromRead, ToWrite};
-/// use drm_sessions::{Class, NoGate, NoWitness, SessionEnd, serve_witnessed};
-/// use drm_turns::SharedDevice;
-///
-/// let alloc = rt.alloc();
-/// let hello = [14, 0, 0, 0, 0, 1, 1, 0, 0, 0, 0, 0, 0, 0, 0, 0, 0, 0];
-/// let mut sink = ToWrite::new(Vec::new(alloc));
-/// let card = Class::Card;
-/// let Some(topology) = Topology::new(2, &[1, 2], &[3, 2], &[5, 6]) else { return };
-/// let Ok(fresh) = Device::new(alloc, topology, Limits::PROGRAM) else { return };
-/// let Ok((shared, mut participant)) = SharedDevice::new(alloc, fresh) else { return };
-/// let mut source = FromRead::new(hello.as_slice());
-/// let mut gate = NoGate;
-/// let served = serve_witnessed(&rt, &shared, participant, NoWitness, &mut gate, card, &mut source, &mut sink, 1000);
-/// assert!(rt; served.session.end == SessionEnd::Ended);
-/// ```
 pub fn serve_witnessed<R: Wait, W: Witness + Drop, G: Gate, S: Source, K: Sink>(
     rt: &R,
     shared: &SharedDevice,

@@ -25,15 +25,6 @@ pub trait Witness {
 }
 
 /// A witness that receives no call.
-///
-/// # Examples
-///
-/// ```rust
-/// use drm_sessions::{NoWitness, Witness};
-/// use drm_table::Event;
-///
-/// assert!(rt; NoWitness.shortage(&Event::Close(1)).is_none());
-/// ```
 #[derive(Clone, Copy, Debug)]
 pub struct NoWitness;
 

@@ -28,6 +28,7 @@ const NAME_KIND: u32 = 4;
 /// let mut names = Names::new(alloc, 100);
 /// let object = ObjectKey::from_number(4);
 /// let Ok(name) = names.give(object) else { return };
+/// assert!(rt; name == 1 && names.lookup(name) == Some(object));
 /// ```
 pub struct Names {
     objects: IdTable<ObjectKey>,
@@ -57,15 +58,6 @@ impl Model for Names {
 
 impl Names {
     /// Creates a table without names. It can allocate the names from 1 to `last`. Does not allocate memory.
-    ///
-    /// # Examples
-    ///
-    /// ```rust
-    /// use drm_share::Names;
-    ///
-    /// let alloc = rt.alloc();
-    /// assert!(rt; Names::new(alloc, 100).nth_name(0).is_none());
-    /// ```
     pub fn new(alloc: Global, last: u32) -> Names
         requires { 1 ≤ last }
         ensures { result ≡ empty_names last }
@@ -77,19 +69,6 @@ impl Names {
     }
 
     /// Returns the name of an object, if it has one. Does not allocate.
-    ///
-    /// # Examples
-    ///
-    /// ```rust
-    /// use drm_gem::ObjectKey;
-    /// use drm_share::Names;
-    ///
-    /// let alloc = rt.alloc();
-    /// let mut names = Names::new(alloc, 100);
-    /// let object = ObjectKey::from_number(4);
-    /// let Ok(name) = names.give(object) else { return };
-    /// assert!(rt; names.name_of(object) == Some(name));
-    /// ```
     pub fn name_of(&self, object: ObjectKey) -> Option<u32>
         ensures name { result ≡ name_of self.now object }
         ensures names { AreNames self.now }
@@ -103,19 +82,6 @@ impl Names {
     /// # Errors
     ///
     /// `Full` if no name is free, `NoMemory` if memory is refused. The names are then unchanged.
-    ///
-    /// # Examples
-    ///
-    /// ```rust
-    /// use drm_gem::ObjectKey;
-    /// use drm_share::Names;
-    ///
-    /// let alloc = rt.alloc();
-    /// let mut names = Names::new(alloc, 100);
-    /// let object = ObjectKey::from_number(4);
-    /// let Ok(name) = names.give(object) else { return };
-    /// assert!(rt; name == 1);
-    /// ```
     pub fn give(&mut self, object: ObjectKey) -> Result<u32, ShareFault>
         requires unnamed { name_of self.old object ≡ None }
         ensures given { IfOk result (λ name. free_name self.old ≡ Some name) }
@@ -138,19 +104,6 @@ impl Names {
     }
 
     /// Returns whether no name is free. Does not allocate.
-    ///
-    /// # Examples
-    ///
-    /// ```rust
-    /// use drm_gem::ObjectKey;
-    /// use drm_share::Names;
-    ///
-    /// let alloc = rt.alloc();
-    /// let mut names = Names::new(alloc, 100);
-    /// let object = ObjectKey::from_number(4);
-    /// let Ok(name) = names.give(object) else { return };
-    /// assert!(rt; !names.is_full());
-    /// ```
     pub fn is_full(&self) -> bool
         ensures { IsTrue result ↔ (free_name self.now ≡ None) }
     {
@@ -158,19 +111,6 @@ impl Names {
     }
 
     /// Returns the object that has a name, if there is one (drm-gem(7), opening by name). Does not allocate.
-    ///
-    /// # Examples
-    ///
-    /// ```rust
-    /// use drm_gem::ObjectKey;
-    /// use drm_share::Names;
-    ///
-    /// let alloc = rt.alloc();
-    /// let mut names = Names::new(alloc, 100);
-    /// let object = ObjectKey::from_number(4);
-    /// let Ok(name) = names.give(object) else { return };
-    /// assert!(rt; names.lookup(name) == Some(object));
-    /// ```
     pub fn lookup(&self, name: u32) -> Option<ObjectKey>
         ensures object { result ≡ option_map (λ row. row.object) (find (is_name name) self.now.names) }
         ensures names { AreNames self.now }
@@ -179,20 +119,6 @@ impl Names {
     }
 
     /// Removes the name of an object, if it has one. Does not allocate.
-    ///
-    /// # Examples
-    ///
-    /// ```rust
-    /// use drm_gem::ObjectKey;
-    /// use drm_share::Names;
-    ///
-    /// let alloc = rt.alloc();
-    /// let mut names = Names::new(alloc, 100);
-    /// let object = ObjectKey::from_number(4);
-    /// let Ok(name) = names.give(object) else { return };
-    /// names.forget(object);
-    /// assert!(rt; names.lookup(name).is_none());
-    /// ```
     pub fn forget(&mut self, object: ObjectKey)
         ensures { self.new ≡ without_name_of self.old object }
     {
@@ -203,20 +129,6 @@ impl Names {
 
     /// Returns the row at a position, from 0, of the rows of an audit's kind (own). Names are kind 4, in rising order.
     /// No other kind has rows here. Does not allocate.
-    ///
-    /// # Examples
-    ///
-    /// ```rust
-    /// use drm_gem::ObjectKey;
-    /// use drm_share::Names;
-    ///
-    /// let alloc = rt.alloc();
-    /// let mut names = Names::new(alloc, 100);
-    /// let object = ObjectKey::from_number(4);
-    /// let Ok(name) = names.give(object) else { return };
-    /// names.forget(object);
-    /// assert!(rt; names.nth(4, 0) == names.nth_name(0) && names.nth(1, 0).is_none());
-    /// ```
     pub fn nth(&self, kind: u32, i: usize) -> Option<SharedName>
         ensures { result ≡ nth_row self.now kind i }
     {
@@ -227,20 +139,6 @@ impl Names {
     }
 
     /// Returns the name at a position of the list of names, from 0, with its object. Does not allocate.
-    ///
-    /// # Examples
-    ///
-    /// ```rust
-    /// use drm_gem::ObjectKey;
-    /// use drm_share::Names;
-    ///
-    /// let alloc = rt.alloc();
-    /// let mut names = Names::new(alloc, 100);
-    /// let object = ObjectKey::from_number(4);
-    /// let Ok(name) = names.give(object) else { return };
-    /// names.forget(object);
-    /// assert!(rt; names.nth_name(0).is_none());
-    /// ```
     pub fn nth_name(&self, position: usize) -> Option<SharedName>
         ensures row { result ≡ slice_get self.now.names position }
         ensures names { AreNames self.now }

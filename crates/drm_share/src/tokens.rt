@@ -35,6 +35,8 @@ pub(crate) struct Export {
 /// let mut tokens = Tokens::new(alloc, 100);
 /// let object = ObjectKey::from_number(4);
 /// let Ok(token) = tokens.export(9, object) else { return };
+/// assert!(rt; tokens.close(8, token).is_none());
+/// assert!(rt; tokens.close(9, token) == Some(object));
 /// ```
 pub struct Tokens {
     exports: IdTable<Export>,
@@ -64,15 +66,6 @@ impl Model for Tokens {
 
 impl Tokens {
     /// Creates a table without tokens. It can allocate the tokens from 1 to `last`. Does not allocate memory.
-    ///
-    /// # Examples
-    ///
-    /// ```rust
-    /// use drm_share::Tokens;
-    ///
-    /// let alloc = rt.alloc();
-    /// assert!(rt; Tokens::new(alloc, 100).last_given().is_none());
-    /// ```
     pub fn new(alloc: Global, last: u32) -> Tokens
         requires { 1 ≤ last }
         ensures { result ≡ empty_tokens last }
@@ -91,20 +84,6 @@ impl Tokens {
     /// # Errors
     ///
     /// `Full` if no token is free, `NoMemory` if memory is refused. The tokens are then unchanged.
-    ///
-    /// # Examples
-    ///
-    /// ```rust
-    /// use drm_gem::ObjectKey;
-    /// use drm_share::Tokens;
-    ///
-    /// let alloc = rt.alloc();
-    /// let mut tokens = Tokens::new(alloc, 100);
-    /// let object = ObjectKey::from_number(4);
-    /// let Ok(token) = tokens.export(9, object) else { return };
-    /// let Ok(other) = tokens.export(9, object) else { return };
-    /// assert!(rt; other != token);
-    /// ```
     pub fn export(&mut self, client: u32, object: ObjectKey) -> Result<u32, ShareFault>
         ensures given { IfOk result (λ given. next_token self.old ≡ Some given) }
         ensures low { IfOk result (λ given. 1 ≤ given) }
@@ -127,20 +106,6 @@ impl Tokens {
     }
 
     /// Returns whether no token is free. Does not allocate.
-    ///
-    /// # Examples
-    ///
-    /// ```rust
-    /// use drm_gem::ObjectKey;
-    /// use drm_share::Tokens;
-    ///
-    /// let alloc = rt.alloc();
-    /// let mut tokens = Tokens::new(alloc, 100);
-    /// let object = ObjectKey::from_number(4);
-    /// let Ok(token) = tokens.export(9, object) else { return };
-    /// let Ok(other) = tokens.export(9, object) else { return };
-    /// assert!(rt; !tokens.is_full());
-    /// ```
     pub fn is_full(&self) -> bool
         ensures { IsTrue result ↔ (next_token self.now ≡ None) }
     {
@@ -148,20 +113,6 @@ impl Tokens {
     }
 
     /// Returns the object of a token, if the token is open. Does not allocate.
-    ///
-    /// # Examples
-    ///
-    /// ```rust
-    /// use drm_gem::ObjectKey;
-    /// use drm_share::Tokens;
-    ///
-    /// let alloc = rt.alloc();
-    /// let mut tokens = Tokens::new(alloc, 100);
-    /// let object = ObjectKey::from_number(4);
-    /// let Ok(token) = tokens.export(9, object) else { return };
-    /// let Ok(other) = tokens.export(9, object) else { return };
-    /// assert!(rt; tokens.lookup(token) == Some(object));
-    /// ```
     pub fn lookup(&self, token: u32) -> Option<ObjectKey>
         ensures object { result ≡ option_map (λ row. row.object) (find (is_token token) self.now.tokens) }
         ensures tokens { AreTokens self.now }
@@ -173,21 +124,6 @@ impl Tokens {
     /// Closes an open token of a client, and returns its object (own). Does not allocate.
     ///
     /// If the token is not open, or another client exported it, it returns `None`, and nothing changes.
-    ///
-    /// # Examples
-    ///
-    /// ```rust
-    /// use drm_gem::ObjectKey;
-    /// use drm_share::Tokens;
-    ///
-    /// let alloc = rt.alloc();
-    /// let mut tokens = Tokens::new(alloc, 100);
-    /// let object = ObjectKey::from_number(4);
-    /// let Ok(token) = tokens.export(9, object) else { return };
-    /// let Ok(other) = tokens.export(9, object) else { return };
-    /// assert!(rt; tokens.close(8, token).is_none());
-    /// assert!(rt; tokens.close(9, token) == Some(object));
-    /// ```
     pub fn close(&mut self, client: u32, token: u32) -> Option<ObjectKey>
         ensures object { result ≡ option_map (λ row. row.object) (find (is_token_of client token) self.old.tokens) }
         ensures closed { OnSome result (self.new ≡ without_token self.old token) }
@@ -205,22 +141,6 @@ impl Tokens {
 
     /// Closes the lowest open token of a client, and returns it with its object. Returns `None` if the client has no
     /// open token. Does not allocate, and skips no token of another client.
-    ///
-    /// # Examples
-    ///
-    /// ```rust
-    /// use drm_gem::ObjectKey;
-    /// use drm_share::Tokens;
-    ///
-    /// let alloc = rt.alloc();
-    /// let mut tokens = Tokens::new(alloc, 100);
-    /// let object = ObjectKey::from_number(4);
-    /// let Ok(token) = tokens.export(9, object) else { return };
-    /// let Ok(other) = tokens.export(9, object) else { return };
-    /// assert!(rt; tokens.close(8, token).is_none());
-    /// assert!(rt; tokens.close(9, token) == Some(object));
-    /// assert!(rt; tokens.take_first_of(9) == Some((other, object)));
-    /// ```
     pub fn take_first_of(&mut self, client: u32) -> Option<(u32, ObjectKey)>
         ensures first { result ≡ option_map (λ row. (row.token, row.object)) (find (is_exported_by client) self.old.tokens) }
         ensures closed { IfSome result (λ taken. self.new ≡ without_token self.old taken.0) }
@@ -236,23 +156,6 @@ impl Tokens {
     }
 
     /// Returns the token that was allocated last, or `None` before the first. Closing it changes nothing here.
-    ///
-    /// # Examples
-    ///
-    /// ```rust
-    /// use drm_gem::ObjectKey;
-    /// use drm_share::Tokens;
-    ///
-    /// let alloc = rt.alloc();
-    /// let mut tokens = Tokens::new(alloc, 100);
-    /// let object = ObjectKey::from_number(4);
-    /// let Ok(token) = tokens.export(9, object) else { return };
-    /// let Ok(other) = tokens.export(9, object) else { return };
-    /// assert!(rt; tokens.close(8, token).is_none());
-    /// assert!(rt; tokens.close(9, token) == Some(object));
-    /// assert!(rt; tokens.take_first_of(9) == Some((other, object)));
-    /// assert!(rt; tokens.last_given() == Some(other));
-    /// ```
     pub fn last_given(&self) -> Option<u32>
         ensures last_given { result ≡ self.now.last_given }
         ensures tokens { AreTokens self.now }
@@ -262,23 +165,6 @@ impl Tokens {
 
     /// Returns the row at a position, from 0, of the rows of an audit's kind (own). Tokens are kind 5, in rising order.
     /// No other kind has rows here. Does not allocate.
-    ///
-    /// # Examples
-    ///
-    /// ```rust
-    /// use drm_gem::ObjectKey;
-    /// use drm_share::Tokens;
-    ///
-    /// let alloc = rt.alloc();
-    /// let mut tokens = Tokens::new(alloc, 100);
-    /// let object = ObjectKey::from_number(4);
-    /// let Ok(token) = tokens.export(9, object) else { return };
-    /// let Ok(other) = tokens.export(9, object) else { return };
-    /// assert!(rt; tokens.close(8, token).is_none());
-    /// assert!(rt; tokens.close(9, token) == Some(object));
-    /// assert!(rt; tokens.take_first_of(9) == Some((other, object)));
-    /// assert!(rt; tokens.nth(5, 0) == tokens.nth_token(0) && tokens.nth(1, 0).is_none());
-    /// ```
     pub fn nth(&self, kind: u32, i: usize) -> Option<SharedToken>
         ensures { result ≡ nth_row self.now kind i }
     {
@@ -289,23 +175,6 @@ impl Tokens {
     }
 
     /// Returns the token at a position of the list of open tokens, from 0. Does not allocate.
-    ///
-    /// # Examples
-    ///
-    /// ```rust
-    /// use drm_gem::ObjectKey;
-    /// use drm_share::Tokens;
-    ///
-    /// let alloc = rt.alloc();
-    /// let mut tokens = Tokens::new(alloc, 100);
-    /// let object = ObjectKey::from_number(4);
-    /// let Ok(token) = tokens.export(9, object) else { return };
-    /// let Ok(other) = tokens.export(9, object) else { return };
-    /// assert!(rt; tokens.close(8, token).is_none());
-    /// assert!(rt; tokens.close(9, token) == Some(object));
-    /// assert!(rt; tokens.take_first_of(9) == Some((other, object)));
-    /// assert!(rt; tokens.nth_token(0).is_none());
-    /// ```
     pub fn nth_token(&self, position: usize) -> Option<SharedToken>
         ensures row { result ≡ slice_get self.now.tokens position }
         ensures tokens { AreTokens self.now }

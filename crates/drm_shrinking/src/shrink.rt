@@ -23,6 +23,7 @@ use std::alloc::{AllocError, Global};
 /// let text = b"open a card\nopen b card\na get_magic\n";
 /// let Ok(shrunk) = shrink_script(alloc, &Setup::usual(), text, 3, 1000) else { return };
 /// assert!(rt; shrunk.lines == 2 && shrunk.is_minimal);
+/// assert!(rt; shrunk.text.as_slice() == b"open a card -> client 1\na get_magic -> number 1\n".as_slice());
 /// ```
 #[derive(Drop)]
 pub struct Shrunk {
@@ -92,18 +93,6 @@ fn needs_each(
 /// - `NoAnswer` if the line is empty, a comment, or sets limits.
 /// - `Malformed` if a line up to this one can't be used, with its number and the cause.
 /// - `NoMemory` if memory is refused.
-///
-/// # Examples
-///
-/// ```rust
-/// use drm_runs::Setup;
-/// use drm_shrinking::shrink_script;
-///
-/// let alloc = rt.alloc();
-/// let text = b"open a card\nopen b card\na get_magic\n";
-/// let Ok(shrunk) = shrink_script(alloc, &Setup::usual(), text, 3, 1000) else { return };
-/// assert!(rt; shrunk.text.as_slice() == b"open a card -> client 1\na get_magic -> number 1\n".as_slice());
-/// ```
 pub fn shrink_script(
     alloc: Global,
     setup: &Setup,

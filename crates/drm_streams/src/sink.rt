@@ -60,16 +60,6 @@ pub trait Sink {
 }
 
 /// A sink that writes to a writer.
-///
-/// # Examples
-///
-/// ```rust
-/// use drm_streams::{Sink, ToWrite};
-///
-/// let mut sink = ToWrite::new(Vec::new(rt.alloc()));
-/// sink.put(b"frame");
-/// assert!(rt; sink.into_inner().as_slice() == b"frame".as_slice());
-/// ```
 #[derive(Drop)]
 pub struct ToWrite<W: Write> {
     writer: W,
@@ -98,15 +88,6 @@ impl<W: Write> Model for ToWrite<W> {
 
 impl<W: Write> ToWrite<W> {
     /// Creates a sink that appends to the writer, with no call counted.
-    ///
-    /// # Examples
-    ///
-    /// ```rust
-    /// use drm_streams::{Sink, Source, ToWrite};
-    ///
-    /// let sink = ToWrite::new(Vec::new(rt.alloc()));
-    /// assert!(rt; sink.calls() == 0);
-    /// ```
     pub fn new(writer: W) -> Self
         ensures written { result.written ≡ W.contents writer }
         ensures counts { result.counts ≡ no_calls }
@@ -121,17 +102,6 @@ impl<W: Write> ToWrite<W> {
     }
 
     /// Returns the writer, with what it holds.
-    ///
-    /// # Examples
-    ///
-    /// ```rust
-    /// use drm_streams::{Sink, ToWrite};
-    ///
-    /// let mut sink = ToWrite::new(Vec::new(rt.alloc()));
-    /// sink.put(b"frame");
-    /// let written = sink.into_inner();
-    /// assert!(rt; written.as_slice() == b"frame".as_slice());
-    /// ```
     pub fn into_inner(self) -> W
         ensures { W.contents result ≡ self.written }
     {

@@ -69,15 +69,6 @@ pub trait Source {
 }
 
 /// A source that reads from a reader.
-///
-/// # Examples
-///
-/// ```rust
-/// use drm_streams::FromRead;
-///
-/// let source = FromRead::new(b"frame".as_slice());
-/// assert!(rt; source.into_inner() == b"frame".as_slice());
-/// ```
 #[derive(Drop)]
 pub struct FromRead<R: Read> {
     reader: R,
@@ -107,15 +98,6 @@ impl<R: Read> Model for FromRead<R> {
 
 impl<R: Read> FromRead<R> {
     /// Creates a source of the bytes that the reader has left, with no call counted.
-    ///
-    /// # Examples
-    ///
-    /// ```rust
-    /// use drm_streams::{FromRead, Sink, Source};
-    ///
-    /// let source = FromRead::new(b"frame".as_slice());
-    /// assert!(rt; source.calls() == 0);
-    /// ```
     pub fn new(reader: R) -> Self
         ensures left { result.left ≡ R.remaining reader }
         ensures counts { result.counts ≡ no_calls }
@@ -131,17 +113,6 @@ impl<R: Read> FromRead<R> {
     }
 
     /// Returns the reader, with the bytes that it has left.
-    ///
-    /// # Examples
-    ///
-    /// ```rust
-    /// use drm_streams::{FromRead, Source};
-    ///
-    /// let mut source = FromRead::new(b"frame".as_slice());
-    /// let mut buffer = [0; 3];
-    /// source.take(&mut buffer);
-    /// assert!(rt; source.into_inner() == b"me".as_slice());
-    /// ```
     pub fn into_inner(self) -> R
         ensures { R.remaining result ≡ self.left }
     {

@@ -41,16 +41,6 @@ pub enum Refill {
 }
 
 /// The result of [`put_all`] or [`put_each`](crate::put_each).
-///
-/// # Examples
-///
-/// ```rust
-/// use drm_streams::{ToWrite, Written, put_all};
-///
-/// let mut sink = ToWrite::new(Vec::new(rt.alloc()));
-/// let mut turns = 0;
-/// assert!(rt; put_all(&mut sink, b"frame", &mut turns) == Written::TurnsUsed);
-/// ```
 #[derive(Clone, Copy, Debug, PartialEq, Eq)]
 pub enum Written {
     /// The sink took every byte.

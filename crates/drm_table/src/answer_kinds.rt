@@ -12,14 +12,6 @@ use crate::lists::ShownList;
 use crate::rules::Rule;
 
 /// A row of the table of answers: an answer whose number of fields is fixed (own).
-///
-/// # Examples
-///
-/// ```rust
-/// use drm_table::AnswerKind;
-///
-/// assert!(rt; AnswerKind::Done.word() == "done");
-/// ```
 #[derive(Clone, Copy, PartialEq, Eq, Debug)]
 pub enum AnswerKind {
     Done,
@@ -126,14 +118,6 @@ impl AnswerKind {
     }
 
     /// Returns the number of the answer's frame, 0x1000 to 0x100C (own).
-    ///
-    /// # Examples
-    ///
-    /// ```rust
-    /// use drm_table::AnswerKind;
-    ///
-    /// assert!(rt; AnswerKind::Dumb.number() == 0x1004);
-    /// ```
     pub fn number(self) -> u16
         ensures { result ≡ answer_number self }
     {
@@ -141,14 +125,6 @@ impl AnswerKind {
     }
 
     /// Returns the first word of the answer's line, 16 bytes at most (own).
-    ///
-    /// # Examples
-    ///
-    /// ```rust
-    /// use drm_table::AnswerKind;
-    ///
-    /// assert!(rt; AnswerKind::Opened.word() == "client");
-    /// ```
     pub fn word(self) -> &'static str
         ensures word { result.now ≡ answer_word self }
         ensures short { length result.now ≤ 16 }
@@ -157,14 +133,6 @@ impl AnswerKind {
     }
 
     /// Returns the widths of the fields, 5 at most (own).
-    ///
-    /// # Examples
-    ///
-    /// ```rust
-    /// use drm_table::{AnswerKind, Width};
-    ///
-    /// assert!(rt; AnswerKind::Buffer.widths() == [Width::U32, Width::U64].as_slice());
-    /// ```
     pub fn widths(self) -> &'static [Width]
         ensures widths { result.now ≡ answer_widths self }
         ensures few { length result.now ≤ 5 }
@@ -173,15 +141,6 @@ impl AnswerKind {
     }
 
     /// Returns the kind with this number, or `None` if no row has it.
-    ///
-    /// # Examples
-    ///
-    /// ```rust
-    /// use drm_table::AnswerKind;
-    ///
-    /// assert!(rt; AnswerKind::of_number(0x1003) == Some(AnswerKind::Number));
-    /// assert!(rt; AnswerKind::of_number(3).is_none());
-    /// ```
     #[tactic(auto, unfolding(crate::specs::Answers::answer_kind_of))]
     pub fn of_number(number: u16) -> Option<AnswerKind>
         ensures { result ≡ answer_kind_of number }
@@ -242,15 +201,6 @@ impl AnswerKind {
 
     /// Returns the answer of this kind with these fields.
     /// Returns `None` if number or widths of the fields differ from those of the kind.
-    ///
-    /// # Examples
-    ///
-    /// ```rust
-    /// use drm_table::{Answer, AnswerKind, Field};
-    ///
-    /// assert!(rt; AnswerKind::Number.answer(&[Field::U64(7)]) == Some(Answer::Number { value: 7 }));
-    /// assert!(rt; AnswerKind::Number.answer(&[Field::U32(7)]).is_none());
-    /// ```
     #[tactic(auto, unfolding(crate::specs::Answers::answer_with))]
     pub fn answer(self, fields: &[Field]) -> Option<Answer>
         ensures { result ≡ answer_with self fields.now }
@@ -313,16 +263,6 @@ impl Answer {
     }
 
     /// Returns the content of the answer, with its fields in order.
-    ///
-    /// # Examples
-    ///
-    /// ```rust
-    /// use drm_table::{Answer, AnswerKind, Field, Told};
-    ///
-    /// let answer = Answer::Opened { client: 3 };
-    /// let Told::Fields(kind, fields) = answer.told() else { return };
-    /// assert!(rt; kind == AnswerKind::Opened && fields.as_slice() == [Field::U32(3)].as_slice());
-    /// ```
     #[tactic(auto, unfolding(crate::specs::Answers::told))]
     pub fn told(&self) -> Told<'_>
         ensures { told_of result ≡ told self.now }

@@ -92,16 +92,6 @@ impl Answer {
     ghost use Rattle.drm_table.specs.declared.answers.Answer.TheVariants as answers;
 
     /// Replaces the answer by [`Answer::Done`]. Does not allocate.
-    ///
-    /// # Examples
-    ///
-    /// ```rust
-    /// use drm_table::Answer;
-    ///
-    /// let mut answer = Answer::Closed;
-    /// answer.set_done();
-    /// assert!(rt; answer == Answer::Done);
-    /// ```
     pub fn set_done(&mut self)
         ensures done { self.new ≡ answers.Done }
     {
@@ -111,16 +101,6 @@ impl Answer {
     }
 
     /// Replaces the answer by [`Answer::Number`] with this value. Does not allocate.
-    ///
-    /// # Examples
-    ///
-    /// ```rust
-    /// use drm_table::Answer;
-    ///
-    /// let mut answer = Answer::Closed;
-    /// answer.set_number(7);
-    /// assert!(rt; answer == Answer::Number { value: 7 });
-    /// ```
     pub fn set_number(&mut self, value: u64)
         ensures number { self.new ≡ answers.Number value }
     {
@@ -131,16 +111,6 @@ impl Answer {
     }
 
     /// Replaces the answer by [`Answer::Version`] with these numbers. Does not allocate.
-    ///
-    /// # Examples
-    ///
-    /// ```rust
-    /// use drm_table::Answer;
-    ///
-    /// let mut answer = Answer::Closed;
-    /// answer.set_version(1, 2, 3);
-    /// assert!(rt; answer == Answer::Version { major: 1, minor: 2, patch: 3 });
-    /// ```
     pub fn set_version(&mut self, major: u32, minor: u32, patch: u32)
         ensures version { self.new ≡ answers.Version major minor patch }
     {
@@ -165,16 +135,6 @@ impl Answer {
     }
 
     /// Replaces the answer by [`Answer::Buffer`] with this handle and this size in bytes. Does not allocate.
-    ///
-    /// # Examples
-    ///
-    /// ```rust
-    /// use drm_table::Answer;
-    ///
-    /// let mut answer = Answer::Closed;
-    /// answer.set_buffer(3, 4096);
-    /// assert!(rt; answer == Answer::Buffer { handle: 3, size: 4096 });
-    /// ```
     pub fn set_buffer(&mut self, handle: u32, size: u64)
         ensures buffer { self.new ≡ answers.Buffer handle size }
     {
@@ -191,18 +151,6 @@ impl Answer {
     }
 
     /// Replaces the answer by [`Answer::List`] with these ids. Does not allocate.
-    ///
-    /// # Examples
-    ///
-    /// ```rust
-    /// use drm_table::{Answer, ShownList};
-    ///
-    /// let mut list = ShownList::new();
-    /// list.push(3);
-    /// let mut answer = Answer::Closed;
-    /// answer.set_list(list);
-    /// assert!(rt; matches!(answer, Answer::List { list } if list.ids() == [3].as_slice()));
-    /// ```
     pub fn set_list(&mut self, list: ShownList)
         ensures list { self.new ≡ answers.List list }
     {
@@ -213,18 +161,6 @@ impl Answer {
     }
 
     /// Replaces the answer by [`Answer::Audit`] with this page. Does not allocate.
-    ///
-    /// # Examples
-    ///
-    /// ```rust
-    /// use drm_table::{Answer, AuditPage, AuditRow};
-    ///
-    /// let mut page = AuditPage::new();
-    /// page.push(AuditRow { a: 1, b: 2, c: 3, d: 4 });
-    /// let mut answer = Answer::Closed;
-    /// answer.set_audit(page);
-    /// assert!(rt; matches!(answer, Answer::Audit { page } if page.rows().len() == 1));
-    /// ```
     pub fn set_audit(&mut self, page: AuditPage)
         ensures audit { self.new ≡ answers.Audit page }
     {
@@ -235,18 +171,6 @@ impl Answer {
     }
 
     /// Replaces the answer by [`Answer::Resources`] with these ids. Does not allocate.
-    ///
-    /// # Examples
-    ///
-    /// ```rust
-    /// use drm_table::{Answer, ShownList};
-    ///
-    /// let mut crtcs = ShownList::new();
-    /// crtcs.push(1);
-    /// let mut answer = Answer::Closed;
-    /// answer.set_resources(crtcs, ShownList::new(), ShownList::new(), ShownList::new());
-    /// assert!(rt; matches!(answer, Answer::Resources { crtcs, .. } if crtcs.ids() == [1].as_slice()));
-    /// ```
     pub fn set_resources(
         &mut self,
         crtcs: ShownList,
@@ -280,16 +204,6 @@ impl Answer {
     }
 
     /// Replaces the answer by [`Answer::Denied`] with this rule. Does not allocate.
-    ///
-    /// # Examples
-    ///
-    /// ```rust
-    /// use drm_table::{Answer, Rule};
-    ///
-    /// let mut answer = Answer::Closed;
-    /// answer.set_denied(Rule::Full);
-    /// assert!(rt; answer == Answer::Denied(Rule::Full));
-    /// ```
     pub fn set_denied(&mut self, rule: Rule)
         ensures denied { self.new ≡ answers.Denied rule }
     {

@@ -45,14 +45,6 @@ impl Apart {
     }
 
     /// Returns the number that answers show, 50 to 52 (own).
-    ///
-    /// # Examples
-    ///
-    /// ```rust
-    /// use drm_table::Apart;
-    ///
-    /// assert!(rt; Apart::NoMemory.number() == 51);
-    /// ```
     pub fn number(self) -> u32
         ensures { result ≡ apart_number self }
     {
@@ -60,14 +52,6 @@ impl Apart {
     }
 
     /// Returns the errno: ENOSPC, ENOMEM or ENOSPC.
-    ///
-    /// # Examples
-    ///
-    /// ```rust
-    /// use drm_table::Apart;
-    ///
-    /// assert!(rt; Apart::JournalFull.errno() == 28);
-    /// ```
     pub fn errno(self) -> u32
         ensures { result ≡ apart_errno self }
     {
@@ -75,14 +59,6 @@ impl Apart {
     }
 
     /// Returns the name that scripts show (own).
-    ///
-    /// # Examples
-    ///
-    /// ```rust
-    /// use drm_table::Apart;
-    ///
-    /// assert!(rt; Apart::JournalFull.name() == "JournalFull");
-    /// ```
     pub fn name(self) -> &'static str
         ensures { result.now ≡ apart_name self }
     {
@@ -90,16 +66,6 @@ impl Apart {
     }
 
     /// Replaces an outcome by this fault. A caller that seldom does so then needs no place for the new outcome.
-    ///
-    /// # Examples
-    ///
-    /// ```rust
-    /// use drm_table::{Answer, Apart};
-    ///
-    /// let mut outcome = Ok(Answer::Done);
-    /// Apart::NoMemory.replace(&mut outcome);
-    /// assert!(rt; outcome == Err(Apart::NoMemory));
-    /// ```
     pub fn replace(self, outcome: &mut Result<Answer, Apart>)
         ensures replaced { outcome.new ≡ Err self }
     {
@@ -107,15 +73,6 @@ impl Apart {
     }
 
     /// Returns the fault with this number, or `None` if no fault has it.
-    ///
-    /// # Examples
-    ///
-    /// ```rust
-    /// use drm_table::Apart;
-    ///
-    /// assert!(rt; Apart::of_number(52) == Some(Apart::Worn));
-    /// assert!(rt; Apart::of_number(43).is_none());
-    /// ```
     #[tactic(auto, unfolding(crate::specs::Rules::apart_of_number))]
     pub fn of_number(number: u32) -> Option<Apart>
         ensures { result ≡ apart_of_number number }

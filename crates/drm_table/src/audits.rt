@@ -57,14 +57,6 @@ impl AuditKind {
     ];
 
     /// Returns the number of the kind, 1 to 10 (own).
-    ///
-    /// # Examples
-    ///
-    /// ```rust
-    /// use drm_table::AuditKind;
-    ///
-    /// assert!(rt; AuditKind::Client.number() == 1);
-    /// ```
     #[tactic(auto, unfolding(crate::specs::Audits::kind_number))]
     pub fn number(self) -> u32
         ensures number { result ≡ kind_number self }
@@ -86,15 +78,6 @@ impl AuditKind {
     }
 
     /// Returns the kind with this number, or `None` if the number is not 1 to 10.
-    ///
-    /// # Examples
-    ///
-    /// ```rust
-    /// use drm_table::AuditKind;
-    ///
-    /// assert!(rt; AuditKind::of_number(10) == Some(AuditKind::Device));
-    /// assert!(rt; AuditKind::of_number(0).is_none());
-    /// ```
     #[tactic(auto, unfolding(crate::specs::Audits::kind_of, crate::specs::Audits::kind_number))]
     pub fn of_number(number: u32) -> Option<AuditKind>
         ensures { result ≡ kind_of number }
@@ -115,14 +98,6 @@ impl AuditKind {
     }
 
     /// Returns the name that a listing shows (own).
-    ///
-    /// # Examples
-    ///
-    /// ```rust
-    /// use drm_table::AuditKind;
-    ///
-    /// assert!(rt; AuditKind::Shown.name() == "shown");
-    /// ```
     #[tactic(auto, unfolding(crate::specs::Audits::kind_name))]
     pub fn name(self) -> &'static str
         ensures { result.now ≡ kind_name self }
@@ -143,15 +118,6 @@ impl AuditKind {
 }
 
 /// A row of an audit (own). [`AuditKind`] lists the numbers of each kind in order. 0 means none.
-///
-/// # Examples
-///
-/// ```rust
-/// use drm_table::AuditRow;
-///
-/// let shown = AuditRow { a: 2, b: 4096, c: 1, d: 0 };
-/// assert!(rt; shown.b == 4096);
-/// ```
 #[derive(Clone, Copy, PartialEq, Eq, Debug, Default)]
 pub struct AuditRow {
     /// The first number.
@@ -169,10 +135,11 @@ pub struct AuditRow {
 /// # Examples
 ///
 /// ```rust
-/// use drm_table::AuditPage;
+/// use drm_table::{AuditPage, AuditRow};
 ///
-/// let page = AuditPage::new();
-/// assert!(rt; page.rows().is_empty());
+/// let mut page = AuditPage::new();
+/// page.push(AuditRow { a: 1, b: 2, c: 0, d: 0 });
+/// assert!(rt; page.rows().len() == 1);
 /// ```
 #[derive(PartialEq, Eq, Debug, Drop)]
 pub struct AuditPage {
@@ -192,14 +159,6 @@ impl Model for AuditPage {
 
 impl AuditPage {
     /// Creates a page without rows.
-    ///
-    /// # Examples
-    ///
-    /// ```rust
-    /// use drm_table::AuditPage;
-    ///
-    /// assert!(rt; AuditPage::new().rows().is_empty());
-    /// ```
     pub fn new() -> AuditPage
         ensures { result ≡ [] }
     {
@@ -209,16 +168,6 @@ impl AuditPage {
     }
 
     /// Appends a row. The page must have fewer than 16 rows.
-    ///
-    /// # Examples
-    ///
-    /// ```rust
-    /// use drm_table::{AuditPage, AuditRow};
-    ///
-    /// let mut page = AuditPage::new();
-    /// page.push(AuditRow { a: 1, b: 2, c: 0, d: 0 });
-    /// assert!(rt; page.rows().len() == 1);
-    /// ```
     pub fn push(&mut self, row: AuditRow)
         requires { length self.old < 16 }
         ensures { self.new ≡ self.old ++ row ∷ [] }
@@ -227,16 +176,6 @@ impl AuditPage {
     }
 
     /// Returns the rows in order, 16 at most.
-    ///
-    /// # Examples
-    ///
-    /// ```rust
-    /// use drm_table::{AuditPage, AuditRow};
-    ///
-    /// let mut page = AuditPage::new();
-    /// page.push(AuditRow { a: 1, b: 2, c: 0, d: 0 });
-    /// assert!(rt; page.rows() == [AuditRow { a: 1, b: 2, c: 0, d: 0 }].as_slice());
-    /// ```
     pub fn rows(&self) -> &[AuditRow]
         ensures rows { result.now ≡ self.now }
         ensures within { length self.now ≤ 16 }

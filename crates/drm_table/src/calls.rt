@@ -183,9 +183,11 @@ pub enum Call {
 /// # Examples
 ///
 /// ```rust
-/// use drm_table::CallKind;
+/// use drm_table::{Call, CallKind, Field};
 ///
-/// assert!(rt; CallKind::GemClose.number() == 0x09);
+/// let call = CallKind::GemClose.call(&[Field::U32(1)]);
+/// assert!(rt; call == Some(Call::GemClose { handle: 1 }));
+/// assert!(rt; CallKind::GemClose.call(&[]).is_none());
 /// ```
 #[derive(Clone, Copy, PartialEq, Eq, Debug)]
 pub enum CallKind {
@@ -424,16 +426,6 @@ impl Call {
     ghost use Rattle.drm_table.specs.Table.{call_number, call_row, family_of, flags_of};
 
     /// Returns the row of the call and its fields in order, or `None` for a call without a row.
-    ///
-    /// # Examples
-    ///
-    /// ```rust
-    /// use drm_table::{Call, CallKind, Field};
-    ///
-    /// let call = Call::BufCreate { size: 4096 };
-    /// let Some((kind, fields)) = call.row() else { return };
-    /// assert!(rt; kind == CallKind::BufCreate && fields.as_slice() == [Field::U64(4096)].as_slice());
-    /// ```
     #[tactic(auto, unfolding(crate::specs::Table::call_row))]
     pub fn row(&self) -> Option<(CallKind, Fields<32>)>
         ensures { result ≡ call_row self.now }
@@ -517,14 +509,6 @@ impl Call {
     }
 
     /// Returns the number of the call's row. A call without a row has the number that the client sent.
-    ///
-    /// # Examples
-    ///
-    /// ```rust
-    /// use drm_table::Call;
-    ///
-    /// assert!(rt; Call::GetMagic.number() == 0x02 && Call::Unknown(0x7F).number() == 0x7F);
-    /// ```
     #[tactic(auto, unfolding(crate::specs::Table::call_number))]
     pub fn number(&self) -> u16
         ensures { result ≡ call_number self.now }
@@ -541,15 +525,6 @@ impl Call {
     /// Returns the flags of the row that has the call's number. They say which client may make the call
     /// (`drm_ioctl_permit`). A call whose fields are not its row's has the row's flags, too. If no row has the number,
     /// there are none.
-    ///
-    /// # Examples
-    ///
-    /// ```rust
-    /// use drm_table::{Call, RowFlags};
-    ///
-    /// assert!(rt; Call::SetMaster.flags() != RowFlags::AUTH);
-    /// assert!(rt; Call::GemFlink { handle: 1 }.flags() == RowFlags::AUTH);
-    /// ```
     #[tactic(auto, unfolding(crate::specs::Table::flags_of))]
     pub fn flags(&self) -> RowFlags
         ensures { result ≡ flags_of self.now }
@@ -564,15 +539,6 @@ impl Call {
     }
 
     /// Returns the family of the call's row, or `None` for a call without a row.
-    ///
-    /// # Examples
-    ///
-    /// ```rust
-    /// use drm_table::{Call, Family};
-    ///
-    /// assert!(rt; Call::GetMagic.family() == Some(Family::Masters));
-    /// assert!(rt; Call::Unknown(0x7F).family().is_none());
-    /// ```
     #[tactic(auto, unfolding(crate::specs::Table::family_of))]
     pub fn family(&self) -> Option<Family>
         ensures { result ≡ family_of self.now }

@@ -15,7 +15,7 @@ use std::marker::Model;
 /// ```rust
 /// use drm_table::Width;
 ///
-/// assert!(rt; Width::U32 != Width::U64);
+/// assert!(rt; Width::of_ids(2) == [Width::U32, Width::U32].as_slice());
 /// ```
 #[derive(Clone, Copy, PartialEq, Eq, Debug)]
 pub enum Width {
@@ -26,15 +26,6 @@ pub enum Width {
 }
 
 /// A number in a field of its width.
-///
-/// # Examples
-///
-/// ```rust
-/// use drm_table::Field;
-///
-/// let field = Field::U32(7);
-/// assert!(rt; field.number() == 7);
-/// ```
 #[derive(Clone, Copy, PartialEq, Eq, Debug)]
 pub enum Field {
     U32(u32),
@@ -49,14 +40,6 @@ impl Default for Field {
 
 impl Field {
     /// Returns the number of the field.
-    ///
-    /// # Examples
-    ///
-    /// ```rust
-    /// use drm_table::Field;
-    ///
-    /// assert!(rt; Field::U64(4096).number() == 4096);
-    /// ```
     pub fn number(self) -> u64
         ensures { result ≡ number_in self }
     {
@@ -93,14 +76,6 @@ const ID_WIDTHS: [Width; Layout::MOST_IDS] = [Width::U32; Layout::MOST_IDS];
 
 impl Width {
     /// Returns the widths of `count` ids. `count` must be at most 32.
-    ///
-    /// # Examples
-    ///
-    /// ```rust
-    /// use drm_table::Width;
-    ///
-    /// assert!(rt; Width::of_ids(2) == [Width::U32, Width::U32].as_slice());
-    /// ```
     pub fn of_ids(count: usize) -> &'static [Width]
         requires { count ≤ 32 }
         ensures { result.now ≡ replicate count widths.U32 }
@@ -137,15 +112,6 @@ impl<const N: usize> Model for Fields<N> {
 
 impl<const N: usize> Fields<N> {
     /// Creates an empty list.
-    ///
-    /// # Examples
-    ///
-    /// ```rust
-    /// use drm_table::Fields;
-    ///
-    /// let fields: Fields<5> = Fields::new();
-    /// assert!(rt; fields.as_slice().is_empty());
-    /// ```
     pub fn new() -> Fields<N>
         ensures { result ≡ [] }
     {
@@ -155,15 +121,6 @@ impl<const N: usize> Fields<N> {
     }
 
     /// Creates a list of these fields, `N` at most.
-    ///
-    /// # Examples
-    ///
-    /// ```rust
-    /// use drm_table::{Field, Fields};
-    ///
-    /// let fields: Fields<5> = Fields::of(&[Field::U32(1)]);
-    /// assert!(rt; fields.as_slice() == [Field::U32(1)].as_slice());
-    /// ```
     pub fn of(fields: &[Field]) -> Fields<N>
         requires { length fields.now ≤ N }
         ensures { result ≡ fields.now }
@@ -185,16 +142,6 @@ impl<const N: usize> Fields<N> {
     }
 
     /// Appends a field. The list must have fewer than `N` fields.
-    ///
-    /// # Examples
-    ///
-    /// ```rust
-    /// use drm_table::{Field, Fields};
-    ///
-    /// let mut fields: Fields<5> = Fields::new();
-    /// fields.push(Field::U64(4096));
-    /// assert!(rt; fields == Fields::of(&[Field::U64(4096)]));
-    /// ```
     pub fn push(&mut self, field: Field)
         requires { length self.old < N }
         ensures { self.new ≡ self.old ++ field ∷ [] }
@@ -203,15 +150,6 @@ impl<const N: usize> Fields<N> {
     }
 
     /// Returns the fields in order.
-    ///
-    /// # Examples
-    ///
-    /// ```rust
-    /// use drm_table::{Field, Fields};
-    ///
-    /// let fields: Fields<5> = Fields::of(&[Field::U32(1)]);
-    /// assert!(rt; fields.as_slice() == [Field::U32(1)].as_slice());
-    /// ```
     pub fn as_slice(&self) -> &[Field]
         ensures fields { result.now ≡ self.now }
         ensures within { length self.now ≤ N }

@@ -10,14 +10,6 @@ use crate::rows::{Family, Row};
 
 impl CallKind {
     /// Returns the row of the table.
-    ///
-    /// # Examples
-    ///
-    /// ```rust
-    /// use drm_table::CallKind;
-    ///
-    /// assert!(rt; CallKind::GetMagic.row().name == "GET_MAGIC");
-    /// ```
     pub fn row(self) -> Row
         ensures number { result.number ≡ (kind_row self).number }
         ensures name { result.name.now ≡ (kind_row self).name }
@@ -30,14 +22,6 @@ impl CallKind {
     }
 
     /// Returns the number of the call (drm-uapi; 0x40 to 0x45 are own).
-    ///
-    /// # Examples
-    ///
-    /// ```rust
-    /// use drm_table::CallKind;
-    ///
-    /// assert!(rt; CallKind::Version.number() == 0x00);
-    /// ```
     pub fn number(self) -> u16
         ensures { result ≡ kind_number self }
     {
@@ -45,14 +29,6 @@ impl CallKind {
     }
 
     /// Returns the word of a script's line (own).
-    ///
-    /// # Examples
-    ///
-    /// ```rust
-    /// use drm_table::CallKind;
-    ///
-    /// assert!(rt; CallKind::BufCreate.word() == b"buf_create".as_slice());
-    /// ```
     pub fn word(self) -> &'static [u8]
         ensures { result.now ≡ kind_word self }
     {
@@ -60,14 +36,6 @@ impl CallKind {
     }
 
     /// Returns the layout of the fields.
-    ///
-    /// # Examples
-    ///
-    /// ```rust
-    /// use drm_table::{CallKind, Layout};
-    ///
-    /// assert!(rt; matches!(CallKind::GemFlink.layout(), Layout::Numbers(_)));
-    /// ```
     pub fn layout(self) -> Layout
         ensures layout { layout_of result ≡ kind_layout self }
         ensures short { IsShort (layout_of result) }
@@ -76,14 +44,6 @@ impl CallKind {
     }
 
     /// Returns the family. A function of the family carries the call out.
-    ///
-    /// # Examples
-    ///
-    /// ```rust
-    /// use drm_table::{CallKind, Family};
-    ///
-    /// assert!(rt; CallKind::GemOpen.family() == Family::Sharing);
-    /// ```
     pub fn family(self) -> Family
         ensures { result ≡ kind_family self }
     {
@@ -91,14 +51,6 @@ impl CallKind {
     }
 
     /// Returns the kind with this number, or `None` if no row has it.
-    ///
-    /// # Examples
-    ///
-    /// ```rust
-    /// use drm_table::CallKind;
-    ///
-    /// assert!(rt; CallKind::of_number(0x02) == Some(CallKind::GetMagic));
-    /// ```
     #[tactic(auto, unfolding(crate::specs::Table::call_kind_of, crate::specs::Table::kind_row))]
     pub fn of_number(number: u16) -> Option<CallKind>
         ensures { result ≡ call_kind_of number }
@@ -144,14 +96,6 @@ impl CallKind {
     }
 
     /// Returns the kind with this word of a script, or `None` if no row has it (own).
-    ///
-    /// # Examples
-    ///
-    /// ```rust
-    /// use drm_table::CallKind;
-    ///
-    /// assert!(rt; CallKind::of_word(b"gem_close") == Some(CallKind::GemClose));
-    /// ```
     #[tactic(auto, unfolding(crate::specs::Table::call_kind_of_word))]
     pub fn of_word(word: &[u8]) -> Option<CallKind>
         ensures { result ≡ call_kind_of_word word.now }
@@ -164,16 +108,6 @@ impl CallKind {
 
     /// Returns the call with this row and these fields, 32 at most.
     /// Returns `None` if number or widths of the fields differ from those of the row.
-    ///
-    /// # Examples
-    ///
-    /// ```rust
-    /// use drm_table::{Call, CallKind, Field};
-    ///
-    /// let call = CallKind::GemClose.call(&[Field::U32(1)]);
-    /// assert!(rt; call == Some(Call::GemClose { handle: 1 }));
-    /// assert!(rt; CallKind::GemClose.call(&[]).is_none());
-    /// ```
     #[tactic(auto, unfolding(crate::specs::Table::call_with))]
     pub fn call(self, fields: &[Field]) -> Option<Call>
         requires { length fields.now ≤ 32 }

@@ -12,6 +12,7 @@ ghost use Rattle.drm_table.specs.Limits as ranges;
 ///
 /// let limits = Limits { clients: 8, ..Limits::PROGRAM };
 /// assert!(rt; are_in_range(limits));
+/// assert!(rt; !are_in_range(Limits { journal: 1, ..Limits::PROGRAM }));
 /// ```
 #[derive(Clone, Copy, PartialEq, Eq, Debug)]
 pub struct Limits {
@@ -48,15 +49,6 @@ impl Limits {
 }
 
 /// Returns whether each limit is in its range.
-///
-/// # Examples
-///
-/// ```rust
-/// use drm_table::{Limits, are_in_range};
-///
-/// assert!(rt; are_in_range(Limits::PROGRAM));
-/// assert!(rt; !are_in_range(Limits { journal: 1, ..Limits::PROGRAM }));
-/// ```
 #[tactic(auto, unfolding(crate::specs::Limits::are_in_range))]
 pub fn are_in_range(limits: Limits) -> bool
     ensures { result ≡ ranges.are_in_range limits }

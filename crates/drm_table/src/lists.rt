@@ -36,14 +36,6 @@ impl Model for ShownList {
 
 impl ShownList {
     /// Creates an empty list.
-    ///
-    /// # Examples
-    ///
-    /// ```rust
-    /// use drm_table::ShownList;
-    ///
-    /// assert!(rt; ShownList::new().ids().is_empty());
-    /// ```
     pub fn new() -> ShownList
         ensures { result ≡ [] }
     {
@@ -53,16 +45,6 @@ impl ShownList {
     }
 
     /// Appends an id. The list must have fewer than 64 ids.
-    ///
-    /// # Examples
-    ///
-    /// ```rust
-    /// use drm_table::ShownList;
-    ///
-    /// let mut list = ShownList::new();
-    /// list.push(7);
-    /// assert!(rt; list.ids().len() == 1);
-    /// ```
     pub fn push(&mut self, id: u32)
         requires { length self.old < 64 }
         ensures { self.new ≡ self.old ++ id ∷ [] }
@@ -71,16 +53,6 @@ impl ShownList {
     }
 
     /// Returns the ids in order, 64 at most.
-    ///
-    /// # Examples
-    ///
-    /// ```rust
-    /// use drm_table::ShownList;
-    ///
-    /// let mut list = ShownList::new();
-    /// list.push(7);
-    /// assert!(rt; list.ids() == [7].as_slice());
-    /// ```
     pub fn ids(&self) -> &[u32]
         ensures ids { result.now ≡ self.now }
         ensures within { length self.now ≤ 64 }
@@ -132,14 +104,6 @@ impl Clone for IdList {
 
 impl IdList {
     /// Creates an empty list.
-    ///
-    /// # Examples
-    ///
-    /// ```rust
-    /// use drm_table::IdList;
-    ///
-    /// assert!(rt; IdList::new().ids().is_empty());
-    /// ```
     pub fn new() -> IdList
         ensures { result ≡ [] }
     {
@@ -149,16 +113,6 @@ impl IdList {
     }
 
     /// Appends an id. The list must have fewer than 32 ids.
-    ///
-    /// # Examples
-    ///
-    /// ```rust
-    /// use drm_table::IdList;
-    ///
-    /// let mut ids = IdList::new();
-    /// ids.push(2);
-    /// assert!(rt; ids.ids().len() == 1);
-    /// ```
     pub fn push(&mut self, id: u32)
         requires { length self.old < 32 }
         ensures { self.new ≡ self.old ++ id ∷ [] }
@@ -167,16 +121,6 @@ impl IdList {
     }
 
     /// Returns the ids in order, 32 at most.
-    ///
-    /// # Examples
-    ///
-    /// ```rust
-    /// use drm_table::IdList;
-    ///
-    /// let mut ids = IdList::new();
-    /// ids.push(2);
-    /// assert!(rt; ids.ids() == [2].as_slice());
-    /// ```
     pub fn ids(&self) -> &[u32]
         ensures ids { result.now ≡ self.now }
         ensures within { length self.now ≤ 32 }

@@ -3,15 +3,6 @@
 use thiserror::Error;
 
 /// The reason a line of a topology cannot be used (own).
-///
-/// # Examples
-///
-/// ```rust
-/// use drm_topologies::{Unfit, read_topology};
-///
-/// let Err(unfit) = read_topology(b"crtcs 9\n") else { return };
-/// assert!(rt; unfit.cause == Unfit::CrtcCount);
-/// ```
 #[derive(Clone, Copy, Debug, PartialEq, Eq, Error)]
 pub enum Unfit {
     /// No line begins with the first word.

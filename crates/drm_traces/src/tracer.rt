@@ -15,15 +15,6 @@ const RED: &[u8] = b"\x1b[31m";
 const PLAIN: &[u8] = b"\x1b[0m";
 
 /// Whether denials and faults are in colour (own).
-///
-/// # Examples
-///
-/// ```rust
-/// use drm_traces::Palette;
-///
-/// let palette = Palette::Plain;
-/// assert!(rt; palette != Palette::Red);
-/// ```
 #[derive(Clone, Copy, Debug, PartialEq, Eq)]
 pub enum Palette {
     /// No colour.
@@ -126,21 +117,6 @@ fn put_answer(text: &mut Vec<u8>, line: &LineText, is_red: bool) -> Result<(), A
 
 impl Tracer {
     /// Creates what writes the trace of a server whose device began as this one. Does not allocate.
-    ///
-    /// # Examples
-    ///
-    /// ```rust
-    /// use drm_device::{Device, Limits, Topology};
-    /// use drm_traces::{Palette, Tracer};
-    ///
-    /// let alloc = rt.alloc();
-    /// let Some(topology) = Topology::new(2, &[1, 2], &[3, 2], &[5, 6]) else { return };
-    /// let Ok(empty) = Device::new(alloc, topology, Limits::PROGRAM) else { return };
-    /// let tracer = Tracer::new(empty, Palette::Plain);
-    /// let mut text = Vec::new(alloc);
-    /// let Ok(()) = tracer.put_left_out(&mut text, 2) else { return };
-    /// assert!(rt; text.starts_with(b"# 2 faults"));
-    /// ```
     pub fn new(device: Device, palette: Palette) -> Tracer {
         Tracer {
             device,
@@ -155,30 +131,6 @@ impl Tracer {
     /// # Errors
     ///
     /// `AllocError` if memory is refused. The text may then end with a part of the line.
-    ///
-    /// # Examples
-    ///
-    /// ```rust
-    /// use drm_watch::WatchedCall;
-    /// use drm_device::{Device, Limits, Topology};
-    /// use drm_sessions::Class;
-    /// use drm_table::{Event, Opening};
-    /// use drm_traces::{Palette, Tracer};
-    /// use std::time::Duration;
-    ///
-    /// let alloc = rt.alloc();
-    /// let Some(topology) = Topology::new(2, &[1, 2], &[3, 2], &[5, 6]) else { return };
-    /// let Ok(fresh) = Device::new(alloc, topology, Limits::PROGRAM) else { return };
-    /// let mut steps = Tracer::new(fresh, Palette::Plain);
-    /// let mut text = Vec::new(alloc);
-    /// let call = WatchedCall {
-    ///     since: Duration::from_millis(20),
-    ///     class: Class::Root,
-    ///     event: Event::Open(Opening::Render),
-    /// };
-    /// let Ok(()) = steps.put_step(&mut text, &call) else { return };
-    /// assert!(rt; text.starts_with(b"    0.020000      1 root "));
-    /// ```
     pub fn put_step(&mut self, text: &mut Vec<u8>, call: &WatchedCall) -> Result<(), AllocError> {
         self.steps = self.steps.saturating_add(1);
         put_head(text, call, Some(self.steps))?;
@@ -195,31 +147,6 @@ impl Tracer {
     /// # Errors
     ///
     /// `AllocError` if memory is refused. The text may then end with a part of the line.
-    ///
-    /// # Examples
-    ///
-    /// ```rust
-    /// use drm_watch::{WatchedCall, WatchedFault};
-    /// use drm_device::{Device, Limits, Topology};
-    /// use drm_sessions::Class;
-    /// use drm_table::{Apart, Event, Opening};
-    /// use drm_traces::{Palette, Tracer};
-    /// use std::time::Duration;
-    ///
-    /// let alloc = rt.alloc();
-    /// let Some(topology) = Topology::new(2, &[1, 2], &[3, 2], &[5, 6]) else { return };
-    /// let Ok(full) = Device::new(alloc, topology, Limits::PROGRAM) else { return };
-    /// let faults = Tracer::new(full, Palette::Plain);
-    /// let mut text = Vec::new(alloc);
-    /// let called = WatchedCall {
-    ///     since: Duration::from_secs(1),
-    ///     class: Class::Card,
-    ///     event: Event::Open(Opening::Render),
-    /// };
-    /// let fault = WatchedFault { call: called, fault: Apart::JournalFull, after: 0 };
-    /// let Ok(()) = faults.put_fault(&mut text, &fault) else { return };
-    /// assert!(rt; text.starts_with(b"    1.000000      - card "));
-    /// ```
     pub fn put_fault(&self, text: &mut Vec<u8>, fault: &WatchedFault) -> Result<(), AllocError> {
         put_head(text, &fault.call, None)?;
         put_words(text, &fault.call.event)?;

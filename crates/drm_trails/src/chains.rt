@@ -10,15 +10,6 @@ use crate::steps::{Key, Source, Step};
 use std::alloc::{AllocError, Global};
 
 /// The source of a link's object (own).
-///
-/// # Examples
-///
-/// ```rust
-/// use drm_trails::{Key, Origin};
-///
-/// let origin = Origin::Published { key: Key::Name(5), step: 3 };
-/// assert!(rt; origin != Origin::Made);
-/// ```
 #[derive(Clone, Copy, PartialEq, Eq, Debug)]
 pub enum Origin {
     /// The link's step created the object.
@@ -28,15 +19,6 @@ pub enum Origin {
 }
 
 /// A step that assigned a handle to a client (own).
-///
-/// # Examples
-///
-/// ```rust
-/// use drm_trails::{Link, Origin};
-///
-/// let link = Link { step: 2, client: 1, handle: 1, origin: Origin::Made };
-/// assert!(rt; link.step == 2);
-/// ```
 #[derive(Clone, Copy, PartialEq, Eq, Debug)]
 pub struct Link {
     /// The number of the step, from 1.
@@ -76,11 +58,18 @@ pub struct HandleThen {
 /// # Examples
 ///
 /// ```rust
-/// use drm_trails::ChainEnd;
+/// use drm_table::{Answer, Call, Event};
+/// use drm_trails::{Marks, Step, Trail};
 ///
 /// let alloc = rt.alloc();
-/// let end = ChainEnd { links: Vec::new(alloc), left: None };
-/// assert!(rt; end.links.is_empty());
+/// let call = Call::BufCreate { size: 4096 };
+/// let answer = Answer::Buffer { handle: 1, size: 4096 };
+/// let step = Step { event: Event::Ask(1, call), answer };
+/// let Ok(trail) = Trail::new(alloc).push(step) else { return };
+/// let marks = Marks { steps: &[], kept: 4 };
+/// let Ok(found) = trail.chain_end_of(alloc, 1, 1, 1, marks) else { return };
+/// let Some(end) = found else { return };
+/// assert!(rt; end.left.is_none());
 /// ```
 #[derive(PartialEq, Eq, Debug, Drop)]
 pub struct ChainEnd {
@@ -91,15 +80,6 @@ pub struct ChainEnd {
 }
 
 /// The links to leave out of a chain: those of marked steps, and all links before them (own).
-///
-/// # Examples
-///
-/// ```rust
-/// use drm_trails::Marks;
-///
-/// let marks = Marks { steps: &[true, false], kept: 4 };
-/// assert!(rt; marks.kept == 4);
-/// ```
 #[derive(Clone, Copy, Debug)]
 pub struct Marks<'a> {
     /// Whether each step is marked, the oldest first. A step past the end is not marked.

@@ -167,16 +167,6 @@ impl Step {
     ghost use Rattle.drm_trails.specs.Steps.{entry_of};
 
     /// Returns the effect of the step. Does not allocate.
-    ///
-    /// # Examples
-    ///
-    /// ```rust
-    /// use drm_table::{Answer, Event};
-    /// use drm_trails::{Effect, Step};
-    ///
-    /// let step = Step { event: Event::Close(1), answer: Answer::Closed };
-    /// assert!(rt; step.effect() == Effect::Closes { client: 1 });
-    /// ```
     #[tactic(auto, unfolding(drm_authority::specs::Effects::effect))]
     pub fn effect(&self) -> Effect
         ensures { effect_of (leased_by self.now.event self.now.answer) result ≡ effect (entry_of self.now) }
@@ -202,20 +192,6 @@ impl Step {
 
     /// Returns the ids of the mode objects that the step leases by name. Empty if it creates no lease. Does not
     /// allocate.
-    ///
-    /// # Examples
-    ///
-    /// ```rust
-    /// use drm_table::{Answer, Call, Event, IdList};
-    /// use drm_trails::Step;
-    ///
-    /// let mut ids = IdList::new();
-    /// ids.push(2);
-    /// let call = Call::CreateLease { ids };
-    /// let answer = Answer::Lease { id: 1, token: 1 };
-    /// let step = Step { event: Event::Ask(1, call), answer };
-    /// assert!(rt; step.listed() == [2].as_slice());
-    /// ```
     pub fn listed(&self) -> &[u32]
         ensures { result.now ≡ leased_by self.now.event self.now.answer }
     {

@@ -14,15 +14,6 @@ use std::alloc::{AllocError, Global};
 use std::collections::BTreeMap;
 
 /// A handle, and the number of the step that assigned it (own).
-///
-/// # Examples
-///
-/// ```rust
-/// use drm_trails::Held;
-///
-/// let held = Held { handle: 1, step: 2 };
-/// assert!(rt; held.handle == 1);
-/// ```
 #[derive(Clone, Copy, PartialEq, Eq, Debug)]
 pub struct Held {
     /// The handle.

@@ -9,16 +9,6 @@ use std::alloc::AllocError;
 /// # Errors
 ///
 /// `AllocError` if memory is refused. The list is then dropped.
-///
-/// # Examples
-///
-/// ```rust
-/// use drm_trails::{Source, with_item};
-///
-/// let alloc = rt.alloc();
-/// let Ok(list) = with_item(Vec::new(alloc), Some(Source::Creation)) else { return };
-/// assert!(rt; list.len() == 1);
-/// ```
 pub fn with_item<T: Drop>(list: Vec<T>, item: Option<T>) -> Result<Vec<T>, AllocError>
     ensures { IfOk result (λ longer. longer.items ≡ list.items ++ option_to_list item) }
 {

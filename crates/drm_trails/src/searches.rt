@@ -20,15 +20,6 @@ pub(crate) struct LastGiving {
 }
 
 /// The last step that published under a key (own).
-///
-/// # Examples
-///
-/// ```rust
-/// use drm_trails::LastPublishing;
-///
-/// let found = LastPublishing { past: 0, client: 1, handle: 1 };
-/// assert!(rt; found.client == 1);
-/// ```
 #[derive(Clone, Copy, PartialEq, Eq, Debug)]
 pub struct LastPublishing {
     /// The number of steps before it.

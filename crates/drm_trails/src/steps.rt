@@ -12,16 +12,6 @@ ghost use Rattle.drm_trails.specs.Steps.{givings_of, key_of, publishings_of, sou
 use drm_table::{Answer, Call, Event};
 
 /// A step: an event and its answer (own).
-///
-/// # Examples
-///
-/// ```rust
-/// use drm_table::{Answer, Event};
-/// use drm_trails::Step;
-///
-/// let step = Step { event: Event::Close(1), answer: Answer::Closed };
-/// assert!(rt; step.answer == Answer::Closed);
-/// ```
 #[derive(PartialEq, Eq, Debug, Drop)]
 pub struct Step {
     /// The event.
@@ -54,15 +44,6 @@ pub fn step_at(steps: &[Step], number: u64) -> Option<&Step>
 
 /// A key under which an object is published: a global name (drm-gem(7)), a PRIME token (drm-mm; tokens are own), or a
 /// framebuffer (drm-uapi).
-///
-/// # Examples
-///
-/// ```rust
-/// use drm_trails::Key;
-///
-/// let key = Key::Name(5);
-/// assert!(rt; key != Key::Token(5));
-/// ```
 #[derive(Clone, Copy, PartialEq, Eq, Debug)]
 pub enum Key {
     Name(u64),
@@ -71,15 +52,6 @@ pub enum Key {
 }
 
 /// The source of a handle's object: the step creates it, or it was published under a key (own).
-///
-/// # Examples
-///
-/// ```rust
-/// use drm_trails::{Key, Source};
-///
-/// let source = Source::Transfer(Key::Name(5));
-/// assert!(rt; source != Source::Creation);
-/// ```
 #[derive(Clone, Copy, PartialEq, Eq, Debug)]
 pub enum Source {
     Creation,
@@ -87,15 +59,6 @@ pub enum Source {
 }
 
 /// A handle that a step assigns to a client (own).
-///
-/// # Examples
-///
-/// ```rust
-/// use drm_trails::{Giving, Source};
-///
-/// let giving = Giving { client: 1, handle: 1, source: Source::Creation };
-/// assert!(rt; giving.handle == 1);
-/// ```
 #[derive(Clone, Copy, PartialEq, Eq, Debug)]
 pub struct Giving {
     /// The client.
@@ -317,18 +280,6 @@ impl Step {
     }
 
     /// Returns what the step publishes, or `None`. Does not allocate.
-    ///
-    /// # Examples
-    ///
-    /// ```rust
-    /// use drm_table::{Answer, Call, Event};
-    /// use drm_trails::{Key, Publishing, Step};
-    ///
-    /// let call = Call::GemFlink { handle: 1 };
-    /// let answer = Answer::Number { value: 5 };
-    /// let step = Step { event: Event::Ask(1, call), answer };
-    /// assert!(rt; step.published() == Some(Publishing { key: Key::Name(5), client: 1, handle: 1 }));
-    /// ```
     #[tactic(auto, unfolding(drm_history::specs::Steps::published))]
     pub fn published(&self) -> Option<Publishing>
         ensures { publishings_of result ≡ published (entry_of self.now) }

@@ -58,15 +58,6 @@ impl Model for Trail {
 
 impl Trail {
     /// Returns a trail without steps. Does not allocate.
-    ///
-    /// # Examples
-    ///
-    /// ```rust
-    /// use drm_trails::Trail;
-    ///
-    /// let alloc = rt.alloc();
-    /// assert!(rt; Trail::new(alloc).steps().is_empty());
-    /// ```
     pub fn new(alloc: Global) -> Trail
         ensures { result ≡ [] }
     {
@@ -83,18 +74,6 @@ impl Trail {
     /// # Errors
     ///
     /// `AllocError` if memory is refused. The trail is then dropped.
-    ///
-    /// # Examples
-    ///
-    /// ```rust
-    /// use drm_table::{Answer, Event};
-    /// use drm_trails::{Step, Trail};
-    ///
-    /// let alloc = rt.alloc();
-    /// let step = Step { event: Event::Close(1), answer: Answer::Closed };
-    /// let Ok(trail) = Trail::new(alloc).push(step) else { return };
-    /// assert!(rt; trail.steps().len() == 1);
-    /// ```
     pub fn push(self, step: Step) -> Result<Trail, AllocError>
         ensures { IfOk result (λ trail. trail ≡ self ++ step ∷ []) }
     {
@@ -127,20 +106,6 @@ impl Trail {
     /// handle.
     ///
     /// An object is the number of the step that created it. Does not allocate.
-    ///
-    /// # Examples
-    ///
-    /// ```rust
-    /// use drm_table::{Answer, Call, Event};
-    /// use drm_trails::{Step, Trail};
-    ///
-    /// let alloc = rt.alloc();
-    /// let call = Call::BufCreate { size: 4096 };
-    /// let answer = Answer::Buffer { handle: 1, size: 4096 };
-    /// let step = Step { event: Event::Ask(1, call), answer };
-    /// let Ok(trail) = Trail::new(alloc).push(step) else { return };
-    /// assert!(rt; trail.object_of(1, 1, 1) == Some(1));
-    /// ```
     pub fn object_of(&self, count: usize, client: u64, handle: u64) -> Option<u64>
         ensures object { IfSome result (Has (history_of (take count self.now)) client handle) }
         ensures none { IfNone result (IsOfDevice (history_of (take count self.now)) → HasNone (history_of (take count self.now)) client handle) }
@@ -160,20 +125,6 @@ impl Trail {
     ///
     /// For a handle of `handles_of`, it is the object of `object_of` after all steps. It takes the same time for each step.
     /// Does not allocate.
-    ///
-    /// # Examples
-    ///
-    /// ```rust
-    /// use drm_table::{Answer, Call, Event};
-    /// use drm_trails::{Step, Trail};
-    ///
-    /// let alloc = rt.alloc();
-    /// let call = Call::BufCreate { size: 4096 };
-    /// let answer = Answer::Buffer { handle: 1, size: 4096 };
-    /// let step = Step { event: Event::Ask(1, call), answer };
-    /// let Ok(trail) = Trail::new(alloc).push(step) else { return };
-    /// assert!(rt; trail.object_assigned(1) == Some(1));
-    /// ```
     pub fn object_assigned(&self, step: u64) -> Option<u64>
         ensures assigned { result ≡ objects.object_assigned self.now step }
         ensures object { (c h : ℕ) → is_given_at (last_gift (history_of self.now) c h) step ≡ true → IfSome result (Has (history_of self.now) c h) }
@@ -183,20 +134,6 @@ impl Trail {
     }
 
     /// Returns the steps, the oldest first. Does not allocate.
-    ///
-    /// # Examples
-    ///
-    /// ```rust
-    /// use drm_table::{Answer, Call, Event};
-    /// use drm_trails::{Step, Trail};
-    ///
-    /// let alloc = rt.alloc();
-    /// let call = Call::BufCreate { size: 4096 };
-    /// let answer = Answer::Buffer { handle: 1, size: 4096 };
-    /// let step = Step { event: Event::Ask(1, call), answer };
-    /// let Ok(trail) = Trail::new(alloc).push(step) else { return };
-    /// assert!(rt; trail.steps().len() == 1);
-    /// ```
     pub fn steps(&self) -> &[Step]
         ensures { result.now ≡ self.now }
     {
@@ -259,23 +196,6 @@ impl Trail {
     /// # Errors
     ///
     /// `AllocError` if memory is refused.
-    ///
-    /// # Examples
-    ///
-    /// ```rust
-    /// use drm_table::{Answer, Call, Event};
-    /// use drm_trails::{Marks, Step, Trail};
-    ///
-    /// let alloc = rt.alloc();
-    /// let call = Call::BufCreate { size: 4096 };
-    /// let answer = Answer::Buffer { handle: 1, size: 4096 };
-    /// let step = Step { event: Event::Ask(1, call), answer };
-    /// let Ok(trail) = Trail::new(alloc).push(step) else { return };
-    /// let marks = Marks { steps: &[], kept: 4 };
-    /// let Ok(found) = trail.chain_end_of(alloc, 1, 1, 1, marks) else { return };
-    /// let Some(end) = found else { return };
-    /// assert!(rt; end.left.is_none());
-    /// ```
     pub fn chain_end_of(
         &self,
         alloc: Global,

@@ -11,14 +11,17 @@ use std::marker::Model;
 ///
 /// ```rust
 /// use drm_device::{Device, Limits, Topology};
-/// use drm_table::{Event, Opening};
+/// use drm_table::{Answer, Event, Opening};
 /// use drm_turns::SharedDevice;
 ///
 /// let alloc = rt.alloc();
 /// let Some(topology) = Topology::new(2, &[1, 2], &[3, 2], &[5, 6]) else { return };
 /// let Ok(device) = Device::new(alloc, topology, Limits::PROGRAM) else { return };
 /// let Ok((shared, mut participant)) = SharedDevice::new(alloc, device) else { return };
-/// assert!(rt; shared.call(&rt, &mut participant, Event::Open(Opening::Render)).is_ok());
+/// let mut other = shared.split(&mut participant);
+/// let opening = Event::Open(Opening::Render);
+/// assert!(rt; shared.call(&rt, &mut other, opening) == Ok(Answer::Opened { client: 1 }));
+/// shared.join(&mut participant, other);
 /// ```
 #[derive(Drop)]
 pub struct Seat {
@@ -43,14 +46,12 @@ impl Model for Seat {
 ///
 /// ```rust
 /// use drm_device::{Device, Limits, Topology};
-/// use drm_table::{Event, Opening};
 /// use drm_turns::SharedDevice;
 ///
 /// let alloc = rt.alloc();
 /// let Some(topology) = Topology::new(2, &[1, 2], &[3, 2], &[5, 6]) else { return };
 /// let Ok(device) = Device::new(alloc, topology, Limits::PROGRAM) else { return };
 /// let Ok((shared, mut participant)) = SharedDevice::new(alloc, device) else { return };
-/// assert!(rt; shared.call(&rt, &mut participant, Event::Open(Opening::Render)).is_ok());
 /// let note = shared.note(&mut participant);
 /// shared.meet(&mut participant, note);
 /// ```

@@ -50,21 +50,6 @@ const LOOKS: u32 = 1_500;
 const PATIENCE: u32 = 64;
 
 /// The error that memory for a shared device was refused.
-///
-/// # Examples
-///
-/// ```rust
-/// use drm_device::{Device, Limits, Topology};
-/// use drm_turns::{NoMemory, SharedDevice};
-///
-/// let alloc = rt.alloc();
-/// let Some(topology) = Topology::new(2, &[1, 2], &[3, 2], &[5, 6]) else { return };
-/// let Ok(device) = Device::new(alloc, topology, Limits::PROGRAM) else { return };
-/// let (second, its_participant) = match SharedDevice::new(alloc, device) {
-///     Ok(made) => made,
-///     Err((_device, NoMemory)) => return,
-/// };
-/// ```
 #[derive(Clone, Copy, Debug, PartialEq, Eq)]
 pub struct NoMemory;
 
@@ -98,12 +83,15 @@ pub struct TurnOut;
 ///
 /// ```rust
 /// use drm_device::{Device, Limits, Topology};
+/// use drm_table::{Answer, Event, Opening};
 /// use drm_turns::SharedDevice;
 ///
 /// let alloc = rt.alloc();
 /// let Some(topology) = Topology::new(2, &[1, 2], &[3, 2], &[5, 6]) else { return };
 /// let Ok(device) = Device::new(alloc, topology, Limits::PROGRAM) else { return };
 /// let Ok((shared, mut participant)) = SharedDevice::new(alloc, device) else { return };
+/// let opening = Event::Open(Opening::Render);
+/// assert!(rt; shared.call(&rt, &mut participant, opening) == Ok(Answer::Opened { client: 1 }));
 /// ```
 pub struct SharedDevice {
     table: Table<Slot, View, Snapshot<Device>, InTurn, Global>,
@@ -140,17 +128,13 @@ impl Model for SharedDevice {
 ///
 /// ```rust
 /// use drm_device::{Device, Limits, Topology};
-/// use drm_table::{Event, Opening};
 /// use drm_turns::{SharedDevice, Sharing};
 ///
 /// let alloc = rt.alloc();
 /// let Some(topology) = Topology::new(2, &[1, 2], &[3, 2], &[5, 6]) else { return };
 /// let Ok(device) = Device::new(alloc, topology, Limits::PROGRAM) else { return };
-/// let Ok((shared, mut participant)) = SharedDevice::new(alloc, device) else { return };
-/// assert!(rt; shared.call(&rt, &mut participant, Event::Open(Opening::Render)).is_ok());
-/// let note = shared.note(&mut participant);
-/// shared.meet(&mut participant, note);
-/// assert!(rt; shared.device().peek_count() == 1);
+/// let Ok((shared, participant)) = SharedDevice::new(alloc, device) else { return };
+/// assert!(rt; shared.device().peek_count() == 0);
 /// ```
 pub trait Sharing {
     ghost use Rattle.atomic_table.specs.Seated.{TableId};
@@ -342,19 +326,6 @@ impl SharedDevice {
 
     /// Shares the device, and returns the first participant, which has number 1 and has seen what the device had
     /// recorded. If memory is refused, there is no shared device, and the device is returned.
-    ///
-    /// # Examples
-    ///
-    /// ```rust
-    /// use drm_device::{Device, Limits, Topology};
-    /// use drm_turns::SharedDevice;
-    ///
-    /// let alloc = rt.alloc();
-    /// let Some(topology) = Topology::new(2, &[1, 2], &[3, 2], &[5, 6]) else { return };
-    /// let Ok(device) = Device::new(alloc, topology, Limits::PROGRAM) else { return };
-    /// let Ok((shared, mut participant)) = SharedDevice::new(alloc, device) else { return };
-    /// assert!(rt; shared.peek_count() == 0);
-    /// ```
     pub fn new(alloc: Global, device: Device) -> Result<(SharedDevice, Seat), (Device, NoMemory)>
         ensures own { IfOk result (λ made. made.1.table ≡ made.0) }
         ensures seen { IfOk result (λ made. (made.1.origin ≡ device) × (made.1.seen ≡ journaled_before device)) }
@@ -397,21 +368,6 @@ impl SharedDevice {
     /// A fault, for a full journal (own) or refused memory, leaves the device unchanged and adds no entry. Without a
     /// ticket for the turn the device isn't called. The first participant, if none is out of it, has no ticket only if
     /// it and those that it took in drew all 2^64 - 1.
-    ///
-    /// # Examples
-    ///
-    /// ```rust
-    /// use drm_device::{Device, Limits, Topology};
-    /// use drm_table::{Answer, Event, Opening};
-    /// use drm_turns::SharedDevice;
-    ///
-    /// let alloc = rt.alloc();
-    /// let Some(topology) = Topology::new(2, &[1, 2], &[3, 2], &[5, 6]) else { return };
-    /// let Ok(device) = Device::new(alloc, topology, Limits::PROGRAM) else { return };
-    /// let Ok((shared, mut participant)) = SharedDevice::new(alloc, device) else { return };
-    /// let opening = Event::Open(Opening::Render);
-    /// assert!(rt; shared.call(&rt, &mut participant, opening) == Ok(Answer::Opened { client: 1 }));
-    /// ```
     pub fn call<R: Wait>(
         &self,
         rt: &R,
@@ -437,24 +393,6 @@ impl SharedDevice {
 
     /// Answers one event as [`call`](SharedDevice::call) does, and writes what resulted from it to a place of the
     /// caller's, so that an answer is moved less.
-    ///
-    /// # Examples
-    ///
-    /// ```rust
-    /// use drm_device::{Device, Limits, Topology};
-    /// use drm_table::{Answer, Apart, Call, Event, Opening};
-    /// use drm_turns::SharedDevice;
-    ///
-    /// let alloc = rt.alloc();
-    /// let Some(topology) = Topology::new(2, &[1, 2], &[3, 2], &[5, 6]) else { return };
-    /// let Ok(device) = Device::new(alloc, topology, Limits::PROGRAM) else { return };
-    /// let Ok((shared, mut participant)) = SharedDevice::new(alloc, device) else { return };
-    /// let opening = Event::Open(Opening::Render);
-    /// assert!(rt; shared.call(&rt, &mut participant, opening) == Ok(Answer::Opened { client: 1 }));
-    /// let mut outcome = Err(Apart::Worn);
-    /// shared.call_at(&rt, &mut participant, &Event::Ask(1, Call::Version), &mut outcome);
-    /// assert!(rt; outcome == Ok(Answer::Version { major: 1, minor: 0, patch: 0 }));
-    /// ```
     pub fn call_at<R: Wait>(
         &self,
         rt: &R,
@@ -481,26 +419,6 @@ impl SharedDevice {
     /// counted from 0. So it is the entry's place in the device's journal, which begins with what the device had recorded
     /// before it was shared. A fault has no entry. Where there is a shortage, memory is refused as
     /// [`step_short_at`](drm_device::Device::step_short_at) does.
-    ///
-    /// # Examples
-    ///
-    /// ```rust
-    /// use drm_device::{Device, Limits, Topology};
-    /// use drm_table::{Answer, Apart, Call, Event, Opening};
-    /// use drm_turns::SharedDevice;
-    ///
-    /// let alloc = rt.alloc();
-    /// let Some(topology) = Topology::new(2, &[1, 2], &[3, 2], &[5, 6]) else { return };
-    /// let Ok(device) = Device::new(alloc, topology, Limits::PROGRAM) else { return };
-    /// let Ok((shared, mut participant)) = SharedDevice::new(alloc, device) else { return };
-    /// let opening = Event::Open(Opening::Render);
-    /// assert!(rt; shared.call(&rt, &mut participant, opening) == Ok(Answer::Opened { client: 1 }));
-    /// let mut outcome = Err(Apart::Worn);
-    /// shared.call_at(&rt, &mut participant, &Event::Ask(1, Call::Version), &mut outcome);
-    /// let closing = Event::Close(1);
-    /// let place = shared.call_placed(&rt, &mut participant, &closing, None, &mut outcome);
-    /// assert!(rt; place == Some(2) && outcome == Ok(Answer::Closed));
-    /// ```
     pub fn call_placed<R: Wait>(
         &self,
         rt: &R,
@@ -536,26 +454,6 @@ impl SharedDevice {
 
     /// Returns a further participant with a new number, which has seen as much. The participant that it is split off
     /// counts one more that is out, and is unchanged otherwise.
-    ///
-    /// # Examples
-    ///
-    /// ```rust
-    /// use drm_device::{Device, Limits, Topology};
-    /// use drm_table::{Answer, Apart, Call, Event, Opening};
-    /// use drm_turns::SharedDevice;
-    ///
-    /// let alloc = rt.alloc();
-    /// let Some(topology) = Topology::new(2, &[1, 2], &[3, 2], &[5, 6]) else { return };
-    /// let Ok(device) = Device::new(alloc, topology, Limits::PROGRAM) else { return };
-    /// let Ok((shared, mut participant)) = SharedDevice::new(alloc, device) else { return };
-    /// let opening = Event::Open(Opening::Render);
-    /// assert!(rt; shared.call(&rt, &mut participant, opening) == Ok(Answer::Opened { client: 1 }));
-    /// let mut outcome = Err(Apart::Worn);
-    /// shared.call_at(&rt, &mut participant, &Event::Ask(1, Call::Version), &mut outcome);
-    /// let mut other = shared.split(&mut participant);
-    /// let closing = Event::Close(1);
-    /// assert!(rt; shared.call(&rt, &mut other, closing) == Ok(Answer::Closed));
-    /// ```
     pub fn split(&self, participant: &mut Seat) -> Seat
         requires own { participant.old.table ≡ self.now }
         ensures same { participant.new ≡ with_outstanding participant.old (participant.old.outstanding + 1) }
@@ -577,27 +475,6 @@ impl SharedDevice {
     /// Takes in another participant, which ends: what it had seen, its number, and the numbers that it had taken in.
     /// They all differ from each other. If it was split off this participant, and none is out of it any more, one fewer
     /// is out.
-    ///
-    /// # Examples
-    ///
-    /// ```rust
-    /// use drm_device::{Device, Limits, Topology};
-    /// use drm_table::{Answer, Apart, Call, Event, Opening};
-    /// use drm_turns::SharedDevice;
-    ///
-    /// let alloc = rt.alloc();
-    /// let Some(topology) = Topology::new(2, &[1, 2], &[3, 2], &[5, 6]) else { return };
-    /// let Ok(device) = Device::new(alloc, topology, Limits::PROGRAM) else { return };
-    /// let Ok((shared, mut participant)) = SharedDevice::new(alloc, device) else { return };
-    /// let opening = Event::Open(Opening::Render);
-    /// assert!(rt; shared.call(&rt, &mut participant, opening) == Ok(Answer::Opened { client: 1 }));
-    /// let mut outcome = Err(Apart::Worn);
-    /// shared.call_at(&rt, &mut participant, &Event::Ask(1, Call::Version), &mut outcome);
-    /// let mut other = shared.split(&mut participant);
-    /// let closing = Event::Close(1);
-    /// assert!(rt; shared.call(&rt, &mut other, closing) == Ok(Answer::Closed));
-    /// shared.join(&mut participant, other);
-    /// ```
     pub fn join(&self, participant: &mut Seat, other: Seat)
         requires own { participant.old.table ≡ self.now }
         requires other { other.table ≡ self.now }
@@ -619,28 +496,6 @@ impl SharedDevice {
 
     /// Creates a note of what the participant has seen, for another participant. The participant counts one more that
     /// is out, and is unchanged otherwise.
-    ///
-    /// # Examples
-    ///
-    /// ```rust
-    /// use drm_device::{Device, Limits, Topology};
-    /// use drm_table::{Answer, Apart, Call, Event, Opening};
-    /// use drm_turns::SharedDevice;
-    ///
-    /// let alloc = rt.alloc();
-    /// let Some(topology) = Topology::new(2, &[1, 2], &[3, 2], &[5, 6]) else { return };
-    /// let Ok(device) = Device::new(alloc, topology, Limits::PROGRAM) else { return };
-    /// let Ok((shared, mut participant)) = SharedDevice::new(alloc, device) else { return };
-    /// let opening = Event::Open(Opening::Render);
-    /// assert!(rt; shared.call(&rt, &mut participant, opening) == Ok(Answer::Opened { client: 1 }));
-    /// let mut outcome = Err(Apart::Worn);
-    /// shared.call_at(&rt, &mut participant, &Event::Ask(1, Call::Version), &mut outcome);
-    /// let mut other = shared.split(&mut participant);
-    /// let closing = Event::Close(1);
-    /// assert!(rt; shared.call(&rt, &mut other, closing) == Ok(Answer::Closed));
-    /// shared.join(&mut participant, other);
-    /// let note = shared.note(&mut participant);
-    /// ```
     pub fn note(&self, participant: &mut Seat) -> Note
         requires own { participant.old.table ≡ self.now }
         ensures same { participant.new ≡ with_outstanding participant.old (participant.old.outstanding + 1) }
@@ -656,29 +511,6 @@ impl SharedDevice {
     }
 
     /// Takes in what a note says. If it was the participant's own, one fewer is out.
-    ///
-    /// # Examples
-    ///
-    /// ```rust
-    /// use drm_device::{Device, Limits, Topology};
-    /// use drm_table::{Answer, Apart, Call, Event, Opening};
-    /// use drm_turns::SharedDevice;
-    ///
-    /// let alloc = rt.alloc();
-    /// let Some(topology) = Topology::new(2, &[1, 2], &[3, 2], &[5, 6]) else { return };
-    /// let Ok(device) = Device::new(alloc, topology, Limits::PROGRAM) else { return };
-    /// let Ok((shared, mut participant)) = SharedDevice::new(alloc, device) else { return };
-    /// let opening = Event::Open(Opening::Render);
-    /// assert!(rt; shared.call(&rt, &mut participant, opening) == Ok(Answer::Opened { client: 1 }));
-    /// let mut outcome = Err(Apart::Worn);
-    /// shared.call_at(&rt, &mut participant, &Event::Ask(1, Call::Version), &mut outcome);
-    /// let mut other = shared.split(&mut participant);
-    /// let closing = Event::Close(1);
-    /// assert!(rt; shared.call(&rt, &mut other, closing) == Ok(Answer::Closed));
-    /// shared.join(&mut participant, other);
-    /// let note = shared.note(&mut participant);
-    /// shared.meet(&mut participant, note);
-    /// ```
     pub fn meet(&self, participant: &mut Seat, note: Note)
         requires own { participant.old.table ≡ self.now }
         requires note { note.table ≡ self.now }
@@ -703,31 +535,6 @@ impl SharedDevice {
     /// No turn is out if the participant is the first one and has back all participants and notes that were split off
     /// it or off them. Then the device has recorded what it had before, and the entries of the participant and of those
     /// that it took in, and nothing else.
-    ///
-    /// # Examples
-    ///
-    /// ```rust
-    /// use drm_device::{Device, Limits, Topology};
-    /// use drm_table::{Answer, Apart, Call, Event, Opening};
-    /// use drm_turns::SharedDevice;
-    ///
-    /// let alloc = rt.alloc();
-    /// let Some(topology) = Topology::new(2, &[1, 2], &[3, 2], &[5, 6]) else { return };
-    /// let Ok(device) = Device::new(alloc, topology, Limits::PROGRAM) else { return };
-    /// let Ok((shared, mut participant)) = SharedDevice::new(alloc, device) else { return };
-    /// let opening = Event::Open(Opening::Render);
-    /// assert!(rt; shared.call(&rt, &mut participant, opening) == Ok(Answer::Opened { client: 1 }));
-    /// let mut outcome = Err(Apart::Worn);
-    /// shared.call_at(&rt, &mut participant, &Event::Ask(1, Call::Version), &mut outcome);
-    /// let mut other = shared.split(&mut participant);
-    /// let closing = Event::Close(1);
-    /// assert!(rt; shared.call(&rt, &mut other, closing) == Ok(Answer::Closed));
-    /// shared.join(&mut participant, other);
-    /// let note = shared.note(&mut participant);
-    /// shared.meet(&mut participant, note);
-    /// let Ok(device) = shared.close(participant) else { return };
-    /// assert!(rt; device.journal().len() == 3);
-    /// ```
     pub fn close(self, participant: Seat) -> Result<Device, TurnOut>
         requires own { participant.table ≡ self }
         ensures closes { IfOk result (λ device. Closes participant device) }
@@ -753,30 +560,6 @@ impl SharedDevice {
     }
 
     /// Returns the length of the history at some moment. It waits for no client.
-    ///
-    /// # Examples
-    ///
-    /// ```rust
-    /// use drm_device::{Device, Limits, Topology};
-    /// use drm_table::{Answer, Apart, Call, Event, Opening};
-    /// use drm_turns::SharedDevice;
-    ///
-    /// let alloc = rt.alloc();
-    /// let Some(topology) = Topology::new(2, &[1, 2], &[3, 2], &[5, 6]) else { return };
-    /// let Ok(device) = Device::new(alloc, topology, Limits::PROGRAM) else { return };
-    /// let Ok((shared, mut participant)) = SharedDevice::new(alloc, device) else { return };
-    /// let opening = Event::Open(Opening::Render);
-    /// assert!(rt; shared.call(&rt, &mut participant, opening) == Ok(Answer::Opened { client: 1 }));
-    /// let mut outcome = Err(Apart::Worn);
-    /// shared.call_at(&rt, &mut participant, &Event::Ask(1, Call::Version), &mut outcome);
-    /// let mut other = shared.split(&mut participant);
-    /// let closing = Event::Close(1);
-    /// assert!(rt; shared.call(&rt, &mut other, closing) == Ok(Answer::Closed));
-    /// shared.join(&mut participant, other);
-    /// let note = shared.note(&mut participant);
-    /// shared.meet(&mut participant, note);
-    /// assert!(rt; shared.peek_count() == 3);
-    /// ```
     pub fn peek_count(&self) -> u64 {
         self.table.shared.peek(COUNT)
     }

@@ -1,11 +1,23 @@
 //! The examples of `drm_device`, made by `tools/doc_examples` of its doc comments.
 
 use drm_device::{Device, Limits, NewFault, ReplayFault, Shortage, Topology, replay};
-use drm_table::{Answer, Apart, AuditKind, Call, Event, Opening};
+use drm_table::{Answer, Apart, Call, Event, Opening};
 
 #[test]
-fn values(rt: HostRuntime) {
+fn part_1(rt: HostRuntime) {
     let alloc = rt.alloc();
+    let Some(topology) = Topology::new(2, &[1, 2], &[3, 2], &[5, 6]) else {
+        panic!(rt; "refused")
+    };
+    let Ok(mut device) = Device::new(alloc, topology, Limits::PROGRAM) else {
+        panic!(rt; "refused")
+    };
+    let opening = Opening::Primary {
+        root: false,
+        universal: true,
+    };
+    assert!(rt; device.step(Event::Open(opening)) == Ok(Answer::Opened { client: 1 }));
+    assert!(rt; device.step(Event::Ask(1, Call::SetMaster)) == Ok(Answer::Done));
     let Some(topology) = Topology::new(2, &[1, 2], &[3, 2], &[5, 6]) else {
         panic!(rt; "refused")
     };
@@ -17,53 +29,10 @@ fn values(rt: HostRuntime) {
         panic!(rt; "refused")
     };
     assert!(rt; fault == NewFault::BadLimits);
-    let Some(topology) = Topology::new(2, &[1, 2], &[3, 2], &[5, 6]) else {
-        panic!(rt; "refused")
-    };
-    let Err(fault) = replay(alloc, topology, limits, &[]) else {
-        panic!(rt; "refused")
-    };
-    assert!(rt; fault == ReplayFault::New(NewFault::BadLimits));
-    let Some(topology) = Topology::new(2, &[1, 2], &[3, 2], &[5, 6]) else {
-        panic!(rt; "refused")
-    };
-    let events = [Event::Open(Opening::Render)];
-    let Ok(device) = replay(alloc, topology, Limits::PROGRAM, &events) else {
-        panic!(rt; "refused")
-    };
-    assert!(rt; device.journal() == events.as_slice());
 }
 
 #[test]
-fn device(rt: HostRuntime) {
-    let alloc = rt.alloc();
-    let Some(topology) = Topology::new(2, &[1, 2], &[3, 2], &[5, 6]) else {
-        panic!(rt; "refused")
-    };
-    let Ok(mut device) = Device::new(alloc, topology, Limits::PROGRAM) else {
-        panic!(rt; "refused")
-    };
-    assert!(rt; device.journal().is_empty());
-    let opening = Opening::Primary {
-        root: false,
-        universal: true,
-    };
-    assert!(rt; device.step(Event::Open(opening)) == Ok(Answer::Opened { client: 1 }));
-    assert!(rt; device.step(Event::Ask(1, Call::SetMaster)) == Ok(Answer::Done));
-    let mut outcome = Ok(Answer::Done);
-    device.step_at(&Event::Ask(1, Call::Version), &mut outcome);
-    assert!(rt;
-        outcome
-            == Ok(Answer::Version {
-                major: 1,
-                minor: 0,
-                patch: 0
-            })
-    );
-}
-
-#[test]
-fn device_from_step_short_at(rt: HostRuntime) {
+fn part_2(rt: HostRuntime) {
     let alloc = rt.alloc();
     let Some(topology) = Topology::new(2, &[1, 2], &[3, 2], &[5, 6]) else {
         panic!(rt; "refused")
@@ -98,44 +67,30 @@ fn device_from_step_short_at(rt: HostRuntime) {
                 size: 4096
             })
     );
+    let limits = Limits {
+        clients: 0,
+        ..Limits::PROGRAM
+    };
+    let Some(topology) = Topology::new(2, &[1, 2], &[3, 2], &[5, 6]) else {
+        panic!(rt; "refused")
+    };
+    let Err(fault) = replay(alloc, topology, limits, &[]) else {
+        panic!(rt; "refused")
+    };
+    assert!(rt; fault == ReplayFault::New(NewFault::BadLimits));
 }
 
 #[test]
-fn device_from_journal(rt: HostRuntime) {
+fn part_3(rt: HostRuntime) {
     let alloc = rt.alloc();
     let Some(topology) = Topology::new(2, &[1, 2], &[3, 2], &[5, 6]) else {
         panic!(rt; "refused")
     };
-    let Ok(mut device) = Device::new(alloc, topology, Limits::PROGRAM) else {
+    let events = [Event::Open(Opening::Render)];
+    let Ok(device) = replay(alloc, topology, Limits::PROGRAM, &events) else {
         panic!(rt; "refused")
     };
-    let opening = Opening::Primary {
-        root: false,
-        universal: true,
-    };
-    assert!(rt; device.step(Event::Open(opening)) == Ok(Answer::Opened { client: 1 }));
-    assert!(rt; device.step(Event::Ask(1, Call::SetMaster)) == Ok(Answer::Done));
-    let mut outcome = Ok(Answer::Done);
-    device.step_at(&Event::Ask(1, Call::Version), &mut outcome);
-    assert!(rt;
-        device.journal()
-            == [
-                Event::Open(opening),
-                Event::Ask(1, Call::SetMaster),
-                Event::Ask(1, Call::Version)
-            ]
-            .as_slice()
-    );
-    assert!(rt; device.audit(AuditKind::Client, 0).rows().len() == 1);
-    assert!(rt; device.journal_left() < Limits::PROGRAM.journal);
-}
-
-#[test]
-fn shortage(rt: HostRuntime) {
+    assert!(rt; device.journal() == events.as_slice());
     let shortage = Shortage::new(2);
     assert!(rt; shortage.left() == 2);
-    let shortage = Shortage::new(7);
-    assert!(rt; shortage.left() == 7);
-    shortage.set(0);
-    assert!(rt; shortage.left() == 0);
 }

@@ -4,7 +4,7 @@ use drm_runs::Setup;
 use drm_shrinking::{ShrinkFault, shrink_script};
 
 #[test]
-fn values(rt: HostRuntime) {
+fn part_1(rt: HostRuntime) {
     let alloc = rt.alloc();
     let Err(fault) = shrink_script(alloc, &Setup::usual(), b"open a card\n", 2, 1000) else {
         panic!(rt; "refused")

@@ -2,15 +2,60 @@
 
 use drm_explanations::{
     At, Authenticated, AuthenticatedBy, DeviceRow, FrontRow, HandleRow, LeaseRow, LinkRow, Name,
-    Node, PublishedBy, PublishedRow, StandingRow, Subject, at, closed_at, explain, line_about,
-    lines_of,
+    Node, PublishedBy, PublishedRow, StandingRow, Subject, at, explain, line_about, lines_of,
 };
 use drm_modes::Topology;
 use drm_rights::{Ledger, Step};
 use drm_table::{Answer, Event, Opening};
 
 #[test]
-fn values(rt: HostRuntime) {
+fn part_1(rt: HostRuntime) {
+    let alloc = rt.alloc();
+    let answer = Answer::Opened { client: 1 };
+    let opened = Step {
+        event: Event::Open(Opening::Render),
+        answer,
+    };
+    let Ok(ledger) = Ledger::new(alloc).note(opened) else {
+        panic!(rt; "refused")
+    };
+    let Some(topology) = Topology::new(2, &[1, 2], &[3, 2], &[5, 6]) else {
+        panic!(rt; "refused")
+    };
+    let mut labels = [0; 26];
+    labels[0] = 1;
+    let Ok(mut explanation) = explain(alloc, &ledger, &topology, &labels, None) else {
+        panic!(rt; "refused")
+    };
+    explanation.retain_client(2);
+    assert!(rt; explanation.clients.is_empty());
+    let answer = Answer::Opened { client: 1 };
+    let opened = Step {
+        event: Event::Open(Opening::Render),
+        answer,
+    };
+    let Ok(ledger) = Ledger::new(alloc).note(opened) else {
+        panic!(rt; "refused")
+    };
+    let Some(topology) = Topology::new(2, &[1, 2], &[3, 2], &[5, 6]) else {
+        panic!(rt; "refused")
+    };
+    let mut labels = [0; 26];
+    labels[0] = 1;
+    let Ok(explanation) = explain(alloc, &ledger, &topology, &labels, None) else {
+        panic!(rt; "refused")
+    };
+    let Ok(text) = lines_of(alloc, &explanation, &topology, &labels, None) else {
+        panic!(rt; "refused")
+    };
+    assert!(rt;
+        text.as_str()
+            .contains("a is client 1: a render client, opened at step 1")
+    );
+}
+
+#[test]
+fn part_2(rt: HostRuntime) {
     let alloc = rt.alloc();
     let answer = Answer::Opened { client: 1 };
     let opened = Step {
@@ -28,51 +73,57 @@ fn values(rt: HostRuntime) {
     let Ok(explanation) = explain(alloc, &ledger, &topology, &labels, None) else {
         panic!(rt; "refused")
     };
-    assert!(rt; explanation.clients.len() == 1 && explanation.leases.is_empty());
-    let Ok(text) = lines_of(alloc, &explanation, &topology, &labels, None) else {
-        panic!(rt; "refused")
-    };
-    assert!(rt;
-        text.as_str()
-            .contains("a is client 1: a render client, opened at step 1")
-    );
-    let subject = Subject::Client(1);
-    assert!(rt; subject != Subject::Device);
     let mut text = String::new(alloc);
     let subject = Subject::Client(1);
     let told = line_about(alloc, &explanation, &topology, &labels, subject, &mut text);
     assert!(rt; told.is_ok());
     assert!(rt; text.as_str() == "a is client 1: a render client, opened at step 1\n");
+    let mut labels = [0; 26];
+    labels[0] = 1;
+    assert!(rt; Name::of(&labels, 1) != Name::of(&labels, 2));
+    let answer = Answer::Opened { client: 1 };
+    let opened = Step {
+        event: Event::Open(Opening::Render),
+        answer,
+    };
+    let Ok(ledger) = Ledger::new(alloc).note(opened) else {
+        panic!(rt; "refused")
+    };
     let Some(first) = at(ledger.steps(), 1) else {
         panic!(rt; "refused")
     };
     assert!(rt; first.client == 1 && first.call == "open");
-    assert!(rt; closed_at(ledger.steps(), 1).is_none());
-}
-
-#[test]
-fn values_from_at(rt: HostRuntime) {
     let opened = At {
         step: 1,
         client: 1,
         call: "open",
     };
-    assert!(rt; opened.call == "open");
     let device = DeviceRow {
         master: Some(1),
         since: Some(opened),
     };
     assert!(rt; device.master == Some(1));
-    let node = Node::Render;
-    assert!(rt; node != Node::Primary);
-    let by = AuthenticatedBy::Root;
-    assert!(rt; by != AuthenticatedBy::Master);
+}
+
+#[test]
+fn part_3(rt: HostRuntime) {
+    let alloc = rt.alloc();
+    let opened = At {
+        step: 1,
+        client: 1,
+        call: "open",
+    };
     let authenticated = Authenticated {
         by: AuthenticatedBy::Root,
         since: opened,
         magic: None,
     };
     assert!(rt; authenticated.magic.is_none());
+    let opened = At {
+        step: 1,
+        client: 1,
+        call: "open",
+    };
     let standing = StandingRow {
         is_master: true,
         master: Some(1),
@@ -81,18 +132,17 @@ fn values_from_at(rt: HostRuntime) {
         since: opened,
     };
     assert!(rt; standing.current);
-    let published_by = PublishedBy::Name;
-    assert!(rt; published_by != PublishedBy::Token);
+    let opened = At {
+        step: 1,
+        client: 1,
+        call: "open",
+    };
     let published = PublishedRow {
         by: PublishedBy::Name,
         number: 1,
         at: opened,
     };
     assert!(rt; published.number == 1);
-}
-
-#[test]
-fn values_from_link_row(rt: HostRuntime) {
     let opened = At {
         step: 1,
         client: 1,
@@ -110,7 +160,6 @@ fn values_from_link_row(rt: HostRuntime) {
         step: 3,
     };
     assert!(rt; front.handle == 2);
-    let alloc = rt.alloc();
     let chain = Vec::new(alloc);
     let held = HandleRow {
         handle: 1,
@@ -122,7 +171,7 @@ fn values_from_link_row(rt: HostRuntime) {
 }
 
 #[test]
-fn values_from_client_row(rt: HostRuntime) {
+fn part_4(rt: HostRuntime) {
     let alloc = rt.alloc();
     let answer = Answer::Opened { client: 1 };
     let opened = Step {
@@ -149,7 +198,6 @@ fn values_from_client_row(rt: HostRuntime) {
         client: 1,
         call: "open",
     };
-    let alloc = rt.alloc();
     let lease = LeaseRow {
         master: 2,
         lessee_id: 1,
@@ -164,7 +212,7 @@ fn values_from_client_row(rt: HostRuntime) {
 }
 
 #[test]
-fn explanation_explaining(rt: HostRuntime) {
+fn part_5(rt: HostRuntime) {
     let alloc = rt.alloc();
     let answer = Answer::Opened { client: 1 };
     let opened = Step {
@@ -183,20 +231,4 @@ fn explanation_explaining(rt: HostRuntime) {
         panic!(rt; "refused")
     };
     assert!(rt; explanation.steps == 1 && explanation.device.master.is_none());
-    assert!(rt; explanation.client(1).is_some() && explanation.client(2).is_none());
-    assert!(rt; explanation.lease(1).is_none());
-    let Ok(mut explanation) = explain(alloc, &ledger, &topology, &labels, None) else {
-        panic!(rt; "refused")
-    };
-    explanation.retain_client(2);
-    assert!(rt; explanation.clients.is_empty());
-}
-
-#[test]
-fn name(rt: HostRuntime) {
-    let mut labels = [0; 26];
-    labels[0] = 1;
-    assert!(rt; Name::of(&labels, 1) != Name::of(&labels, 2));
-    assert!(rt; Name::of(&labels, 1).label() == Some('a'));
-    assert!(rt; Name::of(&labels, 2).label().is_none());
 }

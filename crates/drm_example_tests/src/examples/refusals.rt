@@ -9,14 +9,8 @@ use drm_rights::{Key, Ledger, Step};
 use drm_table::{Answer, Call, Event, Limits, Opening, Rule};
 
 #[test]
-fn values(rt: HostRuntime) {
+fn part_1(rt: HostRuntime) {
     let alloc = rt.alloc();
-    let line = Line {
-        number: 1,
-        answer: String::new(alloc),
-        apart: None,
-    };
-    assert!(rt; line.apart.is_none());
     let answer = Answer::Opened { client: 1 };
     let opened = Step {
         event: Event::Open(Opening::Render),
@@ -48,14 +42,8 @@ fn values(rt: HostRuntime) {
         panic!(rt; "refused")
     };
     assert!(rt; row.rule == Some(22) && !row.is_carried_out);
-}
-
-#[test]
-fn values_from_fact(rt: HostRuntime) {
     let fact = Fact::Client(ClientFact::NeverOpened { client: 1 });
     assert!(rt; fact == Fact::Client(ClientFact::NeverOpened { client: 1 }));
-    let fact = ClientFact::Closed { client: 1, step: 2 };
-    assert!(rt; fact != ClientFact::NeverOpened { client: 1 });
     let fact = HandleFact::NeverGiven {
         client: 1,
         handle: 5,
@@ -80,14 +68,15 @@ fn values_from_fact(rt: HostRuntime) {
     );
     let fact = LeaseFact::TokenUnknown { token: 3 };
     assert!(rt; fact != LeaseFact::TokenUsed { token: 3 });
+}
+
+#[test]
+fn part_2(rt: HostRuntime) {
+    let alloc = rt.alloc();
     let fact = ModeObjectFact::Nothing { id: 9, count: 8 };
     assert!(rt; fact != ModeObjectFact::Encoder { id: 9 });
     let quantity = Quantity::Width;
     assert!(rt; quantity != Quantity::Height);
-}
-
-#[test]
-fn values_from_size_fact(rt: HostRuntime) {
     let fact = SizeFact::ShortPitch { pitch: 4, least: 8 };
     assert!(rt;
         fact != SizeFact::ShortPitch {
@@ -99,7 +88,6 @@ fn values_from_size_fact(rt: HostRuntime) {
     assert!(rt; fact != LimitFact::Tokens { most: 65_535 });
     let fact = RequestFact::Repeated { id: 7 };
     assert!(rt; fact != RequestFact::LacksCrtc);
-    let alloc = rt.alloc();
     let row = AnswerRow {
         line: 1,
         asked: None,

@@ -1,14 +1,13 @@
 //! The examples of `drm_script`, made by `tools/doc_examples` of its doc comments.
 
-use arrayvec::ArrayString;
 use drm_script::{
-    Command, Label, LineText, Malformation, Malformed, Reading, Wanted, audit_line, first_line,
-    line_of, next_word, push_number, read_line, u32_of,
+    Command, Label, Malformation, Malformed, Reading, Wanted, audit_line, first_line, line_of,
+    next_word, read_line, u32_of,
 };
-use drm_table::{Answer, Apart, AuditKind, AuditRow, Call};
+use drm_table::{Answer, AuditKind, AuditRow, Call};
 
 #[test]
-fn values(rt: HostRuntime) {
+fn part_1(rt: HostRuntime) {
     let row = AuditRow {
         a: 2,
         b: 4096,
@@ -30,22 +29,18 @@ fn values(rt: HostRuntime) {
                 call: Call::GetMagic
             }
     );
-    assert!(rt; line_of(&Ok(Answer::Number { value: 7 })).as_bytes() == b"number 7\n".as_slice());
     let Err(malformed) = read_line(b"a") else {
         panic!(rt; "refused")
     };
     assert!(rt; malformed.cause == Malformation::Lacks(Wanted::Call));
-    let Err(malformed) = read_line(b"a get_magic 1") else {
+    let Err(malformed) = read_line(b"a get_majic") else {
         panic!(rt; "refused")
     };
-    assert!(rt; malformed.cause == Malformation::TooManyWords);
+    assert!(rt; malformed.column == 3 && malformed.word.as_str() == "get_majic");
+    let malformed = Malformed::too_long();
+    assert!(rt; malformed.column == 256 && malformed.cause == Malformation::TooLong);
     assert!(rt; u32_of(b"4294967295") == Some(4_294_967_295));
     assert!(rt; u32_of(b"+1").is_none() && u32_of(b"4294967296").is_none());
-    assert!(rt; read_line(b"# a comment") == Ok(Reading::Skipped));
-}
-
-#[test]
-fn values_from_read_line(rt: HostRuntime) {
     let Ok(Reading::Limits(limits)) = read_line(b"limits 4 8 8 8 8 4 4 50") else {
         panic!(rt; "refused")
     };
@@ -53,56 +48,14 @@ fn values_from_read_line(rt: HostRuntime) {
     assert!(rt; read_line(b"a get_majic").is_err());
     let (line, rest) = first_line(b"open a root\na get_magic");
     assert!(rt; line == b"open a root".as_slice() && rest == b"a get_magic".as_slice());
-    let mut text: ArrayString<32> = ArrayString::new();
-    push_number(&mut text, 4_096);
-    assert!(rt; text.as_str() == "4096");
+    let line = line_of(&Ok(Answer::Done));
+    assert!(rt; line.as_bytes() == b"done\n".as_slice());
+}
+
+#[test]
+fn part_2(rt: HostRuntime) {
     let Some((word, rest)) = next_word(b"  open a root") else {
         panic!(rt; "refused")
     };
     assert!(rt; word == b"open".as_slice() && rest == b" a root".as_slice());
-}
-
-#[test]
-fn label(rt: HostRuntime) {
-    let Some(label) = Label::from_letter(b'c') else {
-        panic!(rt; "refused")
-    };
-    assert!(rt; label.place() == 2);
-    assert!(rt; Label::from_letter(b'z').is_some());
-    assert!(rt; Label::from_letter(b'A').is_none());
-    let Some(label) = Label::from_letter(b'z') else {
-        panic!(rt; "refused")
-    };
-    assert!(rt; label.place() == 25);
-}
-
-#[test]
-fn line_text_lines(rt: HostRuntime) {
-    let line = line_of(&Ok(Answer::Done));
-    assert!(rt; line.as_bytes() == b"done\n".as_slice());
-    let mut text = LineText::new();
-    text.write(&Ok(Answer::Done));
-    assert!(rt; text.as_bytes() == b"done\n".as_slice());
-}
-
-#[test]
-fn malformed_malformations(rt: HostRuntime) {
-    let Err(malformed) = read_line(b"a get_majic") else {
-        panic!(rt; "refused")
-    };
-    assert!(rt; malformed.column == 3 && malformed.word.as_str() == "get_majic");
-    let malformed = Malformed::too_long();
-    assert!(rt; malformed.column == 256 && malformed.cause == Malformation::TooLong);
-    let malformed = Malformed::late_limits(b"limits 4 8 8 8 8 4 4 50");
-    assert!(rt; malformed.column == 1 && malformed.cause == Malformation::LateLimits);
-}
-
-#[test]
-fn line_text_texts(rt: HostRuntime) {
-    let line = line_of(&Ok(Answer::Done));
-    assert!(rt; line.as_bytes() == b"done\n".as_slice());
-    let text = LineText::new();
-    assert!(rt; text.as_bytes().is_empty());
-    let line = line_of(&Err(Apart::NoMemory));
-    assert!(rt; line.as_bytes() == b"apart 51 NoMemory 12\n".as_slice());
 }

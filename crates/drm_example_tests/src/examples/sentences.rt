@@ -7,7 +7,7 @@ use drm_sentences::{lines_of_answer, write_answer};
 use drm_table::{Answer, Call, Event, Limits, Opening, Rule};
 
 #[test]
-fn values(rt: HostRuntime) {
+fn part_1(rt: HostRuntime) {
     let alloc = rt.alloc();
     let answer = Answer::Opened { client: 1 };
     let opened = Step {
@@ -49,7 +49,7 @@ fn values(rt: HostRuntime) {
 }
 
 #[test]
-fn values_from_lines_of_answer(rt: HostRuntime) {
+fn part_2(rt: HostRuntime) {
     let alloc = rt.alloc();
     let written = WrittenAnswer {
         line: 1,

@@ -5,7 +5,7 @@ use drm_streams::{
 };
 
 #[test]
-fn values(rt: HostRuntime) {
+fn part_1(rt: HostRuntime) {
     let mut sink = ToWrite::new(Vec::new(rt.alloc()));
     assert!(rt; sink.put(b"frame") == Put::Took(5));
     let mut sink = ToWrite::new(Vec::new(rt.alloc()));
@@ -28,9 +28,6 @@ fn values(rt: HostRuntime) {
     let mut buffer = [0; 8];
     let mut turns = 0;
     assert!(rt; take_some(&mut source, &mut buffer, &mut turns) == Refill::TurnsUsed);
-    let mut sink = ToWrite::new(Vec::new(rt.alloc()));
-    let mut turns = 0;
-    assert!(rt; put_all(&mut sink, b"frame", &mut turns) == Written::TurnsUsed);
     let mut source = FromRead::new(b"frame".as_slice());
     let mut buffer = [0; 8];
     let mut turns = 10;
@@ -40,29 +37,4 @@ fn values(rt: HostRuntime) {
     let mut turns = 10;
     assert!(rt; put_all(&mut sink, b"frame", &mut turns) == Written::Whole);
     assert!(rt; sink.into_inner().as_slice() == b"frame".as_slice());
-}
-
-#[test]
-fn to_write_sink(rt: HostRuntime) {
-    let mut sink = ToWrite::new(Vec::new(rt.alloc()));
-    sink.put(b"frame");
-    assert!(rt; sink.into_inner().as_slice() == b"frame".as_slice());
-    let sink = ToWrite::new(Vec::new(rt.alloc()));
-    assert!(rt; sink.calls() == 0);
-    let mut sink = ToWrite::new(Vec::new(rt.alloc()));
-    sink.put(b"frame");
-    let written = sink.into_inner();
-    assert!(rt; written.as_slice() == b"frame".as_slice());
-}
-
-#[test]
-fn from_read_source(rt: HostRuntime) {
-    let source = FromRead::new(b"frame".as_slice());
-    assert!(rt; source.into_inner() == b"frame".as_slice());
-    let source = FromRead::new(b"frame".as_slice());
-    assert!(rt; source.calls() == 0);
-    let mut source = FromRead::new(b"frame".as_slice());
-    let mut buffer = [0; 3];
-    source.take(&mut buffer);
-    assert!(rt; source.into_inner() == b"me".as_slice());
 }

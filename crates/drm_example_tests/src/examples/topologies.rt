@@ -3,11 +3,7 @@
 use drm_topologies::{Unfit, UnfitLine, read_topology};
 
 #[test]
-fn values(rt: HostRuntime) {
-    let Err(unfit) = read_topology(b"crtcs 9\n") else {
-        panic!(rt; "refused")
-    };
-    assert!(rt; unfit.cause == Unfit::CrtcCount);
+fn part_1(rt: HostRuntime) {
     let Err(unfit) = read_topology(b"crtcs 1\nplane 2\n") else {
         panic!(rt; "refused")
     };
