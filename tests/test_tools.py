@@ -233,7 +233,7 @@ class ToolsTests(FolderCase):
         expect("the reason", ran.stderr.startswith("constants: 29 places of "), True)
 
     def test_examples_of_doc_comments_are_tests(self):
-        """Each public item has one, and the tests are made of them."""
+        """Each public type and free function is in one, and the tests are made of them."""
         expect_end(run(REPOSITORY / "tools/doc_examples", "--check"), 0, "", "")
 
     def test_examples_that_make_a_long_test_are_told_and_stand_in_several(self):
@@ -245,7 +245,7 @@ class ToolsTests(FolderCase):
         expect("status and error output", (ran.returncode, ran.stderr), (1, ""))
         for told in (
             "stale: crates/drm_session_tests/src/examples/sessions.rt",
-            "too long: crates/drm_session_tests/src/examples/sessions.rt: values",
+            "too long: crates/drm_session_tests/src/examples/sessions.rt: part_1",
         ):
             expect(told, told in ran.stdout.splitlines(), True)
         expect("status", run(examples_in(folder, 20)).returncode, 0)
@@ -272,11 +272,11 @@ class ToolsTests(FolderCase):
         expect("status", run(tool).returncode, 0)
         counted = run(tool, "--count").stdout
         module = folder / "crates/drm_example_tests/src/examples/table.rt"
-        expect("a test of rules", "fn rule(" in module.read_text(), True)
+        expect("a test of rules", "Rule::of_number(43)" in module.read_text(), True)
         rules.write_text(text.replace("```rust", "```rust,no_run"))
         ran = run(tool)
         expect("status and output", (ran.returncode, "no example" in ran.stdout), (0, False))
-        expect("a test of rules", "fn rule(" in module.read_text(), False)
+        expect("a test of rules", "Rule::of_number(43)" in module.read_text(), False)
         expect("what is counted", run(tool, "--count").stdout, counted)
 
     def test_examples_are_counted(self):

@@ -89,26 +89,6 @@ impl Explanation {
     ///
     /// The client's chains may then name removed rows as their fronts, unless `explain` was called for that client
     /// alone.
-    ///
-    /// # Examples
-    ///
-    /// ```rust
-    /// use drm_explanations::explain;
-    /// use drm_modes::Topology;
-    /// use drm_rights::{Ledger, Step};
-    /// use drm_table::{Answer, Event, Opening};
-    ///
-    /// let alloc = rt.alloc();
-    /// let answer = Answer::Opened { client: 1 };
-    /// let opened = Step { event: Event::Open(Opening::Render), answer };
-    /// let Ok(ledger) = Ledger::new(alloc).note(opened) else { return };
-    /// let Some(topology) = Topology::new(2, &[1, 2], &[3, 2], &[5, 6]) else { return };
-    /// let mut labels = [0; 26];
-    /// labels[0] = 1;
-    /// let Ok(mut explanation) = explain(alloc, &ledger, &topology, &labels, None) else { return };
-    /// explanation.retain_client(2);
-    /// assert!(rt; explanation.clients.is_empty());
-    /// ```
     pub fn retain_client(&mut self, client: u64)
         ensures clients { self.new.clients.items ≡ filter (λ row. row.client == client) self.old.clients.items }
         ensures leases { self.new.leases.items ≡ filter (rows.is_lease_of client) self.old.leases.items }

@@ -81,6 +81,15 @@ pub fn lines_of(
 }
 
 /// The subject of a line of an explanation (own). Clients and masters are numbers of steps.
+///
+/// # Examples
+///
+/// ```rust
+/// use drm_explanations::Subject;
+///
+/// let subject = Subject::Client(1);
+/// assert!(rt; subject != Subject::Device);
+/// ```
 #[derive(Clone, Copy, PartialEq, Eq, Debug)]
 pub enum Subject {
     /// The device's master.
@@ -104,29 +113,6 @@ pub enum Subject {
 /// # Errors
 ///
 /// `AllocError` if memory is refused. The text may then end with a front of the line.
-///
-/// # Examples
-///
-/// ```rust
-/// use drm_explanations::{Subject, explain, line_about};
-/// use drm_modes::Topology;
-/// use drm_rights::{Ledger, Step};
-/// use drm_table::{Answer, Event, Opening};
-///
-/// let alloc = rt.alloc();
-/// let answer = Answer::Opened { client: 1 };
-/// let opened = Step { event: Event::Open(Opening::Render), answer };
-/// let Ok(ledger) = Ledger::new(alloc).note(opened) else { return };
-/// let Some(topology) = Topology::new(2, &[1, 2], &[3, 2], &[5, 6]) else { return };
-/// let mut labels = [0; 26];
-/// labels[0] = 1;
-/// let Ok(explanation) = explain(alloc, &ledger, &topology, &labels, None) else { return };
-/// let mut text = String::new(alloc);
-/// let subject = Subject::Client(1);
-/// let told = line_about(alloc, &explanation, &topology, &labels, subject, &mut text);
-/// assert!(rt; told.is_ok());
-/// assert!(rt; text.as_str() == "a is client 1: a render client, opened at step 1\n");
-/// ```
 pub fn line_about(
     alloc: Global,
     explanation: &Explanation,

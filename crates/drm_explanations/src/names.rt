@@ -97,21 +97,6 @@ fn asked(event: &Event, number: u64) -> (u64, &'static str)
 
 /// Returns the step with this number, from 1, or `None`. The caller of an accepted opening is the client that it opens.
 /// Does not allocate.
-///
-/// # Examples
-///
-/// ```rust
-/// use drm_explanations::at;
-/// use drm_rights::{Ledger, Step};
-/// use drm_table::{Answer, Event, Opening};
-///
-/// let alloc = rt.alloc();
-/// let answer = Answer::Opened { client: 1 };
-/// let opened = Step { event: Event::Open(Opening::Render), answer };
-/// let Ok(ledger) = Ledger::new(alloc).note(opened) else { return };
-/// let Some(first) = at(ledger.steps(), 1) else { return };
-/// assert!(rt; first.client == 1 && first.call == "open");
-/// ```
 pub fn at(steps: &[Step], number: u64) -> Option<At>
     ensures step { IfSome result (λ told. told.step ≡ number) }
     ensures tells { IfSome result (specs.TellsStep (history_of steps.now)) }

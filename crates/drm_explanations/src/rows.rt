@@ -311,8 +311,9 @@ pub struct LeaseRow {
 /// let Some(topology) = Topology::new(2, &[1, 2], &[3, 2], &[5, 6]) else { return };
 /// let mut labels = [0; 26];
 /// labels[0] = 1;
-/// let Ok(explanation) = explain(alloc, &ledger, &topology, &labels, None) else { return };
-/// assert!(rt; explanation.steps == 1 && explanation.device.master.is_none());
+/// let Ok(mut explanation) = explain(alloc, &ledger, &topology, &labels, None) else { return };
+/// explanation.retain_client(2);
+/// assert!(rt; explanation.clients.is_empty());
 /// ```
 #[derive(PartialEq, Eq, Debug, Drop, Serialize)]
 pub struct Explanation {

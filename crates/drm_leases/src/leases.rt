@@ -41,7 +41,7 @@ const GRANT_KIND: u32 = 7;
 /// # Examples
 ///
 /// ```rust
-/// use drm_leases::{Leased, Leases};
+/// use drm_leases::{Grant, Leased, Leases};
 /// use drm_masters::Masters;
 /// use drm_modes::{Modes, Topology};
 ///
@@ -53,7 +53,8 @@ const GRANT_KIND: u32 = 7;
 /// let mut leases = Leases::new(alloc, 8);
 /// let Ok(leased) = leases.create(&mut masters, &modes, 1, true, &[1, 3, 7], 2) else { return };
 /// let Leased { m, id, token } = leased;
-/// assert!(rt; id == 1 && token == 1 && matches!(masters.master(2), Some(row) if row.key == m));
+/// assert!(rt; id == 1 && leases.nth_grant(0) == Some(Grant { master: 2, mode_object: 1 }));
+/// assert!(rt; leases.redeem(token) == Some(m));
 /// ```
 pub struct Leases {
     granted: Granted,
@@ -251,24 +252,6 @@ impl Leases {
     }
 
     /// Spends an open token, and returns the lessee that it opens. If the token is not open, nothing changes. Does not allocate.
-    ///
-    /// # Examples
-    ///
-    /// ```rust
-    /// use drm_leases::Leases;
-    /// use drm_masters::Masters;
-    /// use drm_modes::{Modes, Topology};
-    ///
-    /// let alloc = rt.alloc();
-    /// let Some(topology) = Topology::new(2, &[1, 2], &[3, 2], &[5, 6]) else { return };
-    /// let modes = Modes::new(alloc, topology, 4);
-    /// let mut masters = Masters::new(alloc, 4, 4);
-    /// let Ok(_first) = masters.on_open(1, 1) else { return };
-    /// let mut leases = Leases::new(alloc, 8);
-    /// let Ok(leased) = leases.create(&mut masters, &modes, 1, true, &[1, 3, 7], 2) else { return };
-    /// assert!(rt; leases.redeem(leased.token) == Some(leased.m));
-    /// assert!(rt; leases.token_of(2).is_none());
-    /// ```
     pub fn redeem(&mut self, token: u32) -> Option<MasterKey>
         ensures master { result ≡ option_and_then (sets.key_at self.old.lendings) (sets.token_master self.old.tokens token) }
         ensures spent { self.new ≡ calls.without_token token self.old }

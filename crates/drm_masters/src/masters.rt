@@ -37,7 +37,11 @@ const MASTER_KIND: u32 = 2;
 ///
 /// let alloc = rt.alloc();
 /// let mut masters = Masters::new(alloc, 4, 4);
-/// let Ok(is_first) = masters.on_open(1, 1) else { return };
+/// let Ok(_first) = masters.on_open(1, 1) else { return };
+/// let Some(owner) = masters.master(1) else { return };
+/// let Ok((lessee, _id)) = masters.make_lessee(owner.key, 2) else { return };
+/// let Ok(()) = masters.on_redeem(3, lessee) else { return };
+/// assert!(rt; masters.is_current(3));
 /// ```
 pub struct Masters {
     members: Members,
@@ -225,20 +229,6 @@ impl Masters {
     /// # Errors
     ///
     /// If memory is refused, nothing changes.
-    ///
-    /// # Examples
-    ///
-    /// ```rust
-    /// use drm_masters::Masters;
-    ///
-    /// let alloc = rt.alloc();
-    /// let mut masters = Masters::new(alloc, 4, 4);
-    /// let Ok(_first) = masters.on_open(1, 1) else { return };
-    /// let Some(owner) = masters.master(1) else { return };
-    /// let Ok((lessee, _id)) = masters.make_lessee(owner.key, 2) else { return };
-    /// let Ok(()) = masters.on_redeem(3, lessee) else { return };
-    /// assert!(rt; masters.is_current(3));
-    /// ```
     pub fn on_redeem(&mut self, client: u32, master: MasterKey) -> Result<(), NoMemory>
         requires new_client { is_some (sets.member_of self.old.members client) ≡ false }
         requires room { length self.old.members < self.old.last_magic }

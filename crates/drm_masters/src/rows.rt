@@ -73,18 +73,6 @@ pub struct Magic {
 }
 
 /// An open client's relation to its master. A render client has none, and is not listed.
-///
-/// # Examples
-///
-/// ```rust
-/// use drm_masters::{Masters, Member};
-///
-/// let alloc = rt.alloc();
-/// let mut masters = Masters::new(alloc, 4, 4);
-/// let Ok(_first) = masters.on_open(1, 1) else { return };
-/// let member = Member { client: 1, once_master: true, is_master: true, master: 1, magic: None };
-/// assert!(rt; masters.nth_member(0) == Some(member));
-/// ```
 #[derive(Clone, Copy, PartialEq, Eq, Debug)]
 pub struct Member {
     /// The client's number.
@@ -104,12 +92,13 @@ pub struct Member {
 /// # Examples
 ///
 /// ```rust
-/// use drm_masters::{MasterRow, Masters};
+/// use drm_masters::{MasterRow, Masters, Member};
 ///
 /// let alloc = rt.alloc();
 /// let mut masters = Masters::new(alloc, 4, 4);
 /// let Ok(_first) = masters.on_open(1, 1) else { return };
-/// assert!(rt; matches!(masters.nth(1, 0), Some(MasterRow::Client(row)) if row.client == 1));
+/// let member = Member { client: 1, once_master: true, is_master: true, master: 1, magic: None };
+/// assert!(rt; matches!(masters.nth(1, 0), Some(MasterRow::Client(row)) if row == member));
 /// ```
 #[derive(Clone, Copy, PartialEq, Eq, Debug)]
 pub enum MasterRow {

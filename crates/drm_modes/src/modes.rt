@@ -32,7 +32,7 @@ const SHOWN_KIND: u32 = 9;
 ///
 /// ```rust
 /// use drm_gem::ObjectKey;
-/// use drm_modes::{Modes, Shape, Topology};
+/// use drm_modes::{Fb, Modes, Shape, Topology};
 ///
 /// let alloc = rt.alloc();
 /// let Some(topology) = Topology::new(2, &[1, 2], &[3, 2], &[5, 6]) else { return };
@@ -40,6 +40,9 @@ const SHOWN_KIND: u32 = 9;
 /// let shape = Shape { width: 640, height: 480, pitch: 2560, bpp: 32 };
 /// let object = ObjectKey::from_number(7);
 /// let Ok(framebuffer) = modes.addfb(1, shape, object) else { return };
+/// assert!(rt; modes.fb(framebuffer) == Some(Fb { client: 1, shape, object }));
+/// assert!(rt; modes.rmfb(2, framebuffer).is_none());
+/// assert!(rt; modes.rmfb(1, framebuffer) == Some(object));
 /// ```
 #[derive(Drop)]
 pub struct Modes {
@@ -265,22 +268,6 @@ impl Modes {
     /// it are dark afterwards. Does not allocate.
     ///
     /// If the framebuffer does not exist or another client created it, it returns `None`, and nothing changes.
-    ///
-    /// # Examples
-    ///
-    /// ```rust
-    /// use drm_gem::ObjectKey;
-    /// use drm_modes::{Modes, Shape, Topology};
-    ///
-    /// let alloc = rt.alloc();
-    /// let Some(topology) = Topology::new(2, &[1, 2], &[3, 2], &[5, 6]) else { return };
-    /// let mut modes = Modes::new(alloc, topology, 4);
-    /// let shape = Shape { width: 640, height: 480, pitch: 2560, bpp: 32 };
-    /// let object = ObjectKey::from_number(7);
-    /// let Ok(framebuffer) = modes.addfb(1, shape, object) else { return };
-    /// assert!(rt; modes.rmfb(2, framebuffer).is_none());
-    /// assert!(rt; modes.rmfb(1, framebuffer) == Some(object));
-    /// ```
     pub fn rmfb(&mut self, client: u32, framebuffer: u32) -> Option<ObjectKey>
         ensures object { result ≡ option_map (λ row. row.object) (find (is_framebuffer_of client framebuffer) self.old.framebuffers) }
         ensures removed { OnSome result (self.new ≡ without_framebuffer self.old framebuffer) }

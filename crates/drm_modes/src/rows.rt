@@ -37,21 +37,6 @@ pub struct Framebuffer {
 }
 
 /// A framebuffer without its id (drm-uapi, mode setting).
-///
-/// # Examples
-///
-/// ```rust
-/// use drm_gem::ObjectKey;
-/// use drm_modes::{Fb, Modes, Shape, Topology};
-///
-/// let alloc = rt.alloc();
-/// let shape = Shape { width: 640, height: 480, pitch: 2560, bpp: 32 };
-/// let Some(topology) = Topology::new(2, &[1, 2], &[3, 2], &[5, 6]) else { return };
-/// let mut modes = Modes::new(alloc, topology, 4);
-/// let object = ObjectKey::from_number(7);
-/// let Ok(framebuffer) = modes.addfb(1, shape, object) else { return };
-/// assert!(rt; modes.fb(framebuffer) == Some(Fb { client: 1, shape, object }));
-/// ```
 #[derive(Clone, Copy, PartialEq, Eq, Debug)]
 pub struct Fb {
     /// The client that created it. Only it may remove it.

@@ -24,9 +24,11 @@ use std::marker::Model;
 /// # Examples
 ///
 /// ```rust
-/// use drm_modes::Topology;
+/// use drm_modes::{Kind, Topology};
 ///
 /// let Some(topology) = Topology::new(2, &[1, 2], &[3, 2], &[5, 6]) else { return };
+/// assert!(rt; topology.kind(8) == Some(Kind::Connector));
+/// assert!(rt; Topology::new(1, &[2], &[1], &[1]).is_none());
 /// ```
 #[derive(Drop)]
 pub struct Topology {
@@ -79,14 +81,6 @@ impl Topology {
     ///
     /// There must be 1 to 8 CRTCs, and at most 64 objects (both own). Masks and connectors must name objects of the
     /// topology.
-    ///
-    /// # Examples
-    ///
-    /// ```rust
-    /// use drm_modes::Topology;
-    ///
-    /// assert!(rt; Topology::new(1, &[2], &[1], &[1]).is_none());
-    /// ```
     pub fn new(crtcs: u32, planes: &[u32], encoders: &[u32], connectors: &[u32]) -> Option<Topology>
         ensures made { IsSome result ↔ IsTrue (fixed.is_topology (topology_of crtcs planes.now encoders.now connectors.now)) }
         ensures value { IfSome result (λ topology. topology ≡ topology_of crtcs planes.now encoders.now connectors.now) }

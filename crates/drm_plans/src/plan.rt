@@ -158,20 +158,6 @@ impl Plan {
     /// # Errors
     ///
     /// `AllocError` if memory is refused. The text may then end with a part of a line.
-    ///
-    /// # Examples
-    ///
-    /// ```rust
-    /// use drm_plans::{Calls, Fail, Plan, Rule};
-    ///
-    /// let alloc = rt.alloc();
-    /// let Ok(listed) = Plan::new(alloc) else { return };
-    /// let fail = Rule::Fail(Fail { calls: Calls::Openings, nth: 2 });
-    /// assert!(rt; listed.add(&rt, fail).is_ok());
-    /// let mut text = Vec::new(alloc);
-    /// let Ok(()) = listed.list(&rt, &mut text) else { return };
-    /// assert!(rt; text.as_slice() == b"fail open:2=memory\n".as_slice());
-    /// ```
     pub fn list<R: Wait>(&self, rt: &R, text: &mut Vec<u8>) -> Result<(), AllocError> {
         self.list_fails(text)?;
         let counted = self.counted.lock(rt);

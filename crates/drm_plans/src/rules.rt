@@ -118,6 +118,15 @@ impl fmt::Display for Calls {
 }
 
 /// A rule that refuses memory (own).
+///
+/// # Examples
+///
+/// ```rust
+/// use drm_plans::{Calls, Fail};
+///
+/// let refusal = Fail { calls: Calls::Openings, nth: 2 };
+/// assert!(rt; refusal.nth == 2);
+/// ```
 #[derive(Clone, Copy, Debug, PartialEq, Eq)]
 pub struct Fail {
     /// Calls that can add a row.

@@ -120,30 +120,6 @@ fn step_row(
 /// # Errors
 ///
 /// `AllocError` if memory is refused. There is no row then.
-///
-/// # Examples
-///
-/// ```rust
-/// use drm_modes::Topology;
-/// use drm_refusals::{Line, explain_answer};
-/// use drm_rights::{Ledger, Step};
-/// use drm_table::{Answer, Call, Event, Limits, Opening, Rule};
-///
-/// let alloc = rt.alloc();
-/// let answer = Answer::Opened { client: 1 };
-/// let opened = Step { event: Event::Open(Opening::Render), answer };
-/// let Ok(ledger) = Ledger::new(alloc).note(opened) else { return };
-/// let answer = Answer::Denied(Rule::NoHandleToClose);
-/// let denied = Step { event: Event::Ask(1, Call::GemClose { handle: 5 }), answer };
-/// let Ok(ledger) = ledger.note(denied) else { return };
-/// let Some(topology) = Topology::new(2, &[1, 2], &[3, 2], &[5, 6]) else { return };
-/// let mut labels = [0; 26];
-/// labels[0] = 1;
-/// let line = Line { number: 2, answer: String::new(alloc), apart: None };
-/// let explained = explain_answer(alloc, &ledger, &topology, &labels, Limits::PROGRAM, line);
-/// let Ok(row) = explained else { return };
-/// assert!(rt; row.rule == Some(22) && !row.is_carried_out);
-/// ```
 pub fn explain_answer(
     alloc: Global,
     ledger: &Ledger,

@@ -45,25 +45,6 @@ pub struct AnswerRow {
 }
 
 /// An `AnswerRow` with a sentence for each fact (own).
-///
-/// # Examples
-///
-/// ```rust
-/// use drm_refusals::WrittenAnswer;
-///
-/// let alloc = rt.alloc();
-/// let written = WrittenAnswer {
-///     line: 1,
-///     asked: None,
-///     label: None,
-///     answer: String::new(alloc),
-///     is_carried_out: false,
-///     rule: Some(51),
-///     facts: Vec::new(alloc),
-///     passes_if: Some("memory were available"),
-/// };
-/// assert!(rt; written.rule == Some(51));
-/// ```
 #[derive(PartialEq, Eq, Debug, Drop, Serialize)]
 pub struct WrittenAnswer {
     /// The line's number, from 1.

@@ -456,28 +456,6 @@ impl Ledger {
     ///
     /// The step lends what it listed, if the lessor's master controlled it. For a client with universal planes off, it
     /// also lends the primary and the cursor plane of a listed CRTC.
-    ///
-    /// # Examples
-    ///
-    /// ```rust
-    /// use drm_modes::Topology;
-    /// use drm_rights::{Ledger, Step};
-    /// use drm_table::{Answer, Call, Event, IdList, Opening};
-    ///
-    /// let alloc = rt.alloc();
-    /// let opening = Opening::Primary { root: true, universal: true };
-    /// let answer = Answer::Opened { client: 1 };
-    /// let step = Step { event: Event::Open(opening), answer };
-    /// let Ok(ledger) = Ledger::new(alloc).note(step) else { return };
-    /// let mut ids = IdList::new();
-    /// ids.push(2);
-    /// let call = Call::CreateLease { ids };
-    /// let answer = Answer::Lease { id: 1, token: 1 };
-    /// let step = Step { event: Event::Ask(1, call), answer };
-    /// let Ok(ledger) = ledger.note(step) else { return };
-    /// let Some(topology) = Topology::new(2, &[1, 2], &[3, 2], &[5, 6]) else { return };
-    /// assert!(rt; ledger.lends(&topology, 2, 2));
-    /// ```
     pub fn lends(&self, topology: &Topology, lessee: u64, mode_object: u32) -> bool
         ensures { result ≡ lent_in topology.now self.now lessee mode_object }
     {

@@ -119,17 +119,6 @@ pub fn test_topology() -> Topology
 }
 
 /// Returns an empty device of the test topology, or `None` if memory is refused.
-///
-/// # Examples
-///
-/// ```rust
-/// use drm_device::Limits;
-/// use drm_runs::make_device;
-///
-/// let alloc = rt.alloc();
-/// let Some(device) = make_device(alloc, Limits::PROGRAM) else { return };
-/// assert!(rt; device.journal().is_empty());
-/// ```
 pub fn make_device(alloc: Global, limits: Limits) -> Option<Device>
     requires { ranges.are_in_range limits ≡ true }
     ensures { IfSome result (λ device. device ≡ record { topology = script.test_topology; limits = limits; journal = [] }) }

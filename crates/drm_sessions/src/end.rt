@@ -11,7 +11,7 @@ use std::fmt::{Display, Formatter};
 /// ```rust
 /// use drm_device::{Device, Limits, Topology};
 /// use drm_frames::{FromRead, ToWrite};
-/// use drm_sessions::{Class, NoGate, SessionEnd, serve_alone};
+/// use drm_sessions::{Class, NoGate, Session, SessionEnd, serve_alone};
 ///
 /// let alloc = rt.alloc();
 /// let Some(topology) = Topology::new(2, &[1, 2], &[3, 2], &[5, 6]) else { return };
@@ -20,7 +20,8 @@ use std::fmt::{Display, Formatter};
 /// let mut source = FromRead::new(&hello[..4]);
 /// let mut sink = ToWrite::new(Vec::new(alloc));
 /// let session = serve_alone(&mut device, &mut NoGate, Class::Card, &mut source, &mut sink, 1000);
-/// assert!(rt; session.end == SessionEnd::Truncated);
+/// let Session { end, steps, .. } = session;
+/// assert!(rt; end == SessionEnd::Truncated && steps == 0);
 /// ```
 #[derive(Clone, Copy, Debug, PartialEq, Eq)]
 pub enum SessionEnd {
@@ -73,24 +74,6 @@ impl Display for SessionEnd {
 }
 
 /// A session that has ended.
-///
-/// # Examples
-///
-/// ```rust
-/// use drm_device::{Device, Limits, Topology};
-/// use drm_frames::{FromRead, ToWrite};
-/// use drm_sessions::{Class, NoGate, Session, serve_alone};
-///
-/// let alloc = rt.alloc();
-/// let Some(topology) = Topology::new(2, &[1, 2], &[3, 2], &[5, 6]) else { return };
-/// let Ok(mut device) = Device::new(alloc, topology, Limits::PROGRAM) else { return };
-/// let hello = [14, 0, 0, 0, 0, 1, 1, 0, 0, 0, 0, 0, 0, 0, 0, 0, 0, 0];
-/// let mut source = FromRead::new(&hello[..4]);
-/// let mut sink = ToWrite::new(Vec::new(alloc));
-/// let session = serve_alone(&mut device, &mut NoGate, Class::Card, &mut source, &mut sink, 1000);
-/// let Session { client, steps, .. } = session;
-/// assert!(rt; client == 0 && steps == 0);
-/// ```
 #[derive(Clone, Copy, Debug, PartialEq, Eq)]
 pub struct Session {
     /// Why it ended.

@@ -159,21 +159,6 @@ impl Tracer {
     /// # Errors
     ///
     /// `AllocError` if memory is refused. The text may then end with a part of the line.
-    ///
-    /// # Examples
-    ///
-    /// ```rust
-    /// use drm_device::{Device, Limits, Topology};
-    /// use drm_traces::{Palette, Tracer};
-    ///
-    /// let alloc = rt.alloc();
-    /// let Some(topology) = Topology::new(2, &[1, 2], &[3, 2], &[5, 6]) else { return };
-    /// let Ok(other) = Device::new(alloc, topology, Limits::PROGRAM) else { return };
-    /// let counter = Tracer::new(other, Palette::Plain);
-    /// let mut text = Vec::new(alloc);
-    /// let Ok(()) = counter.put_left_out(&mut text, 3) else { return };
-    /// assert!(rt; text.as_slice() == b"# 3 faults are left out here\n".as_slice());
-    /// ```
     pub fn put_left_out(&self, text: &mut Vec<u8>, count: u64) -> Result<(), AllocError> {
         match write!(text, "# {count} faults are left out here\n") {
             Ok(()) => Ok(()),

@@ -14,6 +14,15 @@ use std::alloc::{AllocError, Global};
 use std::collections::BTreeMap;
 
 /// A handle, and the number of the step that assigned it (own).
+///
+/// # Examples
+///
+/// ```rust
+/// use drm_trails::Held;
+///
+/// let held = Held { handle: 1, step: 2 };
+/// assert!(rt; held.handle == 1);
+/// ```
 #[derive(Clone, Copy, PartialEq, Eq, Debug)]
 pub struct Held {
     /// The handle.
@@ -83,21 +92,6 @@ fn listed(alloc: Global, held: &BTreeMap<u64, u64>) -> Result<Vec<Held>, AllocEr
 /// # Errors
 ///
 /// `AllocError` if memory is refused.
-///
-/// # Examples
-///
-/// ```rust
-/// use drm_table::{Answer, Call, Event};
-/// use drm_trails::{Held, Step, Trail, handles_of};
-///
-/// let alloc = rt.alloc();
-/// let call = Call::BufCreate { size: 4096 };
-/// let answer = Answer::Buffer { handle: 1, size: 4096 };
-/// let step = Step { event: Event::Ask(1, call), answer };
-/// let Ok(trail) = Trail::new(alloc).push(step) else { return };
-/// let Ok(handles) = handles_of(alloc, trail.steps(), 1) else { return };
-/// assert!(rt; handles.as_slice() == [Held { handle: 1, step: 1 }].as_slice());
-/// ```
 pub fn handles_of(alloc: Global, steps: &[Step], client: u64) -> Result<Vec<Held>, AllocError>
     ensures held { IfOk result (λ held. (h s : ℕ) → is_held_since held.items h s ≡ is_given_at (last_gift (history_of steps.now) client h) s) }
     ensures rising { IfOk result (λ held. AllPairs (λ one other. one.handle < other.handle) held.items) }

@@ -25,14 +25,17 @@ use std::marker::Model;
 ///
 /// ```rust
 /// use drm_table::{Answer, Call, Event};
-/// use drm_trails::{Step, Trail};
+/// use drm_trails::{Link, Origin, Step, Trail};
 ///
 /// let alloc = rt.alloc();
 /// let call = Call::BufCreate { size: 4096 };
 /// let answer = Answer::Buffer { handle: 1, size: 4096 };
 /// let step = Step { event: Event::Ask(1, call), answer };
 /// let Ok(trail) = Trail::new(alloc).push(step) else { return };
-/// assert!(rt; trail.object_of(1, 1, 1) == Some(1));
+/// let Ok(found) = trail.chain_of(alloc, 1, 1, 1) else { return };
+/// let Some(links) = found else { return };
+/// let link = Link { step: 1, client: 1, handle: 1, origin: Origin::Made };
+/// assert!(rt; links.as_slice() == [link].as_slice());
 /// ```
 #[derive(Drop)]
 pub struct Trail {
@@ -149,23 +152,6 @@ impl Trail {
     /// # Errors
     ///
     /// `AllocError` if memory is refused.
-    ///
-    /// # Examples
-    ///
-    /// ```rust
-    /// use drm_table::{Answer, Call, Event};
-    /// use drm_trails::{Link, Origin, Step, Trail};
-    ///
-    /// let alloc = rt.alloc();
-    /// let call = Call::BufCreate { size: 4096 };
-    /// let answer = Answer::Buffer { handle: 1, size: 4096 };
-    /// let step = Step { event: Event::Ask(1, call), answer };
-    /// let Ok(trail) = Trail::new(alloc).push(step) else { return };
-    /// let Ok(found) = trail.chain_of(alloc, 1, 1, 1) else { return };
-    /// let Some(links) = found else { return };
-    /// let link = Link { step: 1, client: 1, handle: 1, origin: Origin::Made };
-    /// assert!(rt; links.as_slice() == [link].as_slice());
-    /// ```
     pub fn chain_of(
         &self,
         alloc: Global,

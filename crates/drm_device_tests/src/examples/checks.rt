@@ -40,15 +40,15 @@ fn part_1(rt: HostRuntime) {
     };
     let totals = Totals::new().add(&report);
     assert!(rt; totals.passed == 2 && totals.failed == 1);
-    let Err(fault) = update_script(alloc, Setup::usual(), b"opn a card\n") else {
-        panic!(rt; "refused")
-    };
-    assert!(rt; fault != UpdateFault::NoMemory);
 }
 
 #[test]
 fn part_2(rt: HostRuntime) {
     let alloc = rt.alloc();
+    let Err(fault) = update_script(alloc, Setup::usual(), b"opn a card\n") else {
+        panic!(rt; "refused")
+    };
+    assert!(rt; fault != UpdateFault::NoMemory);
     let Ok(text) = update_script(alloc, Setup::usual(), b"open a card -> done\n") else {
         panic!(rt; "refused")
     };

@@ -67,6 +67,11 @@ fn part_2(rt: HostRuntime) {
                 size: 4096
             })
     );
+}
+
+#[test]
+fn part_3(rt: HostRuntime) {
+    let alloc = rt.alloc();
     let limits = Limits {
         clients: 0,
         ..Limits::PROGRAM
@@ -78,11 +83,6 @@ fn part_2(rt: HostRuntime) {
         panic!(rt; "refused")
     };
     assert!(rt; fault == ReplayFault::New(NewFault::BadLimits));
-}
-
-#[test]
-fn part_3(rt: HostRuntime) {
-    let alloc = rt.alloc();
     let Some(topology) = Topology::new(2, &[1, 2], &[3, 2], &[5, 6]) else {
         panic!(rt; "refused")
     };

@@ -2,7 +2,7 @@
 
 use drm_device::Limits;
 use drm_runs::{
-    Interpreter, LineResult, ScriptEnd, ScriptLines, Setup, Stop, make_device, run_on, run_script,
+    Interpreter, LineResult, ScriptEnd, ScriptLines, Setup, Stop, run_on, run_script,
     run_with_cause, test_topology,
 };
 use drm_streams::{FromRead, ToWrite};
@@ -14,10 +14,6 @@ fn part_1(rt: HostRuntime) {
     let alloc = rt.alloc();
     let setup = Setup::new(test_topology(), Limits::PROGRAM);
     let Some(device) = setup.make(alloc) else {
-        panic!(rt; "refused")
-    };
-    assert!(rt; device.journal().is_empty());
-    let Some(device) = make_device(alloc, Limits::PROGRAM) else {
         panic!(rt; "refused")
     };
     assert!(rt; device.journal().is_empty());

@@ -1,8 +1,7 @@
 //! The examples of `drm_rights`, made by `tools/doc_examples` of its doc comments.
 
-use drm_modes::Topology;
 use drm_rights::{Authentication, Capability, Lease, Ledger, Magic, MasterState, Step};
-use drm_table::{Answer, Call, Event, IdList, Opening};
+use drm_table::{Answer, Event, Opening};
 
 #[test]
 fn part_1(rt: HostRuntime) {
@@ -20,33 +19,6 @@ fn part_1(rt: HostRuntime) {
         panic!(rt; "refused")
     };
     assert!(rt; ledger.is_current(1));
-    let opening = Opening::Primary {
-        root: true,
-        universal: true,
-    };
-    let answer = Answer::Opened { client: 1 };
-    let step = Step {
-        event: Event::Open(opening),
-        answer,
-    };
-    let Ok(ledger) = Ledger::new(alloc).note(step) else {
-        panic!(rt; "refused")
-    };
-    let mut ids = IdList::new();
-    ids.push(2);
-    let call = Call::CreateLease { ids };
-    let answer = Answer::Lease { id: 1, token: 1 };
-    let step = Step {
-        event: Event::Ask(1, call),
-        answer,
-    };
-    let Ok(ledger) = ledger.note(step) else {
-        panic!(rt; "refused")
-    };
-    let Some(topology) = Topology::new(2, &[1, 2], &[3, 2], &[5, 6]) else {
-        panic!(rt; "refused")
-    };
-    assert!(rt; ledger.lends(&topology, 2, 2));
     let master_state = MasterState {
         step: 1,
         client: 1,

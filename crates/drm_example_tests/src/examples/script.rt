@@ -48,12 +48,12 @@ fn part_1(rt: HostRuntime) {
     assert!(rt; read_line(b"a get_majic").is_err());
     let (line, rest) = first_line(b"open a root\na get_magic");
     assert!(rt; line == b"open a root".as_slice() && rest == b"a get_magic".as_slice());
-    let line = line_of(&Ok(Answer::Done));
-    assert!(rt; line.as_bytes() == b"done\n".as_slice());
 }
 
 #[test]
 fn part_2(rt: HostRuntime) {
+    let line = line_of(&Ok(Answer::Done));
+    assert!(rt; line.as_bytes() == b"done\n".as_slice());
     let Some((word, rest)) = next_word(b"  open a root") else {
         panic!(rt; "refused")
     };

@@ -10,7 +10,6 @@ use drm_table::{
 fn part_1(rt: HostRuntime) {
     let answer = Answer::Number { value: 7 };
     assert!(rt; matches!(answer.told(), Told::Fields(AnswerKind::Number, _)));
-    let answer = Answer::Number { value: 7 };
     assert!(rt; answer != Answer::Done);
     let fault = Apart::NoMemory;
     assert!(rt; fault.errno() == 12);
@@ -40,6 +39,10 @@ fn part_1(rt: HostRuntime) {
     assert!(rt; matches!(CallKind::CreateLease.layout(), Layout::Ids));
     let fields: Fields<5> = Fields::of(&[Field::U32(1), Field::U64(2)]);
     assert!(rt; fields.as_slice().len() == 2);
+}
+
+#[test]
+fn part_2(rt: HostRuntime) {
     let limits = Limits {
         clients: 8,
         ..Limits::PROGRAM
@@ -61,10 +64,6 @@ fn part_1(rt: HostRuntime) {
         panic!(rt; "refused")
     };
     assert!(rt; found.name == "GET_MAGIC");
-}
-
-#[test]
-fn part_2(rt: HostRuntime) {
     let caller = Standing {
         root: false,
         render: false,

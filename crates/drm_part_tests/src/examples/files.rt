@@ -39,17 +39,17 @@ fn part_1(rt: HostRuntime) {
     let mut rest = files.close(1);
     assert!(rt; rest.take_next() == Some((handle, object)));
     assert!(rt; rest.take_next().is_none());
-}
-
-#[test]
-fn part_2(rt: HostRuntime) {
-    let alloc = rt.alloc();
     let mut files = Files::new(alloc, 4, 100);
     let Ok(()) = files.open(1, false, true, false) else {
         panic!(rt; "refused")
     };
     files.set_capability(1, ClientCapability::UniversalPlanes, true);
     assert!(rt; matches!(files.flags_of(1), Some(flags) if flags.universal));
+}
+
+#[test]
+fn part_2(rt: HostRuntime) {
+    let alloc = rt.alloc();
     let mut files = Files::new(alloc, 4, 100);
     let Ok(()) = files.open(1, false, true, true) else {
         panic!(rt; "refused")

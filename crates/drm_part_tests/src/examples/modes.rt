@@ -28,57 +28,21 @@ fn part_1(rt: HostRuntime) {
     };
     assert!(rt; topology.kind(1) == Some(Kind::Crtc) && topology.kind(8) == Some(Kind::Connector));
     let kind = PlaneKind::Primary(1);
-    let Some(topology) = Topology::new(2, &[1, 2], &[3, 2], &[5, 6]) else {
-        panic!(rt; "refused")
-    };
-    let mut modes = Modes::new(alloc, topology, 4);
-    let shape = Shape {
-        width: 640,
-        height: 480,
-        pitch: 2560,
-        bpp: 32,
-    };
-    let object = ObjectKey::from_number(7);
-    let Ok(framebuffer) = modes.addfb(1, shape, object) else {
-        panic!(rt; "refused")
-    };
-    let Some(topology) = Topology::new(2, &[1, 2], &[3, 2], &[5, 6]) else {
-        panic!(rt; "refused")
-    };
-    let mut modes = Modes::new(alloc, topology, 4);
-    let shape = Shape {
-        width: 640,
-        height: 480,
-        pitch: 2560,
-        bpp: 32,
-    };
-    let object = ObjectKey::from_number(7);
-    let Ok(framebuffer) = modes.addfb(1, shape, object) else {
-        panic!(rt; "refused")
-    };
-    assert!(rt; modes.rmfb(2, framebuffer).is_none());
-    assert!(rt; modes.rmfb(1, framebuffer) == Some(object));
 }
 
 #[test]
 fn part_2(rt: HostRuntime) {
     let alloc = rt.alloc();
-    let shape = Shape {
-        width: 640,
-        height: 480,
-        pitch: 2560,
-        bpp: 32,
-    };
-    let shape = Shape {
-        width: 640,
-        height: 480,
-        pitch: 2560,
-        bpp: 32,
-    };
     let Some(topology) = Topology::new(2, &[1, 2], &[3, 2], &[5, 6]) else {
         panic!(rt; "refused")
     };
     let mut modes = Modes::new(alloc, topology, 4);
+    let shape = Shape {
+        width: 640,
+        height: 480,
+        pitch: 2560,
+        bpp: 32,
+    };
     let object = ObjectKey::from_number(7);
     let Ok(framebuffer) = modes.addfb(1, shape, object) else {
         panic!(rt; "refused")
@@ -91,6 +55,19 @@ fn part_2(rt: HostRuntime) {
                 object
             })
     );
+    assert!(rt; modes.rmfb(2, framebuffer).is_none());
+    assert!(rt; modes.rmfb(1, framebuffer) == Some(object));
+    let shape = Shape {
+        width: 640,
+        height: 480,
+        pitch: 2560,
+        bpp: 32,
+    };
+}
+
+#[test]
+fn part_3(rt: HostRuntime) {
+    let alloc = rt.alloc();
     let shape = Shape {
         width: 640,
         height: 480,
@@ -115,7 +92,7 @@ fn part_2(rt: HostRuntime) {
 }
 
 #[test]
-fn part_3(rt: HostRuntime) {
+fn part_4(rt: HostRuntime) {
     let alloc = rt.alloc();
     let shape = Shape {
         width: 640,
@@ -144,5 +121,6 @@ fn part_3(rt: HostRuntime) {
     let Some(topology) = Topology::new(2, &[1, 2], &[3, 2], &[5, 6]) else {
         panic!(rt; "refused")
     };
+    assert!(rt; topology.kind(8) == Some(Kind::Connector));
     assert!(rt; Topology::new(1, &[2], &[1], &[1]).is_none());
 }

@@ -38,6 +38,11 @@ fn part_1(rt: HostRuntime) {
                 object
             })
     );
+}
+
+#[test]
+fn part_2(rt: HostRuntime) {
+    let alloc = rt.alloc();
     let mut tokens = Tokens::new(alloc, 100);
     let object = ObjectKey::from_number(4);
     let Ok(token) = tokens.export(9, object) else {

@@ -52,6 +52,11 @@ fn part_1(rt: HostRuntime) {
         panic!(rt; "refused")
     };
     assert!(rt; journal.is_some());
+}
+
+#[test]
+fn part_2(rt: HostRuntime) {
+    let alloc = rt.alloc();
     let outcome = Outcome {
         status: 0,
         line: FaultLine::empty(),
@@ -63,11 +68,6 @@ fn part_1(rt: HostRuntime) {
     assert!(rt; outcome.status == 2);
     let outcome = outcome_of_checks(&Totals::new());
     assert!(rt; outcome.status == 0);
-}
-
-#[test]
-fn part_2(rt: HostRuntime) {
-    let alloc = rt.alloc();
     let device = AskedDevice {
         topology: None,
         limits: None,

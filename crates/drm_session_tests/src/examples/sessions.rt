@@ -63,26 +63,8 @@ fn part_2(rt: HostRuntime) {
         &mut sink,
         1000,
     );
-    assert!(rt; session.end == SessionEnd::Truncated);
-    let Some(topology) = Topology::new(2, &[1, 2], &[3, 2], &[5, 6]) else {
-        panic!(rt; "refused")
-    };
-    let Ok(mut device) = Device::new(alloc, topology, Limits::PROGRAM) else {
-        panic!(rt; "refused")
-    };
-    let hello = [14, 0, 0, 0, 0, 1, 1, 0, 0, 0, 0, 0, 0, 0, 0, 0, 0, 0];
-    let mut source = FromRead::new(&hello[..4]);
-    let mut sink = ToWrite::new(Vec::new(alloc));
-    let session = serve_alone(
-        &mut device,
-        &mut NoGate,
-        Class::Card,
-        &mut source,
-        &mut sink,
-        1000,
-    );
-    let Session { client, steps, .. } = session;
-    assert!(rt; client == 0 && steps == 0);
+    let Session { end, steps, .. } = session;
+    assert!(rt; end == SessionEnd::Truncated && steps == 0);
 }
 
 #[test]
@@ -202,6 +184,10 @@ fn part_5(rt: HostRuntime) {
         1000,
     );
     assert!(rt; session.steps == 2);
+}
+
+#[test]
+fn part_6(rt: HostRuntime) {
     let event = Event::Close(1);
     assert!(rt; NoWitness.shortage(&event).is_none());
     NoWitness.tell(&event, Some(0), &Ok(Answer::Closed));

@@ -29,16 +29,4 @@ fn part_1(rt: HostRuntime) {
     assert!(rt;
         text.as_slice() == b"    1.500000      1 card   open ? render -> client 1\n".as_slice()
     );
-    let Some(topology) = Topology::new(2, &[1, 2], &[3, 2], &[5, 6]) else {
-        panic!(rt; "refused")
-    };
-    let Ok(other) = Device::new(alloc, topology, Limits::PROGRAM) else {
-        panic!(rt; "refused")
-    };
-    let counter = Tracer::new(other, Palette::Plain);
-    let mut text = Vec::new(alloc);
-    let Ok(()) = counter.put_left_out(&mut text, 3) else {
-        panic!(rt; "refused")
-    };
-    assert!(rt; text.as_slice() == b"# 3 faults are left out here\n".as_slice());
 }

@@ -31,11 +31,6 @@ fn part_1(rt: HostRuntime) {
     };
     let note = shared.note(&mut participant);
     shared.meet(&mut participant, note);
-}
-
-#[test]
-fn part_2(rt: HostRuntime) {
-    let alloc = rt.alloc();
     let Some(topology) = Topology::new(2, &[1, 2], &[3, 2], &[5, 6]) else {
         panic!(rt; "refused")
     };
@@ -50,6 +45,11 @@ fn part_2(rt: HostRuntime) {
         Ok(device) => assert!(rt; device.journal().is_empty()),
         Err(TurnOut) => panic!(rt; "refused"),
     }
+}
+
+#[test]
+fn part_2(rt: HostRuntime) {
+    let alloc = rt.alloc();
     let Some(topology) = Topology::new(2, &[1, 2], &[3, 2], &[5, 6]) else {
         panic!(rt; "refused")
     };
@@ -61,11 +61,6 @@ fn part_2(rt: HostRuntime) {
     };
     let opening = Event::Open(Opening::Render);
     assert!(rt; shared.call(&rt, &mut participant, opening) == Ok(Answer::Opened { client: 1 }));
-}
-
-#[test]
-fn part_3(rt: HostRuntime) {
-    let alloc = rt.alloc();
     let Some(topology) = Topology::new(2, &[1, 2], &[3, 2], &[5, 6]) else {
         panic!(rt; "refused")
     };
