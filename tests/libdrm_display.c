@@ -787,7 +787,7 @@ static void stopped(void)
     printf("stops %d of 8, killed by %d\n", stops, WTERMSIG(status));
 }
 
-/* Standard error is closed, so that a node could get its number, or nobody reads it. */
+/* Standard error is closed, so that a node could get its number, or nothing reads it. */
 static void traced(void)
 {
     int pair[2], fd, again;

@@ -519,7 +519,7 @@ static void read_events(void)
     say("waits until a signal", read(waiting, events, sizeof events) < 0 ? -errno : 0);
 }
 
-/* Events are for whoever reads the file: a child reads its parent's, and the parent the child's. */
+/* Any holder of the file reads its events: a child its parent's, and the parent the child's. */
 static void fork_between(void)
 {
     int fd = open_card(O_NONBLOCK), status;

@@ -65,7 +65,7 @@ a gem_close 7               -> denied 22
 """
 
 
-# scripts that check themselves, what is told of them, and how many expectations were met and not met
+# scripts that check themselves, what is reported of them, and how many expectations were met and not met
 CHECKED = (
     (
         """# open a card -> nothing

@@ -39,7 +39,7 @@ echo 'rt: top_tests NOT PROVED: its library top failed'
 echo '4 passed, 1 failed'
 exit 1
 """
-# what stands for the program: the folder that it was built in
+# a toolchain that builds a program, and lists the sources that it has
 BUILDS = """find . -name '*.rt' -o -name '*.edit' -o -name HANDLES | sort > "$LISTED"
 cat crates.txt >> "$LISTED"
 mkdir -p crates/top/out
@@ -78,7 +78,7 @@ def repository(folder, toolchain):
 
 
 def took(folder, **minutes):
-    """Lets these crates have taken so many minutes for their proofs when they were last proved."""
+    """Records how many minutes the last proof of each crate took."""
     file = folder / "cache/zirkoshe/proofs.json"
     file.parent.mkdir(parents=True)
     file.write_text(

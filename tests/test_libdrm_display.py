@@ -100,7 +100,7 @@ for line in sys.stdin:
 
 
 class Asker:
-    """A program that makes the requests that it is told."""
+    """A program that makes the requests that it receives."""
 
     def __init__(self, process):
         self.process = process
@@ -251,7 +251,7 @@ opens a link to a folder done, its file done, changes the mode done, owner done,
         finds("stopped", "stops 8 of 8, killed by 9\n")
 
     def test_trace_without_standard_error(self):
-        """It isn't written to the node that has its number, and nobody who reads it is no end of the program."""
+        """The trace isn't written to the node that has its number. If nothing reads it, the program continues."""
         program = compiled(CASES)
         library()
         ran = run(WITH_SERVER, "--libdrm", program, "traced", env={**os.environ, "DRM_SERVER_TRACE": "all"})

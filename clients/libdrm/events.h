@@ -44,7 +44,7 @@ struct events {
 void events_begin(struct events *events);
 void events_end(struct events *events);
 
-/* Returns whether so many more can wait, with those that were written and not read. */
+/* Returns whether this many more events can wait, beside those that were written and not read. */
 bool events_have_room(const struct events *events, unsigned count);
 
 /* Adds an event whose kind and data are in place: that of the vertical blanking of this number and

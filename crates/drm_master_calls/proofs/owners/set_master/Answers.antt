@@ -215,7 +215,7 @@ none : {X : Type 0} (o : Option X) → is_none o ≡ true → o ≡ None
 none None h = refl
 none (Some x) h = absurd (let e : false ≡ true = h in cc)
 
--- a new master is made only for who is no master, and if no rule denies it
+-- SET_MASTER makes a new master only if the client is no master and no rule denies it
 allowed : (v : MasterSet) (x : Member) (root : Bool) → sets_new v x root ≡ true
     → (first_failing (set_checks v x root) ≡ None) × (is_current_member v x ≡ false) × (x.is_master ≡ false)
 unfolding sets_new

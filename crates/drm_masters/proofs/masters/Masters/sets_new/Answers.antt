@@ -8,7 +8,7 @@ use Rattle.drm_masters.specs.Masters.{MasterSet, member_of, owner_of, is_option,
 use Rattle.drm_masters.specs.Calls.{sets_new, set_checks}
 use Rattle.drm_masters.proofs.masters.Masters.sets_new.Goals as goal
 
--- who is no master is not current and no lessee, so that two rules are left
+-- a client that is no master is neither current nor a lessee, so two rules are left
 checks : (own may : Bool) (device : Option ℕ) (current lessee : Bool)
     → ((not own && not (is_some device)) && may) ≡ (not own && is_none (first_failing (check MasterPerm may ∷ check MasterBusy ((own && current) || not (is_some device)) ∷ check IsLessee ((own && current) || not (own && lessee)) ∷ [])))
 checks true may device current lessee = refl
