@@ -1,12 +1,13 @@
 //! Handles of objects that exist.
 
-ghost use Rattle.std.specs.Prelude.{◌≡◌, ◌↔◌, true, None, Some, OnErr, IfOk, IfErr, ◌++◌};
+ghost use Rattle.std.specs.Prelude.{◌≡◌, ◌↔◌, true, None, Some, OnErr, OnOk, IfOk, IfErr, ◌++◌};
 ghost use Rattle.drm_lists.specs.Numbers.{is_among};
 ghost use Rattle.drm_files.specs.FileFault.{IsFull};
 ghost use Rattle.drm_files.specs.Files.{is_open_client, free_handle, hold, with_handle_row};
 ghost use Rattle.drm_state.specs.Parts.{keys_of, referring_keys};
 ghost use Rattle.drm_state.specs.Invariants.{MeetsInvariants, StepPrecondition};
 ghost use Rattle.drm_state.specs.Refinement.{AddsHandle};
+ghost use Rattle.drm_state.specs.declared.memory.Memory.TheVariants.{Refused};
 
 use crate::memory::Memory;
 use crate::state::State;
@@ -29,6 +30,7 @@ pub fn new_handle(
     requires known { is_among (keys_of state.old.files.holds ++ referring_keys state.old) object ≡ true }
     ensures adds { AddsHandle state.old client object export_order result state.new }
     ensures invariants { MeetsInvariants state.new }
+    ensures refused { memory ≡ Refused → IfOk result (λ handle. handle ≡ None) }
 {
     let handle = match add_handle(&mut state.files, memory, client, object, export_order) {
         Ok(handle) => handle,
@@ -53,6 +55,7 @@ pub fn add_handle(
     ensures ok { IfOk result (λ handle. files.new ≡ with_handle_row files.old (hold client handle object export_order)) }
     ensures err { OnErr result (files.new ≡ files.old) }
     ensures full { IfErr result (λ fault. IsFull fault ↔ (free_handle files.old client ≡ None)) }
+    ensures refused { memory ≡ Refused → OnOk result ⊥ }
 {
     if memory.is_refused() && files.has_room(client) {
         return Err(FileFault::NoMemory);
