@@ -246,7 +246,7 @@ static void refuse_values(void)
             {CRTC, "MODE_ID", 0},
             {CRTC, "MODE_ID", 99},
             {CRTC, "MODE_ID", bytes},
-            {CRTC, "OUT_FENCE_PTR", (uint64_t)(uintptr_t)&fb},
+            {CRTC, "OUT_FENCE_PTR", 4096},
             {OTHER_CRTC, "ACTIVE", 1},
             {OTHER_CRTC, "MODE_ID", mode},
             {CONNECTOR, "CRTC_ID", 0},
@@ -335,6 +335,24 @@ static void deny(void)
            (int)value_of(fd, OTHER_PRIMARY, "FB_ID") == (int)fbs[1]);
     pause_at("refused again");
     say("another one", COMMIT(fd, 0, {PRIMARY, "FB_ID", fbs[2]}, {OTHER_PRIMARY, "FB_ID", fbs[0]}));
+}
+
+/* The server denies the last change: a client of the server has removed its framebuffer, the next
+ * one after this program's, while the server answered the first change late. */
+static void take_back(void)
+{
+    int fd = open_card(true);
+    uint32_t fbs[] = {make_fb(fd, 64), make_fb(fd, 64)}, mode = mode_blob(fd, 10);
+
+    say("lights", COMMIT(fd, MODESET, LIGHTS(CRTC, CONNECTOR, PRIMARY, mode, fbs[0])));
+    pause_at("lit");
+    say("the last is gone",
+        COMMIT(fd, 0, {PRIMARY, "FB_ID", fbs[1]}, SHOWS(OVERLAY, CRTC, fbs[1] + 1)));
+    say_what_is_shown(fd);
+    printf("planes have %d %d\n", (int)value_of(fd, PRIMARY, "FB_ID") == (int)fbs[0],
+           (int)value_of(fd, OVERLAY, "FB_ID") == 0);
+    say("another one", COMMIT(fd, 0, {PRIMARY, "FB_ID", fbs[1]}, SHOWS(OVERLAY, CRTC, fbs[0])));
+    say_what_is_shown(fd);
 }
 
 static void keep_blobs(void)
@@ -496,7 +514,7 @@ static const struct {
     {"routes", try_routes}, {"properties", describe},  {"shows", show},
     {"flags", try_flags},   {"values", refuse_values}, {"lease", commit_a_lease},
     {"denied", deny},       {"blobs", keep_blobs},     {"modifiers", add_with_modifiers},
-    {"mixed", mix},
+    {"mixed", mix},         {"taken-back", take_back},
 };
 
 int main(int count, char **words)

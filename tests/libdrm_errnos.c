@@ -103,6 +103,7 @@ int main(int count, char **words)
     context.other_fb = add_fb(&context, SIDE, 32);
     context.fb = add_fb(&context, SIDE, 32);
     run_trials(&context, core_trials);
+    run_trials(&context, sync_trials);
     run_trials(&context, mode_trials);
     run_trials(&context, blank_trials);
     run_trials(&context, atomic_trials);

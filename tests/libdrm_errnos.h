@@ -49,6 +49,7 @@ struct set {
 
 /* Each table ends with a row without a name. */
 extern const struct trial core_trials[];
+extern const struct trial sync_trials[];
 extern const struct trial mode_trials[];
 extern const struct trial blank_trials[];
 extern const struct trial atomic_trials[];

@@ -218,6 +218,87 @@ static int out_fence(struct context *context)
     return COMMIT(0, {CRTC, "OUT_FENCE_PTR", 0});
 }
 
+static int out_fence_at_a_wrong_address(struct context *context)
+{
+    return COMMIT(0, {CRTC, "OUT_FENCE_PTR", 4096});
+}
+
+static int out_fence_of_a_dark_crtc(struct context *context)
+{
+    int32_t file = 0;
+
+    return COMMIT(0, {CRTC, "OUT_FENCE_PTR", (uintptr_t)&file});
+}
+
+static int no_in_fence(struct context *context)
+{
+    return COMMIT(TEST, {PRIMARY, "IN_FENCE_FD", (uint64_t)-1});
+}
+
+static int in_fence_of_a_node(struct context *context)
+{
+    return COMMIT(TEST, {PRIMARY, "IN_FENCE_FD", (uint64_t)context->guest});
+}
+
+static int in_fence_of_no_descriptor(struct context *context)
+{
+    return COMMIT(TEST, {PRIMARY, "IN_FENCE_FD", 1000});
+}
+
+static int in_fence_below_the_range(struct context *context)
+{
+    return COMMIT(TEST, {PRIMARY, "IN_FENCE_FD", (uint64_t)-2});
+}
+
+static int of_nothing_that_blocks(struct context *context)
+{
+    return COMMIT(0, {PRIMARY, "FB_ID", context->fb});
+}
+
+static int fence_of_the_flip = -1;
+
+static int flips_with_a_fence(struct context *context)
+{
+    return COMMIT(DRM_MODE_ATOMIC_NONBLOCK, {CRTC, "OUT_FENCE_PTR", (uintptr_t)&fence_of_the_flip});
+}
+
+static int in_fence(struct context *context)
+{
+    return COMMIT(TEST, {PRIMARY, "IN_FENCE_FD", (uint64_t)fence_of_the_flip});
+}
+
+static int two_in_fences(struct context *context)
+{
+    return COMMIT(TEST, {PRIMARY, "IN_FENCE_FD", (uint64_t)fence_of_the_flip},
+                  {PRIMARY, "IN_FENCE_FD", (uint64_t)fence_of_the_flip});
+}
+
+static int blocks_after_that(struct context *context)
+{
+    return COMMIT(0, {PRIMARY, "IN_FENCE_FD", (uint64_t)fence_of_the_flip});
+}
+
+static int no_such_gamma(struct context *context)
+{
+    return COMMIT(TEST, {CRTC, "GAMMA_LUT", NO_ID});
+}
+
+/* A blob of a mode isn't one of whole entries. */
+static int gamma_of_another_size(struct context *context)
+{
+    return COMMIT(TEST, {CRTC, "GAMMA_LUT", mode_blob(context)});
+}
+
+static int no_gamma(struct context *context)
+{
+    return COMMIT(TEST, {CRTC, "GAMMA_LUT", 0});
+}
+
+static int size_of_gamma(struct context *context)
+{
+    return COMMIT(TEST, {CRTC, "GAMMA_LUT_SIZE", 16});
+}
+
 static int framebuffer_without_a_crtc(struct context *context)
 {
     return COMMIT(0, {PRIMARY, "FB_ID", context->fb});
@@ -342,6 +423,16 @@ const struct trial atomic_trials[] = {
     {"MODE_ATOMIC, no such framebuffer", no_such_framebuffer},
     {"MODE_ATOMIC, no such CRTC", no_such_crtc},
     {"MODE_ATOMIC, OUT_FENCE_PTR of 0", out_fence},
+    {"MODE_ATOMIC, OUT_FENCE_PTR at a wrong address", out_fence_at_a_wrong_address},
+    {"MODE_ATOMIC, OUT_FENCE_PTR of a dark CRTC", out_fence_of_a_dark_crtc},
+    {"MODE_ATOMIC, IN_FENCE_FD of -1", no_in_fence},
+    {"MODE_ATOMIC, IN_FENCE_FD of a node", in_fence_of_a_node},
+    {"MODE_ATOMIC, IN_FENCE_FD not open", in_fence_of_no_descriptor},
+    {"MODE_ATOMIC, IN_FENCE_FD of -2", in_fence_below_the_range},
+    {"MODE_ATOMIC, GAMMA_LUT of no blob", no_such_gamma},
+    {"MODE_ATOMIC, GAMMA_LUT of another size", gamma_of_another_size},
+    {"MODE_ATOMIC, GAMMA_LUT of 0", no_gamma},
+    {"MODE_ATOMIC, GAMMA_LUT_SIZE", size_of_gamma},
     {"MODE_ATOMIC, FB_ID without CRTC_ID", framebuffer_without_a_crtc},
     {"MODE_ATOMIC, CRTC_ID without FB_ID", crtc_without_a_framebuffer},
     {"MODE_ATOMIC, lights without ALLOW_MODESET", lights_without_the_flag},
@@ -360,6 +451,11 @@ const struct trial atomic_trials[] = {
     {"MODE_ATOMIC, NONBLOCK", flips},
     {"MODE_ATOMIC, NONBLOCK before that is complete", flips_too_early},
     {"MODE_ATOMIC, TEST_ONLY before that is complete", tests_too_early},
+    {"MODE_ATOMIC, blocks until that is complete", of_nothing_that_blocks},
+    {"MODE_ATOMIC, NONBLOCK with OUT_FENCE_PTR", flips_with_a_fence},
+    {"MODE_ATOMIC, IN_FENCE_FD", in_fence},
+    {"MODE_ATOMIC, two IN_FENCE_FD of a plane", two_in_fences},
+    {"MODE_ATOMIC, blocks with IN_FENCE_FD", blocks_after_that},
     {"MODE_ATOMIC, darkens", darkens},
     {NULL, NULL},
 };

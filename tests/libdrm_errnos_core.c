@@ -119,13 +119,6 @@ static int map_of_no_handle(struct context *context)
     return map(context, NO_ID);
 }
 
-static int sync_object(struct context *context)
-{
-    struct drm_syncobj_create create = {0};
-
-    return ioctl(context->card, DRM_IOCTL_SYNCOBJ_CREATE, &create);
-}
-
 static int write_to_the_node(struct context *context)
 {
     return write(context->card, "x", 1) < 0 ? -1 : 0;
@@ -301,7 +294,6 @@ const struct trial core_trials[] = {
     {"PRIME_FD_TO_HANDLE, descriptor not open", import_of_a_closed_descriptor},
     {"PRIME_FD_TO_HANDLE, descriptor of something else", import_of_another_file},
     {"MODE_MAP_DUMB, no such handle", map_of_no_handle},
-    {"SYNCOBJ_CREATE", sync_object},
     {"write", write_to_the_node},
     {"read, no event", read_without_events},
     {"MODE_LIST_LESSEES, pad not 0", list_lessees_with_a_pad},

@@ -188,7 +188,7 @@ static int mode_of_a_guest(struct context *context)
 
 static int gamma_of(struct context *context, unsigned long request, uint32_t crtc, uint32_t size)
 {
-    uint16_t table[16] = {0};
+    uint16_t table[256] = {0};
     struct drm_mode_crtc_lut lut = {crtc, size, (uintptr_t)table, (uintptr_t)table,
                                     (uintptr_t)table};
 
@@ -208,6 +208,23 @@ static int gamma_of_no_entries(struct context *context)
 static int gamma_of_16_entries(struct context *context)
 {
     return gamma_of(context, DRM_IOCTL_MODE_GETGAMMA, context->crtcs[0], 16);
+}
+
+static int gamma_of_256_entries(struct context *context)
+{
+    return gamma_of(context, DRM_IOCTL_MODE_GETGAMMA, context->crtcs[0], 256);
+}
+
+static int gamma_of_256_entries_is_set(struct context *context)
+{
+    return gamma_of(context, DRM_IOCTL_MODE_SETGAMMA, context->crtcs[0], 256);
+}
+
+static int gamma_at_a_wrong_address(struct context *context)
+{
+    struct drm_mode_crtc_lut lut = {context->crtcs[0], 256, 0, 0, 0};
+
+    return ioctl(context->card, DRM_IOCTL_MODE_SETGAMMA, &lut);
 }
 
 static int gamma_is_set(struct context *context)
@@ -272,6 +289,22 @@ static int cursor_of_64_pixels(struct context *context)
 static int cursor_of_128_pixels(struct context *context)
 {
     return shown_cursor(context, 128);
+}
+
+static int cursor_beyond_its_buffer(struct context *context)
+{
+    return cursor_of(context, (struct drm_mode_cursor){.flags = DRM_MODE_CURSOR_BO,
+                                                       .crtc_id = context->crtcs[0],
+                                                       .width = 4 * SIDE,
+                                                       .height = 4 * SIDE,
+                                                       .handle = context->handle});
+}
+
+static int cursor_that_overflows(struct context *context)
+{
+    return cursor_of(context, (struct drm_mode_cursor){.flags = DRM_MODE_CURSOR_MOVE,
+                                                       .crtc_id = context->crtcs[0],
+                                                       .x = INT32_MAX});
 }
 
 static int moved_cursor(struct context *context)
@@ -507,7 +540,10 @@ const struct trial mode_trials[] = {
     {"MODE_GETGAMMA, no such CRTC", gamma_of_no_crtc},
     {"MODE_GETGAMMA, no entries", gamma_of_no_entries},
     {"MODE_GETGAMMA, 16 entries", gamma_of_16_entries},
-    {"MODE_SETGAMMA", gamma_is_set},
+    {"MODE_GETGAMMA, 256 entries", gamma_of_256_entries},
+    {"MODE_SETGAMMA, 16 entries", gamma_is_set},
+    {"MODE_SETGAMMA, 256 entries", gamma_of_256_entries_is_set},
+    {"MODE_SETGAMMA, NULL", gamma_at_a_wrong_address},
     {"MODE_SETGAMMA, no such CRTC", gamma_of_no_crtc_is_set},
     {"MODE_CURSOR, no flags", cursor_without_flags},
     {"MODE_CURSOR, other flags", cursor_of_other_flags},
@@ -515,6 +551,8 @@ const struct trial mode_trials[] = {
     {"MODE_CURSOR, no such handle", cursor_of_no_handle},
     {"MODE_CURSOR, 64 by 64", cursor_of_64_pixels},
     {"MODE_CURSOR, 128 by 128", cursor_of_128_pixels},
+    {"MODE_CURSOR, 256 by 256 of a smaller buffer", cursor_beyond_its_buffer},
+    {"MODE_CURSOR, position that overflows", cursor_that_overflows},
     {"MODE_CURSOR, move", moved_cursor},
     {"MODE_CURSOR, handle 0", hidden_cursor},
     {"MODE_CURSOR, not current", cursor_of_a_guest},

@@ -2,6 +2,7 @@
 #define _GNU_SOURCE
 #include <errno.h>
 #include <fcntl.h>
+#include <linux/sync_file.h>
 #include <poll.h>
 #include <signal.h>
 #include <stdint.h>
@@ -57,6 +58,41 @@ static void fill(uint64_t *words, size_t count, int has_addresses)
     }
 }
 
+/* A time at which a wait ends soon */
+static uint64_t soon(void)
+{
+    struct timespec now;
+
+    clock_gettime(CLOCK_MONOTONIC, &now);
+    return (uint64_t)now.tv_sec * 1000000000 + (uint64_t)now.tv_nsec + (uint64_t)(rand() % 3000000);
+}
+
+/* Keeps a wait short. */
+static void shorten(unsigned long asked, uint64_t *words)
+{
+    if (asked == DRM_IOCTL_SYNCOBJ_WAIT)
+        words[1] = soon();
+    if (asked == DRM_IOCTL_SYNCOBJ_TIMELINE_WAIT)
+        words[2] = soon();
+    if (asked == DRM_IOCTL_SYNCOBJ_TRANSFER)
+        words[3] &= ~(uint64_t)DRM_SYNCOBJ_WAIT_FLAGS_WAIT_FOR_SUBMIT;
+}
+
+/* Requests with the descriptor of an object or of a fence, which is closed then. */
+static void use(int fd, int file)
+{
+    struct drm_syncobj_handle import = {(uint32_t)(rand() % 4), (uint32_t)(rand() % 3), file, 0};
+    struct sync_merge_data merge = {.fd2 = rand() % 2 ? file : rand() % 8};
+    struct sync_file_info info = {.num_fences = (uint32_t)(rand() % 3),
+                                  .sync_fence_info = (uintptr_t)lists};
+
+    ioctl(fd, DRM_IOCTL_SYNCOBJ_FD_TO_HANDLE, &import);
+    if (ioctl(file, SYNC_IOC_MERGE, &merge) == 0)
+        close(merge.fence);
+    ioctl(file, SYNC_IOC_FILE_INFO, &info);
+    close(file);
+}
+
 static void request(int fd)
 {
     static const unsigned long known[] = {DRM_IOCTL_VERSION,
@@ -104,7 +140,23 @@ static void request(int fd)
                                           DRM_IOCTL_MODE_LIST_LESSEES,
                                           DRM_IOCTL_MODE_GET_LEASE,
                                           DRM_IOCTL_MODE_REVOKE_LEASE,
-                                          DRM_IOCTL_MODE_GETFB2};
+                                          DRM_IOCTL_MODE_GETFB2,
+                                          DRM_IOCTL_MODE_CURSOR2,
+                                          DRM_IOCTL_MODE_GETGAMMA,
+                                          DRM_IOCTL_MODE_SETGAMMA,
+                                          DRM_IOCTL_MODE_OBJ_SETPROPERTY,
+                                          DRM_IOCTL_SYNCOBJ_CREATE,
+                                          DRM_IOCTL_SYNCOBJ_DESTROY,
+                                          DRM_IOCTL_SYNCOBJ_HANDLE_TO_FD,
+                                          DRM_IOCTL_SYNCOBJ_FD_TO_HANDLE,
+                                          DRM_IOCTL_SYNCOBJ_WAIT,
+                                          DRM_IOCTL_SYNCOBJ_RESET,
+                                          DRM_IOCTL_SYNCOBJ_SIGNAL,
+                                          DRM_IOCTL_SYNCOBJ_TIMELINE_WAIT,
+                                          DRM_IOCTL_SYNCOBJ_TIMELINE_SIGNAL,
+                                          DRM_IOCTL_SYNCOBJ_QUERY,
+                                          DRM_IOCTL_SYNCOBJ_TRANSFER,
+                                          DRM_IOWR(0xCF, struct drm_syncobj_timeline_array)};
     uint64_t words[64];
     unsigned long asked = known[(size_t)rand() % (sizeof known / sizeof known[0])];
 
@@ -124,10 +176,17 @@ static void request(int fd)
             (uintptr_t)lists;
         for (int at = 0; at < 16; at++)
             lists[at] = (uint64_t)(rand() % 12) << 32 | (uint64_t)(rand() % 12);
+        /* properties that there are */
+        if (rand() % 2)
+            commit->props_ptr = (uintptr_t)(lists + 64);
+        for (int at = 64; at < 80; at++)
+            lists[at] = (uint64_t)(1000 + rand() % 22) << 32 | (uint64_t)(1000 + rand() % 22);
     } else {
         lists[0] = 7;
     }
-    ioctl(fd, asked, words);
+    shorten(asked, words);
+    if (ioctl(fd, asked, words) == 0 && asked == DRM_IOCTL_SYNCOBJ_HANDLE_TO_FD)
+        use(fd, (int)words[1]);
     if (asked == DRM_IOCTL_PRIME_HANDLE_TO_FD && (int)(words[1] & 0xffffffff) > 2)
         close((int)(words[1] >> 32) > 50 ? (int)(words[1] >> 32) : -1);
     if (asked == DRM_IOCTL_MODE_CREATE_LEASE && (int)(words[2]) > 50)

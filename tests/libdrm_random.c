@@ -12,9 +12,11 @@ struct choice {
     uint32_t count, id;
 };
 
+#define MOST_VALUES 80
+
 /* All that commits and the server keep of the device */
 struct picture {
-    uint64_t values[40];
+    uint64_t values[MOST_VALUES];
     uint32_t count, crtcs[2], overlay;
 };
 
@@ -33,7 +35,7 @@ static struct picture picture_of(int fd)
         drmModeObjectProperties *listed =
             drmModeObjectGetProperties(fd, objects[at], DRM_MODE_OBJECT_ANY);
 
-        for (each = 0; each < listed->count_props && picture.count < 40; each++) {
+        for (each = 0; each < listed->count_props && picture.count < MOST_VALUES; each++) {
             if (listed->props[each] != 0)
                 picture.values[picture.count++] = listed->prop_values[each];
         }
@@ -119,6 +121,43 @@ static drmModeAtomicReq *random_request(int fd, const struct choice *choices, si
     return request;
 }
 
+/* Where commits put the numbers of their fences */
+static int32_t fences[2] = {-1, -1};
+
+/* Closes them, and returns whether there was one. */
+static bool close_fences(void)
+{
+    bool was_one = fences[0] != -1 || fences[1] != -1;
+    int at;
+
+    for (at = 0; at < 2; at++) {
+        if (fences[at] != -1)
+            close(fences[at]);
+        fences[at] = -1;
+    }
+    return was_one;
+}
+
+/* A fence that is signaled. */
+static int fence_of(int fd)
+{
+    uint32_t handle = 0;
+    int file = -1;
+
+    drmSyncobjCreate(fd, DRM_SYNCOBJ_CREATE_SIGNALED, &handle);
+    drmSyncobjExportSyncFile(fd, handle, &file);
+    return file;
+}
+
+static uint32_t gamma_blob(int fd)
+{
+    struct drm_color_lut entries[256] = {{0}};
+    uint32_t blob = 0;
+
+    drmModeCreatePropertyBlob(fd, entries, sizeof entries, &blob);
+    return blob;
+}
+
 /* Random commits: one that fails, or only tests, leaves everything unchanged, and after each of
  * them the server shows what the properties say. */
 static void commit_at_random(int commits)
@@ -126,7 +165,8 @@ static void commit_at_random(int commits)
     static const uint32_t flags[] = {0, MODESET, MODESET, MODESET | DRM_MODE_ATOMIC_TEST_ONLY};
     int fd = open_card(true), at, done = 0, changed = 0, differs = 0;
     uint32_t fbs[] = {make_fb(fd, 64), make_fb(fd, 64)}, small = make_fb(fd, 32);
-    uint32_t mode = mode_blob(fd, 1), other = mode_blob(fd, 2);
+    uint32_t mode = mode_blob(fd, 1), other = mode_blob(fd, 2), gamma = gamma_blob(fd);
+    uint64_t fence = (uint64_t)fence_of(fd);
     struct choice choices[] = {
         {PRIMARY, "FB_ID", {0, fbs[0], fbs[1], small, 999}, 5, 0},
         {PRIMARY, "CRTC_ID", {0, CRTC, OTHER_CRTC}, 3, 0},
@@ -138,6 +178,11 @@ static void commit_at_random(int commits)
         {CRTC, "ACTIVE", {0, 1}, 2, 0},
         {CRTC, "MODE_ID", {0, mode, other}, 3, 0},
         {OTHER_CRTC, "ACTIVE", {0, 1}, 2, 0},
+        {CRTC, "GAMMA_LUT", {0, gamma, mode}, 3, 0},
+        {CRTC, "OUT_FENCE_PTR", {0, (uintptr_t)&fences[0], 4096}, 3, 0},
+        {OTHER_CRTC, "OUT_FENCE_PTR", {0, (uintptr_t)&fences[1]}, 2, 0},
+        {PRIMARY, "IN_FENCE_FD", {(uint64_t)-1, fence, (uint64_t)fd, 999}, 4, 0},
+        {OVERLAY, "IN_FENCE_FD", {(uint64_t)-1, fence}, 2, 0},
         {CONNECTOR, "CRTC_ID", {0, CRTC, OTHER_CRTC}, 3, 0},
         {OTHER_CONNECTOR, "CRTC_ID", {0, CRTC, OTHER_CRTC}, 3, 0},
     };
@@ -157,7 +202,9 @@ static void commit_at_random(int commits)
         failed = drmModeAtomicCommit(fd, request, flag, NULL);
         after = picture_of(fd);
         done += failed == 0 && flag != flags[3];
-        changed += (failed != 0 || flag == flags[3]) && memcmp(&before, &after, sizeof after) != 0;
+        changed += (failed != 0 || flag == flags[3])
+                   && (close_fences() || memcmp(&before, &after, sizeof after) != 0);
+        close_fences();
         differs += !is_as_the_server_shows(fd, &after);
         drmModeAtomicFree(request);
     }

@@ -467,20 +467,18 @@ static void lease_nothing(int master, int other)
 static void call_what_lacks(int fd)
 {
     struct drm_mode_crtc_lut gamma = {.crtc_id = 1, .gamma_size = 256};
-    struct drm_syncobj_create object = {0};
     drmVBlank vblank = {.request = {.type = DRM_VBLANK_RELATIVE, .sequence = 1}};
     drmModeAtomicReq *request = drmModeAtomicAlloc();
     uint32_t blob;
 
     drmModeAtomicAddProperty(request, 1, 1, 1);
-    printf("atomic %d, flip %d, cursor %d, dirty %d, gamma %d %d, vblank %d, blob %d, object %d\n",
+    printf("atomic %d, flip %d, cursor %d, dirty %d, gamma %d %d, vblank %d, blob %d\n",
            drmModeAtomicCommit(fd, request, 0, NULL), drmModePageFlip(fd, 1, 9, 0, NULL),
            drmModeSetCursor(fd, 1, 0, 64, 64), drmModeDirtyFB(fd, 9, NULL, 0),
            drmIoctl(fd, DRM_IOCTL_MODE_GETGAMMA, &gamma) == 0 ? 0 : -errno,
            drmModeCrtcSetGamma(fd, 1, 0, NULL, NULL, NULL),
            drmWaitVBlank(fd, &vblank) == 0 ? 0 : -errno,
-           drmModeCreatePropertyBlob(fd, &blob, sizeof blob, &blob),
-           drmIoctl(fd, DRM_IOCTL_SYNCOBJ_CREATE, &object) == 0 ? 0 : -errno);
+           drmModeCreatePropertyBlob(fd, &blob, sizeof blob, &blob));
     drmModeAtomicFree(request);
 }
 

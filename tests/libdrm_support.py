@@ -137,6 +137,18 @@ def served(folder, cards=64, renders=8, roots=8, more=(), **variables):
         yield started
 
 
+def finds_alike(source, case, text, *command, **variables):
+    """Compares what a case of a program finds, with the library and under the supervisor."""
+    program = compiled(source)
+    library()
+    for option in ("--libdrm", "--seccomp"):
+        if option == "--seccomp":
+            supervisor()
+        ran = run(REPOSITORY / "tools/with-server", option, *command, program, case, env={**os.environ, **variables})
+        expect(f"{case} with {option}: error output", ran.stderr, "")
+        expect(f"{case} with {option}: status and output", (ran.returncode, ran.stdout), (0, text))
+
+
 def in_time(run_once):
     """What a run of a program returns. The program is run again while it is too slow, as on a busy machine."""
     for _ in range(TRIES - 1):

@@ -18,6 +18,7 @@ from support import (  # noqa: E402
     expect,
     expect_no_sockets,
     expect_told,
+    next_told,
     path_words,
     run_program,
     run_tests,
@@ -152,6 +153,11 @@ WRONG_WORDS: List[List[str]] = [
 
 class ControlSocketTests(FolderCase):
     """Tests of the control socket, and of the options that plan faults."""
+
+    def test_control_socket_is_logged(self):
+        with controlled(self.folder, "--verbose") as started:
+            logged = [next_told(started) for _ in range(4)]
+        expect("what is logged last", logged[-1], f"INFO control: {self.folder / 'control'}")
 
     def test_plans_are_listed_replaced_and_forgotten(self):
         lines = ["break 7:4", "fail create_dumb:2=memory", "stall create_dumb:5=60000", "stall gem_open:65535=1"]

@@ -392,6 +392,15 @@ class DocumentsTests(FolderCase):
         want_program("rustc")
         expect_page(folder, "rust", "rs")
 
+    def test_steps_of_a_request_are_functions(self):
+        steps = tables_of("docs/ARCHITECTURE.md")[0]
+        expect("steps", [row[0] for row in steps], [str(number + 1) for number in range(min(len(steps), 25))])
+        for _, _, place, function in steps:
+            crate, file = place.strip("`").split("/")
+            source = (REPOSITORY / "crates" / crate / "src" / file).read_text()
+            name = function.strip("`")
+            expect(f"whether {place} has {name}", re.search(rf"\bfn {name}\b", source) is not None, True)
+
     def test_crates_of_the_architecture(self):
         """The last table lists all crates with their dependencies."""
         there = crates()

@@ -92,9 +92,9 @@ def on_one_processor():
 
 
 def gate(folder, *, tries=0, proves=0, tests=0):
-    """The gate in a folder in which each command that it runs is one that writes down its name and the program, and has this status."""
+    """The gate in a folder in which each command that it runs is one that writes down its name, its word and the program, and has this status."""
     shutil.copy(REPOSITORY / "test", folder / "test")
-    log = 'echo "$0${DRM_SERVER_PROGRAM:+ $(basename "$DRM_SERVER_PROGRAM")}" >> ran\n'
+    log = 'echo "$0${1:+ $1}${DRM_SERVER_PROGRAM:+ $(basename "$DRM_SERVER_PROGRAM")}" >> ran\n'
     write_script(folder / "tools/try-tests", f"{log}exit {tries}")
     write_script(folder / "tools/prove", f"{log}echo '7 passed, {proves} failed'\nexit {proves}")
     write_script(folder / "tests/all", f"{log}echo '5 passed, {tests} failed'\nexit {tests}")
@@ -112,7 +112,7 @@ def ended(folder, *words):
 
 
 NOTHING = "quick: nothing is proved here: the tests in Rust, and tests/all with the program that ./drm_server would run"
-QUICK = ["tests/all unproved", "tools/try-tests"]
+QUICK = ["tests/all --at-once unproved", "tools/try-tests"]
 
 
 class GateTests(FolderCase):
@@ -132,12 +132,12 @@ class GateTests(FolderCase):
 
     def test_gate_runs_the_quick_part_first(self):
         gate(self.folder)
-        after = ["tools/prove", "tests/all drm_server_main"]
+        after = ["tools/prove", "tests/all --at-once drm_server_main"]
         expect("the gate", ended(self.folder), (0, NOTHING, "5 passed, 0 failed", [*QUICK, *after]))
 
     def test_gate_continues_after_a_quick_part_that_fails(self):
         gate(self.folder, tries=1)
-        after = ["tools/prove", "tests/all drm_server_main"]
+        after = ["tools/prove", "tests/all --at-once drm_server_main"]
         expect("the gate", ended(self.folder), (0, NOTHING, "5 passed, 0 failed", [*QUICK, *after]))
 
     def test_gate_ends_its_quick_part_in_time(self):

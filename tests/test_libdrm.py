@@ -75,8 +75,8 @@ CAPABILITIES = {
     "ADDFB2_MODIFIERS": 1,
     "PAGE_FLIP_TARGET": 0,
     "CRTC_IN_VBLANK_EVENT": 1,
-    "SYNCOBJ": 0,
-    "SYNCOBJ_TIMELINE": 0,
+    "SYNCOBJ": 1,
+    "SYNCOBJ_TIMELINE": 1,
 }
 CLIENT_CAPABILITIES = {"STEREO_3D", "UNIVERSAL_PLANES", "ATOMIC", "ASPECT_RATIO", "WRITEBACK_CONNECTORS"}
 
@@ -257,14 +257,16 @@ class LibdrmTests(FolderCase):
             ran = run(build, *options, env={**os.environ, "CFLAGS": "-Werror"})
             expect(f"what the build with {options} says", (ran.returncode, ran.stderr), (0, ""))
 
+    def test_meson_builds_each_file(self):
+        named = re.findall(r"'([\w/]+\.c)'", (LIBRARY / "meson.build").read_text())
+        expect("files", sorted(named), sorted(str(path.relative_to(LIBRARY)) for path in LIBRARY.rglob("*.c")))
+
     def test_library_is_built_by_meson(self):
         """From the same files as by the script, and a program runs with it."""
         folder = self.folder
         for name in ("meson", "ninja"):
             want_program(name)
-        sources = self.copy_sources()
-        named = re.findall(r"'([\w/]+\.c)'", (LIBRARY / "meson.build").read_text())
-        expect("files", sorted(named), sorted(str(path.relative_to(sources)) for path in sources.rglob("*.c")))
+        self.copy_sources()
         for words in (["setup", "--werror", "built", "clients/libdrm"], ["compile", "-C", "built"]):
             ran = run("meson", *words, cwd=folder)
             expect(f"meson {words[0]}", (ran.returncode, ran.stdout if ran.returncode else "", ran.stderr), (0, "", ""))
@@ -550,10 +552,10 @@ unknown flag {errno.EINVAL}
             "errnos",
             sharing(folder, "lacks"),
             """\
-atomic -22, flip -16, cursor 0, dirty -2, gamma -22 -38, vblank -22, blob 0, object -95
-atomic -13, flip -13, cursor -13, dirty -13, gamma -22 -13, vblank -22, blob 0, object -95
-atomic -13, flip -13, cursor -13, dirty -13, gamma -13 -13, vblank -13, blob -13, object -95
-all -38, two -38, too many -22, no list -22, half a copy -22, reads gamma 0, of another -2
+atomic -22, flip -16, cursor 0, dirty -2, gamma -14 -22, vblank -22, blob 0
+atomic -13, flip -13, cursor -13, dirty -13, gamma -14 -13, vblank -22, blob 0
+atomic -13, flip -13, cursor -13, dirty -13, gamma -13 -13, vblank -13, blob -13
+all -38, two -38, too many -22, no list -22, half a copy -22, reads gamma -22, of another -2
 """,
         )
 

@@ -9,14 +9,16 @@ import subprocess
 import sys
 
 sys.dont_write_bytecode = True
-from support import REPOSITORY, FolderCase, connect, ended_in_time, expect, run, run_tests  # noqa: E402
+from support import REPOSITORY, SECONDS, FolderCase, connect, ended_in_time, expect, run, run_tests  # noqa: E402
 
-from libdrm_support import compiled, environment, in_time, library, served  # noqa: E402
+from libdrm_support import compiled, environment, in_time, library, served, wait_until  # noqa: E402
 
 TOPOLOGY = REPOSITORY / "examples/topologies/laptop.topology"
 PROGRAM = "tests/libdrm_atomic.c"
 ROUTES = "tests/libdrm_routes.c"
 
+# how late an answer is, in milliseconds, while another client changes something
+LATE = 3000
 # the kinds of audits of all that a commit could change: holds, framebuffers, and what is shown
 AUDITED = (6, 8, 9)
 
@@ -31,6 +33,12 @@ def commits(folder, *words, text, topology=("--topology", TOPOLOGY), program=PRO
     expect("error output and status", (ran.stderr, ran.returncode), ("", 0))
     expect("what it finds", ran.stdout.splitlines(), text.splitlines())
     return [line.split() for line in journal.read_text().splitlines() if not line.startswith(("limits", "#"))]
+
+
+def shown_calls(journal):
+    """The calls of a journal that show something, with their answers."""
+    calls = [line.split()[1:] for line in journal.read_text().splitlines()]
+    return [" ".join(call) for call in calls if call[:1] in (["setcrtc"], ["setplane"])]
 
 
 def steps_of(folder, frames):
@@ -50,19 +58,19 @@ class LibdrmAtomicTests(FolderCase):
             "properties",
             text="""\
 plane: type!(3 names) IN_FORMATS!(blob)
-CRTC:
+CRTC: GAMMA_LUT(blob) GAMMA_LUT_SIZE!(0-4294967295)
 connector: DPMS(4 names) link-status(2 names) non-desktop!(0-1)
 atomic: done
-plane: type!(3 names) IN_FORMATS!(blob) FB_ID(object fbfbfbfb) CRTC_ID(object cccccccc) SRC_X(0-4294967295) \
+plane: type!(3 names) IN_FORMATS!(blob) FB_ID(object fbfbfbfb) IN_FENCE_FD(-1-2147483647) CRTC_ID(object cccccccc) SRC_X(0-4294967295) \
 SRC_Y(0-4294967295) SRC_W(0-4294967295) SRC_H(0-4294967295) CRTC_X(-2147483648-2147483647) \
 CRTC_Y(-2147483648-2147483647) CRTC_W(0-2147483647) CRTC_H(0-2147483647)
-CRTC: ACTIVE(0-1) MODE_ID(blob) OUT_FENCE_PTR(0--1)
+CRTC: GAMMA_LUT(blob) GAMMA_LUT_SIZE!(0-4294967295) ACTIVE(0-1) MODE_ID(blob) OUT_FENCE_PTR(0--1)
 connector: DPMS(4 names) link-status(2 names) non-desktop!(0-1) CRTC_ID(object cccccccc)
 types 1 1 0
 writeback connectors: done
 a value of 3: EINVAL
 off: done
-CRTC:
+CRTC: GAMMA_LUT(blob) GAMMA_LUT_SIZE!(0-4294967295)
 writeback connectors: EINVAL
 """,
         )
@@ -188,7 +196,7 @@ lights: done
 1 MODE_ID 0: EINVAL
 1 MODE_ID 99: EINVAL
 1 MODE_ID 131074: EINVAL
-1 OUT_FENCE_PTR -1: EINVAL
+1 OUT_FENCE_PTR 4096: EFAULT
 2 ACTIVE 1: EINVAL
 2 MODE_ID 131073: EINVAL
 8 CRTC_ID 0: EINVAL
@@ -282,6 +290,50 @@ CRTCs show 0 0, overlay shows 0
         )
         expect("after the refusal", audits[1], audits[0])
         expect("after the second one", audits[3], audits[2])
+
+    def test_denied_change_takes_the_others_back(self):
+        """The server answers the first change late. Meanwhile its client removes the framebuffer of the last one, which is denied."""
+        given, journal = environment(self.folder), self.folder / "journal"
+        more = ("--topology", TOPOLOGY, "--stall", f"setcrtc:2={LATE}", "--journal", str(journal))
+        with served(self.folder, more=more), subprocess.Popen(
+            [compiled(PROGRAM), "taken-back"], stdin=subprocess.PIPE, stdout=subprocess.PIPE, text=True, env=given
+        ) as committing, ended_in_time(committing):
+            said = [committing.stdout.readline(), committing.stdout.readline()]
+            with connect(self.folder / "card") as client, connect(self.folder / "root") as root:
+                asked = [client.ask("create_dumb 64 64 32"), client.ask("addfb 64 64 256 32 1")]
+                expect("its framebuffer", asked, ["dumb 1 256 16384", "number 12"])
+                committing.stdin.write("\n")
+                committing.stdin.flush()
+                wait_until(lambda: root.ask("getcrtc 1") == "number 11")
+                expect("the removal", client.ask("rmfb 12"), "done")
+                said += committing.communicate(timeout=SECONDS)[0].splitlines(keepends=True)
+                # the last call is written after its answer
+                wait_until(lambda: len(shown_calls(journal)) == 6)
+        expect(
+            "what it finds",
+            "".join(said),
+            """\
+lights: done
+lit
+the last is gone: ENOENT
+CRTCs show 10 0, overlay shows 0
+planes have 1 1
+another one: done
+CRTCs show 11 0, overlay shows 10
+""",
+        )
+        expect(
+            "calls that show something",
+            shown_calls(journal),
+            [
+                "setcrtc 1 10 8 -> done",
+                "setcrtc 1 11 8 -> done",
+                "setplane 5 1 12 -> denied 38 NoFb 2",
+                "setcrtc 1 10 8 -> done",
+                "setcrtc 1 11 8 -> done",
+                "setplane 5 1 10 -> done",
+            ],
+        )
 
     def test_commit_costs_a_step_for_each_framebuffer_that_changes(self):
         """Two CRTCs flip in each commit. An overlay plane that stays costs none, and neither does a test."""

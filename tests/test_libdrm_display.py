@@ -7,6 +7,7 @@ if the kernel allows no supervisor, the other half. Standard library only.
 """
 import contextlib
 import errno
+import functools
 import os
 import shutil
 import signal
@@ -34,6 +35,7 @@ from libdrm_support import (  # noqa: E402
     display,
     displayed,
     environment,
+    finds_alike,
     library,
     listening_server,
     served,
@@ -55,19 +57,8 @@ SEEN = """\
 mode 1024x768 at 100,50, format XB24, plane shows it 1 on CRTC 1 from 100, blob 1024x768, connector on CRTC 1
 """
 NOBODY = ["setpriv", "--reuid=nobody", "--regid=nogroup", "--clear-groups"]
+finds = functools.partial(finds_alike, CASES)
 PIPES = {"stdin": subprocess.PIPE, "stdout": subprocess.PIPE, "text": True}
-
-
-def finds(case, text, *command, **variables):
-    """Compares what a case finds, with the library and under the supervisor."""
-    program = compiled(CASES)
-    library()
-    for option in ("--libdrm", "--seccomp"):
-        if option == "--seccomp":
-            supervisor()
-        ran = run(WITH_SERVER, option, *command, program, case, env={**os.environ, **variables})
-        expect(f"{case} with {option}: error output", ran.stderr, "")
-        expect(f"{case} with {option}: status and output", (ran.returncode, ran.stdout), (0, text))
 
 
 def supervised_by(folder, channel):

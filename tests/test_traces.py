@@ -518,6 +518,23 @@ class TracesTests(FolderCase):
         expect("what is told", told, ["ERROR /dev/full: No space left on device (os error 28)", "fault: write"])
         expect("status and listing", (ran.returncode, ran.stdout), (1, "device 0 0 0 2\n"))
 
+    def test_journal_that_nobody_reads(self):
+        """If its reader takes nothing for a second after the last step, the lines that are left are the fault `write`."""
+        folder = self.folder
+        pipe = folder / "pipe"
+        os.mkfifo(pipe)
+        read = os.open(pipe, os.O_RDONLY | os.O_NONBLOCK)
+        try:
+            with lasting_server(folder, "--journal", str(pipe)) as started:
+                wait_until_it_listens(folder / "root")
+                steps = ask_at_once(folder, 4, 2_000)
+                ran = stopped(started)
+        finally:
+            os.close(read)
+        told = [told_by(line) for line in ran.stderr.splitlines()]
+        expect("what is told", told, [f"ERROR {pipe}: the last lines of the journal were not read", "fault: write"])
+        expect("status and listing", (ran.returncode, ran.stdout), (1, f"device 0 0 0 {steps}\n"))
+
 
 if __name__ == "__main__":
     sys.exit(run_tests())

@@ -30,7 +30,7 @@ from plain_device import (  # noqa: E402
 EBADF, EINVAL, EACCES, EBUSY, ENOENT, ENOSPC, ERANGE = 9, 22, 13, 16, 2, 28, 34
 MOST_U32 = 2**32 - 1
 # the capabilities that a client may read, with their values on the module's device
-CAPABILITIES = {1: 1, 2: 1, 3: 24, 4: 0, 5: 3, 6: 1, 7: 0, 8: 64, 9: 64, 16: 1, 17: 0, 18: 1, 19: 0, 20: 0}
+CAPABILITIES = {1: 1, 2: 1, 3: 24, 4: 0, 5: 3, 6: 1, 7: 0, 8: 64, 9: 64, 16: 1, 17: 0, 18: 1, 19: 1, 20: 1}
 # the highest value of each client capability
 CLIENT_CAPABILITIES = {1: 1, 2: 1, 3: 2, 4: 1}
 ATOMIC, UNIVERSAL_PLANES = 3, 2

@@ -120,14 +120,14 @@ static inline int zirkoshe_send_frame(struct zirkoshe_client *client, struct zir
     return zirkoshe_send_all(client->socket, frame->bytes, 4 + frame->length, until);
 }
 
-/* Takes the frame of an answer. If it is the last one, nothing follows it. */
+/* Takes the frame of an answer, which nothing follows. */
 static inline int zirkoshe_take_frame(struct zirkoshe_client *client, struct zirkoshe_frame *frame,
-                                      bool is_last, int64_t until)
+                                      int64_t until)
 {
     struct zirkoshe_fields length = {frame->bytes, 4, false};
-    size_t room = is_last ? sizeof frame->bytes : 4, taken = 0;
-    int failed =
-        zirkoshe_take_some(client->socket, frame->bytes, 4, room, &taken, until, -ECONNRESET);
+    size_t taken = 0;
+    int failed = zirkoshe_take_some(client->socket, frame->bytes, 4, sizeof frame->bytes, &taken,
+                                    until, -ECONNRESET);
 
     if (failed)
         return failed;
@@ -145,7 +145,7 @@ static inline int zirkoshe_exchange(struct zirkoshe_client *client, struct zirko
     int64_t until = zirkoshe_now() + client->timeout;
     int failed = zirkoshe_send_frame(client, frame, until);
 
-    return failed ? failed : zirkoshe_take_frame(client, frame, true, until);
+    return failed ? failed : zirkoshe_take_frame(client, frame, until);
 }
 
 /* The error of a refusal's frame. The client keeps the rule. */
@@ -241,34 +241,92 @@ static inline int zirkoshe_call(struct zirkoshe_client *client, uint16_t number,
     return failed;
 }
 
-/* Sends a call whose answer zirkoshe_finish_call takes. Several may be sent before the first answer
- * is taken. The client is held by zirkoshe_lock until then. */
-static inline int zirkoshe_begin_call(struct zirkoshe_client *client, uint16_t number,
-                                      const char *layout, const uint64_t *values)
-{
-    struct zirkoshe_frame frame;
+/* A call of three numbers whose answer has no fields, what it returned, and the rule by which it
+ * was refused or 0 */
+struct zirkoshe_plain_call {
+    uint16_t number;
+    uint64_t values[3];
     int failed;
+    uint32_t rule;
+};
 
-    if (client->socket < 0)
-        return -ENOTCONN;
-    zirkoshe_write(&frame, number, layout, values);
-    failed = zirkoshe_send_frame(client, &frame, zirkoshe_now() + client->timeout);
-    return failed ? zirkoshe_abandon(client, failed) : 0;
+#define ZIRKOSHE_MOST_PLAIN_CALLS 64
+/* The bytes of such a call, of its answer, and of a refusal */
+#define ZIRKOSHE_PLAIN_CALL 18
+#define ZIRKOSHE_PLAIN_ANSWER 6
+#define ZIRKOSHE_REFUSAL 14
+
+static inline int zirkoshe_send_plain_calls(struct zirkoshe_client *client,
+                                            const struct zirkoshe_plain_call *calls, size_t count,
+                                            int64_t until)
+{
+    unsigned char bytes[ZIRKOSHE_MOST_PLAIN_CALLS * ZIRKOSHE_PLAIN_CALL];
+    struct zirkoshe_frame frame;
+    size_t at;
+
+    for (at = 0; at < count; at++) {
+        zirkoshe_write(&frame, calls[at].number, "III", calls[at].values);
+        zirkoshe_put_at(frame.bytes, 4, frame.length);
+        memcpy(bytes + at * ZIRKOSHE_PLAIN_CALL, frame.bytes, ZIRKOSHE_PLAIN_CALL);
+    }
+    return zirkoshe_send_all(client->socket, bytes, count * ZIRKOSHE_PLAIN_CALL, until);
 }
 
-/* Takes the answer to the first call that was sent and has none yet. The answer has no fields. */
-static inline int zirkoshe_finish_call(struct zirkoshe_client *client, bool is_last)
+/* Receives until `wanted` bytes are taken, which is no more than surely follows. */
+static inline int zirkoshe_take_until(struct zirkoshe_client *client, unsigned char *bytes,
+                                      size_t *taken, size_t wanted, int64_t until)
 {
-    struct zirkoshe_frame frame;
-    struct zirkoshe_fields fields = {NULL, 0, false};
-    int failed;
+    size_t before = *taken;
 
+    if (wanted <= before)
+        return 0;
+    *taken = wanted;
+    return zirkoshe_take_all(client->socket, bytes + before, wanted - before, until, -ECONNRESET);
+}
+
+/* Takes the answer of a call that begins at `*next`, which `others` follow. */
+static inline int zirkoshe_take_plain_answer(struct zirkoshe_client *client, unsigned char *bytes,
+                                             size_t *next, size_t *taken, size_t others,
+                                             int64_t until)
+{
+    struct zirkoshe_fields fields = {bytes + *next, 4, false};
+    struct zirkoshe_frame frame;
+    size_t size = ZIRKOSHE_PLAIN_ANSWER, left = others * ZIRKOSHE_PLAIN_ANSWER;
+    int failed = zirkoshe_take_until(client, bytes, taken, *next + size + left, until);
+
+    frame.length = failed ? 0 : zirkoshe_take_u32(&fields);
+    if (frame.length == ZIRKOSHE_REFUSAL - 4) {
+        size = ZIRKOSHE_REFUSAL;
+        failed = zirkoshe_take_until(client, bytes, taken, *next + size + left, until);
+    }
+    if (!failed && 4 + frame.length != size)
+        failed = -EPROTO;
+    memcpy(frame.bytes, bytes + *next, size);
+    *next += size;
     client->rule = 0;
-    if (client->socket < 0)
-        return -ENOTCONN;
-    failed = zirkoshe_take_frame(client, &frame, is_last, zirkoshe_now() + client->timeout);
-    failed = zirkoshe_read_frame(client, &frame, failed, ZIRKOSHE_ANSWER_DONE, &fields);
-    return failed || zirkoshe_is_whole(&fields) ? failed : zirkoshe_abandon(client, -EPROTO);
+    return zirkoshe_read_frame(client, &frame, failed, ZIRKOSHE_ANSWER_DONE, &fields);
+}
+
+/* Makes calls, at most ZIRKOSHE_MOST_PLAIN_CALLS, which are all sent before the first answer is
+ * taken. The client is held by zirkoshe_lock. If the connection fails, so do all calls from then
+ * on.
+ */
+static inline void zirkoshe_call_together(struct zirkoshe_client *client,
+                                          struct zirkoshe_plain_call *calls, size_t count)
+{
+    unsigned char bytes[ZIRKOSHE_MOST_PLAIN_CALLS * ZIRKOSHE_REFUSAL];
+    int64_t until = zirkoshe_now() + client->timeout;
+    size_t at, next = 0, taken = 0;
+    int failed =
+        client->socket < 0 ? -ENOTCONN : zirkoshe_send_plain_calls(client, calls, count, until);
+
+    for (at = 0; at < count; at++) {
+        calls[at].failed = failed ? zirkoshe_abandon(client, failed)
+                                  : zirkoshe_take_plain_answer(client, bytes, &next, &taken,
+                                                               count - at - 1, until);
+        calls[at].rule = failed ? 0 : client->rule;
+        failed = client->socket < 0 ? calls[at].failed : 0;
+    }
 }
 
 /* A call that no frame takes isn't sent. */

@@ -132,9 +132,13 @@ static inline int64_t zirkoshe_now(void)
 #endif
 }
 
-/* A program with a loop of its own may wait by another function with the arguments of poll. */
+/* A program may wait, send and receive by other functions with the arguments of these. */
 #ifndef ZIRKOSHE_POLL
 #define ZIRKOSHE_POLL poll
+#endif
+#ifndef ZIRKOSHE_SEND
+#define ZIRKOSHE_SEND send
+#define ZIRKOSHE_RECEIVE recv
 #endif
 
 /* Waits until the socket is ready for these events, until a time. */
@@ -159,7 +163,7 @@ static inline bool zirkoshe_is_not_ready(int error)
 static inline int zirkoshe_send_all(int fd, const unsigned char *bytes, size_t size, int64_t until)
 {
     while (size > 0) {
-        ssize_t sent = send(fd, bytes, size, MSG_NOSIGNAL);
+        ssize_t sent = ZIRKOSHE_SEND(fd, bytes, size, MSG_NOSIGNAL);
         int failed = 0;
 
         if (sent < 0)
@@ -181,7 +185,7 @@ static inline int zirkoshe_take_some(int fd, unsigned char *bytes, size_t size, 
 {
     *taken = 0;
     while (*taken < size) {
-        ssize_t more = recv(fd, bytes + *taken, room - *taken, 0);
+        ssize_t more = ZIRKOSHE_RECEIVE(fd, bytes + *taken, room - *taken, 0);
         int failed = 0;
 
         if (more == 0)

@@ -12,6 +12,8 @@
 #include <drm_fourcc.h>
 #include <drm_mode.h>
 
+#include "newer.h"
+
 /* the largest width and height of a cursor, which a capability reports */
 #define MOST_CURSOR_SIDE 64
 
@@ -21,6 +23,9 @@ typedef int answer(struct connection *connection, void *argument);
 answer answer_version, answer_get_unique, answer_get_client, answer_nothing, answer_set_version,
     answer_get_cap, answer_set_client_cap, answer_get_magic, answer_auth_magic, answer_set_master,
     answer_drop_master;
+
+/* The name of the driver */
+const char *driver_name(void);
 
 /* buffer_calls.c: handles, names, PRIME and dumb buffers */
 answer answer_gem_close, answer_gem_flink, answer_gem_open, answer_prime_export,
@@ -48,14 +53,32 @@ answer answer_list_lessees, answer_get_lease, answer_revoke_lease, answer_create
 /* vblank_calls.c */
 answer answer_get_sequence, answer_queue_sequence, answer_wait_vblank;
 
-/* flip_calls.c */
-answer answer_page_flip, answer_cursor;
+/* flip_calls.c: also has a flip complete, with an event or without one: at the next vertical
+ * blanking of a CRTC, or at once if that is dark. Returns the time. */
+answer answer_page_flip;
+int64_t complete_flip(struct connection *connection, uint32_t crtc_id, bool has_event,
+                      uint64_t user_data);
+
+/* cursor_calls.c */
+answer answer_cursor;
+
+/* syncobj_calls.c, syncobj_waits.c, syncobj_eventfds.c: synchronisation objects */
+answer answer_syncobj_create, answer_syncobj_destroy, answer_syncobj_export, answer_syncobj_import,
+    answer_syncobj_reset, answer_syncobj_signal, answer_syncobj_timeline_signal,
+    answer_syncobj_query, answer_syncobj_transfer, answer_syncobj_wait,
+    answer_syncobj_timeline_wait, answer_syncobj_eventfd;
+
+/* gamma_calls.c; the entries of each table */
+#define GAMMA_SIZE 256
+answer answer_get_gamma, answer_set_gamma;
 
 /* lacking_calls.c: the answers of a driver without the call */
-answer lacks_support, lacks_dirty, lacks_gamma_size, lacks_gamma;
+answer lacks_dirty;
 
-/* ioctls.c: that the caller is current, which the server is asked once; 0, or a negative errno */
+/* ioctls.c: that the caller is current, which the server is asked once; 0, or a negative errno. The
+ * error of a current caller, whose rule is kept, or that of another one. */
 int permit_master(struct connection *connection);
+int refuse_current(struct zirkoshe_client *client, int error);
 
 /* formats.c: the bits of a pixel in a format, or 0; the format that represents N bits, or 0; the
  * format that ADDFB means by bits and depth, or 0; all formats */

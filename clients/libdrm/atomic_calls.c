@@ -4,6 +4,7 @@
 #include "commits.h"
 #include "crtcs.h"
 #include "ioctls.h"
+#include "late_commits.h"
 
 /* What is wrong with a commit before its objects are looked at. */
 static int refuse(const struct connection *connection, const struct drm_mode_atomic *asked)
@@ -66,7 +67,7 @@ static int reserve_events(const struct commit *commit)
 {
     unsigned count = (unsigned)__builtin_popcountll(commit->crtcs);
 
-    if (!commit->has_event)
+    if (!commit->has_event || commit->is_late)
         return 0;
     if (count == 0)
         return -EINVAL;
@@ -86,38 +87,79 @@ static int64_t flips_due(const struct commit *commit)
     return latest;
 }
 
-/* A CRTC that is lit completes at its next vertical blanking, and a dark one at once. */
-static void complete_crtc(const struct commit *commit, uint32_t crtc_id, uint64_t user_data)
+/* The fence of a CRTC is signalled when its event is due. */
+static void complete_crtc(struct connection *connection, const struct drm_mode_atomic *asked,
+                          uint32_t crtc_id, struct fence *fence)
 {
-    struct blanking blanking = crtc_blanking(crtc_id);
-    struct vblank vblank = {blanking.count, time_now()};
-    struct event event = {0};
+    int64_t time = complete_flip(connection, crtc_id,
+                                 (asked->flags & DRM_MODE_PAGE_FLIP_EVENT) != 0, asked->user_data);
 
-    if (crtc_is_surely_lit(crtc_id)) {
-        vblank = vblank_of(&blanking, last_vblank(&blanking, vblank.time).sequence + 1);
-        crtc_flips_until(crtc_id, vblank.time);
-    }
-    if (!commit->has_event)
-        return;
-    event.crtc_id = crtc_id;
-    event.told.base.type = DRM_EVENT_FLIP_COMPLETE;
-    event.told.base.length = sizeof event.told.vblank;
-    event.told.vblank.user_data = user_data;
-    events_add(&commit->connection->events, &event, vblank.sequence, vblank.time);
+    if (fence != NULL)
+        fence_is_due(fence, time);
 }
 
-static void complete(const struct commit *commit, uint64_t user_data)
+static void complete(const struct commit *commit, const struct drm_mode_atomic *asked)
 {
     uint32_t at;
 
     for (at = 0; at < commit->topology->count_crtcs; at++) {
         if (commit->crtcs >> at & 1)
-            complete_crtc(commit, commit->topology->crtcs[at], user_data);
+            complete_crtc(commit->connection, asked, commit->topology->crtcs[at],
+                          commit->fences.made[at]);
     }
 }
 
-/* Carries a commit out. `due` is when its CRTCs have completed what
- * they were asked for, or 0. */
+/* Builds a commit and checks it. */
+static int build_commit(struct commit *commit, const struct drm_mode_atomic *asked)
+{
+    int failed;
+
+    commit->may_set_modes = (asked->flags & DRM_MODE_ATOMIC_ALLOW_MODESET) != 0;
+    commit->has_event = (asked->flags & DRM_MODE_PAGE_FLIP_EVENT) != 0;
+    failed = read_objects(commit, asked);
+    if (!failed)
+        failed = reserve_events(commit);
+    return failed ? failed : commit_check(commit);
+}
+
+static int show(struct commit *commit)
+{
+    int failed = commit_show(commit);
+
+    if (failed)
+        crtcs_are_unsure();
+    return failed;
+}
+
+/* Carries out a commit that passed the checks, or keeps it until its fences are signalled. `due` is
+ * when its CRTCs have completed what they were asked for, or 0. */
+static int carry_out_checked(struct commit *commit, const struct drm_mode_atomic *asked,
+                             int64_t *due)
+{
+    bool blocks = !(asked->flags & DRM_MODE_ATOMIC_NONBLOCK);
+    struct fence *late = late_commit_of(commit), *pending = commit_pending(commit);
+    int failed;
+
+    if (late != NULL)
+        return blocks ? wait_and_ask_again(late) : -EBUSY;
+    *due = flips_due(commit);
+    if (*due > time_now())
+        return -EBUSY;
+    if (pending != NULL && blocks)
+        return wait_and_ask_again(pending);
+    failed = commit_make_fences(commit);
+    if (failed)
+        return failed;
+    if (pending != NULL)
+        return late_commit_add(commit, asked);
+    failed = show(commit);
+    if (failed)
+        return failed;
+    complete(commit, asked);
+    *due = flips_due(commit);
+    return blocks ? commit_completes(commit, *due) : 0;
+}
+
 static int carry_out_commit(struct connection *connection, const struct drm_mode_atomic *asked,
                             int64_t *due)
 {
@@ -129,26 +171,29 @@ static int carry_out_commit(struct connection *connection, const struct drm_mode
         failed = commit_begin(&commit, connection);
     if (failed)
         return failed;
-    commit.may_set_modes = (asked->flags & DRM_MODE_ATOMIC_ALLOW_MODESET) != 0;
-    commit.has_event = (asked->flags & DRM_MODE_PAGE_FLIP_EVENT) != 0;
-    failed = read_objects(&commit, asked);
+    failed = build_commit(&commit, asked);
+    if (!failed && !(asked->flags & DRM_MODE_ATOMIC_TEST_ONLY))
+        failed = carry_out_checked(&commit, asked, due);
+    commit_drop_fences(&commit);
+    return failed;
+}
+
+/* What was removed meanwhile isn't shown. The commit completes in any case. */
+void carry_out_late(struct connection *connection, const struct late_commit *late)
+{
+    struct commit commit;
+    int failed = commit_begin(&commit, connection);
+    uint32_t at;
+
+    commit.is_late = true;
     if (!failed)
-        failed = reserve_events(&commit);
+        failed = build_commit(&commit, &late->asked);
     if (!failed)
-        failed = commit_check(&commit);
-    if (failed || (asked->flags & DRM_MODE_ATOMIC_TEST_ONLY))
-        return failed;
-    *due = flips_due(&commit);
-    if (*due > time_now())
-        return -EBUSY;
-    failed = commit_show(&commit);
-    if (failed) {
-        crtcs_are_unsure();
-        return failed;
+        show(&commit);
+    for (at = 0; at < late->count; at++) {
+        crtc_flips_until(late->crtcs[at].id, 0);
+        complete_crtc(connection, &late->asked, late->crtcs[at].id, late->crtcs[at].fence);
     }
-    complete(&commit, asked->user_data);
-    *due = flips_due(&commit);
-    return 0;
 }
 
 /* A commit that does not block is refused while an earlier one is not complete. The caller of one
@@ -162,7 +207,11 @@ int answer_atomic(struct connection *connection, void *argument)
 
     if (!failed)
         failed = carry_out_commit(connection, asked, &due);
+    if (failed)
+        outcome_drops_fences();
     if (!blocks || due <= time_now() || (failed && failed != -EBUSY))
+        return failed;
+    if (outcome()->is_awaited)
         return failed;
     outcome()->until = due;
     outcome()->is_again = failed != 0;

@@ -96,9 +96,9 @@ void blobs_end(const struct connection *connection)
     }
 }
 
-uint32_t blob_of_mode(const struct drm_mode_modeinfo *mode)
+uint32_t blob_of_display(const void *bytes, uint32_t size)
 {
-    return create(0, mode, sizeof *mode);
+    return create(0, bytes, size);
 }
 
 /* All formats have one modifier, the linear one. */
@@ -146,12 +146,10 @@ void blob_drop(uint32_t blob_id)
     drop(find(blob_id));
 }
 
-uint32_t blob_read(uint32_t blob_id, void *bytes, uint32_t size)
+const void *blob_bytes(uint32_t blob_id, uint32_t *size)
 {
     const struct blob *blob = *find(blob_id);
-    uint32_t found = blob != NULL ? blob->size : 0;
 
-    if (blob != NULL && size == found)
-        memcpy(bytes, blob->bytes, size);
-    return found;
+    *size = blob != NULL ? blob->size : 0;
+    return blob != NULL ? blob->bytes : NULL;
 }

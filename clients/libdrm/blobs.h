@@ -17,8 +17,8 @@ int blob_destroy(const struct connection *connection, uint32_t blob_id);
 /* Takes all blobs of a connection from it. */
 void blobs_end(const struct connection *connection);
 
-/* Returns the blob of a mode for the display's own use, or 0 if there is no memory. */
-uint32_t blob_of_mode(const struct drm_mode_modeinfo *mode);
+/* Returns a blob for the display's own use, of which this is one, or 0 if there is no memory. */
+uint32_t blob_of_display(const void *bytes, uint32_t size);
 
 /* Returns the blob with the formats of all planes, or 0 if there is no memory. */
 uint32_t blob_of_formats(void);
@@ -27,7 +27,7 @@ uint32_t blob_of_formats(void);
 void blob_use(uint32_t blob_id);
 void blob_drop(uint32_t blob_id);
 
-/* Copies the bytes of a blob if it has exactly `size`, and returns its size; 0 if there is none. */
-uint32_t blob_read(uint32_t blob_id, void *bytes, uint32_t size);
+/* Returns the bytes of a blob, and their number in `size`, or NULL and 0. */
+const void *blob_bytes(uint32_t blob_id, uint32_t *size);
 
 #endif

@@ -1,6 +1,8 @@
 /* Answers to requests of handles, names, PRIME and dumb buffers. */
 #include "answers.h"
 
+#include "ioctls.h"
+
 int answer_gem_close(struct connection *connection, void *argument)
 {
     const struct drm_gem_close *closing = argument;
@@ -54,15 +56,14 @@ int answer_prime_export(struct connection *connection, void *argument)
         zirkoshe_token_close(&connection->client, token);
         return fd;
     }
-    prime->fd = fd;
-    return 0;
+    return outcome_has(fd);
 }
 
 int answer_prime_import(struct connection *connection, void *argument)
 {
     struct drm_prime_handle *prime = argument;
 
-    return buffers_import(connection, prime->fd, &prime->handle);
+    return buffers_import(connection, caller_descriptor(0), &prime->handle);
 }
 
 int answer_create_dumb(struct connection *connection, void *argument)

@@ -12,6 +12,16 @@
 int copy_from_caller(void *to, uint64_t address, size_t size);
 int copy_to_caller(uint64_t address, const void *from, size_t size);
 
+/* The descriptor at a position of those that came with the request, or -1. It is closed after the
+ * answer. */
+int caller_descriptor(uint32_t at);
+
+/* Keeps the memory of the caller that the request has, for a task that continues it later; NULL if
+ * it is too much. Lets this task have it. */
+struct caller_memory;
+struct caller_memory *caller_memory_keep(void);
+void caller_memory_use(struct caller_memory *memory);
+
 /* The process that makes the request, its user, and whether its name begins with this letter. */
 pid_t caller_process(void);
 uid_t caller_user(void);

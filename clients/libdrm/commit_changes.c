@@ -60,51 +60,45 @@ static void find_changes(struct commit *commit, bool darkens, struct changes *ch
     }
 }
 
-static int begin_to_show(struct zirkoshe_client *client, uint32_t plane_id,
-                         const struct shown *shown)
+static struct zirkoshe_plain_call call_of(uint32_t plane_id, const struct shown *shown)
 {
-    const uint64_t of_crtc[] = {shown->crtc_id, shown->fb_id, shown->connector_id};
-    const uint64_t of_plane[] = {plane_id, shown->crtc_id, shown->fb_id};
-
-    return plane_id == 0
-               ? zirkoshe_begin_call(client, ZIRKOSHE_CALL_MODE_SETCRTC, "III", of_crtc)
-               : zirkoshe_begin_call(client, ZIRKOSHE_CALL_MODE_SETPLANE, "III", of_plane);
+    if (plane_id == 0)
+        return (struct zirkoshe_plain_call){
+            ZIRKOSHE_CALL_MODE_SETCRTC, {shown->crtc_id, shown->fb_id, shown->connector_id}, 0, 0};
+    return (struct zirkoshe_plain_call){
+        ZIRKOSHE_CALL_MODE_SETPLANE, {plane_id, shown->crtc_id, shown->fb_id}, 0, 0};
 }
 
-/* Takes back the changes that were made, the last of them first. The rule of the denial stays. */
+/* Takes back the changes that were made, the last of them first. */
 static void take_back(struct zirkoshe_client *client, const struct changes *changes,
-                      const int *failures)
+                      const struct zirkoshe_plain_call *made)
 {
-    uint32_t rule = client->rule;
-    unsigned at;
+    struct zirkoshe_plain_call calls[MOST_OBJECTS];
+    unsigned at, count = 0;
 
     for (at = changes->count; at-- > 0;) {
-        const struct change *change = &changes->all[at];
-
-        if (failures[at] == 0 && begin_to_show(client, change->plane_id, &change->before) == 0)
-            zirkoshe_finish_call(client, true);
+        if (made[at].failed == 0)
+            calls[count++] = call_of(changes->all[at].plane_id, &changes->all[at].before);
     }
-    client->rule = rule;
+    zirkoshe_call_together(client, calls, count);
 }
 
-/* Sends all calls before the first answer is there. Returns the first failure. */
+/* Returns the first failure. Its rule stays. */
 static int show_changes(struct zirkoshe_client *client, const struct changes *changes)
 {
-    int failures[MOST_OBJECTS], failed = 0;
-    uint32_t rule = 0;
+    struct zirkoshe_plain_call calls[MOST_OBJECTS];
     unsigned at;
 
     for (at = 0; at < changes->count; at++)
-        begin_to_show(client, changes->all[at].plane_id, &changes->all[at].after);
-    for (at = 0; at < changes->count; at++) {
-        failures[at] = zirkoshe_finish_call(client, at + 1 == changes->count);
-        rule = failed ? rule : client->rule;
-        failed = failed ? failed : failures[at];
-    }
-    client->rule = rule;
-    if (failed)
-        take_back(client, changes, failures);
-    return failed;
+        calls[at] = call_of(changes->all[at].plane_id, &changes->all[at].after);
+    zirkoshe_call_together(client, calls, changes->count);
+    for (at = 0; at < changes->count && calls[at].failed == 0; at++)
+        ;
+    if (at == changes->count)
+        return 0;
+    take_back(client, changes, calls);
+    client->rule = calls[at].rule;
+    return calls[at].failed;
 }
 
 /* Notes for the older calls what a CRTC shows. */
@@ -117,6 +111,12 @@ static void note_crtc(struct commit *commit, uint32_t crtc_id)
         crtc_is_lit(crtc_id, &crtc->mode, state_connector(&commit->after, crtc_id, &count));
     else
         crtc_is_seen(crtc_id, false);
+}
+
+static void note_gamma(struct commit *commit, uint32_t crtc_id)
+{
+    blob_use(state_of_crtc(&commit->after, crtc_id)->gamma_id);
+    blob_drop(state_of_crtc(&commit->before, crtc_id)->gamma_id);
 }
 
 /* Modes are used by the state now, and those of before no more. */
@@ -135,6 +135,7 @@ static void note(struct commit *commit)
             blob_use(after);
             blob_drop(before);
         }
+        note_gamma(commit, id);
         note_crtc(commit, id);
     }
     state_change(&commit->before, &commit->after);

@@ -36,7 +36,10 @@ static int check_crtc(const struct commit *commit, const struct crtc_state *befo
 {
     if (after->is_active && after->mode_id == 0)
         return -EINVAL;
-    return commit->has_event && !before->is_active && !after->is_active ? -EINVAL : 0;
+    return (commit->has_event || commit_signals(commit, after->id)) && !before->is_active
+                   && !after->is_active
+               ? -EINVAL
+               : 0;
 }
 
 /* Returns whether the connectors of a CRTC change. */

@@ -57,6 +57,16 @@ int commit_begin(struct commit *commit, struct connection *connection)
     return failed;
 }
 
+/* The position of a CRTC that the caller sees. */
+static uint32_t position_of_crtc(const struct topology *topology, uint32_t crtc_id)
+{
+    uint32_t at = 0;
+
+    while (at < topology->count_crtcs - 1 && topology->crtcs[at] != crtc_id)
+        at++;
+    return at;
+}
+
 /* Puts a CRTC into the commit, if there is one. */
 static void add_crtc(struct commit *commit, uint32_t crtc_id)
 {
@@ -93,46 +103,30 @@ static int set_of_plane(struct commit *commit, const struct seen_plane *seen, en
                         uint64_t value)
 {
     struct plane_state *plane = state_of_plane(&commit->after, seen);
-    uint32_t *fields[] = {&plane->src_x, &plane->src_y, &plane->src_w, &plane->src_h};
-    int failed;
+    int failed = id == FB_ID     ? find_framebuffer(commit, value)
+                 : id == CRTC_ID ? find_crtc(commit, value)
+                                 : 0;
 
-    switch (id) {
-    case FB_ID:
-        failed = find_framebuffer(commit, value);
-        plane->fb_id = failed ? plane->fb_id : (uint32_t)value;
-        return failed;
-    case CRTC_ID:
-        failed = find_crtc(commit, value);
-        plane->crtc_id = failed ? plane->crtc_id : (uint32_t)value;
+    if (id == IN_FENCE_FD)
+        return commit_waits_for(commit, (uint32_t)(seen - commit->topology->planes),
+                                (int64_t)value);
+    if (!failed)
+        *plane_field(plane, id) = (uint32_t)value;
+    if (id == CRTC_ID)
         add_crtc(commit, plane->crtc_id);
-        return failed;
-    case CRTC_X:
-        plane->crtc_x = (int32_t)value;
-        return 0;
-    case CRTC_Y:
-        plane->crtc_y = (int32_t)value;
-        return 0;
-    case CRTC_W:
-        plane->crtc_w = (uint32_t)value;
-        return 0;
-    case CRTC_H:
-        plane->crtc_h = (uint32_t)value;
-        return 0;
-    default:
-        *fields[id - SRC_X] = (uint32_t)value;
-        return 0;
-    }
+    return failed;
 }
 
 /* A mode is a blob of its size. The core has one errno for all that can be wrong with it. */
 static int set_mode(struct crtc_state *crtc, uint32_t blob_id)
 {
-    struct drm_mode_modeinfo mode;
+    struct drm_mode_modeinfo mode = {0};
+    uint32_t size;
+    const void *bytes = blob_bytes(blob_id, &size);
 
-    memset(&mode, 0, sizeof mode);
-    if (blob_id != 0 && blob_read(blob_id, &mode, sizeof mode) != sizeof mode)
+    if (blob_id != 0 && size != sizeof mode)
         return -EINVAL;
-    if (blob_id != 0 && check_mode(&mode) != 0)
+    if (blob_id != 0 && check_mode(memcpy(&mode, bytes, sizeof mode)) != 0)
         return -EINVAL;
     crtc->mode_id = blob_id;
     crtc->mode = mode;
@@ -149,8 +143,13 @@ static int set_of_crtc(struct commit *commit, uint32_t crtc_id, enum property_id
         return 0;
     case MODE_ID:
         return set_mode(crtc, (uint32_t)value);
-    default: /* OUT_FENCE_PTR: there are no fences */
-        return value == 0 ? 0 : -EINVAL;
+    case GAMMA_LUT:
+        if (!is_gamma((uint32_t)value))
+            return -EINVAL;
+        crtc->gamma_id = (uint32_t)value;
+        return 0;
+    default: /* OUT_FENCE_PTR */
+        return commit_signals_at(commit, position_of_crtc(commit->topology, crtc_id), value);
     }
 }
 

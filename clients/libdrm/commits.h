@@ -2,6 +2,7 @@
 #ifndef ZIRKOSHE_LIBDRM_COMMITS_H
 #define ZIRKOSHE_LIBDRM_COMMITS_H
 
+#include "commit_fences.h"
 #include "connections.h"
 #include "states.h"
 
@@ -10,8 +11,10 @@ struct commit {
     const struct topology *topology;
     struct state before, after;
     uint64_t planes, crtcs, connectors; /* masks of positions in the topology: what is in it */
+    struct commit_fences fences;
     bool may_set_modes;
     bool has_event;
+    bool is_late; /* its fences are signalled and made */
 };
 
 /* Begins a commit of what the caller sees; 0, or a negative errno. */

@@ -4,11 +4,12 @@
 #include "blobs.h"
 #include "crtcs.h"
 #include "framebuffers.h"
+#include "late_commits.h"
 
 #include <limits.h>
 #include <stdlib.h>
 
-/* How long a task waits for another one before it looks again, in milliseconds */
+/* How long a thread waits for another one before it looks again, in milliseconds */
 #define PAUSE 10
 
 static uint64_t last_cookie;
@@ -85,7 +86,7 @@ void connection_release(struct connection *connection)
     free(connection);
 }
 
-/* It is held by another task if the server stalls, and then for long. */
+/* It is held by another thread if the server stalls, and then for long. */
 static void take(struct connection *connection)
 {
     while (connection->is_held)
@@ -116,14 +117,9 @@ void connection_is_found_current(struct connection *connection)
     connection->known_at = standings_age;
 }
 
-bool connection_knows_topology(const struct connection *connection)
+unsigned standings_now(void)
 {
-    return connection->topology_at == standings_age;
-}
-
-void connection_has_topology(struct connection *connection)
-{
-    connection->topology_at = standings_age;
+    return standings_age;
 }
 
 void standings_changed(void)
@@ -158,6 +154,7 @@ int connection_let_go(struct connection *connection, int failed)
 void connection_close(struct connection *connection)
 {
     take(connection);
+    late_commits_end(connection);
     events_end(&connection->events);
     buffers_clear(connection);
     zirkoshe_disconnect(&connection->client);
@@ -165,6 +162,7 @@ void connection_close(struct connection *connection)
     crtcs_are_unsure();
     framebuffers_end(connection);
     blobs_end(connection);
+    syncobjs_end(connection);
     connection->is_held = false;
     connection_release(connection);
 }

@@ -11,23 +11,26 @@
 #include "buffers.h"
 #include "events.h"
 #include "nodes.h"
+#include "syncobjs.h"
 #include "topologies.h"
 
 struct connection {
     uint64_t cookie; /* unique */
     enum node node;
-    unsigned users;             /* its file, and each task that may use it */
-    bool is_held;               /* by a task that makes calls */
+    unsigned users;             /* its file, and each thread that may use it */
+    bool is_held;               /* by a thread that makes calls */
     pid_t opener;               /* the process that opened it */
     unsigned known_at;          /* the age of the standings at which the caller was current, or 0 */
     uint32_t known_crtc;        /* a CRTC that the caller saw then, or 0 */
     uint32_t leases_of_nothing; /* how many the caller made */
     bool is_lessee;             /* it was opened by a lease */
-    bool is_atomic;             /* the program has the capability */
+    bool is_atomic;             /* the program has the capability, */
+    bool is_universal;          /* and this one: it sees all planes */
     bool has_aspect_ratios;     /* it may set and see those of modes */
     unsigned topology_at; /* the age of the standings at which the topology was asked for, or 0 */
     struct topology topology;
     struct buffers buffers;
+    struct syncobjs syncobjs;
     struct events events;
     struct zirkoshe_client client;
 };
@@ -43,7 +46,7 @@ void connection_close(struct connection *connection);
 void connection_use(struct connection *connection);
 void connection_release(struct connection *connection);
 
-/* Holds the connection: no other task makes calls by it. connection_hold returns 0, or -ENODEV if
+/* Holds the connection: no other thread makes calls by it. connection_hold returns 0, or -ENODEV if
  * the server is lost. */
 int connection_hold(struct connection *connection);
 
@@ -62,11 +65,9 @@ bool connection_is_current(const struct connection *connection);
 /* Notes that the server has said so. */
 void connection_is_found_current(struct connection *connection);
 
-/* Whether what the caller sees is known, likewise, and notes that it is. */
-bool connection_knows_topology(const struct connection *connection);
-void connection_has_topology(struct connection *connection);
-
-/* Records that a request can have changed which caller is current, or what a caller sees. */
+/* Records that a request can have changed which caller is current, or what a caller sees; returns
+ * the age of the standings. */
 void standings_changed(void);
+unsigned standings_now(void);
 
 #endif

@@ -22,7 +22,7 @@ int give_text(char *buffer, size_t *room, const char *text)
 }
 
 /* A program that looks for a driver by its name finds it. */
-static const char *driver_name(void)
+const char *driver_name(void)
 {
     const char *name = getenv("DRM_SERVER_DRIVER");
 
@@ -126,8 +126,8 @@ static int find_core_cap(uint64_t capability, uint64_t *value)
         {DRM_CAP_ADDFB2_MODIFIERS, 1},
         {DRM_CAP_PAGE_FLIP_TARGET, 0},
         {DRM_CAP_CRTC_IN_VBLANK_EVENT, 1},
-        {DRM_CAP_SYNCOBJ, 0},
-        {DRM_CAP_SYNCOBJ_TIMELINE, 0},
+        {DRM_CAP_SYNCOBJ, 1},
+        {DRM_CAP_SYNCOBJ_TIMELINE, 1},
     };
     size_t at;
 
@@ -191,7 +191,8 @@ static int set_atomic(struct connection *connection, uint64_t value)
     failed =
         zirkoshe_drmSetClientCap(&connection->client, DRM_CLIENT_CAP_UNIVERSAL_PLANES, value != 0);
     if (!failed)
-        connection->is_atomic = connection->has_aspect_ratios = value != 0;
+        connection->is_atomic = connection->is_universal = connection->has_aspect_ratios =
+            value != 0;
     return failed;
 }
 
@@ -205,6 +206,8 @@ int answer_set_client_cap(struct connection *connection, void *argument)
     if (cap->capability == DRM_CLIENT_CAP_ATOMIC)
         return set_atomic(connection, cap->value);
     failed = zirkoshe_drmSetClientCap(&connection->client, cap->capability, cap->value);
+    if (!failed && cap->capability == DRM_CLIENT_CAP_UNIVERSAL_PLANES)
+        connection->is_universal = cap->value != 0;
     return failed && is_unknown_cap(connection) ? set_core_cap(connection, cap) : failed;
 }
 

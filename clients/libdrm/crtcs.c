@@ -2,6 +2,7 @@
 #include "answers.h"
 
 #include "crtcs.h"
+#include "fences.h"
 
 /* masks of CRTCs have 32 bits, so that a device has no more */
 #define MOST_CRTCS 32
@@ -97,6 +98,7 @@ static void end(struct crtc *crtc)
     crtc->is_set = false;
     crtc->flip_due = 0;
     events_hasten(crtc->id, last.sequence, last.time);
+    fences_hasten(crtc->id);
 }
 
 void crtc_is_seen(uint32_t crtc_id, bool is_lit)

@@ -9,8 +9,10 @@
 #include <time.h>
 #include <unistd.h>
 
-_Static_assert(sizeof(struct drm_event_vblank) == sizeof(struct drm_event_crtc_sequence),
-               "each event has the same length");
+_Static_assert(sizeof(struct drm_event_vblank) == sizeof(struct drm_event_crtc_sequence)
+                   && offsetof(struct drm_event_vblank, user_data)
+                          == offsetof(struct drm_event_crtc_sequence, user_data),
+               "each event has the same length, and its data in the same place");
 
 static struct events *all;
 static int timer = -1;
@@ -89,7 +91,8 @@ bool events_have_room(const struct events *events, unsigned count)
 
     if (ioctl(events->file, SIOCOUTQ, &unread) != 0)
         unread = 0;
-    return events->count + (unsigned)(unread / size_in_buffer()) + count <= MOST_EVENTS;
+    return events->count + events->reserved + (unsigned)(unread / size_in_buffer()) + count
+           <= MOST_EVENTS;
 }
 
 /* Writes number and time of a vertical blanking into an event, which is due at a time. */
@@ -120,14 +123,16 @@ static void insert(struct events *events, const struct event *event)
     events->count++;
 }
 
-void events_add(struct events *events, const struct event *event, uint64_t sequence, int64_t time)
+void events_add(struct events *events, uint32_t crtc_id, uint32_t kind, uint64_t user_data,
+                uint64_t sequence, int64_t time)
 {
-    struct event stamped = *event;
+    struct event event = {.crtc_id = crtc_id, .told.base = {kind, sizeof event.told}};
 
     if (events->count == MOST_EVENTS)
         return;
-    stamp(&stamped, sequence, time, time);
-    insert(events, &stamped);
+    event.told.vblank.user_data = user_data;
+    stamp(&event, sequence, time, time);
+    insert(events, &event);
     arm();
 }
 

@@ -37,6 +37,7 @@ struct events {
     struct events *next; /* of another connection */
     int file;            /* the socket that they are written to, or -1 */
     unsigned count;
+    unsigned reserved;               /* for events that are still to be added */
     struct event queue[MOST_EVENTS]; /* by their times */
 };
 
@@ -47,9 +48,10 @@ void events_end(struct events *events);
 /* Returns whether this many more events can wait, beside those that were written and not read. */
 bool events_have_room(const struct events *events, unsigned count);
 
-/* Adds an event whose kind and data are in place: that of the vertical blanking of this number and
- * time, at which it is due. */
-void events_add(struct events *events, const struct event *event, uint64_t sequence, int64_t time);
+/* Adds an event of a kind: that of the vertical blanking of this number and time, at which it is
+ * due. */
+void events_add(struct events *events, uint32_t crtc_id, uint32_t kind, uint64_t user_data,
+                uint64_t sequence, int64_t time);
 
 /* Makes all events of a CRTC that aren't due yet due now, with this vertical blanking as theirs. */
 void events_hasten(uint32_t crtc_id, uint64_t sequence, int64_t time);

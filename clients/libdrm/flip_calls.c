@@ -1,5 +1,4 @@
-/* Answers to page flips, which are made of SETCRTC, and to cursors, which are taken and shown
- * nowhere. */
+/* Answers to page flips, which are made of SETCRTC. */
 #include "answers.h"
 
 #include "crtcs.h"
@@ -65,75 +64,48 @@ static int refuse_flip(struct connection *connection,
     return crtc_flips(flip->crtc_id) ? -EBUSY : 0;
 }
 
-/* The core tests whether the caller is current before anything else. The rule of the earlier
- * refusal is kept. */
-static int refuse_others(struct zirkoshe_client *client, int failed)
-{
-    uint32_t rule = client->rule;
-    struct zirkoshe_ids lessees;
-    int denied = zirkoshe_drmModeListLessees(client, &lessees);
-
-    if (denied)
-        return denied;
-    client->rule = rule;
-    return failed;
-}
-
-/* Whether a connector can be driven by the CRTC at this place of the list. */
-static int can_drive(struct zirkoshe_client *client, uint32_t connector_id, uint32_t place,
-                     bool *can)
-{
-    uint32_t encoder_id, possible_crtcs = 0;
-    int failed = zirkoshe_drmModeGetConnector(client, connector_id, &encoder_id);
-
-    if (!failed)
-        failed = zirkoshe_drmModeGetEncoder(client, encoder_id, &possible_crtcs);
-    *can = !failed && place < 32 && (possible_crtcs >> place & 1) != 0;
-    return failed;
-}
-
 /* Finds the connector that last lit the CRTC, if that is known, or else the first one that it can
  * drive, or 0. */
-static int find_connector(struct zirkoshe_client *client, uint32_t crtc_id, uint32_t *connector_id)
+static int find_connector(struct connection *connection, uint32_t crtc_id, uint32_t *connector_id)
 {
-    struct zirkoshe_resources resources;
-    uint32_t place = 0, at;
-    bool is_found = false;
-    int failed;
+    const struct topology *topology;
+    uint32_t at;
+    int failed = 0;
 
     *connector_id = crtc_connector(crtc_id);
-    if (*connector_id != 0)
-        return 0;
-    failed = zirkoshe_drmModeGetResources(client, &resources);
-    while (!failed && place < resources.count_crtcs && resources.crtcs[place] != crtc_id)
-        place++;
-    for (at = 0; !failed && !is_found && at < resources.count_connectors; at++) {
-        failed = can_drive(client, resources.connectors[at], place, &is_found);
-        if (is_found)
-            *connector_id = resources.connectors[at];
+    if (*connector_id == 0)
+        failed = topology_find(connection, &topology);
+    for (at = 0; !failed && *connector_id == 0 && at < topology->count_connectors; at++) {
+        if (topology_may_drive(topology, topology->connectors[at].possible_crtcs, crtc_id))
+            *connector_id = topology->connectors[at].id;
     }
-    if (is_found)
+    if (*connector_id != 0)
         crtc_has_connector(crtc_id, *connector_id);
     return failed;
 }
 
-/* The flip completes at the next vertical blanking. */
+int64_t complete_flip(struct connection *connection, uint32_t crtc_id, bool has_event,
+                      uint64_t user_data)
+{
+    struct blanking blanking = crtc_blanking(crtc_id);
+    struct vblank vblank = {blanking.count, time_now()};
+
+    if (crtc_is_surely_lit(crtc_id)) {
+        vblank = vblank_of(&blanking, last_vblank(&blanking, vblank.time).sequence + 1);
+        crtc_flips_until(crtc_id, vblank.time);
+    }
+    if (has_event)
+        events_add(&connection->events, crtc_id, DRM_EVENT_FLIP_COMPLETE, user_data,
+                   vblank.sequence, vblank.time);
+    return vblank.time;
+}
+
 static void complete(struct connection *connection,
                      const struct drm_mode_crtc_page_flip_target *flip)
 {
-    struct blanking blanking = crtc_blanking(flip->crtc_id);
-    struct vblank next = vblank_of(&blanking, last_vblank(&blanking, time_now()).sequence + 1);
-    struct event event = {0};
-
     state_crtc_flips(flip->crtc_id, flip->fb_id);
-    crtc_flips_until(flip->crtc_id, next.time);
-    if (!(flip->flags & DRM_MODE_PAGE_FLIP_EVENT))
-        return;
-    event.crtc_id = flip->crtc_id;
-    event.told.base.type = DRM_EVENT_FLIP_COMPLETE;
-    event.told.base.length = sizeof event.told.vblank;
-    event.told.vblank.user_data = flip->user_data;
-    events_add(&connection->events, &event, next.sequence, next.time);
+    complete_flip(connection, flip->crtc_id, (flip->flags & DRM_MODE_PAGE_FLIP_EVENT) != 0,
+                  flip->user_data);
 }
 
 /* Whether a flip is refused by nothing that is known: then SETCRTC alone decides. */
@@ -169,53 +141,11 @@ int answer_page_flip(struct connection *connection, void *argument)
     }
     failed = refuse_flip(connection, flip);
     if (failed)
-        return refuse_others(client, failed);
-    failed = find_connector(client, flip->crtc_id, &connector_id);
+        return refuse_current(client, failed);
+    failed = find_connector(connection, flip->crtc_id, &connector_id);
     if (!failed)
         failed = zirkoshe_drmModeSetCrtc(client, flip->crtc_id, flip->fb_id, connector_id);
     if (!failed)
         complete(connection, flip);
     return failed;
-}
-
-/* Whether a picture may be a cursor's: whether the caller holds the handle shows in the reading of
- * its stamp. */
-static int look_at_picture(struct zirkoshe_client *client, const struct drm_mode_cursor *cursor)
-{
-    uint64_t stamp;
-    int failed = zirkoshe_stamp_read(client, cursor->handle, &stamp);
-
-    if (failed)
-        return failed;
-    return cursor->width > MOST_CURSOR_SIDE || cursor->height > MOST_CURSOR_SIDE ? -EINVAL : 0;
-}
-
-/* Whether a current caller sees a CRTC, which the server is asked once. */
-static int see_crtc(struct connection *connection, uint32_t crtc_id)
-{
-    uint32_t fb_id;
-    int failed;
-
-    if (crtc_id != 0 && connection_is_current(connection) && connection->known_crtc == crtc_id)
-        return 0;
-    failed = zirkoshe_drmModeGetCrtc(&connection->client, crtc_id, &fb_id);
-    if (!failed)
-        connection->known_crtc = crtc_id;
-    return failed;
-}
-
-/* The older struct of a cursor begins as the newer one does. A handle of 0 hides the cursor. */
-int answer_cursor(struct connection *connection, void *argument)
-{
-    const struct drm_mode_cursor *cursor = argument;
-    int failed;
-
-    if (cursor->flags == 0 || (cursor->flags & ~(uint32_t)DRM_MODE_CURSOR_FLAGS) != 0)
-        return -EINVAL;
-    failed = see_crtc(connection, cursor->crtc_id);
-    if (failed)
-        return failed;
-    return (cursor->flags & DRM_MODE_CURSOR_BO) && cursor->handle != 0
-               ? look_at_picture(&connection->client, cursor)
-               : 0;
 }

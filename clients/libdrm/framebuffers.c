@@ -9,6 +9,7 @@ struct added {
     uint64_t owner; /* the cookie of the connection that added it, or 0 */
     struct framebuffer framebuffer;
     struct object *object; /* what it shows, if that is known */
+    bool is_of_cursor;
 };
 
 static struct added *all; /* by their ids, which are the lowest that are free */
@@ -47,7 +48,8 @@ void framebuffer_is_added(struct connection *connection, uint32_t fb_id,
     if (!has_room(fb_id))
         return;
     remove_known(&all[fb_id]);
-    all[fb_id] = (struct added){connection->cookie, *framebuffer, buffers_use(connection, handle)};
+    all[fb_id] =
+        (struct added){connection->cookie, *framebuffer, buffers_use(connection, handle), false};
 }
 
 void framebuffer_is_removed(uint32_t fb_id)
@@ -66,6 +68,17 @@ void framebuffers_end(const struct connection *connection)
             state_fb_is_removed(at);
         }
     }
+}
+
+void framebuffer_has_cursor(uint32_t fb_id)
+{
+    if (fb_id < room)
+        all[fb_id].is_of_cursor = true;
+}
+
+bool framebuffer_is_of_cursor(uint32_t fb_id)
+{
+    return fb_id < room && all[fb_id].is_of_cursor;
 }
 
 bool framebuffer_is_known(uint32_t fb_id, struct framebuffer *framebuffer)

@@ -17,6 +17,10 @@ void framebuffer_is_added(struct connection *connection, uint32_t fb_id,
 void framebuffer_is_removed(uint32_t fb_id);
 void framebuffers_end(const struct connection *connection);
 
+/* Notes that it is the image of a cursor, which no list has; returns whether it is. */
+void framebuffer_has_cursor(uint32_t fb_id);
+bool framebuffer_is_of_cursor(uint32_t fb_id);
+
 /* Returns whether a program added it. */
 bool framebuffer_is_known(uint32_t fb_id, struct framebuffer *framebuffer);
 

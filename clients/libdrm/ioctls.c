@@ -15,7 +15,7 @@ struct row {
     const char *name;
     answer *answer;
     enum wants wants;
-    bool reads; /* it changes nothing that another request can see */
+    bool reads; /* it changes nothing that another request can see, or is done at once */
 };
 
 #define ROW(name, answer, wants)                                                                   \
@@ -51,8 +51,8 @@ static const struct row rows[] = {
     READING_ROW(MODE_GETCRTC, answer_get_crtc, WANTS_NOTHING),
     ROW(MODE_SETCRTC, answer_set_crtc, WANTS_NOTHING),
     ROW(MODE_CURSOR, answer_cursor, WANTS_MASTER),
-    READING_ROW(MODE_GETGAMMA, lacks_gamma_size, WANTS_PRIMARY),
-    ROW(MODE_SETGAMMA, lacks_gamma, WANTS_MASTER),
+    READING_ROW(MODE_GETGAMMA, answer_get_gamma, WANTS_PRIMARY),
+    ROW(MODE_SETGAMMA, answer_set_gamma, WANTS_MASTER),
     READING_ROW(MODE_GETENCODER, answer_get_encoder, WANTS_NOTHING),
     READING_ROW(MODE_GETCONNECTOR, answer_get_connector, WANTS_NOTHING),
     ROW(MODE_ATTACHMODE, answer_nothing, WANTS_MASTER),
@@ -78,17 +78,18 @@ static const struct row rows[] = {
     ROW(MODE_ATOMIC, answer_atomic, WANTS_PRIMARY),
     ROW(MODE_CREATEPROPBLOB, answer_create_blob, WANTS_PRIMARY),
     ROW(MODE_DESTROYPROPBLOB, answer_destroy_blob, WANTS_PRIMARY),
-    ROW(SYNCOBJ_CREATE, lacks_support, WANTS_NOTHING),
-    ROW(SYNCOBJ_DESTROY, lacks_support, WANTS_NOTHING),
-    ROW(SYNCOBJ_HANDLE_TO_FD, lacks_support, WANTS_NOTHING),
-    ROW(SYNCOBJ_FD_TO_HANDLE, lacks_support, WANTS_NOTHING),
-    ROW(SYNCOBJ_WAIT, lacks_support, WANTS_NOTHING),
-    ROW(SYNCOBJ_RESET, lacks_support, WANTS_NOTHING),
-    ROW(SYNCOBJ_SIGNAL, lacks_support, WANTS_NOTHING),
-    ROW(SYNCOBJ_TIMELINE_WAIT, lacks_support, WANTS_NOTHING),
-    ROW(SYNCOBJ_QUERY, lacks_support, WANTS_NOTHING),
-    ROW(SYNCOBJ_TRANSFER, lacks_support, WANTS_NOTHING),
-    ROW(SYNCOBJ_TIMELINE_SIGNAL, lacks_support, WANTS_NOTHING),
+    READING_ROW(SYNCOBJ_CREATE, answer_syncobj_create, WANTS_NOTHING),
+    READING_ROW(SYNCOBJ_DESTROY, answer_syncobj_destroy, WANTS_NOTHING),
+    READING_ROW(SYNCOBJ_HANDLE_TO_FD, answer_syncobj_export, WANTS_NOTHING),
+    READING_ROW(SYNCOBJ_FD_TO_HANDLE, answer_syncobj_import, WANTS_NOTHING),
+    READING_ROW(SYNCOBJ_WAIT, answer_syncobj_wait, WANTS_NOTHING),
+    READING_ROW(SYNCOBJ_RESET, answer_syncobj_reset, WANTS_NOTHING),
+    READING_ROW(SYNCOBJ_SIGNAL, answer_syncobj_signal, WANTS_NOTHING),
+    READING_ROW(SYNCOBJ_TIMELINE_WAIT, answer_syncobj_timeline_wait, WANTS_NOTHING),
+    READING_ROW(SYNCOBJ_QUERY, answer_syncobj_query, WANTS_NOTHING),
+    READING_ROW(SYNCOBJ_TRANSFER, answer_syncobj_transfer, WANTS_NOTHING),
+    READING_ROW(SYNCOBJ_TIMELINE_SIGNAL, answer_syncobj_timeline_signal, WANTS_NOTHING),
+    READING_ROW(SYNCOBJ_EVENTFD, answer_syncobj_eventfd, WANTS_NOTHING),
     ROW(MODE_CREATE_LEASE, answer_create_lease, WANTS_NOTHING),
     READING_ROW(MODE_LIST_LESSEES, answer_list_lessees, WANTS_NOTHING),
     READING_ROW(MODE_GET_LEASE, answer_get_lease, WANTS_NOTHING),
@@ -113,16 +114,27 @@ static const struct row *row_of(uint32_t request)
     return NULL;
 }
 
-/* MODE_LIST_LESSEES changes nothing, and only a current caller may make it. (A page flip asks by
- * itself.) */
+/* MODE_LIST_LESSEES changes nothing, and only a current caller may make it. */
+int refuse_current(struct zirkoshe_client *client, int error)
+{
+    uint32_t rule = client->rule;
+    struct zirkoshe_ids lessees;
+    int denied = zirkoshe_drmModeListLessees(client, &lessees);
+
+    if (denied)
+        return denied;
+    client->rule = rule;
+    return error;
+}
+
+/* (A page flip asks by itself.) */
 int permit_master(struct connection *connection)
 {
-    struct zirkoshe_ids lessees;
     int failed;
 
     if (connection_is_current(connection))
         return 0;
-    failed = zirkoshe_drmModeListLessees(&connection->client, &lessees);
+    failed = refuse_current(&connection->client, 0);
     if (!failed)
         connection_is_found_current(connection);
     return failed;

@@ -44,12 +44,10 @@ static int authenticate(struct connection *connection, struct connection *other)
  * which the caller authenticates. Only a current caller may lease. */
 static int lease_nothing(struct connection *connection, struct drm_mode_create_lease *asked)
 {
-    struct zirkoshe_ids lessees;
+    bool is_right = (asked->flags & ~(uint32_t)(O_CLOEXEC | O_NONBLOCK)) == 0;
     struct connection *opened;
-    int failed = zirkoshe_drmModeListLessees(&connection->client, &lessees);
+    int failed = refuse_current(&connection->client, is_right ? 0 : -EINVAL);
 
-    if (!failed && (asked->flags & ~(uint32_t)(O_CLOEXEC | O_NONBLOCK)))
-        failed = -EINVAL;
     if (!failed)
         failed = connection_open(lessee_node(connection), false, 0, caller_process(), &opened);
     if (!failed)
@@ -114,10 +112,9 @@ int answer_get_lease(struct connection *connection, void *argument)
 int answer_revoke_lease(struct connection *connection, void *argument)
 {
     const struct drm_mode_revoke_lease *revoked = argument;
-    struct zirkoshe_ids lessees;
 
     if (revoked->lessee_id - FIRST_OF_NOTHING < connection->leases_of_nothing)
-        return zirkoshe_drmModeListLessees(&connection->client, &lessees);
+        return refuse_current(&connection->client, 0);
     standings_changed();
     return zirkoshe_drmModeRevokeLease(&connection->client, revoked->lessee_id);
 }

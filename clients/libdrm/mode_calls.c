@@ -3,6 +3,7 @@
 
 #include "crtcs.h"
 #include "framebuffers.h"
+#include "late_commits.h"
 #include "routes.h"
 #include "states.h"
 
@@ -11,6 +12,18 @@
 #define MOST_SIDE 65535
 /* The core's limit for the position of a CRTC in its framebuffer */
 #define MOST_CORNER 0xFFFFu
+
+/* As in the core, the images of cursors are in no list. */
+static void leave_out_cursors(struct zirkoshe_resources *found)
+{
+    uint32_t at, count = 0;
+
+    for (at = 0; at < found->count_fbs; at++) {
+        if (!framebuffer_is_of_cursor(found->fbs[at]))
+            found->fbs[count++] = found->fbs[at];
+    }
+    found->count_fbs = count;
+}
 
 int answer_get_resources(struct connection *connection, void *argument)
 {
@@ -22,6 +35,7 @@ int answer_get_resources(struct connection *connection, void *argument)
         return failed;
     resources->min_width = resources->min_height = LEAST_SIDE;
     resources->max_width = resources->max_height = MOST_SIDE;
+    leave_out_cursors(&found);
     failed = give(resources->fb_id_ptr, &resources->count_fbs, found.fbs, found.count_fbs,
                   sizeof *found.fbs);
     if (!failed)
@@ -53,7 +67,7 @@ int answer_get_crtc(struct connection *connection, void *argument)
     crtc->fb_id = fb_id;
     crtc->x = fb_id != 0 ? primary->src_x >> 16 : 0;
     crtc->y = fb_id != 0 ? primary->src_y >> 16 : 0;
-    crtc->gamma_size = 0;
+    crtc->gamma_size = GAMMA_SIZE;
     crtc->mode_valid = fb_id != 0;
     memset(&crtc->mode, 0, sizeof crtc->mode);
     if (crtc->mode_valid)
@@ -63,21 +77,12 @@ int answer_get_crtc(struct connection *connection, void *argument)
     return 0;
 }
 
-/* Refuses as the core does before it looks anything up: only its test of the caller is earlier. */
-static int refuse_first(struct zirkoshe_client *client, int error)
-{
-    struct zirkoshe_ids lessees;
-    int failed = zirkoshe_drmModeListLessees(client, &lessees);
-
-    return failed ? failed : error;
-}
-
 /* Refuses as the core does before it calls the driver: its tests of the caller and the CRTC are
  * earlier. */
 static int refuse(struct zirkoshe_client *client, uint32_t crtc_id, int error)
 {
     uint32_t fb_id;
-    int failed = refuse_first(client, 0);
+    int failed = refuse_current(client, 0);
 
     if (!failed)
         failed = zirkoshe_drmModeGetCrtc(client, crtc_id, &fb_id);
@@ -153,7 +158,7 @@ int answer_set_crtc(struct connection *connection, void *argument)
     int failed;
 
     if (crtc->x > MOST_CORNER || crtc->y > MOST_CORNER)
-        return refuse_first(client, -ERANGE);
+        return refuse_current(client, -ERANGE);
     failed = find_fb(client, crtc, &fb_id);
     if (failed)
         return failed;
@@ -166,6 +171,8 @@ int answer_set_crtc(struct connection *connection, void *argument)
         failed = copy_from_caller(&connector_id, crtc->set_connectors_ptr, sizeof connector_id);
     if (failed)
         return failed;
+    if (late_commit_of_crtc(crtc->crtc_id) != NULL)
+        return wait_and_ask_again(late_commit_of_crtc(crtc->crtc_id));
     failed = zirkoshe_drmModeSetCrtc(client, crtc->crtc_id, fb_id, connector_id);
     if (!failed)
         note_crtc(crtc, fb_id, connector_id);
@@ -267,7 +274,7 @@ static int refuse_plane(struct connection *connection, const struct drm_mode_set
 {
     const struct topology *topology;
     const struct seen_plane *seen;
-    int failed = refuse_first(&connection->client, 0);
+    int failed = refuse_current(&connection->client, 0);
 
     if (!failed)
         failed = topology_find(connection, &topology);
@@ -303,8 +310,8 @@ int answer_set_plane(struct connection *connection, void *argument)
         .key = plane->plane_id,
         .crtc_id = plane->fb_id != 0 ? plane->crtc_id : 0,
         .fb_id = plane->fb_id,
-        .crtc_x = plane->crtc_x,
-        .crtc_y = plane->crtc_y,
+        .crtc_x = (uint32_t)plane->crtc_x,
+        .crtc_y = (uint32_t)plane->crtc_y,
         .crtc_w = plane->crtc_w,
         .crtc_h = plane->crtc_h,
         .src_x = plane->src_x,
@@ -316,6 +323,8 @@ int answer_set_plane(struct connection *connection, void *argument)
 
     if (failed)
         return refuse_plane(connection, plane, failed);
+    if (late_commit_of_crtc(plane->crtc_id) != NULL)
+        return wait_and_ask_again(late_commit_of_crtc(plane->crtc_id));
     failed = zirkoshe_drmModeSetPlane(&connection->client, plane->plane_id, plane->crtc_id,
                                       plane->fb_id);
     if (!failed)

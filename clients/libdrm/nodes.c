@@ -18,23 +18,49 @@ const char *node_path(enum node node)
     return path == NULL || path[0] == '\0' ? NULL : path;
 }
 
-bool is_node(int fd, enum node *node)
+/* Returns what follows the beginning of the name of a descriptor's peer, or an empty text. */
+static const char *name_of_peer(int fd, const char *wanted, struct sockaddr_un *peer)
 {
-    static const char wanted[] = "\0" NODE_NAME;
-    const size_t length = sizeof wanted - 1;
-    struct sockaddr_un peer;
-    socklen_t size = sizeof peer;
+    const size_t length = strlen(wanted), begin = offsetof(struct sockaddr_un, sun_path) + 1;
+    socklen_t size = sizeof *peer - 1;
     int error = errno;
     bool is_one;
 
-    is_one = getpeername(fd, (struct sockaddr *)&peer, &size) == 0 && peer.sun_family == AF_UNIX
-             && size > offsetof(struct sockaddr_un, sun_path) + length
-             && memcmp(peer.sun_path, wanted, length) == 0 && peer.sun_path[length] >= '0'
-             && peer.sun_path[length] < '0' + NODE_KINDS;
+    memset(peer, 0, sizeof *peer);
+    is_one = getpeername(fd, (struct sockaddr *)peer, &size) == 0 && peer->sun_family == AF_UNIX
+             && size > begin + length && memcmp(peer->sun_path + 1, wanted, length) == 0;
     errno = error;
-    if (is_one)
-        *node = (enum node)(peer.sun_path[length] - '0');
-    return is_one;
+    return is_one ? peer->sun_path + 1 + length : "";
+}
+
+bool is_node(int fd, enum node *node)
+{
+    struct sockaddr_un peer;
+    char kind = name_of_peer(fd, NODE_NAME, &peer)[0];
+
+    if (kind < '0' || kind >= '0' + NODE_KINDS)
+        return false;
+    *node = (enum node)(kind - '0');
+    return true;
+}
+
+static unsigned long number_of(int fd, const char *wanted)
+{
+    struct sockaddr_un peer;
+    unsigned long number = 0;
+
+    sscanf(name_of_peer(fd, wanted, &peer), "%lu", &number);
+    return number;
+}
+
+unsigned long fence_number(int fd)
+{
+    return number_of(fd, FENCE_NAME);
+}
+
+unsigned long syncobj_number(int fd)
+{
+    return number_of(fd, SYNCOBJ_NAME);
 }
 
 bool names_descriptor(const char *path, pid_t process, int *fd)

@@ -20,6 +20,14 @@ const char *node_path(enum node node);
 /* Whether a descriptor is a node, and which. */
 bool is_node(int fd, enum node *node);
 
+/* Likewise those of fences and of synchronisation objects, whose names end with a number. */
+#define FENCE_NAME "zirkoshe-fence-"
+#define SYNCOBJ_NAME "zirkoshe-syncobj-"
+
+/* Returns the number of a fence or a synchronisation object that a descriptor represents, or 0. */
+unsigned long fence_number(int fd);
+unsigned long syncobj_number(int fd);
+
 /* Whether a path names a descriptor of a process, and its number: opened again, a node is another
  * client, as in a kernel. */
 bool names_descriptor(const char *path, pid_t process, int *fd);

@@ -14,6 +14,8 @@
 
 #define PACKET_FORM 0x5a4b0001u
 #define MOST_LISTS 4
+/* Descriptors of the caller's that a request names, at most: of a commit, a fence of each plane */
+#define MOST_ATTACHED 64
 #define MOST_PACKET (128 * 1024)
 /* Lists and writes that are longer together are in a file, whose descriptor comes with the packet.
  */
@@ -29,11 +31,18 @@ enum ask_kind {
 
 enum ask_flags {
     HAS_CHANNEL = 1, /* the first descriptor is the socket for answers to this thread */
-    HAS_MEMORY = 2,  /* the next one is a PRIME descriptor */
     TRACES_FAILURES = 4,
     TRACES_ALL = 8,
     HAS_LISTS = 16, /* the last descriptor has the lists, in place of the packet */
 };
+
+/* The properties of a commit whose values are of the caller's process: the number of a descriptor,
+ * in whose place the packet has its position among those that come with it, or one that none has;
+ * and the address of one, which is ADDRESS_IS_WRONG if it can't be written to. */
+#define PROPERTY_OUT_FENCE_PTR 1007
+#define PROPERTY_IN_FENCE_FD 1018
+#define NOT_ATTACHED INT32_MAX
+#define ADDRESS_IS_WRONG UINT64_MAX
 
 /* Bytes of the caller's memory, which follow in this order. */
 struct list {
@@ -58,13 +67,17 @@ struct reply {
     int32_t result; /* 0 or a negative errno */
     uint32_t tag;
     uint32_t channel;
-    uint32_t size;     /* of the struct */
-    uint32_t writes;   /* how many writes follow it: each a `struct list` and its bytes */
-    uint32_t traced;   /* the length of the line */
-    int64_t until;     /* the caller waits until then, in nanoseconds of CLOCK_MONOTONIC, or 0, */
-    uint32_t is_again; /* and asks again */
-    uint32_t has_descriptor;
-    uint32_t is_long; /* the descriptor has all that follows this struct */
+    uint32_t size;       /* of the struct */
+    uint32_t writes;     /* how many writes follow it: each a `struct list` and its bytes */
+    uint32_t traced;     /* the length of the line */
+    int64_t until;       /* the caller waits until then, in nanoseconds of CLOCK_MONOTONIC, or 0, */
+    uint32_t is_again;   /* and asks again; */
+    uint32_t is_awaited; /* or until the descriptor is readable, and then asks again, or takes the
+                            answer from it */
+    uint32_t descriptors; /* how many come with it */
+    uint32_t is_long;     /* the first one has all that follows this struct */
+    uint32_t
+        fences; /* of the last writes, each gets the number of a descriptor, of the last ones */
     uint32_t pad;
     uint64_t place; /* of a mapping, in the descriptor's file */
 };

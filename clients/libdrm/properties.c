@@ -2,6 +2,7 @@
 #include "properties.h"
 
 #include "blobs.h"
+#include "packets.h"
 
 #define COUNT(array) (sizeof(array) / sizeof(array)[0])
 #define SIGNED(value) ((uint64_t)(int64_t)(value))
@@ -21,9 +22,9 @@ static const struct drm_mode_property_enum links[] = {{DRM_MODE_LINK_STATUS_GOOD
     {                                                                                              \
         id, DRM_MODE_PROP_RANGE | (flags), name, 0, most, NULL, 0                                  \
     }
-#define POSITION(id, name)                                                                         \
+#define SIGNED_RANGE(id, name, least)                                                              \
     {                                                                                              \
-        id, DRM_MODE_PROP_SIGNED_RANGE | DRM_MODE_PROP_ATOMIC, name, SIGNED(INT32_MIN), INT32_MAX, \
+        id, DRM_MODE_PROP_SIGNED_RANGE | DRM_MODE_PROP_ATOMIC, name, SIGNED(least), INT32_MAX,     \
             NULL, 0                                                                                \
     }
 #define OBJECT(id, name, kind)                                                                     \
@@ -50,16 +51,24 @@ static const struct property properties[] = {
     RANGE(SRC_Y, DRM_MODE_PROP_ATOMIC, "SRC_Y", UINT32_MAX),
     RANGE(SRC_W, DRM_MODE_PROP_ATOMIC, "SRC_W", UINT32_MAX),
     RANGE(SRC_H, DRM_MODE_PROP_ATOMIC, "SRC_H", UINT32_MAX),
-    POSITION(CRTC_X, "CRTC_X"),
-    POSITION(CRTC_Y, "CRTC_Y"),
+    SIGNED_RANGE(CRTC_X, "CRTC_X", INT32_MIN),
+    SIGNED_RANGE(CRTC_Y, "CRTC_Y", INT32_MIN),
     RANGE(CRTC_W, DRM_MODE_PROP_ATOMIC, "CRTC_W", INT32_MAX),
     RANGE(CRTC_H, DRM_MODE_PROP_ATOMIC, "CRTC_H", INT32_MAX),
+    SIGNED_RANGE(IN_FENCE_FD, "IN_FENCE_FD", -1),
+    BLOB(GAMMA_LUT, 0, "GAMMA_LUT"),
+    RANGE(GAMMA_LUT_SIZE, DRM_MODE_PROP_IMMUTABLE, "GAMMA_LUT_SIZE", UINT32_MAX),
 };
 
+_Static_assert(OUT_FENCE_PTR == PROPERTY_OUT_FENCE_PTR && IN_FENCE_FD == PROPERTY_IN_FENCE_FD,
+               "front ends know these");
+
 /* The properties that every client sees are first. */
-static const enum property_id of_planes[] = {TYPE,  IN_FORMATS, FB_ID,  CRTC_ID, SRC_X,  SRC_Y,
-                                             SRC_W, SRC_H,      CRTC_X, CRTC_Y,  CRTC_W, CRTC_H};
-static const enum property_id of_crtcs[] = {ACTIVE, MODE_ID, OUT_FENCE_PTR};
+static const enum property_id of_planes[] = {TYPE,   IN_FORMATS, FB_ID, IN_FENCE_FD, CRTC_ID,
+                                             SRC_X,  SRC_Y,      SRC_W, SRC_H,       CRTC_X,
+                                             CRTC_Y, CRTC_W,     CRTC_H};
+static const enum property_id of_crtcs[] = {GAMMA_LUT, GAMMA_LUT_SIZE, ACTIVE, MODE_ID,
+                                            OUT_FENCE_PTR};
 static const enum property_id of_connectors[] = {DPMS, LINK_STATUS, NON_DESKTOP, CRTC_ID};
 
 static const struct {
@@ -68,9 +77,19 @@ static const struct {
     uint32_t for_all, for_atomic;
 } kinds[] = {
     {DRM_MODE_OBJECT_PLANE, of_planes, 2, COUNT(of_planes)},
-    {DRM_MODE_OBJECT_CRTC, of_crtcs, 0, COUNT(of_crtcs)},
+    {DRM_MODE_OBJECT_CRTC, of_crtcs, 2, COUNT(of_crtcs)},
     {DRM_MODE_OBJECT_CONNECTOR, of_connectors, 3, COUNT(of_connectors)},
 };
+
+uint32_t *plane_field(struct plane_state *plane, enum property_id id)
+{
+    uint32_t *const fields[] = {
+        &plane->fb_id, &plane->crtc_id, &plane->src_x,  &plane->src_y,  &plane->src_w,
+        &plane->src_h, &plane->crtc_x,  &plane->crtc_y, &plane->crtc_w, &plane->crtc_h,
+    };
+
+    return id >= FB_ID && id <= CRTC_H ? fields[id - FB_ID] : NULL;
+}
 
 const struct property *property_find(uint32_t id)
 {
@@ -121,14 +140,24 @@ static bool has_value(const struct property *property, uint64_t value)
     return false;
 }
 
+bool is_gamma(uint32_t blob_id)
+{
+    uint32_t size;
+
+    blob_bytes(blob_id, &size);
+    return size % sizeof(struct drm_color_lut) == 0;
+}
+
 bool property_accepts(const struct property *property, uint64_t value)
 {
+    uint32_t size;
+
     if (property->flags & DRM_MODE_PROP_IMMUTABLE)
         return false;
     if (property->flags & DRM_MODE_PROP_ENUM)
         return has_value(property, value);
     if (property->flags & DRM_MODE_PROP_BLOB)
-        return value == 0 || (value <= UINT32_MAX && blob_read((uint32_t)value, NULL, 0) != 0);
+        return value == 0 || (value <= UINT32_MAX && blob_bytes((uint32_t)value, &size) != NULL);
     switch (property->flags & DRM_MODE_PROP_EXTENDED_TYPE) {
     case DRM_MODE_PROP_OBJECT:
         return value <= UINT32_MAX;

@@ -4,6 +4,7 @@
 #define ZIRKOSHE_LIBDRM_PROPERTIES_H
 
 #include "connections.h"
+#include "states.h"
 
 #include <drm_mode.h>
 
@@ -27,6 +28,9 @@ enum property_id {
     CRTC_Y,
     CRTC_W,
     CRTC_H,
+    IN_FENCE_FD,
+    GAMMA_LUT,
+    GAMMA_LUT_SIZE,
 };
 
 struct property {
@@ -38,6 +42,9 @@ struct property {
     uint32_t count; /* how many values an enumeration has */
 };
 
+/* Returns where a plane has the value of a property from FB_ID to CRTC_H, or NULL. */
+uint32_t *plane_field(struct plane_state *plane, enum property_id id);
+
 /* Returns the property with this id, or NULL. */
 const struct property *property_find(uint32_t id);
 
@@ -47,6 +54,9 @@ const enum property_id *properties_of(uint32_t kind, bool is_atomic, uint32_t *c
 
 /* Returns whether an object of this kind has the property. */
 bool property_is_of(uint32_t id, uint32_t kind);
+
+/* Returns whether a blob has entries of gamma; 0 is none. */
+bool is_gamma(uint32_t blob_id);
 
 /* Returns whether a value can be set, as drm_property_change_valid_get does. The ids of objects are
  * not looked up. */

@@ -10,6 +10,7 @@
 /* The most properties that an object has */
 #define MOST_PROPERTIES 16
 #define PRIMARY 1
+#define CURSOR 2
 
 static bool may_be(uint32_t wanted, uint32_t kind)
 {
@@ -40,34 +41,16 @@ static int find_object(struct zirkoshe_client *client, uint32_t id, uint32_t wan
     return failed;
 }
 
-static uint64_t plane_value(const struct plane_state *plane, enum property_id id)
+static uint64_t plane_value(struct plane_state *plane, enum property_id id)
 {
-    switch (id) {
-    case FB_ID:
-        return plane->fb_id;
-    case CRTC_ID:
-        return plane->crtc_id;
-    case SRC_X:
-        return plane->src_x;
-    case SRC_Y:
-        return plane->src_y;
-    case SRC_W:
-        return plane->src_w;
-    case SRC_H:
-        return plane->src_h;
-    case CRTC_X:
-        return (uint64_t)(int64_t)plane->crtc_x;
-    case CRTC_Y:
-        return (uint64_t)(int64_t)plane->crtc_y;
-    case CRTC_W:
-        return plane->crtc_w;
-    case CRTC_H:
-        return plane->crtc_h;
-    case IN_FORMATS:
+    const uint32_t *field = plane_field(plane, id);
+
+    if (id == IN_FORMATS)
         return blob_of_formats();
-    default:
-        return 0;
-    }
+    if (id == IN_FENCE_FD)
+        return UINT64_MAX; /* -1 */
+    /* a position is signed */
+    return field == NULL ? 0 : id == CRTC_X || id == CRTC_Y ? (uint64_t)(int32_t)*field : *field;
 }
 
 /* The value of a CRTC's or a connector's property. Power, link and use of a connector are always
@@ -77,9 +60,16 @@ static uint64_t other_value(struct state *state, uint32_t object_id, uint32_t ki
 {
     if (kind == DRM_MODE_OBJECT_CONNECTOR)
         return id == CRTC_ID ? state_of_connector(state, object_id)->crtc_id : 0;
-    if (id == ACTIVE)
+    switch (id) {
+    case ACTIVE:
         return state_of_crtc(state, object_id)->is_active;
-    return id == MODE_ID ? state_of_crtc(state, object_id)->mode_id : 0;
+    case MODE_ID:
+        return state_of_crtc(state, object_id)->mode_id;
+    case GAMMA_LUT:
+        return state_of_crtc(state, object_id)->gamma_id;
+    default:
+        return id == GAMMA_LUT_SIZE ? GAMMA_SIZE : 0;
+    }
 }
 
 /* The values of an object's properties. */
@@ -102,7 +92,7 @@ static int find_values(struct connection *connection, uint32_t object_id, uint32
         if (plane == NULL)
             values[at] = other_value(state_now(), object_id, kind, ids[at]);
         else if (ids[at] == TYPE)
-            values[at] = plane->primary_of != 0 ? PRIMARY : 0;
+            values[at] = plane->primary_of != 0 ? PRIMARY : plane->cursor_of != 0 ? CURSOR : 0;
         else
             values[at] = plane_value(state_of_plane(state_now(), plane), ids[at]);
     }
@@ -190,7 +180,7 @@ int answer_get_property(struct connection *connection, void *argument)
 }
 
 /* What the core looks at when a property is set by itself. DPMS and link-status can be set, and
- * change nothing. */
+ * change nothing. GAMMA_LUT can be set too. */
 static int set_property(struct zirkoshe_client *client, uint32_t id, uint32_t kind,
                         uint32_t property, uint64_t value)
 {
@@ -198,10 +188,13 @@ static int set_property(struct zirkoshe_client *client, uint32_t id, uint32_t ki
 
     if (failed)
         return failed;
-    return kind == DRM_MODE_OBJECT_CONNECTOR && (property == DPMS || property == LINK_STATUS)
-                   && property_accepts(property_find(property), value)
-               ? 0
-               : -EINVAL;
+    if (!property_is_of(property, kind) || !property_accepts(property_find(property), value))
+        return -EINVAL;
+    if (property == GAMMA_LUT && is_gamma((uint32_t)value)) {
+        state_gamma_is_set(id, (uint32_t)value);
+        return 0;
+    }
+    return property == DPMS || property == LINK_STATUS ? 0 : -EINVAL;
 }
 
 int answer_set_object_property(struct connection *connection, void *argument)
@@ -238,36 +231,17 @@ int answer_create_blob(struct connection *connection, void *argument)
     return failed;
 }
 
-/* Copies the bytes of a blob of this size. */
-static int give_blob(const struct drm_mode_get_blob *asked, uint32_t size)
-{
-    void *bytes = malloc(size);
-    int failed;
-
-    if (bytes == NULL)
-        return -ENOMEM;
-    failed = blob_read(asked->blob_id, bytes, size) == size
-                 ? copy_to_caller(asked->data, bytes, size)
-                 : -ENOENT;
-    free(bytes);
-    return failed;
-}
-
 /* The bytes are returned if there is room for exactly these. */
 int answer_get_blob(struct connection *connection, void *argument)
 {
     struct drm_mode_get_blob *asked = argument;
-    uint32_t size = blob_read(asked->blob_id, NULL, 0);
-
-    int failed = 0;
+    uint32_t room = asked->length;
+    const void *bytes = blob_bytes(asked->blob_id, &asked->length);
 
     (void)connection;
-    if (size == 0)
+    if (bytes == NULL)
         return -ENOENT;
-    if (asked->length == size)
-        failed = give_blob(asked, size);
-    asked->length = size;
-    return failed;
+    return room == asked->length ? copy_to_caller(asked->data, bytes, room) : 0;
 }
 
 int answer_destroy_blob(struct connection *connection, void *argument)

@@ -9,16 +9,28 @@
 
 static struct state now;
 
-/* A device has no more objects than places. If it had, the last place would be shared. */
+/* Finds the place of a key, with which each place begins. A device has no more objects than places.
+ * If it had, the last place would be shared. */
+static void *find_place(void *places, size_t size, uint32_t key)
+{
+    uint8_t *place = places;
+    uint32_t found, at;
+
+    for (at = 0;; at++, place += size) {
+        memcpy(&found, place, sizeof found);
+        if (found == key || found == 0 || at == MOST_OBJECTS - 1)
+            break;
+    }
+    if (found != key) {
+        memset(place, 0, size);
+        memcpy(place, &key, sizeof key);
+    }
+    return place;
+}
+
 static struct plane_state *find_plane(struct state *state, uint32_t key)
 {
-    size_t at = 0;
-
-    while (at < MOST_OBJECTS - 1 && state->planes[at].key != key && state->planes[at].key != 0)
-        at++;
-    if (state->planes[at].key != key)
-        state->planes[at] = (struct plane_state){.key = key};
-    return &state->planes[at];
+    return find_place(state->planes, sizeof state->planes[0], key);
 }
 
 struct plane_state *state_of_plane(struct state *state, const struct seen_plane *plane)
@@ -33,25 +45,12 @@ struct plane_state *state_of_primary(struct state *state, uint32_t crtc_id)
 
 struct crtc_state *state_of_crtc(struct state *state, uint32_t crtc_id)
 {
-    size_t at = 0;
-
-    while (at < MOST_OBJECTS - 1 && state->crtcs[at].id != crtc_id && state->crtcs[at].id != 0)
-        at++;
-    if (state->crtcs[at].id != crtc_id)
-        state->crtcs[at] = (struct crtc_state){.id = crtc_id};
-    return &state->crtcs[at];
+    return find_place(state->crtcs, sizeof state->crtcs[0], crtc_id);
 }
 
 struct connector_state *state_of_connector(struct state *state, uint32_t connector_id)
 {
-    size_t at = 0;
-
-    while (at < MOST_OBJECTS - 1 && state->connectors[at].id != connector_id
-           && state->connectors[at].id != 0)
-        at++;
-    if (state->connectors[at].id != connector_id)
-        state->connectors[at] = (struct connector_state){connector_id, 0};
-    return &state->connectors[at];
+    return find_place(state->connectors, sizeof state->connectors[0], connector_id);
 }
 
 static bool overflows(int32_t position, uint32_t length)
@@ -61,7 +60,8 @@ static bool overflows(int32_t position, uint32_t length)
 
 bool plane_overflows(const struct plane_state *plane)
 {
-    return overflows(plane->crtc_x, plane->crtc_w) || overflows(plane->crtc_y, plane->crtc_h);
+    return overflows((int32_t)plane->crtc_x, plane->crtc_w)
+           || overflows((int32_t)plane->crtc_y, plane->crtc_h);
 }
 
 uint32_t state_connector(const struct state *state, uint32_t crtc_id, unsigned *count)
@@ -112,10 +112,19 @@ static void set_mode(struct crtc_state *crtc, const struct drm_mode_modeinfo *mo
     if (mode != NULL && crtc->mode_id != 0 && memcmp(&crtc->mode, mode, sizeof *mode) == 0)
         return;
     blob_drop(crtc->mode_id);
-    crtc->mode_id = mode != NULL ? blob_of_mode(mode) : 0;
+    crtc->mode_id = mode != NULL ? blob_of_display(mode, sizeof *mode) : 0;
     memset(&crtc->mode, 0, sizeof crtc->mode);
     if (mode != NULL)
         crtc->mode = *mode;
+}
+
+void state_gamma_is_set(uint32_t crtc_id, uint32_t blob_id)
+{
+    struct crtc_state *crtc = state_of_crtc(&now, crtc_id);
+
+    blob_use(blob_id);
+    blob_drop(crtc->gamma_id);
+    crtc->gamma_id = blob_id;
 }
 
 /* Takes all connectors from a CRTC. */

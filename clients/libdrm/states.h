@@ -11,19 +11,19 @@
 
 #include <drm_mode.h>
 
-/* Sources are in 16.16 fixed point. */
+/* Sources are in 16.16 fixed point, and positions on the CRTC are signed. */
 struct plane_state {
     uint32_t key; /* 0 if the place is free */
     uint32_t crtc_id, fb_id;
-    int32_t crtc_x, crtc_y;
-    uint32_t crtc_w, crtc_h;
+    uint32_t crtc_x, crtc_y, crtc_w, crtc_h;
     uint32_t src_x, src_y, src_w, src_h;
 };
 
 struct crtc_state {
     uint32_t id; /* 0 if the place is free */
     bool is_active;
-    uint32_t mode_id; /* a blob, or 0 for no mode */
+    uint32_t mode_id;  /* a blob, or 0 for no mode */
+    uint32_t gamma_id; /* likewise, of entries of gamma */
     struct drm_mode_modeinfo mode;
 };
 
@@ -54,11 +54,13 @@ uint32_t state_connector(const struct state *state, uint32_t crtc_id, unsigned *
 struct state *state_now(void);
 void state_change(const struct state *before, const struct state *after);
 
-/* Notes what the older calls changed: a MODE_SETCRTC or a flip, a MODE_SETPLANE, the framebuffer
+/* Notes what the older calls changed: a MODE_SETCRTC or a flip, a gamma table, a MODE_SETPLANE,
+ * the framebuffer
  * that the server reports for a CRTC, and that a framebuffer is removed. */
 void state_crtc_is_set(uint32_t crtc_id, uint32_t connector_id, const struct plane_state *primary,
                        const struct drm_mode_modeinfo *mode);
 void state_crtc_flips(uint32_t crtc_id, uint32_t fb_id);
+void state_gamma_is_set(uint32_t crtc_id, uint32_t blob_id);
 void state_plane_is_set(const struct plane_state *plane);
 void state_crtc_is_seen(uint32_t crtc_id, uint32_t fb_id);
 void state_fb_is_removed(uint32_t fb_id);

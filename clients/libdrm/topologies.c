@@ -23,7 +23,7 @@ static int ask_planes(struct zirkoshe_client *client, struct topology *topology)
         failed = zirkoshe_drmModeGetPlane(client, listed.ids[at], &plane);
         topology->planes[at] =
             (struct seen_plane){listed.ids[at], plane.possible_crtcs,
-                                failed ? 0 : primary_of(topology, plane.possible_crtcs, before)};
+                                failed ? 0 : primary_of(topology, plane.possible_crtcs, before), 0};
         before |= plane.possible_crtcs;
         topology->count_planes = at + 1;
     }
@@ -49,6 +49,89 @@ static int ask_connectors(struct zirkoshe_client *client,
     return failed;
 }
 
+/* Which planes clients list without all planes: a device has them from its beginning. */
+static struct {
+    uint32_t id; /* 0 if the place is free */
+    bool is_overlay;
+} kinds[MOST_OBJECTS];
+
+static size_t place_of_kind(uint32_t id)
+{
+    size_t at = 0;
+
+    while (at < MOST_OBJECTS - 1 && kinds[at].id != id && kinds[at].id != 0)
+        at++;
+    return at;
+}
+
+static bool knows_kinds(const struct topology *topology)
+{
+    uint32_t at = 0;
+
+    while (at < topology->count_planes
+           && kinds[place_of_kind(topology->planes[at].id)].id == topology->planes[at].id)
+        at++;
+    return at == topology->count_planes;
+}
+
+static bool is_listed(const struct zirkoshe_ids *listed, uint32_t id)
+{
+    uint32_t at = 0;
+
+    while (at < listed->count && listed->ids[at] != id)
+        at++;
+    return at < listed->count;
+}
+
+/* Asks which planes a client lists that doesn't list all. */
+static int ask_kinds(struct zirkoshe_client *client, const struct topology *topology)
+{
+    struct zirkoshe_ids listed;
+    uint32_t at;
+    int failed = zirkoshe_drmSetClientCap(client, DRM_CLIENT_CAP_UNIVERSAL_PLANES, 0);
+
+    if (failed)
+        return failed;
+    failed = zirkoshe_drmModeGetPlaneResources(client, &listed);
+    for (at = 0; !failed && at < topology->count_planes; at++) {
+        uint32_t id = topology->planes[at].id;
+        size_t place = place_of_kind(id);
+
+        kinds[place].id = id;
+        kinds[place].is_overlay = is_listed(&listed, id);
+    }
+    if (!failed)
+        failed = zirkoshe_drmSetClientCap(client, DRM_CLIENT_CAP_UNIVERSAL_PLANES, 1);
+    return failed;
+}
+
+/* The second plane of a CRTC that isn't an overlay is its cursor plane. */
+static void note_cursors(struct topology *topology)
+{
+    uint32_t before = 0, at;
+
+    for (at = 0; at < topology->count_planes; at++) {
+        struct seen_plane *plane = &topology->planes[at];
+        int place = __builtin_ffs((int)plane->possible_crtcs) - 1;
+
+        if (place < 0 || (uint32_t)place >= topology->count_crtcs
+            || kinds[place_of_kind(plane->id)].is_overlay)
+            continue;
+        if (before & 1u << place)
+            plane->cursor_of = topology->crtcs[place];
+        before |= 1u << place;
+    }
+}
+
+static int find_cursors(struct zirkoshe_client *client, struct topology *topology)
+{
+    int failed = knows_kinds(topology) ? 0 : ask_kinds(client, topology);
+
+    if (!failed)
+        note_cursors(topology);
+    return failed;
+}
+
 static int ask(struct zirkoshe_client *client, struct topology *topology)
 {
     struct zirkoshe_resources resources;
@@ -69,10 +152,11 @@ int topology_find(struct connection *connection, const struct topology **topolog
 {
     int failed = 0;
 
-    if (!connection_knows_topology(connection)) {
+    if (connection->topology_at != standings_now()) {
         failed = ask(&connection->client, &connection->topology);
-        if (!failed)
-            connection_has_topology(connection);
+        if (!failed && connection->is_universal)
+            failed = find_cursors(&connection->client, &connection->topology);
+        connection->topology_at = failed ? 0 : standings_now();
     }
     *topology = &connection->topology;
     return failed;

@@ -14,6 +14,7 @@
 struct seen_plane {
     uint32_t id, possible_crtcs;
     uint32_t primary_of; /* the CRTC whose primary plane it represents, or 0 */
+    uint32_t cursor_of;  /* the CRTC whose cursor plane it is, or 0 */
 };
 
 struct seen_connector {

@@ -77,28 +77,14 @@ static void find_wanted(struct drm_wait_vblank_request *request, struct goal *go
     goal->wanted = has_passed(last, wanted) ? goal->last : vblank_of(&goal->blanking, wanted);
 }
 
-static int queue(struct connection *connection, struct event *event, const struct goal *goal)
+static int queue(struct connection *connection, uint32_t kind, uint64_t user_data,
+                 const struct goal *goal)
 {
     if (!events_have_room(&connection->events, 1))
         return -ENOMEM;
-    event->crtc_id = goal->crtc_id;
-    event->told.base.length = sizeof event->told;
-    events_add(&connection->events, event, goal->wanted.sequence, goal->wanted.time);
+    events_add(&connection->events, goal->crtc_id, kind, user_data, goal->wanted.sequence,
+               goal->wanted.time);
     return 0;
-}
-
-static int queue_vblank(struct connection *connection, union drm_wait_vblank *wait,
-                        const struct goal *goal)
-{
-    struct event event = {0};
-    int failed;
-
-    event.told.base.type = DRM_EVENT_VBLANK;
-    event.told.vblank.user_data = wait->request.signal;
-    failed = queue(connection, &event, goal);
-    if (!failed)
-        wait->reply.sequence = (uint32_t)goal->wanted.sequence;
-    return failed;
 }
 
 /* What is done of a request while the connection is held. */
@@ -115,7 +101,12 @@ static int begin_wait(struct connection *connection, union drm_wait_vblank *wait
     if (failed)
         return failed;
     find_wanted(&wait->request, goal);
-    return type & _DRM_VBLANK_EVENT ? queue_vblank(connection, wait, goal) : 0;
+    if (!(type & _DRM_VBLANK_EVENT))
+        return 0;
+    failed = queue(connection, DRM_EVENT_VBLANK, wait->request.signal, goal);
+    if (!failed)
+        wait->reply.sequence = (uint32_t)goal->wanted.sequence;
+    return failed;
 }
 
 /* The caller waits for it, but not for ever. If a signal interrupts it, the request as it is now
@@ -161,7 +152,6 @@ int answer_queue_sequence(struct connection *connection, void *argument)
 {
     struct drm_crtc_queue_sequence *asked = argument;
     struct goal goal = {.crtc_id = asked->crtc_id};
-    struct event event = {0};
     uint64_t wanted = asked->sequence;
     bool is_known =
         (asked->flags & ~(uint32_t)(DRM_CRTC_SEQUENCE_RELATIVE | DRM_CRTC_SEQUENCE_NEXT_ON_MISS))
@@ -179,9 +169,7 @@ int answer_queue_sequence(struct connection *connection, void *argument)
         wanted = goal.last.sequence + 1;
     goal.wanted =
         has_passed(goal.last.sequence, wanted) ? goal.last : vblank_of(&goal.blanking, wanted);
-    event.told.base.type = DRM_EVENT_CRTC_SEQUENCE;
-    event.told.sequence.user_data = asked->user_data;
-    failed = queue(connection, &event, &goal);
+    failed = queue(connection, DRM_EVENT_CRTC_SEQUENCE, asked->user_data, &goal);
     if (!failed)
         asked->sequence = goal.wanted.sequence;
     return failed;

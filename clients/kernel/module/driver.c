@@ -23,7 +23,8 @@ static const struct drm_ioctl_desc driver_calls[] = {
 DEFINE_DRM_GEM_FOPS(file_operations_of_a_card);
 
 static const struct drm_driver driver = {
-    .driver_features = DRIVER_GEM | DRIVER_MODESET | DRIVER_ATOMIC | DRIVER_RENDER,
+    .driver_features = DRIVER_GEM | DRIVER_MODESET | DRIVER_ATOMIC | DRIVER_RENDER | DRIVER_SYNCOBJ
+                       | DRIVER_SYNCOBJ_TIMELINE,
     .fops = &file_operations_of_a_card,
     .ioctls = driver_calls,
     .num_ioctls = ARRAY_SIZE(driver_calls),

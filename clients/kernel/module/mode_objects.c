@@ -2,6 +2,7 @@
 // The mode objects of a topology, created in the order of their ids.
 #include <drm/drm_atomic_helper.h>
 #include <drm/drm_atomic_state_helper.h>
+#include <drm/drm_color_mgmt.h>
 #include <drm/drm_connector.h>
 #include <drm/drm_edid.h>
 #include <drm/drm_encoder.h>
@@ -14,6 +15,9 @@
 #include <drm/drm_vblank.h>
 
 #include "card.h"
+
+// the entries of a table of gamma
+#define GAMMA_SIZE 256
 
 struct mode_objects {
     const struct topology *topology;
@@ -79,11 +83,17 @@ static int create_crtc(struct drm_device *device, struct mode_objects *objects, 
 {
     struct drm_crtc *crtc = &objects->crtcs[i].base;
 
+    int result;
+
     drm_crtc_helper_add(crtc,
                         objects->blanks ? &zirkoshe_blanking_crtc_helpers : &zirkoshe_crtc_helpers);
-    return drm_crtc_init_with_planes(
+    result = drm_crtc_init_with_planes(
         device, crtc, NULL, NULL,
         objects->blanks ? &zirkoshe_blanking_crtc_functions : &zirkoshe_crtc_functions, NULL);
+    if (result)
+        return result;
+    drm_crtc_enable_color_mgmt(crtc, 0, false, GAMMA_SIZE);
+    return drm_mode_crtc_set_gamma_size(crtc, GAMMA_SIZE);
 }
 
 // MODE_SETCRTC sets the plane that the core holds for the CRTC: its primary plane or, if it has

@@ -4,6 +4,7 @@
 
 #include <stdio.h>
 #include <stdlib.h>
+#include <sys/ioctl.h>
 
 uint8_t *written_add(struct written *written, size_t size)
 {
@@ -63,6 +64,52 @@ int copy_to_caller(uint64_t address, const void *from, size_t size)
     return 0;
 }
 
+int caller_descriptor(uint32_t at)
+{
+    const struct packet *packet = &task_now()->packet;
+
+    return at < (uint32_t)(packet->count - packet->taken)
+               ? packet->received[(uint32_t)packet->taken + at]
+               : -1;
+}
+
+/* What is kept of a request at most */
+#define MOST_KEPT ((size_t)1024 * 1024)
+
+struct caller_memory {
+    struct ucred caller;
+    struct list lists[MOST_LISTS];
+    uint8_t bytes[];
+};
+
+struct caller_memory *caller_memory_keep(void)
+{
+    const struct task *task = task_now();
+    const struct list *lists = task->packet.ask.lists;
+    struct caller_memory *kept;
+    size_t length = 0, at;
+
+    for (at = 0; at < MOST_LISTS; at++)
+        length += lists[at].size;
+    kept = length <= MOST_KEPT ? malloc(sizeof *kept + length) : NULL;
+    if (kept == NULL)
+        return NULL;
+    kept->caller = task->caller;
+    memcpy(kept->lists, lists, sizeof kept->lists);
+    memcpy(kept->bytes, task->packet.lists, length);
+    return kept;
+}
+
+void caller_memory_use(struct caller_memory *memory)
+{
+    struct task *task = task_now();
+
+    task->caller = memory->caller;
+    memcpy(task->packet.ask.lists, memory->lists, sizeof memory->lists);
+    task->packet.lists = memory->bytes;
+    task->packet.count = task->packet.taken = 0;
+}
+
 pid_t caller_process(void)
 {
     return task_now()->caller.pid;
@@ -91,4 +138,22 @@ bool caller_name_begins(char letter)
 struct outcome *outcome(void)
 {
     return &task_now()->outcome;
+}
+
+int outcome_has(int descriptor)
+{
+    struct outcome *made = outcome();
+
+    made->descriptors[made->count++] = descriptor;
+    return 0;
+}
+
+void outcome_drops_fences(void)
+{
+    struct outcome *made = outcome();
+
+    for (; made->fences > 0; made->fences--)
+        close(made->descriptors[--made->count]);
+    task_now()->written.count = 0;
+    task_now()->written.length = _IOC_SIZE(task_now()->packet.ask.request);
 }

@@ -2,6 +2,7 @@
 #include "display.h"
 
 #include <stdlib.h>
+#include <sys/epoll.h>
 
 #define MOST_CHANNELS 16384
 /* Users other than root leave some of them. */
@@ -34,8 +35,9 @@ struct channel *channel_add(int fd, const struct ucred *sender, bool is_supervis
                              .number = number,
                              .process = sender->pid,
                              .user = sender->uid,
-                             .is_supervisor = is_supervisor};
-    if (!source_add(&made->source, 0)) {
+                             .is_supervisor = is_supervisor,
+                             .users = 1};
+    if (!source_add(&made->source, EPOLLET)) {
         free(made);
         return NULL;
     }
@@ -53,5 +55,18 @@ struct channel *channel_find(uint32_t number, pid_t process)
 void channel_end(struct channel *channel)
 {
     channels[channel->number] = NULL;
-    source_end(&channel->source);
+    channel_release(channel);
+}
+
+void channel_use(struct channel *channel)
+{
+    channel->users++;
+}
+
+void channel_release(struct channel *channel)
+{
+    if (--channel->users > 0)
+        return;
+    close(channel->source.fd);
+    free(channel);
 }

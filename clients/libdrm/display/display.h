@@ -1,6 +1,10 @@
 /* The display: one process that has the connections to the server, one for each open file of a
  * node, and all that a driver keeps beside the rules. Programs reach it by the preloaded library
- * or by a supervisor. It has one thread. */
+ * or by a supervisor.
+ *
+ * Each open file has a thread, and one lock is for all that the threads share. A thread lets the
+ * lock go only while it waits for a packet, the server or its turn, and while it sends an answer.
+ */
 #ifndef ZIRKOSHE_LIBDRM_DISPLAY_H
 #define ZIRKOSHE_LIBDRM_DISPLAY_H
 
@@ -9,61 +13,84 @@
 #include "ioctls.h"
 #include "packets.h"
 
+#include <pthread.h>
 #include <sys/socket.h>
+
+/* turns.c: takes the lock, or lets it go if this thread has it. */
+void display_lock(void);
+void display_unlock(void);
+
+/* A place in the order of what is done. What changes something is alone, and what only reads may
+ * run beside others that do. */
+struct turn {
+    struct turn *next; /* of those that wait, or have begun */
+    pthread_cond_t may_begin;
+    bool is_reading;
+    bool is_queued; /* it waits, or has begun */
+    bool is_begun;
+    bool is_late; /* it has taken a second: others begin meanwhile */
+    int64_t begun;
+};
+
+/* Prepares a turn, and frees it. */
+void turn_prepare(struct turn *turn);
+void turn_free(struct turn *turn);
+
+/* Queues a turn after those that wait; waits until it has begun, also if it is to be queued yet;
+ * and ends it. */
+void turn_queue(struct turn *turn, bool is_reading);
+void turn_wait(struct turn *turn);
+void turn_end(struct turn *turn);
+
+/* Returns whether no turn has begun, but for late ones. */
+bool turns_are_done(void);
 
 /* What the main loop waits for */
 enum source_kind {
     SOURCE_LISTENER,
     SOURCE_PEER,
+    SOURCE_PROXY,
     SOURCE_CHANNEL,
-    SOURCE_TASK,
     SOURCE_EVENTS,
+    SOURCE_FENCES,
     SOURCE_BUFFERS,
-    SOURCE_SIGNALS
+    SOURCE_ENDS,
+    SOURCE_SIGNALS /* and the end of the supervisor */
 };
 
 struct source {
     enum source_kind kind;
     int fd;
-    bool is_ended; /* it is freed after this round */
-    struct source *next_ended;
 };
 
-/* main.c: has the loop wait for a source, or for one event of a task's. Ends a source, and the loop
- * after this round. */
+/* main.c: has the loop wait for a source, or no more. Takes the lock for what is asked next, once
+ * what ended before is seen; but at the end of the display, nothing more is taken. */
 bool source_add(struct source *source, uint32_t events);
-void source_wait(struct source *source, uint32_t events);
-void source_end(struct source *source);
-void loop_end(void);
+void source_remove(struct source *source);
+void display_lock_to_begin(void);
 
 /* The display's end of a pair of sockets: an open file of a node, an opener, or the supervisor */
 struct peer {
     struct source source;
     struct connection *connection; /* of a file */
+    struct proxy *proxy;           /* in place of one, of a fence */
     uid_t user;                    /* the user that opened the file */
     bool is_supervisor;            /* it is believed whose process it names */
-    bool is_busy;                  /* a task answers a packet of it */
-    bool is_ending;                /* a task answers what is left */
-    bool is_waiting;               /* it may have another packet, */
-    struct peer *next;             /* as this one */
+    bool is_ending;                /* no program has the other end */
+    struct turn turn;              /* of the packet that is answered */
+    struct turn last;              /* of the end, and of what is left then */
 };
 
 /* peers.c: adds the display's end of a pair, or NULL if there is no memory; or that of an opener,
- * which is closed then. */
+ * which is closed then. Begins to end a peer. */
 struct peer *peer_add(int fd);
 void opener_add(int fd);
+void peer_end(struct peer *peer);
 
 /* Returns whether a user may have another file. Makes that of a connection, with flags of open,
  * which owns the connection. Returns the program's end, or a negative errno. */
 bool file_has_room(uid_t user);
 int file_make(struct connection *connection, uint64_t flags, uid_t user);
-
-/* Begins to answer the next packet of a peer; begins those of peers that were busy; and begins to
- * answer what is left, and then to end the peer. */
-void peer_answer(struct peer *peer);
-bool peers_are_waiting(void);
-void peers_answer(void);
-void peer_end(struct peer *peer);
 
 /* A socket of a thread for its answers */
 struct channel {
@@ -72,16 +99,20 @@ struct channel {
     pid_t process;
     uid_t user;
     bool is_supervisor;
+    atomic_uint users; /* the table of them, and each thread that sends an answer */
 };
 
 /* channels.c: notes a socket that came with a packet, or finds one that a process has; NULL if
- * there is none. Ends one. */
+ * there is none. Ends one. Keeps one until channel_release, which needs no lock. */
 struct channel *channel_add(int fd, const struct ucred *sender, bool is_supervisor);
 struct channel *channel_find(uint32_t number, pid_t process);
 void channel_end(struct channel *channel);
+void channel_use(struct channel *channel);
+void channel_release(struct channel *channel);
 
-/* as many as fit into what the kernel rounds up to */
-#define MOST_RECEIVED 4
+/* The socket for answers, the lists, and others; as many as fit into what the kernel rounds up to
+ */
+#define MOST_RECEIVED (MOST_ATTACHED + 2)
 
 /* A packet with what came beside it */
 struct packet {
@@ -90,6 +121,7 @@ struct packet {
     const uint8_t *lists;    /* and the lists, */
     uint8_t *aside;          /* which may have come in a file */
     struct ucred sender;
+    int socket;       /* a new one for answers, or -1 */
     uint32_t channel; /* the number of the socket for the answer */
     bool is_right;
     int received[MOST_RECEIVED];
@@ -104,45 +136,31 @@ struct written {
     uint32_t count; /* how many writes to its memory */
 };
 
-/* Work of the display, which can wait for the server while other tasks run */
+/* A packet of a peer, and its answer */
 struct task {
-    struct task *next; /* of those that wait to begin, or are free */
-    void (*run)(struct task *task);
-    struct peer *peer; /* whose packet is answered */
-    bool is_reading;   /* it changes nothing that another task can see */
-    bool is_late;      /* others run meanwhile */
-    int64_t begun;
-    struct source source; /* what it waits for */
-    int64_t until;        /* or the time at which it continues */
+    struct peer *peer;
+    struct turn *turn; /* which ends before the answer is sent, or NULL */
     struct packet packet;
     struct ucred caller;
     struct written written;
     struct outcome outcome;
 };
 
-/* tasks.c: a task that isn't begun, or NULL if there is no memory; frees one that isn't. */
-struct task *task_make(void (*run)(struct task *task), struct peer *peer);
-void task_free(struct task *task);
-
-/* Lets a task begin once it may: one that changes something is alone. Begins all that may. */
-void task_begin(struct task *task, bool is_reading);
-void tasks_begin(void);
-
-/* The task that runs now. Continues one whose wait is over, and all whose time has come. */
+/* peers.c: what this thread answers; lets it answer this. */
 struct task *task_now(void);
-void task_go_on(struct task *task);
-void tasks_go_on(void);
+void task_begin(struct task *task);
 
-/* Returns how long the loop may wait, in milliseconds, or -1, and whether no task is left but late
- * ones. */
-int tasks_timeout(void);
-bool tasks_are_done(void);
-
-/* packets.c: receives a packet into a task; false if there is none. Returns whether its request
- * only reads. Answers it. */
+/* packets.c: waits for a packet without the lock; false at the end. Returns whether its request
+ * only reads. Answers it. Returns whether no answer is being sent. */
 bool packet_receive(struct task *task);
 bool packet_is_reading(const struct task *task);
 void packet_answer(struct task *task);
+bool packets_are_answered(void);
+
+/* proxies.c: answers a request on the descriptor of a proxy. Sees what was sent to one, or its end;
+ * only the main loop may. */
+int proxy_carry_out(const struct proxy *proxy, uint32_t request, void *argument);
+void proxy_attend(struct source *source);
 
 /* callers.c: puts bytes into what is written. Returns their place, or NULL if there is no memory.
  */

@@ -4,6 +4,8 @@
  */
 #include "display.h"
 
+#include "late_commits.h"
+
 #include <signal.h>
 #include <stdio.h>
 #include <stdlib.h>
@@ -14,157 +16,169 @@
 #include <sys/un.h>
 
 #define PROGRAM "zirkoshe-display"
-/* In one round all that is ready is seen: ends come before packets. */
-#define MOST_READY 16384
-/* After how long buffers are looked at again, in milliseconds */
+#define MOST_READY 64
+/* After how long buffers are looked at again, and turns at the end, in milliseconds */
 #define LOOK 10
 
 static int set = -1;
-static struct source *ended;
-static struct epoll_event ready[MOST_READY];
+static int ends = -1; /* the set of what is seen before a request: the ends of peers, and buffers */
 static bool is_to_end;
+static struct turn closings; /* of the tokens whose buffers are closed */
+static struct turn lates;    /* of the commits whose fences are signalled */
 
 bool source_add(struct source *source, uint32_t events)
 {
+    bool is_of_ends = source->kind == SOURCE_PEER || source->kind == SOURCE_BUFFERS;
     struct epoll_event event = {.events = events, .data = {.ptr = source}};
 
-    return epoll_ctl(set, EPOLL_CTL_ADD, source->fd, &event) == 0;
+    return epoll_ctl(is_of_ends ? ends : set, EPOLL_CTL_ADD, source->fd, &event) == 0;
 }
 
-/* The descriptor is in the set from its first wait on. */
-void source_wait(struct source *source, uint32_t events)
+void source_remove(struct source *source)
 {
-    struct epoll_event event = {.events = events | EPOLLONESHOT, .data = {.ptr = source}};
-
-    if (epoll_ctl(set, EPOLL_CTL_MOD, source->fd, &event) != 0)
-        epoll_ctl(set, EPOLL_CTL_ADD, source->fd, &event);
-}
-
-/* Another event of this round can name it, so that it is freed later. */
-void source_end(struct source *source)
-{
-    close(source->fd);
-    source->is_ended = true;
-    source->next_ended = ended;
-    ended = source;
-}
-
-static void free_ended(void)
-{
-    while (ended != NULL) {
-        struct source *first = ended;
-
-        ended = first->next_ended;
-        free(first); /* it is first in what has it */
-    }
-}
-
-void loop_end(void)
-{
-    is_to_end = true;
+    epoll_ctl(source->kind == SOURCE_PEER ? ends : set, EPOLL_CTL_DEL, source->fd, NULL);
 }
 
 static void accept_opener(int listener)
 {
-    int fd = accept4(listener, NULL, NULL, SOCK_CLOEXEC | SOCK_NONBLOCK);
+    int fd = accept4(listener, NULL, NULL, SOCK_CLOEXEC);
 
     if (fd >= 0)
         opener_add(fd);
 }
 
-static void see_end(struct source *source)
+/* Looks for tokens to close, before what comes later is answered. */
+static void attend_to_buffers(void)
 {
-    if (source->kind == SOURCE_PEER)
-        peer_end((struct peer *)source);
-    else if (source->kind == SOURCE_CHANNEL)
-        channel_end((struct channel *)source);
+    buffers_are_closed();
+    if (!closings.is_queued && buffers_look())
+        turn_queue(&closings, false);
 }
 
-static struct task *task_of(struct source *source)
+/* What the thread of closed buffers does. */
+static void *close_tokens(void *unused)
 {
-    return (struct task *)((char *)source - offsetof(struct task, source));
+    display_lock();
+    for (;;) {
+        turn_wait(&closings);
+        buffers_close_tokens();
+        turn_end(&closings);
+    }
+    return unused;
 }
 
-/* At the end, nothing more is taken. */
+/* Has commits carried out whose fences are signalled. */
+static void attend_to_commits(void)
+{
+    if (!lates.is_queued && late_commits_are_ready())
+        turn_queue(&lates, false);
+}
+
+/* What the thread of these commits does. */
+static void *carry_out_commits(void *unused)
+{
+    static struct task task;
+
+    task_begin(&task);
+    display_lock();
+    for (;;) {
+        turn_wait(&lates);
+        late_commits_carry_out();
+        turn_end(&lates);
+        attend_to_commits();
+    }
+    return unused;
+}
+
+/* Fences are signalled before the events of the same blanking. */
+static void attend_to_fences(void)
+{
+    fences_signal_due();
+    attend_to_commits();
+}
+
+static void see(int of, int timeout);
+
 static void see_ready(struct source *source)
 {
     switch (source->kind) {
     case SOURCE_LISTENER:
-        if (!is_to_end)
-            accept_opener(source->fd);
+        accept_opener(source->fd);
         break;
     case SOURCE_PEER:
-        if (!is_to_end)
-            peer_answer((struct peer *)source);
+        peer_end((struct peer *)source);
         break;
-    case SOURCE_TASK:
-        task_go_on(task_of(source));
+    case SOURCE_CHANNEL:
+        channel_end((struct channel *)source);
+        break;
+    case SOURCE_PROXY:
+        proxy_attend(source);
+        break;
+    case SOURCE_FENCES:
+        attend_to_fences();
         break;
     case SOURCE_EVENTS:
+        attend_to_fences();
         events_deliver();
         break;
     case SOURCE_BUFFERS:
-        buffers_are_closed();
+        attend_to_buffers();
+        break;
+    case SOURCE_ENDS:
+        see(source->fd, 0);
         break;
     case SOURCE_SIGNALS:
-        loop_end();
-        break;
-    case SOURCE_CHANNEL:
+        is_to_end = true;
         break;
     }
 }
 
-static void close_tokens(struct task *task)
+/* Sees what is ready of a set, until a time in milliseconds, or -1. It waits without the lock. */
+static void see(int of, int timeout)
 {
-    (void)task;
-    buffers_close_tokens();
+    struct epoll_event ready[MOST_READY];
+    int count, at;
+
+    if (timeout != 0)
+        display_unlock();
+    count = epoll_wait(of, ready, MOST_READY, timeout);
+    if (timeout != 0)
+        display_lock();
+    for (at = 0; at < count; at++)
+        see_ready(ready[at].data.ptr);
 }
 
-/* Closes the tokens of buffers that are closed, before what comes later is answered. */
-static void attend_to_buffers(void)
+static bool is_any_at_its_end(void)
 {
-    struct task *task = buffers_look() ? task_make(close_tokens, NULL) : NULL;
+    struct epoll_event one;
 
-    if (task != NULL)
-        task_begin(task, false);
+    return epoll_wait(ends, &one, 1, 0) > 0;
 }
 
-/* Sees the ends of files first, then packets, and then runs the tasks. */
-static void see_round(int count)
+/* The first look needs no lock. */
+void display_lock_to_begin(void)
 {
-    int at;
+    bool is_any = is_any_at_its_end();
 
-    for (at = 0; at < count; at++) {
-        struct source *source = ready[at].data.ptr;
-
-        if ((ready[at].events & (EPOLLHUP | EPOLLERR)) && !source->is_ended)
-            see_end(source);
-        if (source->kind == SOURCE_BUFFERS)
-            buffers_are_closed();
+    display_lock();
+    while (is_any) {
+        see(ends, 0);
+        is_any = is_any_at_its_end();
     }
-    attend_to_buffers();
-    if (!is_to_end)
-        peers_answer();
-    for (at = 0; at < count; at++) {
-        struct source *source = ready[at].data.ptr;
-
-        if (!source->is_ended && (source->kind == SOURCE_TASK || ready[at].events & EPOLLIN))
-            see_ready(source);
-    }
-    tasks_go_on();
-    tasks_begin();
-    free_ended();
+    attend_to_fences();
+    while (is_to_end)
+        task_poll(NULL, 0, -1);
 }
 
 static void run(void)
 {
-    while (!is_to_end || !tasks_are_done()) {
-        int timeout = peers_are_waiting() ? 0 : tasks_timeout();
-
-        if (buffers_may_be_closed() && (timeout < 0 || timeout > LOOK))
-            timeout = LOOK;
-        see_round(epoll_wait(set, ready, MOST_READY, timeout));
+    while (!is_to_end) {
+        see(set, buffers_may_be_closed() ? LOOK : -1);
+        if (buffers_may_be_closed())
+            attend_to_buffers();
     }
+    while (!turns_are_done() || !packets_are_answered())
+        task_poll(NULL, 0, LOOK);
 }
 
 static int listen_at(const char *path)
@@ -186,23 +200,26 @@ static int listen_at(const char *path)
 
 static int attend_to_signals(void)
 {
-    sigset_t ends;
+    sigset_t ending;
 
-    sigemptyset(&ends);
-    sigaddset(&ends, SIGTERM);
-    sigaddset(&ends, SIGINT);
-    sigprocmask(SIG_BLOCK, &ends, NULL);
-    return signalfd(-1, &ends, SFD_CLOEXEC);
+    sigemptyset(&ending);
+    sigaddset(&ending, SIGTERM);
+    sigaddset(&ending, SIGINT);
+    sigprocmask(SIG_BLOCK, &ending, NULL);
+    return signalfd(-1, &ending, SFD_CLOEXEC);
 }
 
 /* Attends to the supervisor's end of a pair of sockets. */
 static bool attend_to_supervisor(const char *word)
 {
+    static struct source its_end = {.kind = SOURCE_SIGNALS};
     int fd = atoi(word), on = 1;
     struct peer *peer;
 
+    its_end.fd = fd;
     if (setsockopt(fd, SOL_SOCKET, SO_PASSCRED, &on, sizeof on) != 0
-        || fcntl(fd, F_SETFD, FD_CLOEXEC) != 0)
+        || fcntl(fd, F_SETFD, FD_CLOEXEC) != 0 || fcntl(fd, F_SETFL, 0) != 0
+        || !source_add(&its_end, 0))
         return false;
     peer = peer_add(fd);
     if (peer != NULL)
@@ -210,15 +227,34 @@ static bool attend_to_supervisor(const char *word)
     return peer != NULL;
 }
 
+static bool begin_to_attend(const char *path)
+{
+    static struct source sources[] = {{.kind = SOURCE_LISTENER}, {.kind = SOURCE_EVENTS},
+                                      {.kind = SOURCE_FENCES},   {.kind = SOURCE_BUFFERS},
+                                      {.kind = SOURCE_ENDS},     {.kind = SOURCE_SIGNALS}};
+    pthread_t thread;
+    bool is_ready = true;
+    size_t at;
+
+    set = epoll_create1(EPOLL_CLOEXEC);
+    ends = epoll_create1(EPOLL_CLOEXEC);
+    sources[0].fd = listen_at(path);
+    sources[1].fd = events_timer();
+    sources[2].fd = fences_timer();
+    sources[3].fd = buffers_watch();
+    sources[4].fd = ends;
+    sources[5].fd = attend_to_signals();
+    for (at = 0; at < sizeof sources / sizeof sources[0]; at++)
+        is_ready = is_ready && source_add(&sources[at], EPOLLIN);
+    turn_prepare(&closings);
+    turn_prepare(&lates);
+    return is_ready && pthread_create(&thread, NULL, close_tokens, NULL) == 0
+           && pthread_create(&thread, NULL, carry_out_commits, NULL) == 0;
+}
+
 int main(int count, char **words)
 {
-    static struct source sources[] = {{.kind = SOURCE_LISTENER},
-                                      {.kind = SOURCE_EVENTS},
-                                      {.kind = SOURCE_BUFFERS},
-                                      {.kind = SOURCE_SIGNALS}};
     struct rlimit most;
-    size_t at;
-    bool is_ready;
 
     if (count != 2 && count != 3) {
         fprintf(stderr, "usage: " PROGRAM " SOCKET [DESCRIPTOR]\n");
@@ -228,15 +264,11 @@ int main(int count, char **words)
         most.rlim_cur = most.rlim_max;
         setrlimit(RLIMIT_NOFILE, &most);
     }
-    set = epoll_create1(EPOLL_CLOEXEC);
-    sources[0].fd = listen_at(words[1]);
-    sources[1].fd = events_timer();
-    sources[2].fd = buffers_watch();
-    sources[3].fd = attend_to_signals();
-    is_ready = count == 2 || attend_to_supervisor(words[2]);
-    for (at = 0; at < sizeof sources / sizeof sources[0]; at++)
-        is_ready = is_ready && source_add(&sources[at], EPOLLIN);
-    if (!is_ready) {
+    static struct task task;
+
+    task_begin(&task);
+    display_lock();
+    if (!begin_to_attend(words[1]) || (count == 3 && !attend_to_supervisor(words[2]))) {
         fprintf(stderr, PROGRAM ": can't listen at %s: %s\n", words[1], strerror(errno));
         return 1;
     }

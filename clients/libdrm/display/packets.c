@@ -11,6 +11,8 @@
 
 #define MOST_TRACED 512
 
+static atomic_uint count_answering; /* how many threads send an answer */
+
 static void take_control(struct msghdr *message, struct packet *packet)
 {
     struct cmsghdr *part;
@@ -83,13 +85,14 @@ static void let_go(struct packet *packet)
     packet->aside = NULL;
 }
 
-/* Sends an answer on a socket, with a descriptor or with none (-1). */
+/* Sends an answer on a socket, with as many descriptors as the reply says. */
 static void respond(int socket, const struct reply *reply, const struct written *written,
-                    int descriptor)
+                    const int *descriptors)
 {
+    size_t length = reply->descriptors * sizeof *descriptors;
     union {
         struct cmsghdr head;
-        char room[CMSG_SPACE(sizeof descriptor)];
+        char room[CMSG_SPACE(MOST_MADE * sizeof *descriptors)];
     } control;
     struct iovec parts[] = {{(void *)(uintptr_t)reply, sizeof *reply}, {NULL, 0}};
     struct msghdr message = {.msg_iov = parts, .msg_iovlen = 1};
@@ -98,47 +101,59 @@ static void respond(int socket, const struct reply *reply, const struct written 
         parts[1] = (struct iovec){written->bytes, written->length};
         message.msg_iovlen = 2;
     }
-    if (descriptor >= 0) {
+    if (length > 0) {
         memset(&control, 0, sizeof control);
         message.msg_control = &control;
-        message.msg_controllen = sizeof control;
+        message.msg_controllen = CMSG_SPACE(length);
         control.head.cmsg_level = SOL_SOCKET;
         control.head.cmsg_type = SCM_RIGHTS;
-        control.head.cmsg_len = CMSG_LEN(sizeof descriptor);
-        memcpy(CMSG_DATA(&control.head), &descriptor, sizeof descriptor);
+        control.head.cmsg_len = CMSG_LEN(length);
+        memcpy(CMSG_DATA(&control.head), descriptors, length);
     }
     sendmsg(socket, &message, MSG_DONTWAIT | MSG_NOSIGNAL);
 }
 
-/* Sends the answer to the caller's thread, if that still waits. */
+/* Sends the answer to the caller's thread, if that still waits. The turn is over then, and the lock
+ * is let go. */
 static void respond_to(const struct packet *packet, struct reply *reply,
-                       const struct written *written, int descriptor)
+                       const struct written *written, const int *descriptors)
 {
-    const struct channel *channel = channel_find(packet->channel, packet->sender.pid);
+    struct channel *channel = channel_find(packet->channel, packet->sender.pid);
+    struct task *task = task_now();
 
     reply->tag = packet->ask.tag;
     reply->channel = packet->channel;
-    if (channel != NULL)
-        respond(channel->source.fd, reply, written, descriptor);
+    if (channel == NULL)
+        return;
+    channel_use(channel);
+    count_answering++;
+    if (task->turn != NULL)
+        turn_end(task->turn);
+    task->turn = NULL;
+    display_unlock();
+    respond(channel->source.fd, reply, written, descriptors);
+    count_answering--;
+    channel_release(channel);
+}
+
+bool packets_are_answered(void)
+{
+    return count_answering == 0;
 }
 
 /* Finds the socket for the answer: one that came with the packet, or one that came before. Without
  * room for it, the answer says so. */
-static const struct channel *find_channel(struct packet *packet, bool is_supervisor)
+static const struct channel *find_channel(const struct packet *packet, bool is_supervisor)
 {
     const struct reply refusal = {.result = -EMFILE, .tag = packet->ask.tag};
     struct channel *found;
-    int fd;
 
-    if (!(packet->ask.flags & HAS_CHANNEL))
+    if (packet->socket < 0)
         return channel_find(packet->ask.channel, packet->sender.pid);
-    fd = take_descriptor(packet);
-    if (fd < 0)
-        return NULL;
-    found = channel_add(fd, &packet->sender, is_supervisor);
+    found = channel_add(packet->socket, &packet->sender, is_supervisor);
     if (found == NULL) {
-        respond(fd, &refusal, NULL, -1);
-        close(fd);
+        respond(packet->socket, &refusal, NULL, NULL);
+        close(packet->socket);
     }
     return found;
 }
@@ -157,6 +172,7 @@ static void find_caller(struct task *task)
     }
 }
 
+/* A packet may be empty. Each has the sender with it. */
 bool packet_receive(struct task *task)
 {
     union {
@@ -169,9 +185,13 @@ bool packet_receive(struct task *task)
                              .msg_iovlen = 1,
                              .msg_control = &control,
                              .msg_controllen = sizeof control};
-    ssize_t length = recvmsg(task->peer->source.fd, &message, MSG_DONTWAIT | MSG_CMSG_CLOEXEC);
+    ssize_t length;
 
-    if (length <= 0)
+    /* what an end has not read is an error of the other one, which has more packets nevertheless */
+    do
+        length = recvmsg(task->peer->source.fd, &message, MSG_CMSG_CLOEXEC);
+    while (length < 0 && (errno == EINTR || errno == ECONNRESET));
+    if (length < 0 || message.msg_controllen == 0)
         return false;
     packet->aside = NULL;
     packet->count = packet->taken = 0;
@@ -180,7 +200,7 @@ bool packet_receive(struct task *task)
     memset(&packet->ask, 0, sizeof packet->ask);
     if (length >= (ssize_t)sizeof packet->ask)
         memcpy(&packet->ask, packet->bytes, sizeof packet->ask);
-    find_caller(task);
+    packet->socket = packet->ask.flags & HAS_CHANNEL ? take_descriptor(packet) : -1;
     packet->is_right =
         length >= (ssize_t)sizeof packet->ask && has_right_form(packet, (size_t)length);
     return true;
@@ -190,8 +210,8 @@ bool packet_is_reading(const struct task *task)
 {
     const struct ask *ask = &task->packet.ask;
 
-    return !task->packet.is_right || ask->kind == ASK_MAP || ask->kind == ASK_NOTHING
-           || (ask->kind == ASK_IOCTL && is_reading(ask->request));
+    return !task->packet.is_right || task->peer->proxy != NULL || ask->kind == ASK_MAP
+           || ask->kind == ASK_NOTHING || (ask->kind == ASK_IOCTL && is_reading(ask->request));
 }
 
 /* Opens a node for the caller. The root socket is for root alone. */
@@ -215,9 +235,9 @@ static void answer_open(struct task *task)
 {
     int descriptor = open_node(task);
     struct reply reply = {.result = descriptor < 0 ? descriptor : 0,
-                          .has_descriptor = descriptor >= 0};
+                          .descriptors = descriptor >= 0};
 
-    respond_to(&task->packet, &reply, NULL, descriptor);
+    respond_to(&task->packet, &reply, NULL, &descriptor);
     if (descriptor >= 0)
         close(descriptor);
 }
@@ -233,53 +253,47 @@ static void answer_map(struct task *task)
     if (memory >= 0 && (ask->length > size || place > size - ask->length))
         memory = -EINVAL;
     reply.result = memory < 0 ? memory : 0;
-    reply.has_descriptor = memory >= 0;
-    respond_to(&task->packet, &reply, NULL, memory);
+    reply.descriptors = memory >= 0;
+    respond_to(&task->packet, &reply, NULL, &memory);
 }
 
-/* A descriptor for the caller of a request that makes one, or -1. */
-static int made_descriptor(const struct task *task, const void *argument, int *failed)
+/* Hands over the descriptor of a lessee that a request made. */
+static int hand_over_lessee(const struct task *task, const struct drm_mode_create_lease *lease)
+{
+    int made = file_make(task->outcome.opened, lease->flags, task->caller.uid);
+
+    return made < 0 ? made : outcome_has(made);
+}
+
+/* Carries out a request of a file, or on the descriptor of a fence. */
+static int carry_out_of_peer(const struct task *task, void *argument)
 {
     uint32_t request = task->packet.ask.request;
-    const struct drm_prime_handle *prime = argument;
-    const struct drm_mode_create_lease *lease = argument;
-    int made = -1;
+    int failed;
 
-    if (*failed)
-        return -1;
-    if (_IOC_NR(request) == _IOC_NR(DRM_IOCTL_PRIME_HANDLE_TO_FD))
-        return prime->fd;
-    if (task->outcome.opened != NULL) {
-        made = file_make(task->outcome.opened, lease->flags, task->caller.uid);
-        *failed = made < 0 ? made : 0;
-    }
-    return made < 0 ? -1 : made;
+    if (task->peer->proxy != NULL)
+        return proxy_carry_out(task->peer->proxy, request, argument);
+    failed = carry_out(task->peer->connection, request, argument);
+    if (!failed && task->outcome.opened != NULL)
+        failed = hand_over_lessee(task, argument);
+    return failed;
 }
 
 /* Carries out a request with a copy of its struct, which is first in what is written. */
-static int carry_out_packet(struct task *task, int *descriptor)
+static int carry_out_packet(struct task *task)
 {
     union {
         max_align_t aligned;
         uint8_t bytes[1 << _IOC_SIZEBITS];
     } argument;
-    struct packet *packet = &task->packet;
-    uint32_t request = packet->ask.request, size = _IOC_SIZE(request);
-    struct drm_prime_handle *prime = (void *)&argument;
-    int failed, memory = -1;
+    uint32_t size = _IOC_SIZE(task->packet.ask.request);
+    int failed;
 
-    memcpy(&argument, packet->argument, size);
-    if (_IOC_NR(request) == _IOC_NR(DRM_IOCTL_PRIME_FD_TO_HANDLE)) {
-        memory = packet->ask.flags & HAS_MEMORY ? take_descriptor(packet) : -1;
-        prime->fd = memory;
-    }
+    memcpy(&argument, task->packet.argument, size);
     if (written_add(&task->written, size) == NULL)
         failed = -ENOMEM;
     else
-        failed = carry_out(task->peer->connection, request, &argument);
-    *descriptor = made_descriptor(task, &argument, &failed);
-    if (memory >= 0)
-        close(memory);
+        failed = carry_out_of_peer(task, &argument);
     if (task->written.length >= size)
         memcpy(task->written.bytes, &argument, size);
     return failed;
@@ -311,36 +325,50 @@ static uint32_t add_trace(struct task *task, int failed)
     return (uint32_t)length;
 }
 
+/* Puts what is written into a file, if it is long; without memory, the answer says so. */
+static void shorten(struct task *task, struct reply *reply)
+{
+    struct outcome *outcome = &task->outcome;
+    int file = put_aside(&task->written);
+
+    reply->is_long = file >= 0;
+    if (file >= 0) {
+        outcome->descriptors[outcome->count++] = file;
+        return;
+    }
+    *reply = (struct reply){.result = -ENOMEM};
+    task->written.length = 0;
+}
+
 static void answer_ioctl(struct task *task)
 {
     struct written *written = &task->written;
+    struct outcome *outcome = &task->outcome;
     struct reply reply = {.size = _IOC_SIZE(task->packet.ask.request)};
-    int descriptor;
 
     written->length = written->count = 0;
-    task->outcome = (struct outcome){0};
-    reply.result = carry_out_packet(task, &descriptor);
-    reply.until = task->outcome.until;
-    reply.is_again = task->outcome.is_again;
+    *outcome = (struct outcome){0};
+    reply.result = carry_out_packet(task);
+    reply.until = outcome->until;
+    reply.is_again = outcome->is_again;
+    reply.is_awaited = outcome->is_awaited;
+    reply.fences = outcome->fences;
     reply.writes = written->count;
     reply.traced = add_trace(task, reply.result);
-    if (written->length > MOST_INLINE && descriptor < 0) {
-        descriptor = put_aside(written);
-        reply.is_long = descriptor >= 0;
-        if (descriptor < 0) {
-            reply = (struct reply){.result = -ENOMEM};
-            written->length = 0;
-        }
-    }
-    reply.has_descriptor = descriptor >= 0;
-    respond_to(&task->packet, &reply, written, descriptor);
-    if (descriptor >= 0)
-        close(descriptor);
+    if (written->length > MOST_INLINE && outcome->count == 0)
+        shorten(task, &reply);
+    reply.descriptors = outcome->count;
+    respond_to(&task->packet, &reply, written, outcome->descriptors);
+    while (outcome->count > 0)
+        close(outcome->descriptors[--outcome->count]);
 }
 
-static bool is_of_file(const struct ask *ask)
+/* Returns whether a packet is one that a peer takes: a file, a proxy, or an opener. */
+static bool is_taken(const struct peer *peer, const struct ask *ask)
 {
-    return ask->kind == ASK_IOCTL || ask->kind == ASK_MAP;
+    if (peer->proxy != NULL)
+        return ask->kind == ASK_IOCTL;
+    return (ask->kind == ASK_IOCTL || ask->kind == ASK_MAP) == (peer->connection != NULL);
 }
 
 /* Each packet gets an answer. A process that the display can't see, in another PID namespace, is
@@ -350,11 +378,12 @@ void packet_answer(struct task *task)
     const struct ask *ask = &task->packet.ask;
     struct reply refusal = {.result = -EINVAL};
 
-    if (!task->packet.is_right || is_of_file(ask) != (task->peer->connection != NULL)) {
-        respond_to(&task->packet, &refusal, NULL, -1);
+    find_caller(task);
+    if (!task->packet.is_right || !is_taken(task->peer, ask)) {
+        respond_to(&task->packet, &refusal, NULL, NULL);
     } else if (task->caller.pid == 0) {
         refusal.result = -EACCES;
-        respond_to(&task->packet, &refusal, NULL, -1);
+        respond_to(&task->packet, &refusal, NULL, NULL);
     } else if (ask->kind == ASK_OPEN) {
         answer_open(task);
     } else if (ask->kind == ASK_IOCTL) {
@@ -362,7 +391,7 @@ void packet_answer(struct task *task)
     } else if (ask->kind == ASK_MAP) {
         answer_map(task);
     } else {
-        respond_to(&task->packet, &(struct reply){0}, NULL, -1);
+        respond_to(&task->packet, &(struct reply){0}, NULL, NULL);
     }
     let_go(&task->packet);
 }

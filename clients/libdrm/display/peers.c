@@ -1,4 +1,5 @@
-/* The display's ends of pairs of sockets: the open files of nodes, openers, and the supervisor. */
+/* The display's ends of pairs of sockets: the open files of nodes, openers, and the supervisor.
+ * Each has a thread. */
 #include "display.h"
 
 #include <stdio.h>
@@ -11,52 +12,38 @@
 #define MOST_USERS 64
 /* The most openers that have not sent a packet. If there are more, the first one is closed. */
 #define MOST_OPENERS 256
-/* How long a task waits for another one before it looks again, in milliseconds */
-#define PAUSE 10
+#define STACK ((size_t)1024 * 1024)
+/* The room for what is written that a thread keeps at most */
+#define MOST_ROOM_KEPT ((size_t)1024 * 1024)
 
 static struct {
     uid_t user;
     unsigned count;
 } users[MOST_USERS]; /* how many files each has */
 
-static struct peer *waiting;               /* those that may have another packet */
 static struct peer *openers[MOST_OPENERS]; /* a ring */
 static unsigned next_opener;
+static _Thread_local struct task *now;
 
-struct peer *peer_add(int fd)
+struct task *task_now(void)
 {
-    struct peer *made = calloc(1, sizeof *made);
-
-    if (made == NULL)
-        return NULL;
-    made->source = (struct source){.kind = SOURCE_PEER, .fd = fd};
-    /* the loop sees each packet once, since one packet of a peer is answered at a time */
-    if (source_add(&made->source, EPOLLIN | EPOLLET))
-        return made;
-    free(made);
-    return NULL;
+    return now;
 }
 
-void opener_add(int fd)
+void task_begin(struct task *task)
 {
-    struct peer **place = &openers[next_opener++ % MOST_OPENERS];
-    struct peer *made = peer_add(fd);
+    now = task;
+}
 
-    if (made == NULL) {
-        close(fd);
+/* What its holders sent before is answered in its last turn, since another thread may wait for it.
+ */
+void peer_end(struct peer *peer)
+{
+    if (peer->is_ending)
         return;
-    }
-    if (*place != NULL)
-        peer_end(*place);
-    *place = made;
-}
-
-static void forget_opener(const struct peer *opener)
-{
-    size_t at;
-
-    for (at = 0; at < MOST_OPENERS; at++)
-        openers[at] = openers[at] == opener ? NULL : openers[at];
+    peer->is_ending = true;
+    source_remove(&peer->source);
+    turn_queue(&peer->last, false);
 }
 
 /* The place with how many files a user has, or NULL if no more users have room. */
@@ -94,7 +81,126 @@ static bool prepare(int fd, int other, enum node node, uint64_t flags)
     int on = 1;
 
     return name_end(fd, node) && setsockopt(fd, SOL_SOCKET, SO_PASSCRED, &on, sizeof on) == 0
-           && fcntl(fd, F_SETFL, O_NONBLOCK) == 0 && fcntl(other, F_SETFL, flags & O_NONBLOCK) == 0;
+           && fcntl(other, F_SETFL, flags & O_NONBLOCK) == 0;
+}
+
+static void answer(struct task *task)
+{
+    struct peer *peer = task->peer;
+
+    display_lock_to_begin();
+    task->turn = peer->is_ending ? NULL : &peer->turn;
+    if (task->turn != NULL)
+        turn_queue(task->turn, packet_is_reading(task));
+    turn_wait(task->turn != NULL ? task->turn : &peer->last);
+    packet_answer(task);
+    /* no thread of the caller waits for the answer */
+    if (task->turn != NULL)
+        turn_end(task->turn);
+    display_unlock();
+}
+
+static void forget_opener(const struct peer *opener)
+{
+    size_t at;
+
+    for (at = 0; at < MOST_OPENERS; at++)
+        openers[at] = openers[at] == opener ? NULL : openers[at];
+}
+
+static void free_peer(struct peer *peer)
+{
+    turn_free(&peer->turn);
+    turn_free(&peer->last);
+    free(peer);
+}
+
+static void end(struct peer *peer)
+{
+    display_lock_to_begin();
+    peer_end(peer);
+    turn_wait(&peer->last);
+    if (peer->connection != NULL) {
+        --*count_of(peer->user);
+        connection_close(peer->connection);
+    }
+    forget_opener(peer);
+    close(peer->source.fd);
+    turn_end(&peer->last);
+    free_peer(peer);
+    display_unlock();
+}
+
+/* Keeps no more room than others need. */
+static void shrink(struct written *written, size_t most)
+{
+    if (written->room <= most)
+        return;
+    free(written->bytes);
+    *written = (struct written){NULL, 0, 0, 0};
+}
+
+/* What the thread of a peer does. */
+static void *attend(void *peer)
+{
+    struct task task;
+
+    task.peer = peer;
+    task.written = (struct written){NULL, 0, 0, 0};
+    task_begin(&task);
+    while (packet_receive(&task)) {
+        answer(&task);
+        shrink(&task.written, MOST_ROOM_KEPT);
+    }
+    shrink(&task.written, 0);
+    end(peer);
+    return NULL;
+}
+
+static bool begin_thread(struct peer *peer)
+{
+    pthread_attr_t form;
+    pthread_t thread;
+    bool has_begun;
+
+    if (pthread_attr_init(&form) != 0)
+        return false;
+    has_begun = pthread_attr_setstacksize(&form, STACK) == 0
+                && pthread_attr_setdetachstate(&form, PTHREAD_CREATE_DETACHED) == 0
+                && pthread_create(&thread, &form, attend, peer) == 0;
+    pthread_attr_destroy(&form);
+    return has_begun;
+}
+
+struct peer *peer_add(int fd)
+{
+    struct peer *made = calloc(1, sizeof *made);
+
+    if (made == NULL)
+        return NULL;
+    made->source = (struct source){SOURCE_PEER, fd};
+    turn_prepare(&made->turn);
+    turn_prepare(&made->last);
+    /* the loop sees its end */
+    if (source_add(&made->source, 0) && begin_thread(made))
+        return made;
+    free_peer(made);
+    return NULL;
+}
+
+/* An opener that gives way is at its end, which its thread sees. */
+void opener_add(int fd)
+{
+    struct peer **place = &openers[next_opener++ % MOST_OPENERS];
+    struct peer *made = peer_add(fd);
+
+    if (made == NULL) {
+        close(fd);
+        return;
+    }
+    if (*place != NULL)
+        shutdown((*place)->source.fd, SHUT_RDWR);
+    *place = made;
 }
 
 /* Makes the pair of sockets. Returns the program's end, or a negative errno. */
@@ -135,92 +241,4 @@ int file_make(struct connection *connection, uint64_t flags, uid_t user)
     connection->events.file = made->source.fd;
     ++*count_of(user);
     return fd;
-}
-
-/* Has the next round look for another packet of a peer. */
-static void wait_for_next(struct peer *peer)
-{
-    if (peer->is_waiting || peer->is_ending)
-        return;
-    peer->is_waiting = true;
-    peer->next = waiting;
-    waiting = peer;
-}
-
-static void answer_next(struct task *task)
-{
-    struct peer *peer = task->peer;
-
-    packet_answer(task);
-    peer->is_busy = false;
-    wait_for_next(peer);
-}
-
-void peer_answer(struct peer *peer)
-{
-    struct task *task;
-
-    if (peer->is_busy || peer->is_ending)
-        return;
-    task = task_make(answer_next, peer);
-    if (task == NULL || !packet_receive(task)) {
-        if (task != NULL)
-            task_free(task);
-        return;
-    }
-    peer->is_busy = true;
-    task_begin(task, packet_is_reading(task));
-}
-
-bool peers_are_waiting(void)
-{
-    return waiting != NULL;
-}
-
-void peers_answer(void)
-{
-    struct peer *each = waiting;
-
-    waiting = NULL;
-    while (each != NULL) {
-        struct peer *next = each->next;
-
-        each->is_waiting = false;
-        peer_answer(each);
-        each = next;
-    }
-}
-
-/* Answers what holders of a file sent before its end, since another thread may wait for it. */
-static void end(struct task *task)
-{
-    struct peer *peer = task->peer;
-
-    while (peer->is_busy)
-        task_poll(NULL, 0, PAUSE);
-    while (packet_receive(task))
-        packet_answer(task);
-    if (peer->connection != NULL) {
-        --*count_of(peer->user);
-        connection_close(peer->connection);
-    }
-    forget_opener(peer);
-    if (peer->is_supervisor)
-        loop_end();
-    source_end(&peer->source);
-}
-
-void peer_end(struct peer *peer)
-{
-    struct peer **place = &waiting;
-    struct task *task = peer->is_ending ? NULL : task_make(end, peer);
-
-    if (task == NULL)
-        return;
-    while (*place != NULL && *place != peer)
-        place = &(*place)->next;
-    if (*place != NULL)
-        *place = peer->next;
-    peer->is_ending = true;
-    task_begin(task, false);
 }

@@ -2,7 +2,7 @@
  * thread. */
 #include "libc.h"
 
-#include "asks.h"
+#include "exchanges.h"
 
 #include <drm.h>
 #include <drm_mode.h>
@@ -19,8 +19,13 @@
 #include <time.h>
 #include <unistd.h>
 
-#define MOST_SENT 3
-#define MOST_WRITES 16
+#define MOST_WRITES 64
+/* Entries of a table */
+#define MOST_GAMMA 256
+/* Handles of a wait */
+#define MOST_HANDLES 16384u
+/* Bytes of an answer that comes later */
+#define MOST_LATE 64
 /* Objects of a commit; each may be in it several times */
 #define MOST_COMMITTED 1024
 #define SECOND 1000000000
@@ -74,49 +79,32 @@ bool channel_make(struct channel *channel, int *other)
     return true;
 }
 
-/* What is sent: bytes, and descriptors, each of which may be -1. */
-struct sent {
-    struct channel *channel; /* whose bytes begin with the packet, but for `ask` */
-    struct ask ask;
-    size_t length;
-    int other;  /* the display's end of a socket for answers */
-    int memory; /* the caller's number of a PRIME descriptor */
-    int aside;  /* the file with the lists */
-};
-
-/* What is answered. `bytes` has what follows the reply. */
-struct answer {
-    struct reply reply;
-    uint8_t *bytes;
-    size_t length;
-    int descriptor; /* or -1 */
-};
-
 static int error_of_sending(void)
 {
     return errno == EPIPE || errno == ECONNRESET ? -ENODEV : errno == EMSGSIZE ? -ENOMEM : -errno;
 }
 
-static int send_packet(int fd, const struct sent *sent, int memory)
+/* Sends a packet with the files that are attached, on a socket. */
+static int send_packet(int fd, const struct sent *sent, const int *files)
 {
-    const int all[MOST_SENT] = {sent->other, memory, sent->aside};
-    int descriptors[MOST_SENT];
-    size_t at, length = 0;
+    int descriptors[MOST_ATTACHED + 2];
+    size_t count = 0, length;
     union {
         struct cmsghdr head;
-        char room[CMSG_SPACE(MOST_SENT * sizeof(int))];
+        char room[CMSG_SPACE(sizeof descriptors)];
     } control;
     struct iovec part = {sent->channel->bytes, sent->length};
     struct msghdr message = {.msg_iov = &part, .msg_iovlen = 1};
 
-    for (at = 0; at < MOST_SENT; at++) {
-        if (all[at] >= 0) {
-            descriptors[length / sizeof(int)] = all[at];
-            length += sizeof(int);
-        }
-    }
+    if (sent->other >= 0)
+        descriptors[count++] = sent->other;
+    memcpy(descriptors + count, files, sent->count * sizeof *files);
+    count += sent->count;
+    if (sent->aside >= 0)
+        descriptors[count++] = sent->aside;
+    length = count * sizeof *descriptors;
     if (length > 0) {
-        memset(&control, 0, sizeof control);
+        memset(&control, 0, CMSG_SPACE(length));
         message.msg_control = &control;
         message.msg_controllen = CMSG_SPACE(length);
         control.head.cmsg_level = SOL_SOCKET;
@@ -127,12 +115,12 @@ static int send_packet(int fd, const struct sent *sent, int memory)
     return sendmsg(fd, &message, MSG_NOSIGNAL | MSG_DONTWAIT) < 0 ? error_of_sending() : 0;
 }
 
-/* Receives a packet, and a descriptor with it or -1. Returns its length, or a negative errno. */
-static ssize_t receive(struct channel *channel, int *descriptor)
+/* Receives a packet with descriptors. Returns its length, or a negative errno. */
+static ssize_t receive(struct channel *channel, struct answer *answer)
 {
     union {
         struct cmsghdr head;
-        char room[CMSG_SPACE(sizeof(int))];
+        char room[CMSG_SPACE(sizeof answer->descriptors)];
     } control;
     struct iovec part = {channel->bytes, sizeof channel->bytes};
     struct msghdr message = {.msg_iov = &part,
@@ -142,10 +130,18 @@ static ssize_t receive(struct channel *channel, int *descriptor)
     ssize_t length = recvmsg(channel->fd, &message, MSG_CMSG_CLOEXEC);
     const struct cmsghdr *head = length > 0 ? CMSG_FIRSTHDR(&message) : NULL;
 
-    *descriptor = -1;
-    if (head != NULL && head->cmsg_type == SCM_RIGHTS && head->cmsg_len == CMSG_LEN(sizeof(int)))
-        memcpy(descriptor, CMSG_DATA(head), sizeof *descriptor);
+    answer->count = 0;
+    if (head != NULL && head->cmsg_type == SCM_RIGHTS) {
+        answer->count = (unsigned)((head->cmsg_len - CMSG_LEN(0)) / sizeof(int));
+        memcpy(answer->descriptors, CMSG_DATA(head), answer->count * sizeof(int));
+    }
     return length < 0 ? -errno : length;
+}
+
+static void close_descriptors(struct answer *answer)
+{
+    while (answer->count > 0)
+        close(answer->descriptors[--answer->count]);
 }
 
 /* Takes the answer to the last packet. Those of earlier ones, which nothing waited for, are left
@@ -156,33 +152,40 @@ static int take_answer(struct channel *channel, struct answer *answer)
 
     memset(&answer->reply, 0, sizeof answer->reply);
     while (length == -EINTR || answer->reply.tag != channel->tag) {
-        length = receive(channel, &answer->descriptor);
+        length = receive(channel, answer);
         if (length == -EINTR)
             continue;
         if (length < (ssize_t)sizeof answer->reply)
             return -ENODEV;
         memcpy(&answer->reply, channel->bytes, sizeof answer->reply);
-        if (answer->reply.tag != channel->tag && answer->descriptor >= 0)
-            close(answer->descriptor);
+        if (answer->reply.tag != channel->tag)
+            close_descriptors(answer);
     }
     answer->bytes = channel->bytes + sizeof answer->reply;
     answer->length = (size_t)length - sizeof answer->reply;
-    return answer->reply.has_descriptor && answer->descriptor < 0 ? -EMFILE : 0;
+    if (answer->count == answer->reply.descriptors)
+        return 0;
+    close_descriptors(answer);
+    return -EMFILE;
 }
 
-/* Sends a packet on a descriptor of the caller's, with one of its PRIME descriptors or none. */
+/* Sends a packet on a descriptor of the caller's, with those that are attached. */
 static int send_for_caller(int fd, const struct sent *sent)
 {
-    int file = caller_file(fd), memory = -1, failed;
+    int file = caller_file(fd), files[MOST_ATTACHED], failed = file < 0 ? file : 0;
+    unsigned count = 0;
 
-    if (file < 0)
-        return file;
-    if (sent->memory >= 0)
-        memory = caller_file(sent->memory);
-    failed = sent->memory >= 0 && memory < 0 ? memory : send_packet(file, sent, memory);
-    if (memory >= 0)
-        caller_file_end(memory);
-    caller_file_end(file);
+    while (!failed && count < sent->count) {
+        files[count] = caller_file(sent->attached[count]);
+        failed = files[count] < 0 ? files[count] : 0;
+        count += !failed;
+    }
+    if (!failed)
+        failed = send_packet(file, sent, files);
+    while (count > 0)
+        caller_file_end(files[--count]);
+    if (file >= 0)
+        caller_file_end(file);
     return failed;
 }
 
@@ -193,7 +196,7 @@ static int send_at_last(struct sent *sent, int fd, bool is_callers)
     int failed;
 
     for (;;) {
-        failed = is_callers ? send_for_caller(fd, sent) : send_packet(fd, sent, -1);
+        failed = is_callers ? send_for_caller(fd, sent) : send_packet(fd, sent, NULL);
         if (failed != -EAGAIN && failed != -EINTR)
             return failed;
         poll(NULL, 0, 1);
@@ -246,8 +249,7 @@ static void end_sent(struct sent *sent)
 /* Begins a packet on a thread's socket for answers, which is taken until end_packet. */
 static int begin_packet(struct sent *sent, const struct ask *ask)
 {
-    *sent =
-        (struct sent){.ask = *ask, .length = sizeof *ask, .other = -1, .memory = -1, .aside = -1};
+    *sent = (struct sent){.ask = *ask, .length = sizeof *ask, .other = -1, .aside = -1};
     sent->channel = channel_take(&sent->other);
     return sent->channel == NULL ? -errno : 0;
 }
@@ -260,7 +262,11 @@ static void end_packet(struct sent *sent)
 
 int channel_note(struct channel *channel, int other, int way)
 {
-    struct sent sent = {channel, {.kind = ASK_NOTHING}, sizeof sent.ask, other, -1, -1};
+    struct sent sent = {.channel = channel,
+                        .ask = {.kind = ASK_NOTHING},
+                        .length = sizeof sent.ask,
+                        .other = other,
+                        .aside = -1};
     struct answer answer;
     int failed = exchange(&sent, way, false, &answer);
 
@@ -282,7 +288,9 @@ static int ask_for_descriptor(const struct ask *ask, int fd, bool is_callers, ui
     if (failed)
         return failed;
     *place = answer.reply.place;
-    return answer.reply.result != 0 ? answer.reply.result : answer.descriptor;
+    if (answer.reply.result != 0 || answer.count == 0)
+        return answer.reply.result != 0 ? answer.reply.result : -ENODEV;
+    return answer.descriptors[0];
 }
 
 int ask_to_open(int way, enum node node, int flags)
@@ -367,17 +375,47 @@ static int find_lists_of_commit(struct ask *ask, const struct drm_mode_atomic *c
     return 0;
 }
 
-/* The lists that a request reads, and the descriptor that it imports. What it writes is in the
- * answer. */
+/* A table of another size is refused. */
+static struct list list_of_gamma(const struct drm_mode_crtc_lut *gamma, uint64_t address)
+{
+    return list_of(address, gamma->gamma_size <= MOST_GAMMA ? gamma->gamma_size : 0,
+                   sizeof(uint16_t));
+}
+
+/* More handles than the display takes are refused. */
+static struct list list_of_handles(uint64_t address, uint32_t count)
+{
+    return list_of(address, count <= MOST_HANDLES ? count : 0, sizeof(uint32_t));
+}
+
+static int find_lists_of_points(struct list *lists, uint64_t handles, uint64_t points,
+                                uint32_t count)
+{
+    lists[0] = list_of_handles(handles, count);
+    lists[1] = list_of(points, count <= MOST_HANDLES ? count : 0, sizeof(uint64_t));
+    return 0;
+}
+
+/* The lists that a request reads. What it writes is in the answer. */
 static int find_lists(struct sent *sent, const void *argument)
 {
     const struct drm_mode_crtc *crtc = argument;
     const struct drm_mode_create_blob *blob = argument;
     const struct drm_mode_create_lease *lease = argument;
     const struct drm_mode_fb_dirty_cmd *dirty = argument;
-    const struct drm_prime_handle *prime = argument;
+    const struct drm_mode_crtc_lut *gamma = argument;
+    const struct drm_syncobj_wait *wait = argument;
+    const struct drm_syncobj_timeline_wait *timeline_wait = argument;
+    const struct drm_syncobj_array *array = argument;
+    const struct drm_syncobj_timeline_array *points = argument;
     struct list *list = &sent->ask.lists[0];
 
+    /* newer headers have longer structs of these */
+    if (_IOC_NR(sent->ask.request) == _IOC_NR(DRM_IOCTL_SYNCOBJ_WAIT))
+        *list = list_of_handles(wait->handles, wait->count_handles);
+    if (_IOC_NR(sent->ask.request) == _IOC_NR(DRM_IOCTL_SYNCOBJ_TIMELINE_WAIT))
+        return find_lists_of_points(list, timeline_wait->handles, timeline_wait->points,
+                                    timeline_wait->count_handles);
     switch (sent->ask.request) {
     case DRM_IOCTL_MODE_ATOMIC:
         return find_lists_of_commit(&sent->ask, argument);
@@ -396,10 +434,20 @@ static int find_lists(struct sent *sent, const void *argument)
         if (dirty->num_clips <= DRM_MODE_FB_DIRTY_MAX_CLIPS)
             *list = list_of(dirty->clips_ptr, dirty->num_clips, sizeof(struct drm_clip_rect));
         return 0;
-    case DRM_IOCTL_PRIME_FD_TO_HANDLE:
-        sent->ask.flags |= HAS_MEMORY;
-        sent->memory = prime->fd;
-        return prime->fd < 0 ? -EBADF : 0;
+    case DRM_IOCTL_MODE_SETGAMMA:
+        list[0] = list_of_gamma(gamma, gamma->red);
+        list[1] = list_of_gamma(gamma, gamma->green);
+        list[2] = list_of_gamma(gamma, gamma->blue);
+        return 0;
+    case DRM_IOCTL_SYNCOBJ_RESET:
+    case DRM_IOCTL_SYNCOBJ_SIGNAL:
+        *list = list_of_handles(array->handles, array->count_handles);
+        return 0;
+    case DRM_IOCTL_SYNCOBJ_QUERY:
+        *list = list_of_handles(points->handles, points->count_handles);
+        return 0;
+    case DRM_IOCTL_SYNCOBJ_TIMELINE_SIGNAL:
+        return find_lists_of_points(list, points->handles, points->points, points->count_handles);
     default:
         return 0;
     }
@@ -439,6 +487,8 @@ static int add_lists(struct sent *sent)
         there[at] = (struct iovec){(void *)(uintptr_t)lists[at].address, lists[at].size};
     }
     failed = length == 0 ? 0 : copy(here, there, MOST_LISTS, false);
+    if (!failed && sent->ask.request == DRM_IOCTL_MODE_ATOMIC)
+        attach_fences(sent, here[2].iov_base, here[3].iov_base);
     if (length > MOST_INLINE)
         munmap(place, length);
     return failed;
@@ -454,6 +504,8 @@ static int gather(struct sent *sent, uint64_t address)
     sent->length += size;
     if (!failed)
         failed = find_lists(sent, argument);
+    if (!failed)
+        attach_descriptors(sent, argument);
     return failed ? failed : add_lists(sent);
 }
 
@@ -496,37 +548,16 @@ static int take_writes(const struct answer *answer, uint64_t address, size_t siz
                     : caller_takes(here + 1, there + 1, count);
 }
 
-/* Puts the caller's numbers of descriptors into a struct: of the one that the request made, or
- * imported. */
-static int put_descriptor(struct answer *answer, const struct sent *sent)
-{
-    struct drm_mode_create_lease *lease = (void *)answer->bytes;
-    struct drm_prime_handle *prime = (void *)answer->bytes;
-    bool is_lease = _IOC_NR(sent->ask.request) == _IOC_NR(DRM_IOCTL_MODE_CREATE_LEASE);
-    int number;
-
-    if (sent->memory >= 0)
-        prime->fd = sent->memory;
-    if (answer->descriptor < 0)
-        return 0;
-    number = caller_gets(answer->descriptor, (int)(is_lease ? lease->flags : prime->flags));
-    if (is_lease)
-        lease->fd = (uint32_t)number;
-    else
-        prime->fd = number;
-    return number < 0 ? number : 0;
-}
-
 /* Maps a long answer. */
 static int find_long(struct answer *answer)
 {
-    off_t length = lseek(answer->descriptor, 0, SEEK_END);
+    int file = answer->descriptors[0];
+    off_t length = lseek(file, 0, SEEK_END);
     void *bytes = length <= 0 ? MAP_FAILED
                               : REAL(mmap)(NULL, (size_t)length, PROT_READ | PROT_WRITE,
-                                           MAP_PRIVATE, answer->descriptor, 0);
+                                           MAP_PRIVATE, file, 0);
 
-    close(answer->descriptor);
-    answer->descriptor = -1;
+    close_descriptors(answer);
     if (bytes == MAP_FAILED)
         return -ENOMEM;
     answer->bytes = bytes;
@@ -542,7 +573,7 @@ static int take(struct answer *answer, const struct sent *sent, uint64_t address
 
     if (failed || answer->reply.size != size || answer->length < size)
         return failed ? failed : answer->reply.result;
-    failed = put_descriptor(answer, sent);
+    failed = put_descriptors(answer, sent);
     copied = take_writes(answer, address, sent->ask.request & IOC_OUT ? size : 0);
     if (answer->reply.is_long)
         munmap(answer->bytes, answer->length);
@@ -558,15 +589,17 @@ static uint32_t tracing(void)
                                                : TRACES_FAILURES;
 }
 
-/* Asks once. `reply` says whether the caller then waits. */
-static int ask_once(int fd, uint32_t request, uint64_t address, struct reply *reply)
+/* Asks once. `reply` says whether the caller then waits, and on which descriptor, or on none (-1).
+ */
+static int ask_once(int fd, uint32_t request, uint64_t address, struct reply *reply, int *awaited)
 {
     const struct ask ask = {.kind = ASK_IOCTL, .request = request, .flags = tracing()};
-    struct answer answer = {.descriptor = -1};
+    struct answer answer = {.count = 0};
     struct sent sent;
     int failed = begin_packet(&sent, &ask);
 
     memset(reply, 0, sizeof *reply);
+    *awaited = -1;
     if (failed)
         return failed;
     failed = gather(&sent, address);
@@ -575,6 +608,9 @@ static int ask_once(int fd, uint32_t request, uint64_t address, struct reply *re
     if (!failed) {
         failed = take(&answer, &sent, address);
         *reply = answer.reply;
+        if (reply->is_awaited && answer.count == 1)
+            *awaited = hide(answer.descriptors[--answer.count]);
+        close_descriptors(&answer);
     }
     end_packet(&sent);
     return failed;
@@ -613,20 +649,91 @@ static int wait_until(int64_t time)
     return failed ? -EINTR : 0;
 }
 
-/* A signal interrupts a request that waits, but not a commit that is carried out. */
+/* Waits until a descriptor is readable (1), or for a time (0), or until a signal is handled. */
+static int wait_on(int fd, int64_t time)
+{
+    int64_t left = 0;
+    int ready;
+
+    do {
+        struct pollfd awaited = {fd, POLLIN, 0};
+        struct timespec most;
+
+        left = time - time_now() < longest_wait ? time - time_now() : longest_wait;
+        left = left > 0 ? left : 0;
+        most = (struct timespec){(time_t)(left / SECOND), (long)(left % SECOND)};
+        ready = ppoll(&awaited, 1, &most, NULL);
+        if (ready > 0)
+            return 1;
+        if (ready < 0 || caller_is_interrupted())
+            return -EINTR;
+    } while (time > time_now());
+    return 0;
+}
+
+/* Takes the answer to a request from the descriptor on which the caller waited. */
+static int take_late(int fd, uint32_t request, uint64_t address)
+{
+    struct {
+        struct reply reply;
+        uint8_t bytes[MOST_LATE];
+    } late;
+    ssize_t length = recv(fd, &late, sizeof late, MSG_DONTWAIT);
+    struct iovec here = {late.bytes, 0}, there = {(void *)(uintptr_t)address, 0};
+    int failed;
+
+    if (length < (ssize_t)sizeof late.reply
+        || late.reply.size != (size_t)length - sizeof late.reply)
+        return -ENODEV;
+    here.iov_len = there.iov_len = least(late.reply.size, _IOC_SIZE(request));
+    failed = caller_takes(&here, &there, 1);
+    return failed ? failed : late.reply.result;
+}
+
+/* Lets the caller wait on a descriptor. Returns whether it asks again. A signal interrupts a wait,
+ * but not a commit that is carried out. */
+static bool waits_on(int awaited, uint32_t request, uint64_t address, const struct reply *reply,
+                     int *answered)
+{
+    int cancelling, ready;
+
+    pthread_setcancelstate(PTHREAD_CANCEL_DISABLE, &cancelling);
+    ready = wait_on(awaited, reply->until);
+    if (ready > 0 && !reply->is_again)
+        *answered = take_late(awaited, request, address);
+    close(awaited);
+    pthread_setcancelstate(cancelling, NULL);
+    if (ready < 0 && (reply->is_again || *answered != 0))
+        *answered = ready;
+    return ready > 0 && reply->is_again;
+}
+
+/* Lets the caller wait for a time. Returns whether it asks again. A signal interrupts a request
+ * that waits, but not a commit that is carried out. */
+static bool waits_until(uint32_t request, const struct reply *reply, int64_t most, int *answered)
+{
+    bool is_commit = _IOC_NR(request) == _IOC_NR(DRM_IOCTL_MODE_ATOMIC);
+
+    if (reply->until == 0 || (reply->is_again && reply->until > most))
+        return false;
+    if (wait_until(reply->until) != 0 && !is_commit && (reply->is_again || *answered == 0)) {
+        *answered = -EINTR;
+        return false;
+    }
+    return reply->is_again;
+}
+
 int ask_ioctl(int fd, uint32_t request, uint64_t address)
 {
     int64_t most = time_now() + MOST_WAIT;
-    bool is_commit = _IOC_NR(request) == _IOC_NR(DRM_IOCTL_MODE_ATOMIC);
     struct reply reply;
-    int answered;
+    int answered, awaited;
+    bool is_again;
 
     do {
-        answered = ask_once(fd, request, address, &reply);
-        if (reply.until == 0 || (reply.is_again && reply.until > most))
-            return answered;
-        if (wait_until(reply.until) != 0 && !is_commit && (reply.is_again || answered == 0))
-            return -EINTR;
-    } while (reply.is_again);
+        answered = ask_once(fd, request, address, &reply, &awaited);
+        is_again = awaited >= 0 ? waits_on(awaited, request, address, &reply, &answered)
+                                : waits_until(request, &reply, most, &answered);
+    } while (is_again);
     return answered;
 }

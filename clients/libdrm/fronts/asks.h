@@ -69,6 +69,11 @@ const struct caller *caller_now(void);
 int caller_file(int fd);
 void caller_file_end(int fd);
 
+/* How long a front end waits at once, in nanoseconds. Whether the caller was interrupted meanwhile,
+ * or has ended, where that doesn't end the wait. */
+extern const int64_t longest_wait;
+bool caller_is_interrupted(void);
+
 /* Hands a descriptor that was opened here to the caller. Returns its number there, or a negative
  * errno. */
 int caller_gets(int fd, int flags);

@@ -54,8 +54,6 @@ static const struct entry sockets[] = {
     {"", KIND_NODE, NODE_ROOT, ""},
 };
 
-/* What the name of a descriptor begins with that represents a folder. */
-#define FOLDER_NAME "zirkoshe-folder:"
 #define FOLDER_LINK "/memfd:" FOLDER_NAME
 
 /* Adds the parts of a path to a plain one, which has no `.`, no `..` and no slash too many; false
@@ -112,12 +110,26 @@ const struct entry *folder_of(int fd)
     return at < COUNT ? &entries[at] : NULL;
 }
 
-int open_folder(const struct entry *folder, int flags)
+/* Makes a file with the text of an entry. */
+static int open_text(const struct entry *entry, int flags)
 {
-    char name[128];
+    ssize_t length = (ssize_t)strlen(entry->text);
+    int fd = memfd_create("zirkoshe-text", flags & O_CLOEXEC ? MFD_CLOEXEC : 0);
 
-    snprintf(name, sizeof name, FOLDER_NAME "%s", folder->path);
-    return memfd_create(name, flags & O_CLOEXEC ? MFD_CLOEXEC : 0);
+    if (fd >= 0 && write(fd, entry->text, (size_t)length) == length && lseek(fd, 0, SEEK_SET) == 0)
+        return fd;
+    if (fd >= 0)
+        close(fd);
+    return -EIO;
+}
+
+int open_entry(const struct entry *entry, int flags)
+{
+    if (is_folder(entry) && (entry->kind == KIND_FOLDER || !(flags & O_NOFOLLOW)))
+        return flags & (O_WRONLY | O_RDWR) ? -EISDIR : open_folder(entry, flags);
+    if (flags & (O_PATH | O_DIRECTORY))
+        return flags & O_PATH ? -EACCES : -ENOTDIR;
+    return entry->kind == KIND_TEXT ? open_text(entry, flags) : -EACCES;
 }
 
 /* The path of a folder that is open, or of the working directory; false if it has none. */

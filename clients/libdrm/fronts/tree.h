@@ -28,11 +28,15 @@ bool find_place(int folder, const char *path, const struct entry **entry);
 /* Returns whether an entry is a folder, or a link to one that has entries. */
 bool is_folder(const struct entry *entry);
 
-/* Opens a descriptor that represents a folder of the device, with O_CLOEXEC or not; -1 with errno.
- */
+/* Opens an entry that is no node, with flags of open. Returns a descriptor or a negative errno. */
+int open_entry(const struct entry *entry, int flags);
+
+/* What each front end defines: opens a folder of the device likewise. */
 int open_folder(const struct entry *folder, int flags);
 
-/* The folder that a descriptor represents, or NULL. */
+/* What the name of a file in memory begins with that represents a folder, whose path follows; and
+ * the folder that a descriptor represents, or NULL. */
+#define FOLDER_NAME "zirkoshe-folder:"
 const struct entry *folder_of(int fd);
 
 /* Returns whether a path is the device's, as find_place does, and not that of a server's socket.

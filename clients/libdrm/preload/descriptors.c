@@ -7,6 +7,7 @@
 #include <drm.h>
 #include <errno.h>
 #include <linux/dma-buf.h>
+#include <linux/sync_file.h>
 #include <stdarg.h>
 #include <sys/ioctl.h>
 #include <sys/mman.h>
@@ -27,6 +28,8 @@ SHOWN int ioctl(int fd, unsigned long request, ...)
         return result_of(ask_ioctl(fd, (uint32_t)request, (uintptr_t)argument));
     if (_IOC_TYPE(request) == DMA_BUF_BASE && is_memory(fd))
         return result_of(ask_of_memory((uint32_t)request, (uintptr_t)argument));
+    if (_IOC_TYPE(request) == SYNC_IOC_MAGIC && fence_number(fd) != 0)
+        return result_of(ask_ioctl(fd, (uint32_t)request, (uintptr_t)argument));
     return REAL(ioctl)(fd, request, argument);
 }
 

@@ -26,33 +26,6 @@ static int fail(int error)
     return -1;
 }
 
-/* A descriptor of a text, from its front. */
-static int open_text(const char *text, int flags)
-{
-    int fd = memfd_create("zirkoshe-text", flags & O_CLOEXEC ? MFD_CLOEXEC : 0);
-    size_t size = strlen(text);
-
-    if (fd >= 0 && (write(fd, text, size) != (ssize_t)size || lseek(fd, 0, SEEK_SET) != 0)) {
-        close(fd);
-        return fail(EIO);
-    }
-    return fd;
-}
-
-/* Opens an entry, or the connection that it is. */
-static int open_entry(const struct entry *entry, int flags)
-{
-    if (is_folder(entry) && (entry->kind == KIND_FOLDER || !(flags & O_NOFOLLOW)))
-        return flags & (O_WRONLY | O_RDWR) ? fail(EISDIR) : open_folder(entry, flags);
-    if (flags & (O_PATH | O_DIRECTORY))
-        return fail(flags & O_PATH ? EACCES : ENOTDIR);
-    if (entry->kind == KIND_TEXT)
-        return open_text(entry->text, flags);
-    if (entry->kind != KIND_NODE)
-        return fail(EACCES);
-    return result_of(open_node(entry->node, flags));
-}
-
 /* Whether a path is that of a descriptor of a node, which is opened anew. */
 static bool is_path_of_node(const char *path, enum node *node)
 {
@@ -73,7 +46,12 @@ static bool opens(int folder, const char *path, int flags, int *fd)
     }
     if (!find_place(folder, path, &entry))
         return false;
-    *fd = entry == NULL ? fail(ENOENT) : open_entry(entry, flags);
+    if (entry == NULL)
+        *fd = fail(ENOENT);
+    else if (entry->kind == KIND_NODE && !(flags & (O_PATH | O_DIRECTORY)))
+        *fd = result_of(open_node(entry->node, flags));
+    else
+        *fd = result_of(open_entry(entry, flags));
     return true;
 }
 
@@ -110,16 +88,20 @@ SHOWN int openat(int folder, const char *path, int flags, ...)
 ALSO(open64, open);
 ALSO(openat64, openat);
 
-/* Programs that were compiled with checks call these instead. */
-SHOWN int __open_2(const char *path, int flags)
-{
-    return open(path, flags);
-}
+/* A function whose result `answered` writes to `result`, unless the path is not the device's. */
+#define ANSWERING(type, name, answered, parameters, words)                                         \
+    SHOWN type name parameters                                                                     \
+    {                                                                                              \
+        type result;                                                                               \
+                                                                                                   \
+        return answered ? result : REAL(name) words;                                               \
+    }
 
-SHOWN int __openat_2(int folder, const char *path, int flags)
-{
-    return openat(folder, path, flags);
-}
+/* Programs that were compiled with checks call these instead. */
+ANSWERING(int, __open_2, opens(AT_FDCWD, path, flags, &result), (const char *path, int flags),
+          (path, flags))
+ANSWERING(int, __openat_2, opens(folder, path, flags, &result),
+          (int folder, const char *path, int flags), (folder, path, flags))
 
 ALSO(__open64_2, __open_2);
 ALSO(__openat64_2, __openat_2);
@@ -140,12 +122,8 @@ static bool opens_stream(const char *path, const char *mode, FILE **stream)
     return true;
 }
 
-SHOWN FILE *fopen(const char *path, const char *mode)
-{
-    FILE *stream;
-
-    return opens_stream(path, mode, &stream) ? stream : REAL(fopen)(path, mode);
-}
+ANSWERING(FILE *, fopen, opens_stream(path, mode, &result), (const char *path, const char *mode),
+          (path, mode))
 
 ALSO(fopen64, fopen);
 
@@ -183,19 +161,10 @@ __attribute__((noinline)) static bool is_no_path(const char *path)
     return path == NULL || path[0] == '\0';
 }
 
-SHOWN int stat(const char *path, struct stat *status)
-{
-    int result;
-
-    return tells(AT_FDCWD, path, true, status, &result) ? result : REAL(stat)(path, status);
-}
-
-SHOWN int lstat(const char *path, struct stat *status)
-{
-    int result;
-
-    return tells(AT_FDCWD, path, false, status, &result) ? result : REAL(lstat)(path, status);
-}
+ANSWERING(int, stat, tells(AT_FDCWD, path, true, status, &result),
+          (const char *path, struct stat *status), (path, status))
+ANSWERING(int, lstat, tells(AT_FDCWD, path, false, status, &result),
+          (const char *path, struct stat *status), (path, status))
 
 SHOWN int fstatat(int folder, const char *path, struct stat *status, int flags)
 {
@@ -277,48 +246,33 @@ static bool allows(int folder, const char *path, int mode, int *result)
     return true;
 }
 
-SHOWN int access(const char *path, int mode)
-{
-    int result;
+ANSWERING(int, access, allows(AT_FDCWD, path, mode, &result), (const char *path, int mode),
+          (path, mode))
+ANSWERING(int, euidaccess, allows(AT_FDCWD, path, mode, &result), (const char *path, int mode),
+          (path, mode))
+ANSWERING(int, faccessat, allows(folder, path, mode, &result),
+          (int folder, const char *path, int mode, int flags), (folder, path, mode, flags))
 
-    return allows(AT_FDCWD, path, mode, &result) ? result : REAL(access)(path, mode);
+static bool changes(int folder, const char *path, int *result)
+{
+    bool is_known = changes_place(folder, path, geteuid(), result);
+
+    if (is_known)
+        *result = result_of(*result);
+    return is_known;
 }
 
-SHOWN int faccessat(int folder, const char *path, int mode, int flags)
-{
-    int result;
-
-    return allows(folder, path, mode, &result) ? result
-                                               : REAL(faccessat)(folder, path, mode, flags);
-}
-
-SHOWN int euidaccess(const char *path, int mode)
-{
-    int result;
-
-    return allows(AT_FDCWD, path, mode, &result) ? result : REAL(euidaccess)(path, mode);
-}
-
-/* Each function that changes a mode or an owner */
-#define CHANGING_FUNCTION(name, folder, path, parameters, words)                                   \
-    SHOWN int name parameters                                                                      \
-    {                                                                                              \
-        int result;                                                                                \
-                                                                                                   \
-        return changes_place(folder, path, geteuid(), &result) ? result_of(result)                 \
-                                                               : REAL(name) words;                 \
-    }
-
-CHANGING_FUNCTION(chmod, AT_FDCWD, path, (const char *path, mode_t mode), (path, mode))
-CHANGING_FUNCTION(fchmodat, folder, path, (int folder, const char *path, mode_t mode, int flags),
-                  (folder, path, mode, flags))
-CHANGING_FUNCTION(chown, AT_FDCWD, path, (const char *path, uid_t user, gid_t group),
-                  (path, user, group))
-CHANGING_FUNCTION(lchown, AT_FDCWD, path, (const char *path, uid_t user, gid_t group),
-                  (path, user, group))
-CHANGING_FUNCTION(fchownat, folder, path,
-                  (int folder, const char *path, uid_t user, gid_t group, int flags),
-                  (folder, path, user, group, flags))
+ANSWERING(int, chmod, changes(AT_FDCWD, path, &result), (const char *path, mode_t mode),
+          (path, mode))
+ANSWERING(int, fchmodat, changes(folder, path, &result),
+          (int folder, const char *path, mode_t mode, int flags), (folder, path, mode, flags))
+ANSWERING(int, chown, changes(AT_FDCWD, path, &result), (const char *path, uid_t user, gid_t group),
+          (path, user, group))
+ANSWERING(int, lchown, changes(AT_FDCWD, path, &result),
+          (const char *path, uid_t user, gid_t group), (path, user, group))
+ANSWERING(int, fchownat, changes(folder, path, &result),
+          (int folder, const char *path, uid_t user, gid_t group, int flags),
+          (folder, path, user, group, flags))
 
 static bool leads(int folder, const char *path, char *target, size_t size, ssize_t *length)
 {
@@ -338,22 +292,10 @@ static bool leads(int folder, const char *path, char *target, size_t size, ssize
     return true;
 }
 
-SHOWN ssize_t readlink(const char *path, char *target, size_t size)
-{
-    ssize_t length;
-
-    return leads(AT_FDCWD, path, target, size, &length) ? length
-                                                        : REAL(readlink)(path, target, size);
-}
-
-SHOWN ssize_t readlinkat(int folder, const char *path, char *target, size_t size)
-{
-    ssize_t length;
-
-    return leads(folder, path, target, size, &length)
-               ? length
-               : REAL(readlinkat)(folder, path, target, size);
-}
+ANSWERING(ssize_t, readlink, leads(AT_FDCWD, path, target, size, &result),
+          (const char *path, char *target, size_t size), (path, target, size))
+ANSWERING(ssize_t, readlinkat, leads(folder, path, target, size, &result),
+          (int folder, const char *path, char *target, size_t size), (folder, path, target, size))
 
 /* The paths of the tree are their own real paths, as far as programs ask for those of nodes. */
 static bool is_real(const char *path, char **resolved)

@@ -1,71 +1,62 @@
 /* The functions of the C library that list folders: those of the device are listed here. */
 #include "libc.h"
 
+#include "preload.h"
 #include "tree.h"
 
 #include <errno.h>
 #include <fcntl.h>
 #include <glob.h>
-#include <pthread.h>
-#include <stdlib.h>
+#include <stdio.h>
 #include <string.h>
+#include <sys/mman.h>
 #include <unistd.h>
 
 /* A folder of the device that the program lists; to the program its address is that of a DIR. */
 struct listing {
-    struct listing *next_listing;
+    atomic_bool is_taken;
     const struct entry *folder;
     int fd; /* what dirfd returns, or -1 */
     size_t next;
     struct dirent given;
 };
 
-static pthread_mutex_t listings_turn = PTHREAD_MUTEX_INITIALIZER;
-static struct listing *listings;
-static atomic_bool any_listing;
+/* A program lists no more of them at once. */
+static struct listing listings[64];
 
-static struct listing *listing_of(const DIR *stream)
+#define COUNT (sizeof listings / sizeof listings[0])
+
+static struct listing *listing_of(DIR *stream)
 {
-    struct listing *found;
+    uintptr_t offset = (uintptr_t)stream - (uintptr_t)listings;
 
-    if (!atomic_load(&any_listing))
-        return NULL;
-    pthread_mutex_lock(&listings_turn);
-    for (found = listings; found != NULL && (const void *)found != (const void *)stream;
-         found = found->next_listing)
-        ;
-    pthread_mutex_unlock(&listings_turn);
-    return found;
+    return offset < sizeof listings ? (struct listing *)stream : NULL;
 }
 
 static DIR *list(const struct entry *folder, int fd)
 {
-    struct listing *made = calloc(1, sizeof *made);
+    size_t at = 0;
 
-    if (made == NULL)
+    while (at < COUNT && atomic_exchange(&listings[at].is_taken, true))
+        at++;
+    if (at == COUNT) {
+        errno = ENOMEM;
         return NULL;
-    made->folder = folder;
-    made->fd = fd;
-    pthread_mutex_lock(&listings_turn);
-    made->next_listing = listings;
-    listings = made;
-    atomic_store(&any_listing, true);
-    pthread_mutex_unlock(&listings_turn);
-    return (DIR *)made;
+    }
+    listings[at].folder = folder;
+    listings[at].fd = fd;
+    listings[at].next = 0;
+    return (DIR *)&listings[at];
 }
 
-static void end_listing(struct listing *ended)
+int open_folder(const struct entry *folder, int flags)
 {
-    struct listing **place = &listings;
+    char name[128];
+    int fd;
 
-    pthread_mutex_lock(&listings_turn);
-    while (*place != ended)
-        place = &(*place)->next_listing;
-    *place = ended->next_listing;
-    pthread_mutex_unlock(&listings_turn);
-    if (ended->fd >= 0)
-        close(ended->fd);
-    free(ended);
+    snprintf(name, sizeof name, FOLDER_NAME "%s", folder->path);
+    fd = memfd_create(name, flags & O_CLOEXEC ? MFD_CLOEXEC : 0);
+    return fd < 0 ? -errno : fd;
 }
 
 static unsigned char type_of(enum kind kind)
@@ -180,7 +171,7 @@ SHOWN int dirfd(DIR *stream)
     if (listing == NULL)
         return REAL(dirfd)(stream);
     if (listing->fd < 0)
-        listing->fd = open_folder(listing->folder, O_CLOEXEC);
+        listing->fd = result_of(open_folder(listing->folder, O_CLOEXEC));
     return listing->fd;
 }
 
@@ -190,7 +181,9 @@ SHOWN int closedir(DIR *stream)
 
     if (listing == NULL)
         return REAL(closedir)(stream);
-    end_listing(listing);
+    if (listing->fd >= 0)
+        close(listing->fd);
+    atomic_store(&listing->is_taken, false);
     return 0;
 }
 
@@ -224,14 +217,3 @@ SHOWN int glob(const char *pattern, int flags, int (*report)(const char *, int),
 }
 
 ALSO(glob64, glob);
-
-/* A thread that the child does not have may have held the list. */
-static void begin_anew(void)
-{
-    pthread_mutex_init(&listings_turn, NULL);
-}
-
-__attribute__((constructor)) static void begin(void)
-{
-    pthread_atfork(NULL, NULL, begin_anew);
-}

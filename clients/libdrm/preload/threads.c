@@ -157,6 +157,14 @@ void caller_file_end(int fd)
     (void)fd;
 }
 
+/* A signal ends its waits. */
+const int64_t longest_wait = INT64_MAX;
+
+bool caller_is_interrupted(void)
+{
+    return false;
+}
+
 int caller_gets(int fd, int flags)
 {
     if (!(flags & O_CLOEXEC))

@@ -40,20 +40,27 @@ bool caller_waits(void)
     return ioctl(call->listener, SECCOMP_IOCTL_NOTIF_ID_VALID, &id) == 0;
 }
 
-/* Finds the process, of which a task is a thread, and its user. */
-static void find_process(void)
+static void read_status(char *status, size_t room)
 {
-    char path[32], status[1024];
+    char path[32];
     ssize_t length = 0;
     int fd;
 
     snprintf(path, sizeof path, "/proc/%d/status", (int)caller.task);
     fd = open(path, O_RDONLY | O_CLOEXEC);
     if (fd >= 0) {
-        length = read(fd, status, sizeof status - 1);
+        length = read(fd, status, room - 1);
         close(fd);
     }
     status[length > 0 ? length : 0] = '\0';
+}
+
+/* Finds the process, of which a task is a thread, and its user. */
+static void find_process(void)
+{
+    char status[1024];
+
+    read_status(status, sizeof status);
     caller.process = (pid_t)number_in(status, "\nTgid:");
     caller.user = (uid_t)number_in(status, "\nUid:");
 }
@@ -117,22 +124,57 @@ void caller_file_end(int fd)
         pthread_mutex_unlock(&files_turn);
 }
 
-bool is_caller_node(int fd, enum node *node)
+/* Returns a descriptor of the caller if it is a socket, or -1. */
+static int caller_socket(int fd)
 {
     struct stat status;
     char path[48];
-    bool is_one;
-    int file;
 
     name_caller_descriptor(path, sizeof path, fd);
-    if (stat(path, &status) != 0 || !S_ISSOCK(status.st_mode))
-        return false;
-    file = caller_file(fd);
-    if (file < 0)
-        return false;
-    is_one = is_node(file, node);
-    caller_file_end(file);
+    return stat(path, &status) == 0 && S_ISSOCK(status.st_mode) ? caller_file(fd) : -1;
+}
+
+bool is_caller_node(int fd, enum node *node)
+{
+    int file = caller_socket(fd);
+    bool is_one = file >= 0 && is_node(file, node);
+
+    if (file >= 0)
+        caller_file_end(file);
     return is_one;
+}
+
+bool is_caller_fence(int fd)
+{
+    int file = caller_socket(fd);
+    bool is_one = file >= 0 && fence_number(file) != 0;
+
+    if (file >= 0)
+        caller_file_end(file);
+    return is_one;
+}
+
+/* A signal doesn't end a wait of the supervisor's. */
+const int64_t longest_wait = 50000000;
+
+/* Returns the signals in a line of the status of the caller. */
+static uint64_t signals_in(const char *status, const char *name)
+{
+    const char *found = strstr(status, name);
+
+    return found == NULL ? 0 : strtoull(found + strlen(name), NULL, 16);
+}
+
+bool caller_is_interrupted(void)
+{
+    char status[1024];
+
+    if (!caller_waits())
+        return true;
+    read_status(status, sizeof status);
+    return ((signals_in(status, "\nSigPnd:") | signals_in(status, "\nShdPnd:"))
+            & ~signals_in(status, "\nSigBlk:") & ~signals_in(status, "\nSigIgn:"))
+           != 0;
 }
 
 int caller_gets(int fd, int flags)

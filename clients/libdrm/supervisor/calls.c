@@ -6,6 +6,7 @@
 #include <drm.h>
 #include <limits.h>
 #include <linux/dma-buf.h>
+#include <linux/sync_file.h>
 #include <stdlib.h>
 #include <sys/ioctl.h>
 #include <sys/syscall.h>
@@ -103,16 +104,10 @@ static void begin_answer(const struct call *call)
 }
 
 /* Opens an entry of the tree that is not a node. */
-static int open_entry(const struct entry *entry, int flags)
+static int open_for_call(const struct entry *entry, int flags)
 {
-    int fd;
+    int fd = open_entry(entry, flags | O_CLOEXEC);
 
-    if (is_folder(entry) && (entry->kind == KIND_FOLDER || !(flags & O_NOFOLLOW)))
-        fd = flags & (O_WRONLY | O_RDWR) ? -EISDIR : open_listed_folder(entry);
-    else if (entry->kind == KIND_TEXT && !(flags & O_DIRECTORY))
-        fd = open_text_file(entry);
-    else
-        fd = flags & O_DIRECTORY ? -ENOTDIR : -EACCES;
     return fd < 0 ? fd : caller_gets(fd, flags);
 }
 
@@ -144,7 +139,7 @@ static void answer_opening(struct call *call)
         call->node = entry->node;
         begin_answer(call);
     } else if (caller_waits()) {
-        respond(call, open_entry(entry, (int)words[1]), 0);
+        respond(call, open_for_call(entry, (int)words[1]), 0);
     }
 }
 
@@ -174,6 +169,15 @@ static void answer_request_on_memory(const struct call *call)
         let_kernel_answer(call);
 }
 
+/* Answers an ioctl of the descriptor of a fence. */
+static void answer_request_on_fence(const struct call *call)
+{
+    if (is_caller_fence((int)call->notice.data.args[0]) && caller_waits())
+        begin_answer(call);
+    else
+        let_kernel_answer(call);
+}
+
 /* Answers a call that looks at a file. */
 static void answer_look_at_file(const struct call *call)
 {
@@ -198,6 +202,8 @@ void answer_call(int listener, const struct seccomp_notif *notice)
         answer_opening(&call);
     else if (!is_mapping && _IOC_TYPE(words[1]) == DMA_BUF_BASE)
         answer_request_on_memory(&call);
+    else if (!is_mapping && _IOC_TYPE(words[1]) == SYNC_IOC_MAGIC)
+        answer_request_on_fence(&call);
     else if (is_caller_node((int)words[is_mapping ? 4 : 0], &call.node) && caller_waits())
         begin_answer(&call);
     else

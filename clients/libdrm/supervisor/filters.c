@@ -1,11 +1,12 @@
-/* The filter of system calls. The supervisor answers openings, looks at files, the requests of DRM
- * and of PRIME descriptors, and mappings at offsets of 4 GiB or more. */
+/* The filter of system calls. The supervisor answers openings, looks at files, the requests of DRM,
+ * of PRIME descriptors and of fences, and mappings at offsets of 4 GiB or more. */
 #include "supervisor.h"
 
 #include <drm.h>
 #include <linux/audit.h>
 #include <linux/dma-buf.h>
 #include <linux/filter.h>
+#include <linux/sync_file.h>
 #include <sys/prctl.h>
 #include <sys/syscall.h>
 
@@ -52,11 +53,12 @@ static const struct sock_filter head[] = {
 };
 
 static const struct sock_filter tail[] = {
-    IF_EQUAL(__NR_mmap, 5, 0),
-    IF_EQUAL(__NR_ioctl, 0, 6),
+    IF_EQUAL(__NR_mmap, 6, 0),
+    IF_EQUAL(__NR_ioctl, 0, 7),
     LOAD(args[1]), /* its lower half */
     BPF_STMT(BPF_ALU | BPF_AND | BPF_K, 0xff << _IOC_TYPESHIFT),
-    IF_EQUAL(DRM_IOCTL_BASE << _IOC_TYPESHIFT, 4, 0),
+    IF_EQUAL(DRM_IOCTL_BASE << _IOC_TYPESHIFT, 5, 0),
+    IF_EQUAL(SYNC_IOC_MAGIC << _IOC_TYPESHIFT, 4, 0),
     IF_EQUAL(DMA_BUF_BASE << _IOC_TYPESHIFT, 3, 2),
     LOAD_UPPER(args[5]), /* of the offset */
     IF_EQUAL(0, 0, 1),

@@ -85,11 +85,12 @@ static int make_folder(const struct entry *folder, const char *path)
     return fd;
 }
 
-int open_listed_folder(const struct entry *folder)
+int open_folder(const struct entry *folder, int flags)
 {
     char path[2 * ROOM];
     int fd = -1;
 
+    (void)flags;
     pthread_mutex_lock(&turn);
     if (has_top()) {
         name_folder(folder, path, sizeof path);

@@ -146,15 +146,3 @@ bool answer_look(const struct seccomp_notif *notice, int *result)
     *result = entry == NULL ? -ENOENT : answer_entry(notice, form, entry);
     return true;
 }
-
-int open_text_file(const struct entry *entry)
-{
-    size_t length = strlen(entry->text);
-    int fd = memfd_create("zirkoshe-text", MFD_CLOEXEC);
-
-    if (fd >= 0 && write(fd, entry->text, length) == (ssize_t)length && lseek(fd, 0, SEEK_SET) == 0)
-        return fd;
-    if (fd >= 0)
-        close(fd);
-    return -EIO;
-}

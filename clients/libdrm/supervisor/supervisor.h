@@ -38,6 +38,9 @@ void name_caller_descriptor(char *path, size_t room, int fd);
 /* Returns whether a descriptor of the caller is a node, and which. */
 bool is_caller_node(int fd, enum node *node);
 
+/* Returns whether a descriptor of the caller is that of a fence. */
+bool is_caller_fence(int fd);
+
 /* Attends to the socket of the display on which the supervisor names its callers. Opens a node for
  * the caller. Returns a descriptor or a negative errno. */
 bool callers_begin(int way);
@@ -61,12 +64,7 @@ void mapping_end(pid_t task, const uint64_t *words, int failed);
 bool is_look(int number);
 bool answer_look(const struct seccomp_notif *notice, int *result);
 
-/* Creates a file with the text of an entry. Returns its descriptor or a negative errno. */
-int open_text_file(const struct entry *entry);
-
-/* folders.c: opens a folder with the names of an entry's files. Returns its descriptor or a
- * negative errno. Removes all such folders. */
-int open_listed_folder(const struct entry *folder);
+/* folders.c: removes all folders that were made for callers. */
 void folders_end(void);
 
 /* calls.c: answers a system call, in another thread if that can take time. */

@@ -1,6 +1,6 @@
 -- The line on standard error and the exit status of each fault (own).
 use Rattle.std.specs.Prelude.{ℕ, List, ◌++◌, codes, decimal}
-use Rattle.drm_connections.specs.Classes.{class_word}
+use Rattle.drm_traffic.specs.Classes.{class_word}
 use Rattle.drm_commands.specs.declared.faults.Fault.{Fault}
 use Rattle.drm_commands.specs.declared.faults.Fault.TheVariants.{ScriptLine, Read, Write, Turns, Memory, Thread, Turn, CommandLine, Listen, Control, Accept}
 use Rattle.drm_listeners.specs.declared.serve_faults.ServeFault.{ServeFault}

@@ -2,14 +2,14 @@
 
 ghost use Rattle.std.specs.Prelude.{◌≡◌, ◌+◌, ◌≤◌, ◌++◌, length, decimal};
 ghost use Rattle.arrayvec.specs.ArrayString.{array_string_len};
-ghost use Rattle.drm_connections.specs.Classes as classes;
+ghost use Rattle.drm_traffic.specs.Classes as classes;
 ghost use Rattle.drm_commands.specs.Faults as faults;
 
 use arrayvec::ArrayString;
-use drm_connections::class_word;
 use drm_listeners::ServeFault;
 use drm_script::push_number;
 use drm_sessions::Class;
+use drm_traffic::class_word;
 use std::marker::Model;
 
 /// The most bytes of a fault line.

@@ -1,12 +1,13 @@
 //! Accepting connections, also if the system can't for a while.
 
 use crate::notes::Note;
-use crate::open_connections::OpenConnections;
+use crate::open_connections::{Asked, OpenConnections};
+use crate::outlet::wait_for;
 use drm_sessions::Class;
 use libc::net::{POLLHUP, POLLIN, poll};
-use libc::types::pollfd;
 use libc::{ECONNABORTED, EINVAL, EMFILE, ENOMEM};
 use std::io;
+use std::io::ErrorKind;
 use std::os::fd::AsRawFd;
 use std::os::unix::net::{UnixListener, UnixStream};
 use std::sync::Wait;
@@ -32,20 +33,10 @@ fn may_pass(reason: &io::Error) -> bool {
     }
 }
 
-fn asking(socket: &UnixListener) -> pollfd {
-    pollfd {
-        fd: socket.as_raw_fd(),
-        events: POLLIN,
-        revents: 0,
-    }
-}
-
 // Waits until a client connects or the listener is shut: until then it needs no descriptor. Accepts the connection. A listener that is
 // shut accepts none of the connections that wait, which are closed with it.
 fn accept_waiting(socket: &UnixListener) -> io::Result<UnixStream> {
-    let mut asked = [asking(socket)];
-    poll(&mut asked, -1);
-    if asked[0].revents & POLLHUP != 0 {
+    if wait_for(socket.as_raw_fd(), POLLIN, -1) & POLLHUP != 0 {
         return Err(io::Error::from_raw_os_error(EINVAL));
     }
     let (stream, _) = socket.accept()?;
@@ -103,23 +94,23 @@ pub fn accept_next<R: Wait>(
     accept_or_end(rt, open, socket)
 }
 
-/// Accepts the next connection of a listener that serves until shutdown. Returns `None` during shutdown.
+/// Accepts the next connection of a listener that serves until shutdown. Returns `Err` during shutdown.
 ///
 /// If the system is out of descriptors or memory, this logs the reason and retries ten times a second. Clients that connect meanwhile wait.
-pub fn accept_unless_ended<R: Wait>(
+pub fn accept_unless_asked<R: Wait>(
     rt: &R,
     open: &OpenConnections,
     socket: &UnixListener,
     class: Class,
-) -> io::Result<Option<UnixStream>> {
+) -> io::Result<Result<UnixStream, Asked>> {
     let mut is_logged = false;
     for _ in rt.forever() {
         let accepted = accept_waiting(socket);
-        if open.has_ended(rt) {
-            return Ok(None);
+        if let Some(asked) = open.asked(rt) {
+            return Ok(Err(asked));
         }
         match accepted {
-            Ok(stream) => return Ok(Some(stream)),
+            Ok(stream) => return Ok(Ok(stream)),
             Err(reason) if may_pass(&reason) => {
                 if !is_logged {
                     open.notes()
@@ -131,15 +122,14 @@ pub fn accept_unless_ended<R: Wait>(
             Err(reason) => return Err(reason),
         }
     }
-    Ok(None)
+    Err(io::Error::from(ErrorKind::Other))
 }
 
 /// Logs that a connection waits after the last one that a listener accepts: it is refused when the listener is closed. The system itself
 /// refuses later ones, which are not logged.
 pub fn note_beyond<R: Wait>(rt: &R, open: &OpenConnections, socket: &UnixListener, class: Class) {
-    let mut asked = [asking(socket)];
     // a listener that is shut has further events
-    if poll(&mut asked, 0) == 1 && asked[0].revents == POLLIN {
+    if wait_for(socket.as_raw_fd(), POLLIN, 0) == POLLIN {
         open.notes().add(rt, Note::Refused(class));
     }
 }

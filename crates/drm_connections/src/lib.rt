@@ -4,20 +4,20 @@
 mod accepting;
 mod ahead;
 mod answers;
-mod classes;
 mod counts;
 mod notes;
 mod open_connections;
+mod outlet;
 mod peek;
 mod reporting;
 mod requests;
 
-pub use accepting::{accept_next, accept_unless_ended, note_beyond};
+pub use accepting::{accept_next, accept_unless_asked, note_beyond};
 pub use answers::Answers;
-pub use classes::class_word;
 pub use counts::{Counts, MOST, MOST_AT_ONCE};
 pub use notes::{Note, Notes, PROGRAM};
-pub use open_connections::{Attendance, OpenConnections, Role};
+pub use open_connections::{Asked, Attendance, OpenConnections, Role};
+pub use outlet::{Outlet, Put, Queue, count_lines, wait_for};
 pub use peek::{Peek, Ready};
 pub use reporting::Reporting;
 pub use requests::{Lost, Requests};

@@ -2,15 +2,13 @@
 //!
 //! Nothing here is in a contract: no clause says what is logged.
 
-use crate::classes::class_word;
 use crate::counts::MOST_AT_ONCE;
+use crate::outlet::{Outlet, Queue};
 use drm_sessions::{Class, Session, SessionEnd};
-use libc::net::{POLLOUT, poll};
-use libc::types::pollfd;
+use drm_traffic::class_word;
 use log::{Log, error, warn};
 use std::alloc::{AllocError, Global};
 use std::io::ErrorKind;
-use std::os::fd::RawFd;
 use std::sync::{Condvar, Mutex, Wait};
 use std::{io, mem};
 
@@ -22,15 +20,6 @@ const MOST: usize = 64;
 
 /// The number of notes that are added only once: two of each listener, and the journal's.
 const MOST_ONCE: usize = 7;
-
-/// The descriptor of standard error.
-const STANDARD_ERROR: RawFd = 2;
-
-/// How long standard error is waited for before the thread looks whether all connections have ended, in milliseconds.
-const PAUSE: i32 = 100;
-
-/// The number of such pauses after all connections have ended: one second in all.
-const MOST_PAUSES: u32 = 10;
 
 /// A line to be logged.
 #[derive(Clone, Copy, Debug, PartialEq, Eq)]
@@ -154,13 +143,10 @@ pub struct Notes {
     more: Condvar,
 }
 
-fn has_room() -> bool {
-    let mut asked = [pollfd {
-        fd: STANDARD_ERROR,
-        events: POLLOUT,
-        revents: 0,
-    }];
-    poll(&mut asked, PAUSE) == 1
+impl Queue for Notes {
+    fn has_ended<R: Wait>(&self, rt: &R) -> bool {
+        self.waiting.lock(rt).has_ended
+    }
 }
 
 impl Notes {
@@ -211,30 +197,13 @@ impl Notes {
         waiting.take()
     }
 
-    /// Waits until standard error takes a line, which may be never. After the end it stops within a second.
-    fn wait_for_room<R: Wait>(&self, rt: &R) -> bool {
-        let mut pauses: u32 = 0;
-        for _ in rt.forever() {
-            if has_room() {
-                return true;
-            }
-            if pauses == MOST_PAUSES {
-                return false;
-            }
-            if self.waiting.lock(rt).has_ended {
-                pauses = pauses.saturating_add(1);
-            }
-        }
-        false
-    }
-
-    /// Logs notes until the end.
+    /// Logs notes until the end. If standard error takes no line, it stops a second after the end.
     pub fn log_all<R: Wait + Log>(&self, rt: &R) {
         for _ in rt.forever() {
             let Some(note) = self.take(rt) else {
                 return;
             };
-            if !self.wait_for_room(rt) {
+            if !Outlet::STANDARD_ERROR.wait_for_room(rt, self) {
                 return;
             }
             note.log(rt);

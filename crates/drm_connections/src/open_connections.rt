@@ -8,8 +8,8 @@ ghost use Rattle.drm_connections.specs.Places.{IsFirstFree, NoneFreeBefore};
 
 use crate::counts::{Counts, MOST_AT_ONCE};
 use crate::notes::Notes;
-use drm_plans::Plan;
-use drm_watch::Watch;
+use crate::outlet::wait_for;
+use drm_traffic::{Plan, Watch};
 use libc::net::{POLLHUP, SHUT_RDWR, poll, shutdown};
 use libc::types::pollfd;
 use std::alloc::{AllocError, Global};
@@ -26,6 +26,9 @@ const CONTROLS: usize = 2;
 
 /// The most connections that are few. With 4 processors, more than two for each keep all of them busy.
 const FEW: usize = 8;
+
+/// In place of a descriptor, where nothing is asked.
+const NOTHING: RawFd = -1;
 
 /// What a socket on which a thread waits is.
 #[derive(Clone, Copy, PartialEq, Eq)]
@@ -49,8 +52,7 @@ impl Attending {
     /// Returns whether it is a connection that was closed at the other end, as a process that exits closes all of its
     /// own.
     fn is_closed(&self) -> bool {
-        let mut asked = [asking_of(self.socket)];
-        self.role != Role::Listener && poll(&mut asked, 0) == 1 && is_hung_up(&asked[0])
+        self.role != Role::Listener && wait_for(self.socket, 0, 0) & POLLHUP != 0
     }
 
     /// Returns whether its client may be open still, though the connection was closed at the other end.
@@ -59,16 +61,8 @@ impl Attending {
     }
 }
 
-/// Returns the question for a place without one: poll(2) passes over a negative descriptor.
-fn asking_nothing() -> pollfd {
-    pollfd {
-        fd: -1,
-        events: 0,
-        revents: 0,
-    }
-}
-
-/// Returns the question to poll(2) whether a socket was closed at the other end. That is reported without an event.
+/// Returns the question to poll(2) whether a socket was closed at the other end, which is reported without an event. It passes
+/// over a negative descriptor.
 fn asking_of(socket: RawFd) -> pollfd {
     pollfd {
         fd: socket,
@@ -108,7 +102,7 @@ impl Place {
     fn asked(&self) -> pollfd {
         match self.attending() {
             Some(attending) if attending.role == Role::Admitted => asking_of(attending.socket),
-            _ => asking_nothing(),
+            _ => asking_of(NOTHING),
         }
     }
 
@@ -212,7 +206,7 @@ impl Places {
             self.put(place, Place::Reserved);
         } else if place < self.places.capacity() && self.asked.len() < self.asked.capacity() {
             self.places.push_reserved(Place::Reserved);
-            self.asked.push_reserved(asking_nothing());
+            self.asked.push_reserved(asking_of(NOTHING));
         }
         self.free_from = place;
         place
@@ -246,6 +240,12 @@ impl Places {
             _ => false,
         }
     }
+}
+
+/// That all connections were asked to end. Only this crate creates it.
+#[derive(Drop)]
+pub struct Asked {
+    _private: (),
 }
 
 /// The connections that threads serve at once, and their listeners.
@@ -377,6 +377,15 @@ impl OpenConnections {
     /// Returns whether they were asked to end.
     pub fn has_ended<R: Wait>(&self, rt: &R) -> bool {
         self.places.lock(rt).has_ended
+    }
+
+    /// Returns that they were asked to end, if they were.
+    pub(crate) fn asked<R: Wait>(&self, rt: &R) -> Option<Asked> {
+        if self.has_ended(rt) {
+            Some(Asked { _private: () })
+        } else {
+            None
+        }
     }
 
     /// Returns a connection that has ended, once they were asked to end.

@@ -4,8 +4,8 @@ ghost use Rattle.std.specs.Io.{ReadsAtMost};
 ghost use Rattle.std.specs.Io.KnownBytes.{Keeps};
 ghost use Rattle.drm_connections.specs.Looks.{Shows};
 
-use libc::net::{MSG_PEEK, POLLIN, POLLOUT, poll, recv};
-use libc::types::pollfd;
+use crate::outlet::wait_for;
+use libc::net::{MSG_PEEK, POLLIN, POLLOUT, recv};
 use std::io;
 use std::io::Read;
 use std::os::fd::AsRawFd;
@@ -51,13 +51,8 @@ impl Peek for &UnixStream {
     // An answer uses 2,304 bytes at most.
     fn wait(&mut self, for_bytes: bool) -> Ready {
         let events = if for_bytes { POLLOUT | POLLIN } else { POLLOUT };
-        let mut asked = [pollfd {
-            fd: self.as_raw_fd(),
-            events,
-            revents: 0,
-        }];
-        poll(&mut asked, -1);
-        if for_bytes && asked[0].revents & (POLLIN | POLLOUT) == POLLIN {
+        let occurred = wait_for(self.as_raw_fd(), events, -1);
+        if for_bytes && occurred & (POLLIN | POLLOUT) == POLLIN {
             Ready::Bytes
         } else {
             Ready::Room

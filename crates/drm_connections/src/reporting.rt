@@ -1,12 +1,13 @@
 //! The reports of a session to the watch of all connections, and what a plan does to its answers.
 
+use crate::notes::{Note, Notes};
+use crate::open_connections::OpenConnections;
+use crate::outlet::wait_for;
 use drm_device::Shortage;
-use drm_plans::{Due, Plan};
 use drm_sessions::{Class, Witness};
 use drm_table::{Answer, Apart, Event};
-use drm_watch::{Watch, WatchedCall, WatchedFault};
-use libc::net::{SHUT_RDWR, poll, shutdown};
-use libc::types::pollfd;
+use drm_traffic::{Due, Plan, Watch, WatchedCall, WatchedFault};
+use libc::net::{SHUT_RDWR, shutdown};
 use std::cell::{Cell, RefCell};
 use std::mem;
 use std::os::fd::RawFd;
@@ -29,14 +30,16 @@ struct Last {
     unreported: Unreported,
 }
 
-/// Reports the calls of a connection of this class to the watch of all connections, if there is one. Where a plan is
-/// there, it counts them too: an answer may be delayed, or the connection closed.
+/// Reports the calls of a connection of this class to the watch of all connections, if there is one. If there is a plan,
+/// it counts them too: an answer may be delayed, or the connection closed. The first fault of all connections that the
+/// journal is full is logged.
 ///
 /// A call is kept before its answer is written, and reported by [`flush`](Reporting::flush) afterwards. So no answer waits
 /// for the report.
 #[derive(Drop)]
 pub struct Reporting<'a, R: Wait> {
     rt: &'a R,
+    notes: &'a Notes,
     watch: Option<&'a Watch>,
     plan: Option<&'a Plan>,
     socket: RawFd,
@@ -49,15 +52,15 @@ impl<'a, R: Wait> Reporting<'a, R> {
     /// Creates what reports the calls of a connection. The socket is the connection's.
     pub fn new(
         rt: &'a R,
-        watch: Option<&'a Watch>,
-        plan: Option<&'a Plan>,
+        open: &'a OpenConnections,
         class: Class,
         socket: RawFd,
     ) -> Reporting<'a, R> {
         Reporting {
             rt,
-            watch,
-            plan,
+            notes: open.notes(),
+            watch: open.watch(),
+            plan: open.plan(),
             socket,
             next: Cell::new(0),
             last: RefCell::new(Last {
@@ -141,12 +144,7 @@ impl<'a, R: Wait> Reporting<'a, R> {
 
     /// Waits until an answer is due, or the connection is closed.
     fn wait_for(&self, millis: u16) {
-        let mut asked = [pollfd {
-            fd: self.socket,
-            events: 0,
-            revents: 0,
-        }];
-        poll(&mut asked, i32::from(millis));
+        wait_for(self.socket, 0, i32::from(millis));
     }
 
     /// Delays an answer, or closes the connection. The call is reported before.
@@ -171,6 +169,9 @@ impl<R: Wait> Witness for &Reporting<'_, R> {
 
     fn tell(&self, event: &Event, place: Option<u64>, outcome: &Result<Answer, Apart>) {
         let due = self.due(event);
+        if let Err(Apart::JournalFull) = outcome {
+            self.notes.add_once(self.rt, Note::JournalFull);
+        }
         if let Some(watch) = self.watch {
             self.keep(watch, event, place, outcome);
         }

@@ -16,14 +16,15 @@ use std::sync::Wait;
 /// How many bytes a hello has.
 const HELLO: usize = 18;
 
-/// How many bytes of requests are handed on before there must be room for answers again. They are at most 43 requests.
+/// After how many bytes of requests there must be room for answers again. With the last piece they are at most 383, and
+/// so at most 64 requests.
 const SHARE: usize = 256;
 
 /// How many bytes a client may send ahead of the answers that it takes: more than the system keeps for a sender.
 const MOST: usize = 262_144;
 
-/// The most bytes that are removed from a stream at once. Most requests have fewer.
-const PIECE: usize = 64;
+/// The most bytes that are handed on, or removed from a stream, at once. Most requests have fewer.
+const PIECE: usize = 128;
 
 /// The stream has failed, or bytes that were handed on and stayed in it are missing (own).
 #[derive(Clone, Copy, Debug)]
@@ -61,10 +62,12 @@ pub struct Requests<'a, S: Peek, R: Wait> {
     has_ended: bool,
     /// How many bytes were looked at, handed on, and are still in the stream.
     seen: usize,
-    /// How many bytes are handed on before there must be room for answers.
+    /// How many bytes of the share are left.
     share: usize,
     /// How many bytes of the hello were not handed on.
     lacking: usize,
+    /// Where bytes are put that are removed. It is no variable, which would be cleared for each request.
+    removed: [u8; PIECE],
 }
 
 impl<'a, S: Peek, R: Wait> Requests<'a, S, R> {
@@ -80,6 +83,7 @@ impl<'a, S: Peek, R: Wait> Requests<'a, S, R> {
             seen: 0,
             share: SHARE,
             lacking: HELLO,
+            removed: [0; PIECE],
         }
     }
 
@@ -102,12 +106,12 @@ impl<'a, S: Peek, R: Wait> Requests<'a, S, R> {
         ensures kept { Keeps (requests_left S.remaining self.old) (requests_left S.remaining self.new) }
         ensures settled { OnOk result (IsSettled self.new) }
     {
-        let mut piece = [0; PIECE];
         for _ in 0..u64::MAX {
             if self.seen == 0 {
                 return Ok(());
             }
             let most = self.seen.min(PIECE);
+            let piece = &mut self.removed[..];
             match self.stream.read(&mut piece[..most]) {
                 Ok(0) => return Err(Lost),
                 Ok(count) => self.seen -= count,
@@ -123,7 +127,6 @@ impl<'a, S: Peek, R: Wait> Requests<'a, S, R> {
         requires { IsSettled self.old }
         ensures kept { Keeps (requests_left S.remaining self.old) (requests_left S.remaining self.new) }
         ensures settled { IsSettled self.new }
-        ensures share { OnOk result (0 < self.new.share) }
     {
         for _ in 0..MOST {
             match self.stream.wait(!self.has_ended) {
@@ -145,7 +148,6 @@ impl<'a, S: Peek, R: Wait> Requests<'a, S, R> {
         requires { IsSettled self.old }
         ensures bound { ReadsAtMost result buf.new }
         ensures bytes { ReadConsumes (requests_left S.remaining self.old) (requests_left S.remaining self.new) result buf.new }
-        ensures share { self.new.share ≡ self.old.share }
     {
         if !self.ahead.as_slice().is_empty() {
             return Ok(self.ahead.take(buf));
@@ -179,9 +181,9 @@ impl<S: Peek, R: Wait> Read for Requests<'_, S, R> {
         if self.share == 0 {
             self.wait_for_room()?;
         }
-        let most = buf.len().min(self.share);
+        let most = buf.len().min(PIECE);
         let count = self.read_next(&mut buf[..most])?;
-        self.share -= count;
+        self.share = self.share.saturating_sub(count);
         self.admit_after(count);
         Ok(count)
     }

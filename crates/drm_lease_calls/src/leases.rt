@@ -64,6 +64,7 @@ pub fn create_lease(
 }
 
 /// Returns the first rule that denies a lease of these mode objects to the caller. Does not allocate.
+#[cold]
 fn refusal(state: &State, caller: PrimaryCaller, listed: &[u32]) -> Option<Rule>
     requires agreed { AreAgreed state.now.leases state.now.masters }
     requires caller { IsPrimaryCaller state.now caller }

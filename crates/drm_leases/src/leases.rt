@@ -150,6 +150,7 @@ impl Leases {
 
     /// Returns the first rule that denies [`create`](Leases::create), or `None` if it creates a lease, for which it
     /// needs memory. Returns `None` too if the client belongs to no master. Does not allocate.
+    #[cold]
     pub fn create_refusal(
         &self,
         masters: &Masters,
@@ -365,6 +366,7 @@ impl Leases {
     }
 
     // the planes that are added to a lease for its CRTCs
+    #[inline(always)]
     fn brought_along(
         &self,
         masters: &Masters,

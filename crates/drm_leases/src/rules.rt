@@ -56,6 +56,7 @@ fn is_seen(view: View, modes: &Modes, id: u32) -> bool
 
 /// Returns the planes that are added to a lease. With universal planes off, these are the primary and the cursor plane
 /// of each listed CRTC that the master controls.
+#[inline(always)]
 pub fn planes_along(
     granted: &Granted,
     masters: &Masters,
@@ -74,6 +75,7 @@ pub fn planes_along(
 }
 
 /// Returns the planes that are controlled.
+#[inline(always)]
 fn passing_planes(controlled: Controlled, planes: &[u32]) -> ShownList
     requires { length planes.now ≤ 64 }
     ensures { result ≡ filter (is_controlled controlled) planes.now }

@@ -1,7 +1,7 @@
 -- The sessions of three listeners, and their participants.
 use Rattle.std.proofs.Common.{◌≡◌, ℕ, zero, suc, ◌+◌, List, [], ◌∷◌, ◌++◌, All, length, refl, sym, ap, ◌∙◌, subst, arith, append_assoc, length-append, inl, inr}
 use Rattle.std.specs.List.{AllByRecursion}
-use Rattle.std.specs.Prelude.{map, take, drop, Result, Ok, Err, IfOk, OnOk}
+use Rattle.std.specs.Prelude.{map, take, drop, Result, Ok, Err, IfOk}
 use Rattle.std.proofs.Math.Seq.{drop-append-add, drop-append_seam, take-append_seam}
 use Rattle.std.proofs.lemmas.List.Elements.{All-append, All-cons, All-head, All-nil, All-same, All-tail}
 use Rattle.drm_turns.specs.declared.history.Entry.{Entry}
@@ -12,12 +12,9 @@ use Rattle.drm_sessions.specs.declared.class.Class.{Class}
 use Rattle.drm_sessions.specs.declared.class.Class.TheVariants.{Card, Render, Root}
 use Rattle.drm_sessions.specs.declared.end.Session.{Session}
 use Rattle.drm_sessions.specs.Serving.{all_steps}
-use Rattle.drm_listeners.specs.declared.connections.ServedListener.{ServedListener}
 use Rattle.drm_connections.specs.declared.counts.Counts.{Counts}
-use Rattle.drm_listeners.specs.declared.listeners.ByClass.{ByClass}
-use Rattle.drm_listeners.specs.Connections.{IsServed, IsSessionBy, IsSessionOf, SessionState, participants_in, sessions_in}
-use Rattle.drm_listeners.specs.Listeners.{AreServed}
-use Rattle.drm_listeners.specs.Serving.{AreSessionsOf, HaveSat, IsBy, IsTold, card_sessions, render_sessions, root_sessions}
+use Rattle.drm_listeners.specs.Connections.{IsSessionBy, IsSessionOf, SessionState, participants_in, sessions_in}
+use Rattle.drm_listeners.specs.Serving.{HaveSat, IsBy, IsTold, card_sessions, render_sessions, root_sessions}
 
 -- ---- lists
 
@@ -40,26 +37,10 @@ pub map-three : {A B : Type 0} (f : A → B) (xs ys zs : List A)
     → map f (xs ++ (ys ++ zs)) ≡ map f xs ++ (map f ys ++ map f zs)
 map-three f xs ys zs = map-both f xs (ys ++ zs) ∙ ap (λ (l : List _). map f xs ++ l) (map-both f ys zs)
 
--- If the value of a result has a property, it has each that follows from it.
-pub if_ok : {D E : Type 0} {P Q : D → Type 0} (r : Result D E) → ((d : D) → P d → Q d) → IfOk r P → IfOk r Q
-if_ok (Ok d) step h = step d h
-if_ok (Err e) step h = tt
-
--- If the value of a result has three properties, it has them together.
-pub if_ok_three : {D E : Type 0} (P Q R : D → Type 0) (r : Result D E) → IfOk r P → IfOk r Q → IfOk r R
-    → IfOk r (λ d. P d × Q d × R d)
-if_ok_three P Q R (Ok d) p q r = (p, q, r)
-if_ok_three P Q R (Err e) p q r = tt
-
 -- If the value of a result has two properties, it has them together.
 pub if_ok_both : {D E : Type 0} (P Q : D → Type 0) (r : Result D E) → IfOk r P → IfOk r Q → IfOk r (λ d. P d × Q d)
 if_ok_both P Q (Ok d) p q = (p, q)
 if_ok_both P Q (Err e) p q = tt
-
--- What holds if a result is no error implies what follows from it.
-pub on_ok : {D E : Type 0} {P Q : Type 0} (r : Result D E) → (P → Q) → OnOk r P → OnOk r Q
-on_ok (Ok d) step h = step h
-on_ok (Err e) step h = tt
 
 all_steps-both : (xs ys : List Session) → all_steps (xs ++ ys) ≡ all_steps xs + all_steps ys
 all_steps-both [] ys = omega arith
@@ -93,11 +74,6 @@ of-class class (s ∷ sittings) h =
     (s.participant, All-head (λ (x : SessionState). IsSessionBy class x.participant x.session) s sittings h)
     (of-class class sittings (All-tail (λ (x : SessionState). IsSessionBy class x.participant x.session) s sittings h))
 
-of-listener : (class : Class) (count : ℕ) (participant : ParticipantView) (served : ServedListener)
-    → IsServed class count participant served → All (IsSessionOf class) served.sessions.items
-of-listener class count participant served h =
-    subst (λ (l : List Session). All (IsSessionOf class) l) (sym h.sessions) (of-class class h.sittings h.of_class)
-
 -- Three lists whose lengths are the counts are found again as the parts of their joined list.
 pub parted : {A : Type 0} (P Q R : A → Type 0) (counts : Counts) (cards renders roots : List A)
     → length cards ≡ counts.cards → length renders ≡ counts.renders
@@ -117,30 +93,7 @@ parted {A} P Q R counts cards renders roots c r of_cards of_renders of_roots =
           of_roots,
     )
 
--- The sessions of three listeners are, class by class, as many as their counts.
-pub are-sessions : (counts : Counts) (participants : ByClass ParticipantView) (served : ByClass ServedListener)
-    → AreServed counts participants served
-    → AreSessionsOf counts (served.card.sessions.items ++ (served.render.sessions.items ++ served.root.sessions.items))
-are-sessions counts participants served h =
-    let cards : List Session = served.card.sessions.items in
-    let renders : List Session = served.render.sessions.items in
-    let roots : List Session = served.root.sessions.items in
-    let parts =
-    parted (IsSessionOf Card) (IsSessionOf Render) (IsSessionOf Root) counts cards renders roots h.card.number h.render.number (of-listener _ _ _ _ h.card) (of-listener _ _ _ _ h.render) (of-listener _ _ _ _ h.root) in
-    record {
-      count =
-          (let a = length-append cards (renders ++ roots) in let b = length-append renders roots in let c = h.card.number in let r = h.render.number in let o = h.root.number in omega (arith, a, b, c, r, o));
-      cards = parts.0;
-      renders = parts.1;
-      roots = parts.2;
-    }
-
 -- ---- the participants of all
-
-number-of : (class : Class) (count : ℕ) (participant : ParticipantView) (served : ServedListener) (h : IsServed class count participant served)
-    → length h.sittings ≡ count
-number-of class count participant served h =
-    sym (length-sessions h.sittings) ∙ (ap (λ (l : List Session). length l) (sym h.sessions) ∙ h.number)
 
 numbers-three : (xs ys zs : List SessionState)
     → numbers_of (participants_in (xs ++ (ys ++ zs))) ≡ numbers_of (participants_in xs) ++ (numbers_of (participants_in ys) ++ numbers_of (participants_in zs))
@@ -149,32 +102,29 @@ numbers-three xs ys zs =
     ∙ map-three (λ (s : ParticipantView). s.number) (participants_in xs) (participants_in ys) (participants_in zs)
 
 -- A participant that took in the sessions of three classes has taken in the participant of each.
-pub sat-of : (counts : Counts) (card render root old new : ParticipantView) (cards renders roots : List SessionState) (sessions : List Session)
+pub sat-of : (counts : Counts) (card render root new : ParticipantView) (cards renders roots : List SessionState)
     → length cards ≡ counts.cards → length renders ≡ counts.renders
     → All (IsBy Card) cards → All (IsBy Render) renders → All (IsBy Root) roots
     → HasTakenIn card (participants_in cards) → HasTakenIn render (participants_in renders)
     → HasTakenIn root (participants_in roots)
     → StartsWith new.seen card.seen × StartsWith new.seen render.seen × StartsWith new.seen root.seen
-    → old.merged ≡ []
-    → new.merged ≡ ((old.merged ++ card.number ∷ card.merged) ++ render.number ∷ render.merged) ++ root.number ∷ root.merged
-    → AllDiffer new.merged → sessions ≡ sessions_in (cards ++ (renders ++ roots)) → HaveSat counts new sessions
-sat-of counts card render root old new cards renders roots sessions c r of_cards of_renders of_roots cards_taken renders_taken roots_taken seen none merged differ is =
-    let begun : List ℕ = old.merged ++ card.number ∷ card.merged in
+    → new.merged ≡ ((card.number ∷ card.merged) ++ render.number ∷ render.merged) ++ root.number ∷ root.merged
+    → AllDiffer new.merged → HaveSat counts new (sessions_in cards ++ (sessions_in renders ++ sessions_in roots))
+sat-of counts card render root new cards renders roots c r of_cards of_renders of_roots cards_taken renders_taken roots_taken seen merged differ =
+    let begun : List ℕ = card.number ∷ card.merged in
     let without_root : AllDiffer ((begun ++ render.number ∷ render.merged) ++ root.merged) =
     differ-without (begun ++ render.number ∷ render.merged) root.number root.merged (subst AllDiffer merged differ)
     in
     let without_render : AllDiffer (begun ++ (render.merged ++ root.merged)) =
     differ-without begun render.number (render.merged ++ root.merged)
     (subst AllDiffer (append_assoc begun (render.number ∷ render.merged) root.merged) without_root) in
-    let without_card : AllDiffer (old.merged ++ (card.merged ++ (render.merged ++ root.merged))) =
-    differ-without old.merged card.number (card.merged ++ (render.merged ++ root.merged)) (subst AllDiffer (append_assoc old.merged (card.number ∷ card.merged) (render.merged ++ root.merged)) without_render) in
     let numbers : card.merged ++ (render.merged ++ root.merged) ≡ numbers_of (participants_in (cards ++ (renders ++ roots))) =
     (λ i. cards_taken.merged i ++ (renders_taken.merged i ++ roots_taken.merged i)) ∙ sym (numbers-three cards renders roots) in
     let parts =
     parted (IsBy Card) (IsBy Render) (IsBy Root) counts cards renders roots c r of_cards of_renders of_roots in
     record {
       sittings = cards ++ (renders ++ roots);
-      are = is;
+      are = sym (map-three (λ (s : SessionState). s.session) cards renders roots);
       cards = parts.0;
       renders = parts.1;
       roots = parts.2;
@@ -183,25 +133,8 @@ sat-of counts card render root old new cards renders roots sessions c r of_cards
           (sym (map-three (λ (s : SessionState). s.participant) cards renders roots))
           (all-both (HasSeen new) (participants_in cards) (participants_in renders ++ participants_in roots) (all-seen-more card new seen.0 (participants_in cards) cards_taken.seen)
           (all-both (HasSeen new) (participants_in renders) (participants_in roots) (all-seen-more render new seen.1 (participants_in renders) renders_taken.seen) (all-seen-more root new seen.2 (participants_in roots) roots_taken.seen)));
-      differ =
-          subst AllDiffer numbers
-          (subst (λ (l : List ℕ). AllDiffer (l ++ (card.merged ++ (render.merged ++ root.merged)))) none without_card);
+      differ = subst AllDiffer numbers without_render.1;
     }
-
--- A participant that took in all three listeners has taken in the participant of each session.
-pub have-sat : (counts : Counts) (participants : ByClass ParticipantView) (served : ByClass ServedListener) (old new : ParticipantView) (sessions : List Session)
-    → AreServed counts participants served
-    → StartsWith new.seen served.card.participant.seen × StartsWith new.seen served.render.participant.seen × StartsWith new.seen served.root.participant.seen
-    → old.merged ≡ []
-    → new.merged ≡ ((old.merged ++ served.card.participant.number ∷ served.card.participant.merged) ++ served.render.participant.number ∷ served.render.participant.merged) ++ served.root.participant.number ∷ served.root.participant.merged
-    → AllDiffer new.merged
-    → sessions ≡ served.card.sessions.items ++ (served.render.sessions.items ++ served.root.sessions.items)
-    → HaveSat counts new sessions
-have-sat counts participants served old new sessions h seen none merged differ is =
-    sat-of counts served.card.participant served.render.participant served.root.participant old new h.card.sittings
-    h.render.sittings h.root.sittings sessions (number-of _ _ _ _ h.card) (number-of _ _ _ _ h.render)
-    h.card.of_class h.render.of_class h.root.of_class h.card.taken h.render.taken h.root.taken seen none merged differ
-    (is ∙ (λ i. h.card.sessions i ++ (h.render.sessions i ++ h.root.sessions i)) ∙ sym (map-three (λ (s : SessionState). s.session) h.card.sittings h.render.sittings h.root.sittings))
 
 -- ---- the history
 

@@ -1,6 +1,5 @@
-pub mod Matching
 pub mod Gathering
 pub mod Crossing
 pub mod Keeping
-pub mod Visits
-pub mod AllVisits
+pub mod Workers
+pub mod AllSessions

@@ -1,16 +1,13 @@
 -- The sessions of the connections that a listener accepted (own).
-use Rattle.std.specs.Prelude.{◌≡◌, ℕ, ◌≤◌, All, List, [], Vec, length, map, Result, Ok, Err, ⊤}
-use Rattle.std.specs.Vec.{vec_capacity}
+use Rattle.std.specs.Prelude.{◌≡◌, ℕ, List, [], map, ⊤}
 use Rattle.atomic_table.specs.Seated.{TableId}
-use Rattle.drm_turns.specs.Participants.{HasTakenIn, IsChild, Same, ParticipantView, Unchanged}
+use Rattle.drm_turns.specs.Participants.{Same, ParticipantView, Unchanged}
 use Rattle.drm_streams.specs.Streams.{SourceTrace, SinkTrace, no_calls}
 use Rattle.drm_sessions.specs.declared.class.Class.{Class}
 use Rattle.drm_sessions.specs.declared.end.Session.{Session}
 use Rattle.drm_sessions.specs.declared.through.Served.{Served}
-use Rattle.drm_sessions.specs.Serving.{Costs, all_steps}
+use Rattle.drm_sessions.specs.Serving.{Costs}
 use Rattle.drm_sessions.specs.Shared.{ServesShared}
-use Rattle.drm_listeners.specs.declared.connections.Failed.{Failed}
-use Rattle.drm_listeners.specs.declared.connections.ServedListener.{ServedListener}
 use Rattle.drm_listeners.specs.declared.serve_faults.ServeFault.{ServeFault}
 use Rattle.drm_listeners.specs.declared.serve_faults.ServeFault.TheVariants as faults
 
@@ -60,47 +57,9 @@ abbrev pub IsFresh : TableId → ParticipantView → Type 0
 IsFresh table participant =
     (participant.table ≡ table) × (participant.mine ≡ []) × (participant.merged ≡ []) × (participant.journaled ≡ 0)
 
--- an empty list with room for this many sessions
-abbrev pub IsRoomFor : {A : Type 0} → ℕ → Vec Session A → Type 0
-IsRoomFor count sessions = (sessions.items ≡ []) × (count ≤ vec_capacity sessions)
-
 -- the faults of a listener's connections: of no other listener, not of the turn, and none for lack of memory for lists
 abbrev pub IsFaultOf : Class → ServeFault → Type 0
 IsFaultOf class (faults.Accept other) = other ≡ class
 IsFaultOf class faults.NoThread = ⊤
 IsFaultOf class faults.NoMemory = ⊥
 IsFaultOf class faults.TurnOut = ⊥
-
--- The sessions of this many connections, all of one class, and the listener's participant, which has taken in that of
--- each and made nothing itself.
-pub record IsServed (class : Class) (count : ℕ) (participant : ParticipantView) (served : ServedListener) : Type 0 where
-  pub number : length served.sessions.items ≡ count
-  pub same : Same participant served.participant
-  pub unchanged : Unchanged participant served.participant
-  pub sittings : List SessionState
-  pub sessions : served.sessions.items ≡ sessions_in sittings
-  pub of_class : All (λ sitting. IsSessionBy class sitting.participant sitting.session) sittings
-  pub taken : HasTakenIn served.participant (participants_in sittings)
-  pub journaled : served.participant.journaled ≡ all_steps served.sessions.items
-
--- A listener or a connection of this class could not be served. The participant took in each that was split off it.
-pub record IsFailed (class : Class) (participant : ParticipantView) (failed : Failed) : Type 0 where
-  pub fault : IsFaultOf class failed.fault
-  pub same : Same participant failed.participant
-  pub unchanged : Unchanged participant failed.participant
-
--- A connection of this class could not be served. Its participant was split off this one, and none is out of it.
-pub record IsUnused (class : Class) (participant : ParticipantView) (failed : Failed) : Type 0 where
-  pub fault : IsFaultOf class failed.fault
-  pub table : failed.participant.table ≡ participant.table
-  pub child : IsChild participant failed.participant
-
--- what resulted from a listener that was to accept this many connections, through its own participant
-abbrev pub Serves : Class → ℕ → ParticipantView → Result ServedListener Failed → Type 0
-Serves class count participant (Ok served) = IsServed class count participant served
-Serves class count participant (Err failed) = IsFailed class participant failed
-
--- the participant of a listener, however it was served
-abbrev pub participant_left : Result ServedListener Failed → ParticipantView
-participant_left (Ok served) = served.participant
-participant_left (Err failed) = failed.participant

@@ -4,8 +4,7 @@ ghost use Rattle.std.specs.Prelude.{◌≡◌};
 ghost use Rattle.drm_sessions.specs.declared.class.Class.{Class as AClass};
 ghost use Rattle.drm_sessions.specs.declared.class.Class.TheVariants.{Card, Render, Root};
 
-use crate::connections::Listener;
-use crate::visitors::LastingListener;
+use crate::listener::{Listener, Terms, Until};
 use drm_sessions::Class;
 use std::marker::PhantomData;
 use std::os::unix::net::UnixListener;
@@ -69,24 +68,14 @@ impl<C: ListenerClass> ClassListener<C> {
         }
     }
 
-    /// Returns the listener, which is to accept this many connections.
-    pub(crate) fn counted(self, count: u8) -> Listener
-        ensures class { result.class ≡ C.of }
-        ensures count { result.count ≡ count }
-    {
-        Listener {
-            socket: self.socket,
-            class: C::class(),
-            count,
-        }
-    }
-
-    /// Returns the listener, which is to accept connections until it is asked to end.
-    pub(crate) fn lasting(self) -> LastingListener
-        ensures class { result.class ≡ C.of }
+    /// Returns the listener, which is to accept connections for this long.
+    pub(crate) fn until(self, until: Until) -> Listener
+        ensures class { result.terms.class ≡ C.of }
+        ensures until { result.terms.until ≡ until }
         ensures unused { result.accepted ≡ 0 }
     {
-        LastingListener::new(self.socket, C::class())
+        let class = C::class();
+        Listener::new(self.socket, Terms { class, until })
     }
 }
 

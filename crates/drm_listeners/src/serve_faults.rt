@@ -1,7 +1,7 @@
 //! Why not all connections were served.
 
-use drm_connections::class_word;
 use drm_sessions::Class;
+use drm_traffic::class_word;
 use thiserror::Error;
 
 /// Why not all connections were served (own).

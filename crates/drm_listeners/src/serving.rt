@@ -8,14 +8,15 @@ ghost use Rattle.drm_sessions.specs.Serving.{all_steps};
 ghost use Rattle.drm_sessions.specs.declared.class.Class.TheVariants.{Card, Render, Root};
 ghost use Rattle.drm_listeners.specs.declared.serve_faults.ServeFault.TheVariants.{NoMemory, TurnOut};
 ghost use Rattle.drm_listeners.specs.Connections.{IsSessionOf};
-ghost use Rattle.drm_listeners.specs.Listeners.{AreChildren, AreRooms, participants_of};
+ghost use Rattle.drm_listeners.specs.Listeners.{AreChildren, AreRooms, HasGathered};
 ghost use Rattle.drm_listeners.specs.Serving.{AreSessionsOf, Continues, HaveSat, IsHistoryOf, card_sessions, connections, render_sessions, root_sessions};
 
+use crate::accepting::Account;
 use crate::class_listeners::{ClassListener, Listeners};
-use crate::connections::ServedListener;
-use crate::hall::Hall;
-use crate::listeners::{ByClass, serve_listeners};
+use crate::listener::Until;
+use crate::listeners::{ByClass, Job, ServedListeners, serve_listeners};
 use crate::serve_faults::ServeFault;
+use crate::server::Server;
 use drm_connections::{Counts, OpenConnections};
 use drm_device::Device;
 use drm_sessions::Session;
@@ -40,7 +41,7 @@ fn put_behind(sessions: &mut Vec<Session>, more: Vec<Session>)
 }
 
 // Takes in the participants of the listeners.
-pub(crate) fn take_in(shared: &SharedDevice, participant: &mut Seat, participants: ByClass<Seat>)
+fn take_in(shared: &SharedDevice, participant: &mut Seat, participants: ByClass<Seat>)
     requires own { participant.old.table ≡ shared.now }
     requires cards { participants.card.table ≡ shared.now }
     requires renders { participants.render.table ≡ shared.now }
@@ -61,46 +62,6 @@ pub(crate) fn take_in(shared: &SharedDevice, participant: &mut Seat, participant
     shared.join(participant, root);
 }
 
-// Takes in the participants of the listeners, and returns their sessions one after another. Does not allocate.
-fn gather(
-    shared: &SharedDevice,
-    participant: &mut Seat,
-    served: ByClass<ServedListener>,
-    sessions: Vec<Session>,
-) -> Vec<Session>
-    requires own { participant.old.table ≡ shared.now }
-    requires cards { served.card.participant.table ≡ shared.now }
-    requires renders { served.render.participant.table ≡ shared.now }
-    requires roots { served.root.participant.table ≡ shared.now }
-    requires children { AreChildren participant.old (participants_of served) }
-    requires empty { sessions.items ≡ [] }
-    requires reserved { vec_len served.card.sessions + vec_len served.render.sessions + vec_len served.root.sessions
-        ≤ vec_capacity sessions }
-    ensures sessions { result.items
-        ≡ served.card.sessions.items ++ (served.render.sessions.items ++ served.root.sessions.items) }
-    ensures same { Same participant.old participant.new × StartsWith participant.new.seen participant.old.seen }
-    ensures seen { StartsWith participant.new.seen served.card.participant.seen × StartsWith participant.new.seen served.render.participant.seen
-        × StartsWith participant.new.seen served.root.participant.seen }
-    ensures merged { participant.new.merged ≡ ((participant.old.merged ++ served.card.participant.number ∷ served.card.participant.merged)
-        ++ served.render.participant.number ∷ served.render.participant.merged) ++ served.root.participant.number ∷ served.root.participant.merged }
-    ensures differ { AllDiffer participant.new.merged }
-    ensures outstanding { participant.new.outstanding ≡ participant.old.outstanding - 3 }
-    ensures journaled { participant.new.journaled ≡ participant.old.journaled + (served.card.participant.journaled + (served.render.participant.journaled + served.root.participant.journaled)) }
-{
-    let ByClass { card, render, root } = served;
-    let participants = ByClass {
-        card: card.participant,
-        render: render.participant,
-        root: root.participant,
-    };
-    take_in(shared, participant, participants);
-    let mut sessions = sessions;
-    put_behind(&mut sessions, card.sessions);
-    put_behind(&mut sessions, render.sessions);
-    put_behind(&mut sessions, root.sessions);
-    sessions
-}
-
 // An empty list with room for this many sessions.
 fn reserve(alloc: Global, count: usize) -> Result<Vec<Session>, ServeFault>
     ensures empty { IfOk result (λ sessions. sessions.items ≡ []) }
@@ -113,21 +74,56 @@ fn reserve(alloc: Global, count: usize) -> Result<Vec<Session>, ServeFault>
     }
 }
 
-// For each listener an empty list with room for its sessions.
-fn reserve_each(alloc: Global, counts: Counts) -> Result<ByClass<Vec<Session>>, ServeFault>
-    ensures rooms { IfOk result (λ rooms. AreRooms counts rooms) }
-    ensures fault { IfErr result (λ fault. fault ≡ NoMemory) }
+/// Serves the listeners through participants that are split off and merged again. Each accepts connections for as long as
+/// `untils` says, and `rooms` has room for the sessions that it keeps.
+pub(crate) fn serve_shared<R: Wait + Threads + Log + Sync>(
+    rt: &R,
+    shared: &SharedDevice,
+    open: &OpenConnections,
+    participant: &mut Seat,
+    listeners: Listeners,
+    untils: ByClass<Until>,
+    rooms: ByClass<Vec<Session>>,
+) -> Result<ByClass<Account>, ServeFault>
+    requires own { participant.old.table ≡ shared.now }
+    requires merged { participant.old.merged ≡ [] }
+    requires rooms { AreRooms untils rooms }
+    ensures gathered { HasGathered untils participant.old participant.new result }
+    ensures same { Same participant.old participant.new × StartsWith participant.new.seen participant.old.seen }
+    ensures outstanding { participant.new.outstanding ≡ participant.old.outstanding }
 {
-    Ok(ByClass {
-        card: reserve(alloc, usize::from(counts.cards))?,
-        render: reserve(alloc, usize::from(counts.renders))?,
-        root: reserve(alloc, usize::from(counts.roots))?,
-    })
+    let jobs = ByClass {
+        card: Job {
+            participant: shared.split(participant),
+            listener: listeners.card.until(untils.card),
+            sessions: rooms.card,
+        },
+        render: Job {
+            participant: shared.split(participant),
+            listener: listeners.render.until(untils.render),
+            sessions: rooms.render,
+        },
+        root: Job {
+            participant: shared.split(participant),
+            listener: listeners.root.until(untils.root),
+            sessions: rooms.root,
+        },
+    };
+    let server = Server {
+        device: shared,
+        open,
+    };
+    let ServedListeners {
+        participants,
+        accounts,
+    } = serve_listeners(rt, &server, jobs);
+    take_in(shared, participant, participants);
+    accounts
 }
 
-// Serves the listeners through participants that are split off and merged again. Room for all sessions, and for those of each listener, is
-// reserved before: where memory for it is wanting no participant was split off, so that no thread was started.
-fn serve_shared<R: Wait + Threads + Log + Sync>(
+// Serves the listeners, each with this many connections. Room for all sessions, and for those of each listener, is
+// reserved before. If memory for it is refused, no participant was split off, so no thread was started.
+fn serve_counted<R: Wait + Threads + Log + Sync>(
     rt: &R,
     alloc: Global,
     shared: &SharedDevice,
@@ -146,25 +142,36 @@ fn serve_shared<R: Wait + Threads + Log + Sync>(
     ensures turn { result ≢ Err TurnOut }
     ensures memory { IfErr result (λ fault. fault ≡ NoMemory → participant.new ≡ participant.old) }
 {
-    let count = usize::from(counts.cards) + usize::from(counts.renders) + usize::from(counts.roots);
-    let sessions = reserve(alloc, count)?;
-    let rooms = reserve_each(alloc, counts)?;
-    let participants = ByClass {
-        card: shared.split(participant),
-        render: shared.split(participant),
-        root: shared.split(participant),
+    let Counts {
+        cards,
+        renders,
+        roots,
+    } = counts;
+    let count = usize::from(cards) + usize::from(renders) + usize::from(roots);
+    let mut sessions = reserve(alloc, count)?;
+    let rooms = ByClass {
+        card: reserve(alloc, usize::from(cards))?,
+        render: reserve(alloc, usize::from(renders))?,
+        root: reserve(alloc, usize::from(roots))?,
     };
-    let hall = Hall {
-        device: shared,
+    let untils = ByClass {
+        card: Until::Counted(cards),
+        render: Until::Counted(renders),
+        root: Until::Counted(roots),
+    };
+    let ByClass { card, render, root } = serve_shared(
+        rt,
+        shared,
         open,
-    };
-    match serve_listeners(rt, &hall, participants, listeners, counts, rooms) {
-        Ok(served) => Ok(gather(shared, participant, served, sessions)),
-        Err(failed) => {
-            take_in(shared, participant, failed.participants);
-            Err(failed.fault)
-        }
-    }
+        participant,
+        listeners,
+        untils,
+        rooms,
+    )?;
+    put_behind(&mut sessions, card.sessions);
+    put_behind(&mut sessions, render.sessions);
+    put_behind(&mut sessions, root.sessions);
+    Ok(sessions)
 }
 
 /// The reason that not all connections were served, with the device that served the others (own).
@@ -210,7 +217,7 @@ pub fn serve_keeping<R: Wait + Threads + Log + Sync>(
             });
         }
     };
-    let served = serve_shared(
+    let served = serve_counted(
         rt,
         alloc,
         &shared,

@@ -1,19 +1,20 @@
 //! Serving any number of connections, until asked to end.
 
-ghost use Rattle.std.specs.Prelude.{◌≡◌, ◌≢◌, ◌+◌, [], IfOk, IfErr};
+ghost use Rattle.std.specs.Prelude.{◌≡◌, ◌≢◌, [], IfOk, IfErr};
 ghost use Rattle.drm_connections.specs.declared.counts.Counts.{Counts};
 ghost use Rattle.drm_turns.specs.History.{StartsWith};
-ghost use Rattle.drm_turns.specs.Participants.{Same};
+ghost use Rattle.drm_turns.specs.Participants.{ParticipantView, Same};
+ghost use Rattle.drm_listeners.specs.declared.listener.Until.TheVariants as until_is;
 ghost use Rattle.drm_listeners.specs.declared.serve_faults.ServeFault.TheVariants.{NoMemory, TurnOut};
+ghost use Rattle.drm_listeners.specs.Accepting.{ClosesAs, IsAccount, IsAsked};
 ghost use Rattle.drm_listeners.specs.UntilEnded.{AreAllCounted, HasServedAll, HaveAllSat, counts_of};
 
+use crate::accepting::{Account, Closing};
 use crate::class_listeners::Listeners;
-use crate::hall::Hall;
-use crate::lasting_listeners::keep_listeners;
+use crate::listener::{Until, Visitors};
 use crate::listeners::ByClass;
 use crate::serve_faults::ServeFault;
-use crate::serving::{Unserved, take_in};
-use crate::visitors::Visitors;
+use crate::serving::{Unserved, serve_shared};
 use drm_connections::OpenConnections;
 use drm_device::Device;
 use drm_turns::{Seat, SharedDevice};
@@ -22,9 +23,21 @@ use std::alloc::Global;
 use std::sync::Wait;
 use std::thread::Threads;
 
-// Serves the listeners through participants that are split off and merged again.
-fn keep_shared<R: Wait + Threads + Log + Sync>(
+// Returns the connections that a listener accepted before it was asked to end.
+fn visitors_of(account: Account) -> Visitors
+    requires { IsAsked account.closing }
+    ensures { (own : ParticipantView) → ClosesAs until_is.Asked 0 own account.closing → IsAccount own result }
+{
+    match account.closing {
+        Closing::Asked(visitors) => visitors,
+        Closing::Last => unreachable!(),
+    }
+}
+
+// Serves the listeners until they are asked to end.
+fn serve_asked<R: Wait + Threads + Log + Sync>(
     rt: &R,
+    alloc: Global,
     shared: &SharedDevice,
     open: &OpenConnections,
     participant: &mut Seat,
@@ -40,18 +53,24 @@ fn keep_shared<R: Wait + Threads + Log + Sync>(
     ensures turn { IfErr result (λ fault. fault ≢ TurnOut) }
     ensures memory { IfErr result (λ fault. fault ≢ NoMemory) }
 {
-    let participants = ByClass {
-        card: shared.split(participant),
-        render: shared.split(participant),
-        root: shared.split(participant),
+    let untils = ByClass {
+        card: Until::Asked,
+        render: Until::Asked,
+        root: Until::Asked,
     };
-    let hall = Hall {
-        device: shared,
-        open,
+    let rooms = ByClass {
+        card: Vec::new(alloc),
+        render: Vec::new(alloc),
+        root: Vec::new(alloc),
     };
-    let kept = keep_listeners(rt, &hall, participants, listeners);
-    take_in(shared, participant, kept.participants);
-    kept.visitors
+    match serve_shared(rt, shared, open, participant, listeners, untils, rooms) {
+        Ok(accounts) => Ok(ByClass {
+            card: visitors_of(accounts.card),
+            render: visitors_of(accounts.render),
+            root: visitors_of(accounts.root),
+        }),
+        Err(fault) => Err(fault),
+    }
 }
 
 /// A device whose server was asked to end, and the account of each listener (own).
@@ -109,7 +128,7 @@ pub fn serve_until_ended<R: Wait + Threads + Log + Sync>(
             });
         }
     };
-    let kept = keep_shared(rt, &shared, open, &mut participant, listeners);
+    let kept = serve_asked(rt, alloc, &shared, open, &mut participant, listeners);
     let Ok(device) = shared.close(participant) else {
         unreachable!()
     };

@@ -461,6 +461,7 @@ impl Masters {
     }
 
     /// Returns the lowest id that no lessee of the master's owner has, or `None` if each is taken. Does not allocate.
+    #[inline(always)]
     pub fn free_lessee(&self, master: u32) -> Option<u32>
         ensures { result ≡ sets.free_lessee self.now master }
     {

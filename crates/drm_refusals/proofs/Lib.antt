@@ -1,2 +1,4 @@
-mod FactLemmas
-mod ReportLemmas
+pub mod FactLemmas
+pub mod LoopLemmas
+pub mod ReportLemmas
+pub mod SizeLemmas

@@ -7,6 +7,7 @@ use Rattle.std.proofs.lemmas.Option.{get_or_from_slice_get, slice_get-get_or, sl
 use Rattle.drm_table.specs.Rules.{rule_number}
 use Rattle.drm_table.specs.declared.events.Event.{Event}
 use Rattle.drm_table.specs.declared.rules.Rule.{Rule}
+use Rattle.drm_modes.specs.Topology.{Topology}
 use Rattle.drm_model.specs.Reply.{reply, reply_by}
 use Rattle.drm_model.specs.Run.{DeviceValue, journaled_in, rows_of}
 use Rattle.drm_model.specs.Verdict.{verdict}
@@ -57,13 +58,13 @@ pub rule_of_newest : (steps : List Step) (history : List AnsweredEvent) (step : 
 rule_of_newest steps history step e there = ap last_rule (sym (newest steps step there) ∙ e)
 
 -- The facts of the newest step are those of the history's last step.
-pub kinds_of_newest : (steps : List Step) (history : List AnsweredEvent) (step : Step) (found : List Fact)
+pub kinds_of_newest : (t : Topology) (steps : List Step) (history : List AnsweredEvent) (step : Step) (found : List Fact)
     → history_of steps ≡ history → slice_get steps (length steps - 1) ≡ Some step
-    → HasFor history step.event step.answer found → Has history found
-kinds_of_newest steps history step found e there has =
+    → HasFor t history step.event step.answer found → Has t history found
+kinds_of_newest t steps history step found e there has =
     let is : entry_of step ∷ history_of (take (length steps - 1) steps) ≡ history = sym (newest steps step there) ∙ e in
-    subst (λ (h : List AnsweredEvent). Has h found) is
-    (subst (λ (h : List AnsweredEvent). HasFor h step.event step.answer found) (sym is) has)
+    subst (λ (h : List AnsweredEvent). Has t h found) is
+    (subst (λ (h : List AnsweredEvent). HasFor t h step.event step.answer found) (sym is) has)
 
 -- An event that the model denies is reported with the rule of its verdict.
 pub denial_reported : (h : DeviceValue) (event : Event) (rule : Rule) (history : List AnsweredEvent)

@@ -1,7 +1,7 @@
 -- The kinds of facts that the denials by each rule always have (own).
-use Rattle.std.specs.Prelude.{◌≡◌, ℕ, Bool, true, false, not, ◌&&◌, List, [], ◌∷◌}
-use Rattle.std.specs.List.{AllByRecursion, list_any}
-use Rattle.std.specs.Option.{is_some}
+use Rattle.std.specs.Prelude.{◌≡◌, ℕ, ◌*◌, ◌==◌, nat_le, Bool, true, false, not, ◌&&◌, ◌||◌, if◌then◌else◌, List, [], ◌∷◌, ◌++◌, Option, None, Some, option_and_then}
+use Rattle.std.specs.List.{AllByRecursion, list_all, list_any}
+use Rattle.std.specs.Option.{is_some, option_map_or}
 use Rattle.drm_table.specs.declared.answers.Answer.{Answer}
 use Rattle.drm_table.specs.declared.answers.Answer.TheVariants as answers
 use Rattle.drm_table.specs.declared.calls.Call.{Call}
@@ -12,17 +12,33 @@ use Rattle.drm_table.specs.declared.events.Opening.{Opening}
 use Rattle.drm_table.specs.declared.events.Opening.TheVariants as openings
 use Rattle.drm_table.specs.declared.rules.Rule.{Rule}
 use Rattle.drm_table.specs.declared.rules.Rule.TheVariants as rules
-use Rattle.drm_history.specs.History.{AnsweredEvent}
+use Rattle.drm_modes.specs.LeaseRules.{is_lease, sees, stands_once}
+use Rattle.drm_modes.specs.Topology.{Topology, encoder_of, is_of_kind, is_route, kind_of, planes_of}
+use Rattle.drm_modes.specs.declared.kinds.Kind.{Kind}
+use Rattle.drm_modes.specs.declared.kinds.Kind.TheVariants.{Connector, Crtc, Encoder, Plane}
+use Rattle.drm_model.specs.Buffers.{bytes_per_pixel, is_buffer_size, is_dumb_shape}
+use Rattle.drm_model.specs.Rows.{is_option}
+use Rattle.drm_history.specs.History.{AnsweredEvent, next_number}
+use Rattle.drm_history.specs.Holds.{Has as HasHandle}
+use Rattle.drm_authority.specs.Lessees.{granted}
+use Rattle.drm_authority.specs.MasterState.{master_in}
+use Rattle.drm_authority.specs.Shown.{is_universal_in}
+use Rattle.drm_rights.specs.Leases.{leases_in}
+use Rattle.drm_rights.specs.Ledgers.{controls_in}
+use Rattle.drm_rights.specs.declared.notes.Lease.{Lease}
+use Rattle.drm_trails.specs.Chains.{IsOfDevice}
 use Rattle.drm_trails.specs.Passing.{last_step}
 use Rattle.drm_explanations.specs.Rows.{closed_step}
 use Rattle.drm_explanations.specs.declared.lines.Subject.{Subject}
 use Rattle.drm_explanations.specs.declared.lines.Subject.TheVariants as subjects
+use Rattle.drm_refusals.specs.Leases.{lease_meant}
 use Rattle.drm_refusals.specs.Searches.{opens}
 use Rattle.drm_refusals.specs.declared.facts.Fact.{Fact}
 use Rattle.drm_refusals.specs.declared.facts.Fact.TheVariants as facts
 use Rattle.drm_refusals.specs.declared.facts.HandleFact.TheVariants as handles
 use Rattle.drm_refusals.specs.declared.facts.LeaseFact.TheVariants as leases
 use Rattle.drm_refusals.specs.declared.facts.LimitFact.TheVariants as limits
+use Rattle.drm_refusals.specs.declared.facts.ModeObjectFact.TheVariants as objects
 use Rattle.drm_refusals.specs.declared.facts.RequestFact.TheVariants as requests
 
 -- some fact is of a kind
@@ -81,6 +97,45 @@ is_capability (facts.Request (requests.NoCapability capability)) = true
 is_capability (facts.Request (requests.NoValue capability value)) = true
 is_capability _ = false
 
+-- what is wrong with a mode object
+abbrev pub is_mode_object : Fact → Bool
+is_mode_object (facts.ModeObject fact) = true
+is_mode_object _ = false
+
+-- the same, or what became of the framebuffer with an id
+abbrev pub is_id : Fact → Bool
+is_id (facts.ModeObject fact) = true
+is_id (facts.Published fact) = true
+is_id _ = false
+
+-- that an id is in a list twice
+abbrev pub is_repetition : Fact → Bool
+is_repetition (facts.Request (requests.Repeated id)) = true
+is_repetition _ = false
+
+-- what is missing in a lease
+abbrev pub is_lack : Fact → Bool
+is_lack (facts.Request requests.LacksCrtc) = true
+is_lack (facts.Request requests.LacksConnector) = true
+is_lack (facts.Lease (leases.LacksPlane c)) = true
+is_lack _ = false
+
+-- that a lease has a mode object
+abbrev pub is_leased_out : Fact → Bool
+is_leased_out (facts.Lease (leases.LeasedOut id lease)) = true
+is_leased_out _ = false
+
+-- that a number is out of range, or too small for the others
+abbrev pub is_size : Fact → Bool
+is_size (facts.Size fact) = true
+is_size _ = false
+
+-- that a request has half a route, or the encoder that the connector has
+abbrev pub is_connector_route : Fact → Bool
+is_connector_route (facts.Request (requests.HalfRoute framebuffer connector)) = true
+is_connector_route (facts.ModeObject (objects.EncoderOf crtc connector encoder)) = true
+is_connector_route _ = false
+
 -- a limit
 abbrev pub is_limit : Fact → Bool
 is_limit (facts.Limit fact) = true
@@ -130,6 +185,7 @@ kinds rules.Master call = is_current_line ∷ is_master_line ∷ is_device_line 
 kinds rules.RenderAllow call = is_client_line ∷ []
 kinds rules.NoHandle call = is_held ∷ []
 kinds rules.NoHandleToClose call = is_held ∷ []
+kinds rules.NoName (calls.GemOpen name) = is_published ∷ []
 kinds rules.NoToken (calls.PrimeFdToHandle token) = is_published ∷ []
 kinds rules.NoToken (calls.TokenClose token) = is_published ∷ []
 kinds rules.NoMagic (calls.AuthMagic magic) = is_magic ∷ []
@@ -159,24 +215,120 @@ opening_kinds rule opening = []
 abbrev pub is_open : List AnsweredEvent → ℕ → Bool
 is_open history c = is_some (last_step (opens c) history) && not (is_some (closed_step history c))
 
--- a denial because the client is not open has the reason, if by the history it is not
-abbrev pub ShowsAbsence : List AnsweredEvent → ℕ → Rule → List Fact → Type 0
-ShowsAbsence history c rules.NoClient found = is_open history c ≡ false → Shows found is_absence
-ShowsAbsence history c rule found = Unit {0}
+-- ---- facts of denials that the history decides
+
+-- whether a mode object is of the kind that a call requires, or of any
+abbrev pub is_wanted : Topology → Option Kind → ℕ → Bool
+is_wanted t (Some kind) x = is_of_kind t kind x
+is_wanted t None x = is_some (kind_of t x)
+
+-- whether a client sees a mode object as a call requires, by the history
+abbrev pub sees_in : Topology → List AnsweredEvent → ℕ → Option Kind → ℕ → Bool
+sees_in t history c wanted x =
+    is_wanted t wanted x && sees t (controls_in t history c x) (is_universal_in history c) x
+
+-- whether it sees the mode objects that a call names
+abbrev pub sees_named : Topology → List AnsweredEvent → ℕ → Call → Bool
+sees_named t history c (calls.GetCrtc crtc) = sees_in t history c (Some Crtc) crtc
+sees_named t history c (calls.GetEncoder encoder) = sees_in t history c (Some Encoder) encoder
+sees_named t history c (calls.GetConnector connector) = sees_in t history c (Some Connector) connector
+sees_named t history c (calls.GetPlane plane) = sees_in t history c (Some Plane) plane
+sees_named t history c (calls.SetCrtc crtc framebuffer connector) =
+    sees_in t history c (Some Crtc) crtc && ((connector == 0) || sees_in t history c (Some Connector) connector)
+sees_named t history c (calls.SetPlane plane crtc framebuffer) =
+    sees_in t history c (Some Plane) plane && ((framebuffer == 0) || sees_in t history c (Some Crtc) crtc)
+sees_named t history c call = true
+
+-- whether the objects of a kind can be leased
+abbrev pub is_leasable : Option Kind → Bool
+is_leasable (Some Encoder) = false
+is_leasable (Some kind) = true
+is_leasable None = false
+
+-- the planes that the CRTCs among these ids bring, with universal planes off
+abbrev pub brought : Topology → List AnsweredEvent → ℕ → List ℕ → List ℕ
+brought t history c ids = if is_universal_in history c then [] else planes_of t ids
+
+-- all that is leased with these ids
+abbrev pub leased : Topology → List AnsweredEvent → ℕ → List ℕ → List ℕ
+leased t history c ids = ids ++ brought t history c ids
+
+-- whether a lease of this lessor has none of these mode objects
+abbrev pub leaves : Topology → List AnsweredEvent → ℕ → List ℕ → Lease → Bool
+leaves t history lessor ids lease =
+    not (is_option lessor lease.lessor) || list_all (λ x. not (granted t history lease.master x)) ids
+
+-- whether no direct lessee of a client's master has one of these mode objects
+abbrev pub are_free : Topology → List AnsweredEvent → ℕ → List ℕ → Bool
+are_free t history c ids =
+    option_map_or (λ m. list_all (leaves t history m ids) (leases_in history)) (master_in history c) true
+
+-- whether the shape of a framebuffer is in range, and its pitch fits
+abbrev pub is_shape : ℕ → ℕ → ℕ → ℕ → Bool
+is_shape width height pitch bpp = is_dumb_shape width height bpp && nat_le (width * bytes_per_pixel bpp) pitch
+
+-- the answer of the step with this number
+unfoldable pub answer_at : List AnsweredEvent → ℕ → Option Answer
+answer_at [] n = None
+answer_at (step ∷ past) n = if next_number past == n then Some step.answer else answer_at past n
+
+-- the bytes of the buffer that is created with this answer
+abbrev pub bytes_created : Answer → Option ℕ
+bytes_created (answers.Buffer handle size) = Some size
+bytes_created (answers.Dumb handle pitch size) = Some size
+bytes_created answer = None
+
+-- the bytes of the object that the step with this number created
+abbrev pub bytes_of : List AnsweredEvent → ℕ → Option ℕ
+bytes_of history object = option_and_then bytes_created (answer_at history object)
+
+-- Of a device's history, an object that holds fewer bytes than are needed is a reason.
+abbrev pub ReasonOfBuffer : List AnsweredEvent → ℕ → ℕ → ℕ → List Fact → Type 0
+ReasonOfBuffer history c handle needed found =
+    IsOfDevice history → (object bytes : ℕ) → HasHandle history c handle object → bytes_of history object ≡ Some bytes
+    → nat_le needed bytes ≡ false → Shows found is_size
+
+-- If by the history a call fails by a rule, some fact is of the rule's kind. `kinds` has the rules whose denials always
+-- have the same facts.
+abbrev pub Reasons : Topology → List AnsweredEvent → ℕ → Rule → Call → List Fact → Type 0
+Reasons t history c rules.NoClient call found = is_open history c ≡ false → Shows found is_absence
+Reasons t history c rules.NoModeObject (calls.CreateLease ids) found =
+    list_all (sees_in t history c None) ids ≡ false → Shows found is_id
+Reasons t history c rules.NoModeObject call found = sees_named t history c call ≡ false → Shows found is_mode_object
+Reasons t history c rules.NotLeasable (calls.CreateLease ids) found =
+    list_all (λ x. is_leasable (kind_of t x)) ids ≡ false → Shows found is_id
+Reasons t history c rules.Repeated (calls.CreateLease ids) found =
+    list_all (stands_once ids) ids ≡ false → Shows found is_repetition
+Reasons t history c rules.LeaseShape (calls.CreateLease ids) found =
+    is_lease t (is_universal_in history c) ids ≡ false → Shows found is_lack
+Reasons t history c rules.LeasedOut (calls.CreateLease ids) found =
+    are_free t history c (leased t history c ids) ≡ false → Shows found is_leased_out
+Reasons t history c rules.NotYourLessee (calls.RevokeLease lessee) found =
+    is_some (lease_meant history c lessee) ≡ true → Shows found is_lessee
+Reasons t history c rules.BadSize (calls.BufCreate size) found = is_buffer_size size ≡ false → Shows found is_size
+Reasons t history c rules.BadSize (calls.CreateDumb width height bpp) found =
+    is_dumb_shape width height bpp ≡ false → Shows found is_size
+Reasons t history c rules.BadSize (calls.AddFb width height pitch bpp handle) found =
+    (is_shape width height pitch bpp ≡ false → Shows found is_size) ×
+    ReasonOfBuffer history c handle (pitch * height) found
+Reasons t history c rules.BadRoute (calls.SetCrtc crtc framebuffer connector) found =
+    is_route t crtc framebuffer connector ≡ false → ((connector == 0) || is_some (encoder_of t connector)) ≡ true
+    → Shows found is_connector_route
+Reasons t history c rule call found = Unit {0}
 
 -- the facts of a denied event are of the kinds of its rule
-abbrev pub HasKinds : List AnsweredEvent → Event → Rule → List Fact → Type 0
-HasKinds history (events.Open opening) rule found = AllByRecursion (Shows found) (opening_kinds rule opening)
-HasKinds history (events.Ask c call) rule found =
-    AllByRecursion (Shows found) (kinds rule call) × ShowsAbsence history c rule found
-HasKinds history (events.Close c) rule found = is_open history c ≡ false → Shows found is_absence
+abbrev pub HasKinds : Topology → List AnsweredEvent → Event → Rule → List Fact → Type 0
+HasKinds t history (events.Open opening) rule found = AllByRecursion (Shows found) (opening_kinds rule opening)
+HasKinds t history (events.Ask c call) rule found =
+    AllByRecursion (Shows found) (kinds rule call) × Reasons t history c rule call found
+HasKinds t history (events.Close c) rule found = is_open history c ≡ false → Shows found is_absence
 
 -- the facts of a step
-abbrev pub HasFor : List AnsweredEvent → Event → Answer → List Fact → Type 0
-HasFor history event (answers.Denied rule) found = HasKinds history event rule found
-HasFor history event answer found = Unit {0}
+abbrev pub HasFor : Topology → List AnsweredEvent → Event → Answer → List Fact → Type 0
+HasFor t history event (answers.Denied rule) found = HasKinds t history event rule found
+HasFor t history event answer found = Unit {0}
 
 -- the facts of the newest step
-abbrev pub Has : List AnsweredEvent → List Fact → Type 0
-Has [] found = Unit {0}
-Has (step ∷ past) found = HasFor (step ∷ past) step.event step.answer found
+abbrev pub Has : Topology → List AnsweredEvent → List Fact → Type 0
+Has t [] found = Unit {0}
+Has t (step ∷ past) found = HasFor t (step ∷ past) step.event step.answer found

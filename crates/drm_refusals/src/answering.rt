@@ -87,7 +87,7 @@ fn step_row(
     ensures carried_out { IfOk result (λ row. row.is_carried_out ≡ is_none row.rule) }
     ensures line { IfOk result (λ row. row.line ≡ line.number) }
     ensures answer { IfOk result (λ row. row.answer ≡ line.answer) }
-    ensures has { IfOk result (λ row. kinds.HasFor scene.entry.ledger.now step.now.event step.now.answer row.facts.items) }
+    ensures has { IfOk result (λ row. kinds.HasFor scene.entry.topology.now scene.entry.ledger.now step.now.event step.now.answer row.facts.items) }
     ensures facts { IfOk result (λ row. All (facts.Holds scene.entry.topology.now scene.entry.limits scene.entry.ledger.now) row.facts.items) }
 {
     let steps = scene.ledger.steps();
@@ -134,7 +134,7 @@ pub fn explain_answer(
     ensures carried_out { IfOk result (λ row. row.is_carried_out ≡ is_none row.rule) }
     ensures line { IfOk result (λ row. row.line ≡ line.number) }
     ensures answer { IfOk result (λ row. row.answer ≡ line.answer) }
-    ensures has { IfOk result (λ row. line.apart ≡ None → kinds.Has ledger.now row.facts.items) }
+    ensures has { IfOk result (λ row. line.apart ≡ None → kinds.Has topology.now ledger.now row.facts.items) }
     ensures facts { IfOk result (λ row. All (facts.Holds topology.now limits ledger.now) row.facts.items) }
 {
     let scene = Scene {

@@ -1,11 +1,13 @@
 //! Handles and names that are missing.
 
 ghost use Rattle.std.specs.Prelude.{◌≡◌, true, All, IfOk, IfSome};
+ghost use Rattle.std.specs.Option.{is_some};
 ghost use Rattle.drm_refusals.specs.Facts as facts;
 ghost use Rattle.drm_refusals.specs.Kinds as kinds;
 
 use crate::collecting::{only, with};
 use crate::facts::{Fact, HandleFact, PublishedFact};
+use crate::publications::publication;
 use crate::scene::{Scene, first_steps};
 use crate::searching::{Search, last};
 use drm_explanations::at;
@@ -133,7 +135,8 @@ fn last_giving_back(alloc: Global, trail: &Trail, object: u64) -> Result<Option<
 
 /// Returns the reason no object has a name.
 fn unnamed(alloc: Global, ledger: &Ledger, name: u32) -> Result<Option<PublishedFact>, AllocError>
-    ensures { IfOk result (λ fact. IfSome fact (facts.PublishedHolds ledger.now)) }
+    ensures some { IfOk result (λ fact. is_some fact ≡ true) }
+    ensures holds { IfOk result (λ fact. IfSome fact (facts.PublishedHolds ledger.now)) }
 {
     let trail = ledger.trail();
     let steps = trail.steps();
@@ -142,7 +145,7 @@ fn unnamed(alloc: Global, ledger: &Ledger, name: u32) -> Result<Option<Published
         return Ok(Some(PublishedFact::Never { key }));
     };
     let Some(buffer) = trail.object_of(named.past, named.client, named.handle) else {
-        return Ok(None);
+        return Ok(publication(ledger, key));
     };
     let last = last_giving_back(alloc, trail, buffer)?.and_then(|number| at(steps, number));
     Ok(Some(PublishedFact::Named {
@@ -156,7 +159,8 @@ fn unnamed(alloc: Global, ledger: &Ledger, name: u32) -> Result<Option<Published
 
 /// Returns the reason no object has a name.
 pub(crate) fn no_name(alloc: Global, scene: Scene<'_>, name: u32) -> Result<Vec<Fact>, AllocError>
-    ensures { IfOk result (λ found. All (facts.Holds scene.entry.topology.now scene.entry.limits scene.entry.ledger.now) found.items) }
+    ensures has { IfOk result (λ found. kinds.Shows found.items kinds.is_published) }
+    ensures holds { IfOk result (λ found. All (facts.Holds scene.entry.topology.now scene.entry.limits scene.entry.ledger.now) found.items) }
 {
     match unnamed(alloc, scene.ledger, name)? {
         Some(fact) => only(alloc, scene, Some(Fact::Published(fact))),

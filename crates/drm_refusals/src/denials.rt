@@ -188,32 +188,6 @@ fn told(
     with(scene, found, line(scene, third))
 }
 
-/// Returns the facts that explain the denial of a lease's creation or revocation.
-fn by_lease(
-    alloc: Global,
-    scene: Scene<'_>,
-    client: u64,
-    call: &Call,
-    rule: Rule,
-) -> Result<Vec<Fact>, AllocError>
-    ensures { IfOk result (λ found. All (facts.Holds scene.entry.topology.now scene.entry.limits scene.entry.ledger.now) found.items) }
-{
-    match (call, rule) {
-        (Call::CreateLease { ids }, Rule::NotLeasable) => not_leasable(alloc, scene, ids.ids()),
-        (Call::CreateLease { ids }, Rule::Repeated) => repeated(alloc, scene, ids.ids()),
-        (Call::CreateLease { ids }, Rule::LeaseShape) => {
-            bad_shape(alloc, scene, client, ids.ids())
-        }
-        (Call::CreateLease { ids }, Rule::LeasedOut) => {
-            leased_out(alloc, scene, client, ids.ids())
-        }
-        (Call::RevokeLease { lessee }, Rule::NotYourLessee) => {
-            other_lessee(alloc, scene, client, *lessee)
-        }
-        _ => Ok(Vec::new(alloc)),
-    }
-}
-
 /// Returns the reason no lessee has the id of a call.
 fn by_lessee(
     alloc: Global,
@@ -232,7 +206,8 @@ fn by_lessee(
 
 /// Returns the reason no object has the name of a call.
 fn by_name(alloc: Global, scene: Scene<'_>, call: &Call) -> Result<Vec<Fact>, AllocError>
-    ensures { IfOk result (λ found. All (facts.Holds scene.entry.topology.now scene.entry.limits scene.entry.ledger.now) found.items) }
+    ensures has { IfOk result (λ found. AllByRecursion (kinds.Shows found.items) (kinds.kinds rules.NoName call.now)) }
+    ensures holds { IfOk result (λ found. All (facts.Holds scene.entry.topology.now scene.entry.limits scene.entry.ledger.now) found.items) }
 {
     match call {
         Call::GemOpen { name } => no_name(alloc, scene, *name),
@@ -268,7 +243,7 @@ fn by_call(
     call: &Call,
     rule: Rule,
 ) -> Result<Vec<Fact>, AllocError>
-    ensures has { IfOk result (λ found. kinds.HasKinds scene.entry.ledger.now (events.Ask client call.now) rule found.items) }
+    ensures has { IfOk result (λ found. kinds.HasKinds scene.entry.topology.now scene.entry.ledger.now (events.Ask client call.now) rule found.items) }
     ensures holds { IfOk result (λ found. All (facts.Holds scene.entry.topology.now scene.entry.limits scene.entry.ledger.now) found.items) }
 {
     let current = Subject::Current(client);
@@ -296,15 +271,15 @@ fn by_call(
         Rule::NoLessee => by_lessee(alloc, scene, client, call),
         Rule::NoFb => by_framebuffer(alloc, scene, call),
         Rule::BadSize => bad_size(alloc, scene, client, call),
-        Rule::BadRoute => bad_route(alloc, scene, call),
+        Rule::BadRoute => bad_route(alloc, scene, client, call),
         Rule::BadCap => bad_cap(alloc, scene, call),
         Rule::Full => full(alloc, scene, client, call),
         Rule::NoLeaseToken => Ok(Vec::new(alloc)),
-        Rule::NotLeasable => by_lease(alloc, scene, client, call, rule),
-        Rule::Repeated => by_lease(alloc, scene, client, call, rule),
-        Rule::LeaseShape => by_lease(alloc, scene, client, call, rule),
-        Rule::LeasedOut => by_lease(alloc, scene, client, call, rule),
-        Rule::NotYourLessee => by_lease(alloc, scene, client, call, rule),
+        Rule::NotLeasable => not_leasable(alloc, scene, client, call),
+        Rule::Repeated => repeated(alloc, scene, client, call),
+        Rule::LeaseShape => bad_shape(alloc, scene, client, call),
+        Rule::LeasedOut => leased_out(alloc, scene, client, call),
+        Rule::NotYourLessee => other_lessee(alloc, scene, client, call),
     }
 }
 
@@ -315,7 +290,7 @@ fn by_opening(
     opening: &Opening,
     rule: Rule,
 ) -> Result<Vec<Fact>, AllocError>
-    ensures has { IfOk result (λ found. kinds.HasKinds scene.entry.ledger.now (events.Open opening.now) rule found.items) }
+    ensures has { IfOk result (λ found. kinds.HasKinds scene.entry.topology.now scene.entry.ledger.now (events.Open opening.now) rule found.items) }
     ensures holds { IfOk result (λ found. All (facts.Holds scene.entry.topology.now scene.entry.limits scene.entry.ledger.now) found.items) }
 {
     match rule {
@@ -335,7 +310,7 @@ pub(crate) fn reasons(
     event: &Event,
     rule: Rule,
 ) -> Result<Vec<Fact>, AllocError>
-    ensures has { IfOk result (λ found. kinds.HasKinds scene.entry.ledger.now event.now rule found.items) }
+    ensures has { IfOk result (λ found. kinds.HasKinds scene.entry.topology.now scene.entry.ledger.now event.now rule found.items) }
     ensures holds { IfOk result (λ found. All (facts.Holds scene.entry.topology.now scene.entry.limits scene.entry.ledger.now) found.items) }
 {
     match event {

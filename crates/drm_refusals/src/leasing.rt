@@ -1,11 +1,20 @@
 //! Leases that can't be created, revoked or redeemed.
 
-ghost use Rattle.std.specs.Prelude.{◌≡◌, All, IfOk, IfSome};
+ghost use Rattle.std.specs.Prelude.{◌≡◌, Bool, true, false, not, ◌||◌, take, All, IfNone, IfOk, IfSome};
+ghost use Rattle.std.specs.List.{list_all, list_any};
+ghost use Rattle.drm_lists.specs.Numbers.{is_among};
+ghost use Rattle.drm_table.specs.declared.rules.Rule.TheVariants as rules;
+ghost use Rattle.drm_modes.specs.LeaseRules.{is_lease, stands_once};
+ghost use Rattle.drm_modes.specs.Topology.{is_of_kind, is_plane, kind_of};
+ghost use Rattle.drm_model.specs.Rows.{is_option};
+ghost use Rattle.drm_authority.specs.Lessees.{granted};
+ghost use Rattle.drm_authority.specs.Shown.{is_universal_in};
 ghost use Rattle.drm_rights.specs.Leases as lending;
 ghost use Rattle.drm_rights.specs.Leases.{leases_in};
 ghost use Rattle.drm_refusals.specs.Facts as facts;
 ghost use Rattle.drm_refusals.specs.Kinds as kinds;
 ghost use Rattle.drm_refusals.specs.Leases.{lease_meant};
+ghost use Rattle.drm_refusals.specs.declared.facts.Fact.{Fact};
 
 use crate::collecting::{only, with};
 use crate::facts::{Fact, LeaseFact, ModeObjectFact, RequestFact};
@@ -14,11 +23,14 @@ use crate::scene::Scene;
 use drm_explanations::Subject;
 use drm_modes::Kind;
 use drm_rights::{Lease, Ledger};
+use drm_table::{Call, ShownList};
 use std::alloc::{AllocError, Global};
 
 /// Returns the reason an id can't be leased: it is that of an encoder or a framebuffer.
 fn unleasable(scene: Scene<'_>, id: u32) -> Option<Fact>
-    ensures { IfSome result (facts.Holds scene.entry.topology.now scene.entry.limits scene.entry.ledger.now) }
+    ensures is { IfSome result (λ fact. kinds.is_id fact ≡ true) }
+    ensures none { IfNone result (kinds.is_leasable (kind_of scene.entry.topology.now id) ≡ true) }
+    ensures holds { IfSome result (facts.Holds scene.entry.topology.now scene.entry.limits scene.entry.ledger.now) }
 {
     match scene.topology.kind(id) {
         Some(Kind::Encoder) => Some(Fact::ModeObject(ModeObjectFact::Encoder { id })),
@@ -31,9 +43,22 @@ fn unleasable(scene: Scene<'_>, id: u32) -> Option<Fact>
 pub(crate) fn not_leasable(
     alloc: Global,
     scene: Scene<'_>,
-    ids: &[u32],
+    client: u64,
+    call: &Call,
 ) -> Result<Vec<Fact>, AllocError>
-    ensures { IfOk result (λ found. All (facts.Holds scene.entry.topology.now scene.entry.limits scene.entry.ledger.now) found.items) }
+    ensures has { IfOk result (λ found. kinds.Reasons scene.entry.topology.now scene.entry.ledger.now client rules.NotLeasable call.now found.items) }
+    ensures holds { IfOk result (λ found. All (facts.Holds scene.entry.topology.now scene.entry.limits scene.entry.ledger.now) found.items) }
+{
+    match call {
+        Call::CreateLease { ids } => unleasable_of(alloc, scene, ids.ids()),
+        _ => Ok(Vec::new(alloc)),
+    }
+}
+
+/// Returns those of these ids that can't be leased.
+fn unleasable_of(alloc: Global, scene: Scene<'_>, ids: &[u32]) -> Result<Vec<Fact>, AllocError>
+    ensures has { IfOk result (λ found. list_all (λ x. kinds.is_leasable (kind_of scene.entry.topology.now x)) ids.now ≡ false → kinds.Shows found.items kinds.is_id) }
+    ensures holds { IfOk result (λ found. All (facts.Holds scene.entry.topology.now scene.entry.limits scene.entry.ledger.now) found.items) }
 {
     let mut found = Vec::new(alloc);
     for id in ids {
@@ -42,48 +67,86 @@ pub(crate) fn not_leasable(
     Ok(found)
 }
 
-/// Returns whether an id is also in the list before this place.
-fn is_repeated(ids: &[u32], place: usize, id: u32) -> bool {
-    let before = ids.get(..place).unwrap_or(&[]);
-    before.contains(&id)
+/// Returns that an id is also in the list before this place, if it is.
+fn repetition(scene: Scene<'_>, ids: &[u32], place: usize, id: u32) -> Option<Fact>
+    ensures is { IfSome result (λ fact. kinds.is_repetition fact ≡ true) }
+    ensures none { IfNone result (is_among (take place ids.now) id ≡ false) }
+    ensures holds { IfSome result (facts.Holds scene.entry.topology.now scene.entry.limits scene.entry.ledger.now) }
+{
+    let before = ids.get(..place).unwrap_or(ids);
+    if before.contains(&id) {
+        Some(Fact::Request(RequestFact::Repeated { id }))
+    } else {
+        None
+    }
+}
+
+/// Returns those of these ids that are also in the list before.
+fn repeated_of(alloc: Global, scene: Scene<'_>, ids: &[u32]) -> Result<Vec<Fact>, AllocError>
+    ensures has { IfOk result (λ found. list_all (stands_once ids.now) ids.now ≡ false → kinds.Shows found.items kinds.is_repetition) }
+    ensures holds { IfOk result (λ found. All (facts.Holds scene.entry.topology.now scene.entry.limits scene.entry.ledger.now) found.items) }
+{
+    let mut found = Vec::new(alloc);
+    for (place, id) in ids.iter().enumerate() {
+        found = with(scene, found, repetition(scene, ids, place, *id))?;
+    }
+    Ok(found)
 }
 
 /// Returns the ids that are in the list twice.
 pub(crate) fn repeated(
     alloc: Global,
     scene: Scene<'_>,
-    ids: &[u32],
+    client: u64,
+    call: &Call,
 ) -> Result<Vec<Fact>, AllocError>
-    ensures { IfOk result (λ found. All (facts.Holds scene.entry.topology.now scene.entry.limits scene.entry.ledger.now) found.items) }
+    ensures has { IfOk result (λ found. kinds.Reasons scene.entry.topology.now scene.entry.ledger.now client rules.Repeated call.now found.items) }
+    ensures holds { IfOk result (λ found. All (facts.Holds scene.entry.topology.now scene.entry.limits scene.entry.ledger.now) found.items) }
 {
-    let mut found = Vec::new(alloc);
-    for (place, id) in ids.iter().enumerate() {
-        let id = *id;
-        if is_repeated(ids, place, id) {
-            found = with(
-                scene,
-                found,
-                Some(Fact::Request(RequestFact::Repeated { id })),
-            )?;
-        }
+    match call {
+        Call::CreateLease { ids } => repeated_of(alloc, scene, ids.ids()),
+        _ => Ok(Vec::new(alloc)),
     }
-    Ok(found)
 }
 
-/// Returns whether one of the ids is that of a mode object of a kind.
-fn has_kind(scene: Scene<'_>, ids: &[u32], kind: Kind) -> bool {
-    ids.iter().any(|id| scene.topology.is_of_kind(kind, *id))
+/// Returns a fact if none of the ids is that of a mode object of a kind.
+fn lack(scene: Scene<'_>, ids: &[u32], kind: Kind, fact: Fact) -> Option<Fact>
+    requires { facts.Holds scene.topology.now scene.limits scene.ledger.now fact }
+    ensures is { IfSome result (λ lacking. lacking ≡ fact) }
+    ensures none { IfNone result (list_any (is_of_kind scene.entry.topology.now kind) ids.now ≡ true) }
+    ensures holds { IfSome result (facts.Holds scene.entry.topology.now scene.entry.limits scene.entry.ledger.now) }
+{
+    if ids.iter().any(|id| scene.topology.is_of_kind(kind, *id)) {
+        None
+    } else {
+        Some(fact)
+    }
 }
 
 /// Returns that no plane is among the ids for a client with universal planes on.
 fn lacks_plane(scene: Scene<'_>, client: u64, ids: &[u32]) -> Option<Fact>
-    ensures { IfSome result (facts.Holds scene.entry.topology.now scene.entry.limits scene.entry.ledger.now) }
+    ensures is { IfSome result (λ fact. kinds.is_lack fact ≡ true) }
+    ensures none { IfNone result ((not (is_universal_in scene.entry.ledger.now client) || list_any (is_plane scene.entry.topology.now) ids.now) ≡ true) }
+    ensures holds { IfSome result (facts.Holds scene.entry.topology.now scene.entry.limits scene.entry.ledger.now) }
 {
-    if scene.ledger.has_universal(client) && !has_kind(scene, ids, Kind::Plane) {
-        Some(Fact::Lease(LeaseFact::LacksPlane { client }))
+    if scene.ledger.has_universal(client) {
+        let fact = Fact::Lease(LeaseFact::LacksPlane { client });
+        lack(scene, ids, Kind::Plane, fact)
     } else {
         None
     }
+}
+
+/// Returns what is missing in a lease of these ids.
+fn lacks(alloc: Global, scene: Scene<'_>, client: u64, ids: &[u32]) -> Result<Vec<Fact>, AllocError>
+    ensures has { IfOk result (λ found. is_lease scene.entry.topology.now (is_universal_in scene.entry.ledger.now client) ids.now ≡ false → kinds.Shows found.items kinds.is_lack) }
+    ensures holds { IfOk result (λ found. All (facts.Holds scene.entry.topology.now scene.entry.limits scene.entry.ledger.now) found.items) }
+{
+    let crtc = Fact::Request(RequestFact::LacksCrtc);
+    let connector = Fact::Request(RequestFact::LacksConnector);
+    let found = only(alloc, scene, lack(scene, ids, Kind::Crtc, crtc))?;
+    let found = with(scene, found, lack(scene, ids, Kind::Connector, connector))?;
+    with(scene, found, lacks_plane(scene, client, ids))
 }
 
 /// Returns what is missing in a lease.
@@ -91,27 +154,22 @@ pub(crate) fn bad_shape(
     alloc: Global,
     scene: Scene<'_>,
     client: u64,
-    ids: &[u32],
+    call: &Call,
 ) -> Result<Vec<Fact>, AllocError>
-    ensures { IfOk result (λ found. All (facts.Holds scene.entry.topology.now scene.entry.limits scene.entry.ledger.now) found.items) }
+    ensures has { IfOk result (λ found. kinds.Reasons scene.entry.topology.now scene.entry.ledger.now client rules.LeaseShape call.now found.items) }
+    ensures holds { IfOk result (λ found. All (facts.Holds scene.entry.topology.now scene.entry.limits scene.entry.ledger.now) found.items) }
 {
-    let mut found = Vec::new(alloc);
-    if !has_kind(scene, ids, Kind::Crtc) {
-        found = with(scene, found, Some(Fact::Request(RequestFact::LacksCrtc)))?;
+    match call {
+        Call::CreateLease { ids } => lacks(alloc, scene, client, ids.ids()),
+        _ => Ok(Vec::new(alloc)),
     }
-    if !has_kind(scene, ids, Kind::Connector) {
-        found = with(
-            scene,
-            found,
-            Some(Fact::Request(RequestFact::LacksConnector)),
-        )?;
-    }
-    with(scene, found, lacks_plane(scene, client, ids))
 }
 
 /// Returns that a lease has a mode object, if it does.
 fn lent(scene: Scene<'_>, lease: Lease, id: u32) -> Option<Fact>
-    ensures { IfSome result (facts.Holds scene.entry.topology.now scene.entry.limits scene.entry.ledger.now) }
+    ensures is { IfSome result (λ fact. kinds.is_leased_out fact ≡ true) }
+    ensures none { IfNone result (granted scene.entry.topology.now scene.entry.ledger.now lease.master id ≡ false) }
+    ensures holds { IfSome result (facts.Holds scene.entry.topology.now scene.entry.limits scene.entry.ledger.now) }
 {
     if scene.ledger.is_granted(scene.topology, lease.master, id) {
         Some(Fact::Lease(LeaseFact::LeasedOut { id, lease }))
@@ -128,36 +186,83 @@ fn lent_of(
     ids: &[u32],
 ) -> Result<Vec<Fact>, AllocError>
     requires { All (facts.Holds scene.topology.now scene.limits scene.ledger.now) found.items }
-    ensures { IfOk result (λ more. All (facts.Holds scene.entry.topology.now scene.entry.limits scene.entry.ledger.now) more.items) }
+    ensures has { IfOk result (λ more. list_all (λ x. not (granted scene.entry.topology.now scene.entry.ledger.now lease.master x)) ids.now ≡ false → kinds.Shows more.items kinds.is_leased_out) }
+    ensures kept { IfOk result (λ more. (kind : Fact → Bool) → kinds.Shows found.items kind → kinds.Shows more.items kind) }
+    ensures holds { IfOk result (λ more. All (facts.Holds scene.entry.topology.now scene.entry.limits scene.entry.ledger.now) more.items) }
 {
-    let mut found = found;
+    let mut more = found;
     for id in ids {
-        found = with(scene, found, lent(scene, lease, *id))?;
+        more = with(scene, more, lent(scene, lease, *id))?;
     }
-    Ok(found)
+    Ok(more)
 }
 
-/// Adds what a lease has of the mode objects that a client names, or of the planes that a named CRTC brings.
+/// Returns the planes that the CRTCs among these ids bring, with universal planes off.
+fn brought_along(scene: Scene<'_>, client: u64, ids: &[u32]) -> ShownList
+    ensures { result ≡ kinds.brought scene.entry.topology.now scene.entry.ledger.now client ids.now }
+{
+    if scene.ledger.has_universal(client) {
+        ShownList::new()
+    } else {
+        scene.topology.planes_of(ids)
+    }
+}
+
+/// Returns whether a lessor, if there is one, is this master.
+fn is_lent_by(lessor: Option<u64>, master: u64) -> bool
+    ensures { result ≡ is_option master lessor }
+{
+    match lessor {
+        Some(lessor) => lessor == master,
+        None => false,
+    }
+}
+
+/// Adds what a lease of this lessor has of the mode objects that a client names, or of the planes that a named CRTC
+/// brings.
 fn lent_by(
     scene: Scene<'_>,
     found: Vec<Fact>,
     client: u64,
+    lessor: u64,
     lease: Lease,
     ids: &[u32],
 ) -> Result<Vec<Fact>, AllocError>
     requires { All (facts.Holds scene.topology.now scene.limits scene.ledger.now) found.items }
-    ensures { IfOk result (λ more. All (facts.Holds scene.entry.topology.now scene.entry.limits scene.entry.ledger.now) more.items) }
+    ensures has { IfOk result (λ more. kinds.leaves scene.entry.topology.now scene.entry.ledger.now lessor (kinds.leased scene.entry.topology.now scene.entry.ledger.now client ids.now) lease ≡ false → kinds.Shows more.items kinds.is_leased_out) }
+    ensures kept { IfOk result (λ more. (kind : Fact → Bool) → kinds.Shows found.items kind → kinds.Shows more.items kind) }
+    ensures holds { IfOk result (λ more. All (facts.Holds scene.entry.topology.now scene.entry.limits scene.entry.ledger.now) more.items) }
 {
-    let before = found.len();
-    let along = scene.topology.planes_of(ids);
-    let mut found = lent_of(scene, found, lease, ids)?;
-    if !scene.ledger.has_universal(client) {
-        found = lent_of(scene, found, lease, along.ids())?;
-    }
-    if found.len() == before {
+    if !is_lent_by(lease.lessor, lessor) {
         return Ok(found);
     }
-    with(scene, found, Some(Fact::Told(Subject::Lease(lease.master))))
+    let before = found.len();
+    let along = brought_along(scene, client, ids);
+    let more = lent_of(scene, found, lease, ids)?;
+    let more = lent_of(scene, more, lease, along.ids())?;
+    if more.len() == before {
+        return Ok(more);
+    }
+    with(scene, more, Some(Fact::Told(Subject::Lease(lease.master))))
+}
+
+/// Adds what the direct lessees of a master have of these mode objects.
+fn lent_from(
+    scene: Scene<'_>,
+    found: Vec<Fact>,
+    client: u64,
+    lessor: u64,
+    ids: &[u32],
+) -> Result<Vec<Fact>, AllocError>
+    requires { All (facts.Holds scene.topology.now scene.limits scene.ledger.now) found.items }
+    ensures has { IfOk result (λ more. list_all (kinds.leaves scene.entry.topology.now scene.entry.ledger.now lessor (kinds.leased scene.entry.topology.now scene.entry.ledger.now client ids.now)) (leases_in scene.entry.ledger.now) ≡ false → kinds.Shows more.items kinds.is_leased_out) }
+    ensures holds { IfOk result (λ more. All (facts.Holds scene.entry.topology.now scene.entry.limits scene.entry.ledger.now) more.items) }
+{
+    let mut more = found;
+    for lease in scene.ledger.leases() {
+        more = lent_by(scene, more, client, lessor, *lease, ids)?;
+    }
+    Ok(more)
 }
 
 /// Returns the direct lessees of a client's master that have a mode object that it names, or a plane that a named CRTC
@@ -166,18 +271,19 @@ pub(crate) fn leased_out(
     alloc: Global,
     scene: Scene<'_>,
     client: u64,
-    ids: &[u32],
+    call: &Call,
 ) -> Result<Vec<Fact>, AllocError>
-    ensures { IfOk result (λ found. All (facts.Holds scene.entry.topology.now scene.entry.limits scene.entry.ledger.now) found.items) }
+    ensures has { IfOk result (λ found. kinds.Reasons scene.entry.topology.now scene.entry.ledger.now client rules.LeasedOut call.now found.items) }
+    ensures holds { IfOk result (λ found. All (facts.Holds scene.entry.topology.now scene.entry.limits scene.entry.ledger.now) found.items) }
 {
-    let lessor = scene.ledger.master_of(client);
-    let mut found = Vec::new(alloc);
-    for lease in scene.ledger.leases() {
-        if lease.lessor == lessor {
-            found = lent_by(scene, found, client, *lease, ids)?;
-        }
+    let none = Vec::new(alloc);
+    let Some(lessor) = scene.ledger.master_of(client) else {
+        return Ok(none);
+    };
+    match call {
+        Call::CreateLease { ids } => lent_from(scene, none, client, lessor, ids.ids()),
+        _ => Ok(none),
     }
-    Ok(found)
 }
 
 /// Returns the last lease with an id under an owner.
@@ -236,14 +342,19 @@ pub(crate) fn other_lessee(
     alloc: Global,
     scene: Scene<'_>,
     client: u64,
-    lessee: u32,
+    call: &Call,
 ) -> Result<Vec<Fact>, AllocError>
-    ensures { IfOk result (λ found. All (facts.Holds scene.entry.topology.now scene.entry.limits scene.entry.ledger.now) found.items) }
+    ensures has { IfOk result (λ found. kinds.Reasons scene.entry.topology.now scene.entry.ledger.now client rules.NotYourLessee call.now found.items) }
+    ensures holds { IfOk result (λ found. All (facts.Holds scene.entry.topology.now scene.entry.limits scene.entry.ledger.now) found.items) }
 {
-    let Some(lease) = lease_of_id(scene.ledger, client, lessee) else {
-        return Ok(Vec::new(alloc));
+    let none = Vec::new(alloc);
+    let Call::RevokeLease { lessee } = call else {
+        return Ok(none);
     };
-    let found = only(alloc, scene, lessor_fact(scene, client, lessee))?;
+    let Some(lease) = lease_of_id(scene.ledger, client, *lessee) else {
+        return Ok(none);
+    };
+    let found = with(scene, none, lessor_fact(scene, client, *lessee))?;
     with(scene, found, Some(Fact::Told(Subject::Lease(lease.master))))
 }
 

@@ -14,7 +14,7 @@ use drm_rights::{Key, Ledger, last_publishing};
 use std::alloc::{AllocError, Global};
 
 /// Returns the step that published under a key, and the step that withdrew that.
-fn publication(ledger: &Ledger, key: Key) -> Option<PublishedFact>
+pub(crate) fn publication(ledger: &Ledger, key: Key) -> Option<PublishedFact>
     ensures some { is_some result ≡ true }
     ensures holds { IfSome result (facts.PublishedHolds ledger.now) }
 {

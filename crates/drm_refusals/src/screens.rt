@@ -1,10 +1,16 @@
 //! Mode objects that a client doesn't see, and those that a CRTC can't drive.
 
-ghost use Rattle.std.specs.Prelude.{All, IfOk, IfSome};
+ghost use Rattle.std.specs.Prelude.{◌≡◌, ◌==◌, Bool, true, false, ◌&&◌, ◌||◌, Some, None, All, IfErr, IfNone, IfOk, IfSome, is_some};
+ghost use Rattle.std.specs.List.{AllByRecursion, list_all};
+ghost use Rattle.drm_table.specs.declared.rules.Rule.TheVariants as rules;
+ghost use Rattle.drm_modes.specs.LeaseRules.{is_shown};
+ghost use Rattle.drm_modes.specs.Topology.{encoder_of, is_encoder, is_of_kind, is_route};
+ghost use Rattle.drm_modes.specs.declared.kinds.Kind.TheVariants.{Connector, Crtc, Plane};
+ghost use Rattle.drm_authority.specs.Shown.{is_universal_in};
+ghost use Rattle.drm_rights.specs.Ledgers.{controls_in};
 ghost use Rattle.drm_refusals.specs.Facts as facts;
 ghost use Rattle.drm_refusals.specs.Kinds as kinds;
-ghost use Rattle.std.specs.List.{AllByRecursion};
-ghost use Rattle.drm_table.specs.declared.rules.Rule.TheVariants as rules;
+ghost use Rattle.drm_refusals.specs.declared.facts.Fact.{Fact};
 
 use crate::collecting::{only, with};
 use crate::facts::{Fact, ModeObjectFact, RequestFact};
@@ -17,7 +23,9 @@ use std::alloc::{AllocError, Global};
 
 /// Returns that a client's master does not control a mode object, if it doesn't. All clients see encoders.
 fn uncontrolled(scene: Scene<'_>, client: u64, id: u32, kind: Kind) -> Option<ModeObjectFact>
-    ensures { IfSome result (facts.ModeObjectHolds scene.entry.topology.now scene.entry.ledger.now) }
+    requires { is_of_kind scene.topology.now kind id ≡ true }
+    ensures seen { IfNone result ((is_encoder scene.entry.topology.now id || controls_in scene.entry.topology.now scene.entry.ledger.now client id) ≡ true) }
+    ensures holds { IfSome result (facts.ModeObjectHolds scene.entry.topology.now scene.entry.ledger.now) }
 {
     if kind == Kind::Encoder || scene.ledger.controls(scene.topology, client, id) {
         None
@@ -28,7 +36,8 @@ fn uncontrolled(scene: Scene<'_>, client: u64, id: u32, kind: Kind) -> Option<Mo
 
 /// Returns that a client with universal planes off does not see a primary or a cursor plane, if it is one.
 fn hidden(scene: Scene<'_>, client: u64, plane: u32) -> Option<ModeObjectFact>
-    ensures { IfSome result (facts.ModeObjectHolds scene.entry.topology.now scene.entry.ledger.now) }
+    ensures shown { IfNone result (is_shown scene.entry.topology.now (is_universal_in scene.entry.ledger.now client) plane ≡ true) }
+    ensures holds { IfSome result (facts.ModeObjectHolds scene.entry.topology.now scene.entry.ledger.now) }
 {
     let crtc = scene.topology.crtc_of_plane(plane)?;
     if scene.ledger.has_universal(client) {
@@ -41,17 +50,20 @@ fn hidden(scene: Scene<'_>, client: u64, plane: u32) -> Option<ModeObjectFact>
     })
 }
 
-/// Returns that no mode object has an id, or that the mode object is of another kind than the call requires.
-fn other_kind(scene: Scene<'_>, id: u32, wanted: Option<Kind>) -> Option<ModeObjectFact>
-    ensures { IfSome result (facts.ModeObjectHolds scene.entry.topology.now scene.entry.ledger.now) }
+/// Returns the kind of a mode object. If there is none with this id, or it is of another kind than the call requires,
+/// returns that.
+fn kind_of(scene: Scene<'_>, id: u32, wanted: Option<Kind>) -> Result<Kind, ModeObjectFact>
+    ensures kind { IfOk result (λ kind. is_of_kind scene.entry.topology.now kind id ≡ true) }
+    ensures wanted { IfOk result (λ kind. kinds.is_wanted scene.entry.topology.now wanted id ≡ true) }
+    ensures holds { IfErr result (facts.ModeObjectHolds scene.entry.topology.now scene.entry.ledger.now) }
 {
     let Some(kind) = scene.topology.kind(id) else {
         let count = scene.topology.object_count();
-        return Some(ModeObjectFact::Nothing { id, count });
+        return Err(ModeObjectFact::Nothing { id, count });
     };
     match wanted {
-        Some(wanted) if wanted != kind => Some(ModeObjectFact::OfKind { id, kind, wanted }),
-        _ => None,
+        Some(wanted) if wanted != kind => Err(ModeObjectFact::OfKind { id, kind, wanted }),
+        _ => Ok(kind),
     }
 }
 
@@ -72,13 +84,13 @@ fn unseen(
     wanted: Option<Kind>,
 ) -> Result<Vec<Fact>, AllocError>
     requires { All (facts.Holds scene.topology.now scene.limits scene.ledger.now) found.items }
-    ensures { IfOk result (λ more. All (facts.Holds scene.entry.topology.now scene.entry.limits scene.entry.ledger.now) more.items) }
+    ensures has { IfOk result (λ more. kinds.sees_in scene.entry.topology.now scene.entry.ledger.now client wanted id ≡ false → kinds.Shows more.items kinds.is_mode_object) }
+    ensures kept { IfOk result (λ more. (kind : Fact → Bool) → kinds.Shows found.items kind → kinds.Shows more.items kind) }
+    ensures holds { IfOk result (λ more. All (facts.Holds scene.entry.topology.now scene.entry.limits scene.entry.ledger.now) more.items) }
 {
-    if let Some(fact) = other_kind(scene, id, wanted) {
-        return with(scene, found, Some(Fact::ModeObject(fact)));
-    }
-    let Some(kind) = scene.topology.kind(id) else {
-        return Ok(found);
+    let kind = match kind_of(scene, id, wanted) {
+        Ok(kind) => kind,
+        Err(fact) => return with(scene, found, Some(Fact::ModeObject(fact))),
     };
     if let Some(fact) = uncontrolled(scene, client, id, kind) {
         let found = with(scene, found, Some(Fact::ModeObject(fact)))?;
@@ -97,33 +109,6 @@ fn unseen(
     }
 }
 
-/// Returns the mode objects that a call names, each with the kind that the call requires, in the order of the tests.
-fn named_by(call: &Call) -> [Option<(u32, Kind)>; 2] {
-    match *call {
-        Call::GetCrtc { crtc } => [Some((crtc, Kind::Crtc)), None],
-        Call::GetEncoder { encoder } => [Some((encoder, Kind::Encoder)), None],
-        Call::GetConnector { connector } => [Some((connector, Kind::Connector)), None],
-        Call::GetPlane { plane } => [Some((plane, Kind::Plane)), None],
-        Call::SetCrtc {
-            crtc,
-            connector,
-            ..
-        } => [
-            Some((crtc, Kind::Crtc)),
-            (connector != 0).then_some((connector, Kind::Connector)),
-        ],
-        Call::SetPlane {
-            plane,
-            crtc,
-            framebuffer,
-        } => [
-            Some((plane, Kind::Plane)),
-            (framebuffer != 0).then_some((crtc, Kind::Crtc)),
-        ],
-        _ => [None, None],
-    }
-}
-
 /// Returns the reason a client doesn't see one of the mode objects that a call names.
 pub(crate) fn no_mode_object(
     alloc: Global,
@@ -131,45 +116,114 @@ pub(crate) fn no_mode_object(
     client: u64,
     call: &Call,
 ) -> Result<Vec<Fact>, AllocError>
-    ensures { IfOk result (λ found. All (facts.Holds scene.entry.topology.now scene.entry.limits scene.entry.ledger.now) found.items) }
+    ensures has { IfOk result (λ found. kinds.Reasons scene.entry.topology.now scene.entry.ledger.now client rules.NoModeObject call.now found.items) }
+    ensures holds { IfOk result (λ found. All (facts.Holds scene.entry.topology.now scene.entry.limits scene.entry.ledger.now) found.items) }
 {
-    if let Call::CreateLease { ids } = call {
-        return unseen_of(alloc, scene, client, ids.ids());
-    }
-    let mut found = Vec::new(alloc);
-    for named in named_by(call) {
-        if let Some((id, kind)) = named {
-            found = unseen(scene, found, client, id, Some(kind))?;
+    let none = Vec::new(alloc);
+    match call {
+        Call::GetCrtc { crtc } => unseen(scene, none, client, *crtc, Some(Kind::Crtc)),
+        Call::GetEncoder { encoder } => unseen(scene, none, client, *encoder, Some(Kind::Encoder)),
+        Call::GetConnector { connector } => {
+            unseen(scene, none, client, *connector, Some(Kind::Connector))
         }
+        Call::GetPlane { plane } => unseen(scene, none, client, *plane, Some(Kind::Plane)),
+        Call::SetCrtc {
+            crtc,
+            connector,
+            ..
+        } => unseen_output(scene, none, client, *crtc, *connector),
+        Call::SetPlane {
+            plane,
+            crtc,
+            framebuffer,
+        } => unseen_plane(scene, none, client, *plane, *crtc, *framebuffer),
+        Call::CreateLease { ids } => unseen_of(scene, none, client, ids.ids()),
+        _ => Ok(none),
     }
-    Ok(found)
 }
 
-/// Returns the reason a client doesn't see some of the ids of a lease. Ids above those of mode objects may be
-/// framebuffers.
-fn unseen_of(
-    alloc: Global,
+/// Adds the reason a client doesn't see a CRTC, or a connector if one is named.
+fn unseen_output(
     scene: Scene<'_>,
+    found: Vec<Fact>,
+    client: u64,
+    crtc: u32,
+    connector: u32,
+) -> Result<Vec<Fact>, AllocError>
+    requires { All (facts.Holds scene.topology.now scene.limits scene.ledger.now) found.items }
+    ensures has { IfOk result (λ more. (kinds.sees_in scene.entry.topology.now scene.entry.ledger.now client (Some Crtc) crtc && ((connector == 0) || kinds.sees_in scene.entry.topology.now scene.entry.ledger.now client (Some Connector) connector)) ≡ false → kinds.Shows more.items kinds.is_mode_object) }
+    ensures holds { IfOk result (λ more. All (facts.Holds scene.entry.topology.now scene.entry.limits scene.entry.ledger.now) more.items) }
+{
+    let found = unseen(scene, found, client, crtc, Some(Kind::Crtc))?;
+    if connector == 0 {
+        return Ok(found);
+    }
+    unseen(scene, found, client, connector, Some(Kind::Connector))
+}
+
+/// Adds the reason a client doesn't see a plane, or the CRTC on which it is to show a framebuffer.
+fn unseen_plane(
+    scene: Scene<'_>,
+    found: Vec<Fact>,
+    client: u64,
+    plane: u32,
+    crtc: u32,
+    framebuffer: u32,
+) -> Result<Vec<Fact>, AllocError>
+    requires { All (facts.Holds scene.topology.now scene.limits scene.ledger.now) found.items }
+    ensures has { IfOk result (λ more. (kinds.sees_in scene.entry.topology.now scene.entry.ledger.now client (Some Plane) plane && ((framebuffer == 0) || kinds.sees_in scene.entry.topology.now scene.entry.ledger.now client (Some Crtc) crtc)) ≡ false → kinds.Shows more.items kinds.is_mode_object) }
+    ensures holds { IfOk result (λ more. All (facts.Holds scene.entry.topology.now scene.entry.limits scene.entry.ledger.now) more.items) }
+{
+    let found = unseen(scene, found, client, plane, Some(Kind::Plane))?;
+    if framebuffer == 0 {
+        return Ok(found);
+    }
+    unseen(scene, found, client, crtc, Some(Kind::Crtc))
+}
+
+/// Adds the reason a client doesn't see an id of a lease. If the id is above those of mode objects, it may be a
+/// framebuffer.
+fn unseen_id(
+    scene: Scene<'_>,
+    found: Vec<Fact>,
+    client: u64,
+    id: u32,
+) -> Result<Vec<Fact>, AllocError>
+    requires { All (facts.Holds scene.topology.now scene.limits scene.ledger.now) found.items }
+    ensures has { IfOk result (λ more. kinds.sees_in scene.entry.topology.now scene.entry.ledger.now client None id ≡ false → kinds.Shows more.items kinds.is_id) }
+    ensures kept { IfOk result (λ more. (kind : Fact → Bool) → kinds.Shows found.items kind → kinds.Shows more.items kind) }
+    ensures holds { IfOk result (λ more. All (facts.Holds scene.entry.topology.now scene.entry.limits scene.entry.ledger.now) more.items) }
+{
+    if scene.topology.kind(id).is_none() && id > scene.topology.object_count() {
+        with(scene, found, framebuffer_fact(scene, id))
+    } else {
+        unseen(scene, found, client, id, None)
+    }
+}
+
+/// Adds the reason a client doesn't see some of the ids of a lease.
+fn unseen_of(
+    scene: Scene<'_>,
+    found: Vec<Fact>,
     client: u64,
     ids: &[u32],
 ) -> Result<Vec<Fact>, AllocError>
-    ensures { IfOk result (λ found. All (facts.Holds scene.entry.topology.now scene.entry.limits scene.entry.ledger.now) found.items) }
+    requires { All (facts.Holds scene.topology.now scene.limits scene.ledger.now) found.items }
+    ensures has { IfOk result (λ more. list_all (kinds.sees_in scene.entry.topology.now scene.entry.ledger.now client None) ids.now ≡ false → kinds.Shows more.items kinds.is_id) }
+    ensures holds { IfOk result (λ more. All (facts.Holds scene.entry.topology.now scene.entry.limits scene.entry.ledger.now) more.items) }
 {
-    let mut found = Vec::new(alloc);
+    let mut found = found;
     for id in ids {
-        let id = *id;
-        if scene.topology.kind(id).is_none() && id > scene.topology.object_count() {
-            found = with(scene, found, framebuffer_fact(scene, id))?;
-        } else {
-            found = unseen(scene, found, client, id, None)?;
-        }
+        found = unseen_id(scene, found, client, *id)?;
     }
     Ok(found)
 }
 
 /// Returns the reason a CRTC can't be shown by a connector.
 fn connector_route(scene: Scene<'_>, crtc: u32, framebuffer: u32, connector: u32) -> Option<Fact>
-    ensures { IfSome result (facts.Holds scene.entry.topology.now scene.entry.limits scene.entry.ledger.now) }
+    ensures is { IfSome result (λ fact. kinds.is_connector_route fact ≡ true) }
+    ensures none { IfNone result (is_route scene.entry.topology.now crtc framebuffer connector ≡ false → ((connector == 0) || is_some (encoder_of scene.entry.topology.now connector)) ≡ true → ⊥) }
+    ensures holds { IfSome result (facts.Holds scene.entry.topology.now scene.entry.limits scene.entry.ledger.now) }
 {
     if (framebuffer == 0) != (connector == 0) {
         return Some(Fact::Request(RequestFact::HalfRoute {
@@ -189,9 +243,11 @@ fn connector_route(scene: Scene<'_>, crtc: u32, framebuffer: u32, connector: u32
 pub(crate) fn bad_route(
     alloc: Global,
     scene: Scene<'_>,
+    client: u64,
     call: &Call,
 ) -> Result<Vec<Fact>, AllocError>
-    ensures has { IfOk result (λ found. AllByRecursion (kinds.Shows found.items) (kinds.kinds rules.BadRoute call.now)) }
+    ensures plane { IfOk result (λ found. AllByRecursion (kinds.Shows found.items) (kinds.kinds rules.BadRoute call.now)) }
+    ensures connector { IfOk result (λ found. kinds.Reasons scene.entry.topology.now scene.entry.ledger.now client rules.BadRoute call.now found.items) }
     ensures holds { IfOk result (λ found. All (facts.Holds scene.entry.topology.now scene.entry.limits scene.entry.ledger.now) found.items) }
 {
     match *call {

@@ -1,6 +1,9 @@
 //! Numbers that are out of their ranges.
 
-ghost use Rattle.std.specs.Prelude.{◌≡◌, All, IfOk, IfSome};
+ghost use Rattle.std.specs.Prelude.{◌≡◌, ℕ, ◌*◌, nat_le, true, false, ◌&&◌, Some, All, IfNone, IfOk, IfSome};
+ghost use Rattle.drm_model.specs.Buffers.{bytes_per_pixel, is_dumb_shape};
+ghost use Rattle.drm_history.specs.Holds.{Has};
+ghost use Rattle.drm_trails.specs.Chains.{IsOfDevice};
 ghost use Rattle.drm_refusals.specs.Facts as facts;
 ghost use Rattle.drm_refusals.specs.Kinds as kinds;
 ghost use Rattle.std.specs.List.{AllByRecursion};
@@ -27,7 +30,8 @@ fn most_of(what: Quantity) -> u64
 
 /// Returns that a number is out of its range, if it is.
 fn out_of_range(what: Quantity, number: u64) -> Option<SizeFact>
-    ensures { IfSome result facts.SizeHolds }
+    ensures none { IfNone result ((nat_le 1 number && nat_le number (facts.most_of what)) ≡ true) }
+    ensures holds { IfSome result facts.SizeHolds }
 {
     let most = most_of(what);
     if 1 <= number && number <= most {
@@ -37,7 +41,9 @@ fn out_of_range(what: Quantity, number: u64) -> Option<SizeFact>
 }
 
 fn range_fact(scene: Scene<'_>, what: Quantity, number: u64) -> Option<Fact>
-    ensures { IfSome result (facts.Holds scene.entry.topology.now scene.entry.limits scene.entry.ledger.now) }
+    ensures is { IfSome result (λ fact. kinds.is_size fact ≡ true) }
+    ensures none { IfNone result ((nat_le 1 number && nat_le number (facts.most_of what)) ≡ true) }
+    ensures holds { IfSome result (facts.Holds scene.entry.topology.now scene.entry.limits scene.entry.ledger.now) }
 {
     match out_of_range(what, number) {
         Some(fact) => Some(Fact::Size(fact)),
@@ -53,7 +59,8 @@ fn shape(
     height: u32,
     bpp: u32,
 ) -> Result<Vec<Fact>, AllocError>
-    ensures { IfOk result (λ found. All (facts.Holds scene.entry.topology.now scene.entry.limits scene.entry.ledger.now) found.items) }
+    ensures has { IfOk result (λ found. is_dumb_shape width height bpp ≡ false → kinds.Shows found.items kinds.is_size) }
+    ensures holds { IfOk result (λ found. All (facts.Holds scene.entry.topology.now scene.entry.limits scene.entry.ledger.now) found.items) }
 {
     let width = range_fact(scene, Quantity::Width, u64::from(width));
     let height = range_fact(scene, Quantity::Height, u64::from(height));
@@ -63,21 +70,33 @@ fn shape(
     with(scene, found, bits)
 }
 
-/// Returns the bytes of the buffer of a client's handle.
-fn size_of(scene: Scene<'_>, client: u64, handle: u32) -> Option<u64> {
-    let steps = scene.ledger.steps();
-    let trail = scene.ledger.trail();
-    let object = trail.object_of(steps.len(), client, u64::from(handle))?;
-    match &step_at(steps, object)?.answer {
+/// Returns the bytes of the buffer that is created with this answer.
+fn bytes_created(answer: &Answer) -> Option<u64>
+    ensures { result ≡ kinds.bytes_created answer.now }
+{
+    match answer {
         Answer::Buffer { size, .. } => Some(*size),
         Answer::Dumb { size, .. } => Some(*size),
         _ => None,
     }
 }
 
+/// Returns the bytes of the buffer of a client's handle.
+fn size_of(scene: Scene<'_>, client: u64, handle: u32) -> Option<u64>
+    ensures { IsOfDevice scene.entry.ledger.now → (object bytes : ℕ) → Has scene.entry.ledger.now client handle object → kinds.bytes_of scene.entry.ledger.now object ≡ Some bytes → result ≡ Some bytes }
+{
+    let trail = scene.ledger.trail();
+    let steps = trail.steps();
+    let object = trail.object_of(steps.len(), client, u64::from(handle))?;
+    let step = step_at(steps, object)?;
+    bytes_created(&step.answer)
+}
+
 /// Returns that the pitch is less than the bytes of a row of pixels, if it is.
 fn short_pitch(scene: Scene<'_>, width: u32, bpp: u32, pitch: u32) -> Option<Fact>
-    ensures { IfSome result (facts.Holds scene.entry.topology.now scene.entry.limits scene.entry.ledger.now) }
+    ensures is { IfSome result (λ fact. kinds.is_size fact ≡ true) }
+    ensures none { IfNone result (nat_le (width * bytes_per_pixel bpp) pitch ≡ true) }
+    ensures holds { IfSome result (facts.Holds scene.entry.topology.now scene.entry.limits scene.entry.ledger.now) }
 {
     let least = u64::from(width).saturating_mul((u64::from(bpp).saturating_add(7)) / 8);
     if u64::from(pitch) < least {
@@ -89,7 +108,9 @@ fn short_pitch(scene: Scene<'_>, width: u32, bpp: u32, pitch: u32) -> Option<Fac
 
 /// Returns that the buffer of a handle is smaller than the rows of a framebuffer, if it is.
 fn short_buffer(scene: Scene<'_>, client: u64, handle: u32, height: u32, pitch: u32) -> Option<Fact>
-    ensures { IfSome result (facts.Holds scene.entry.topology.now scene.entry.limits scene.entry.ledger.now) }
+    ensures is { IfSome result (λ fact. kinds.is_size fact ≡ true) }
+    ensures none { IfNone result (IsOfDevice scene.entry.ledger.now → (object bytes : ℕ) → Has scene.entry.ledger.now client handle object → kinds.bytes_of scene.entry.ledger.now object ≡ Some bytes → nat_le (pitch * height) bytes ≡ true) }
+    ensures holds { IfSome result (facts.Holds scene.entry.topology.now scene.entry.limits scene.entry.ledger.now) }
 {
     let needed = u64::from(pitch).saturating_mul(u64::from(height));
     let size = size_of(scene, client, handle)?;
@@ -113,7 +134,8 @@ pub(crate) fn bad_size(
     client: u64,
     call: &Call,
 ) -> Result<Vec<Fact>, AllocError>
-    ensures { IfOk result (λ found. All (facts.Holds scene.entry.topology.now scene.entry.limits scene.entry.ledger.now) found.items) }
+    ensures has { IfOk result (λ found. kinds.Reasons scene.entry.topology.now scene.entry.ledger.now client rules.BadSize call.now found.items) }
+    ensures holds { IfOk result (λ found. All (facts.Holds scene.entry.topology.now scene.entry.limits scene.entry.ledger.now) found.items) }
 {
     match *call {
         Call::BufCreate { size } => only(alloc, scene, range_fact(scene, Quantity::Size, size)),
@@ -127,11 +149,8 @@ pub(crate) fn bad_size(
         } => {
             let found = shape(alloc, scene, width, height, bpp)?;
             let found = with(scene, found, short_pitch(scene, width, bpp, pitch))?;
-            with(
-                scene,
-                found,
-                short_buffer(scene, client, handle, height, pitch),
-            )
+            let buffer = short_buffer(scene, client, handle, height, pitch);
+            with(scene, found, buffer)
         }
         _ => Ok(Vec::new(alloc)),
     }

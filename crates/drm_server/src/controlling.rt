@@ -1,9 +1,8 @@
 //! The control of a server's plan, while it serves.
 
-use drm_connections::{OpenConnections, Role};
-use drm_plans::{MOST_BYTES, Plan, RuleFault, put_fault};
+use drm_connections::{OpenConnections, Role, wait_for};
+use drm_traffic::{MOST_BYTES, Plan, RuleFault, put_fault};
 use libc::net::{POLLHUP, POLLIN, SHUT_RDWR, poll, shutdown};
-use libc::types::pollfd;
 use std::alloc::{AllocError, Global};
 use std::io;
 use std::io::{ErrorKind, Read, Write};
@@ -109,13 +108,7 @@ fn answer<R: Wait>(rt: &R, open: &OpenConnections, plan: &Plan, place: usize, st
 
 /// Waits for the next connection, or until the listener is shut.
 fn accept(listener: &UnixListener) -> io::Result<UnixStream> {
-    let mut asked = [pollfd {
-        fd: listener.as_raw_fd(),
-        events: POLLIN,
-        revents: 0,
-    }];
-    poll(&mut asked, -1);
-    if asked[0].revents & POLLHUP != 0 {
+    if wait_for(listener.as_raw_fd(), POLLIN, -1) & POLLHUP != 0 {
         return Err(io::Error::from(ErrorKind::NotConnected));
     }
     let (stream, _) = listener.accept()?;

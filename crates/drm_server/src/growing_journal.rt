@@ -1,11 +1,11 @@
 //! A journal that grows while its device is served.
 
-use crate::outlet::{Outlet, Put};
 use drm_commands::Fault;
+use drm_connections::{Outlet, Put};
 use drm_device::Device;
 use drm_journals::JournalWriter;
 use drm_table::Limits;
-use drm_watch::{Batch, Watch};
+use drm_traffic::{Batch, Watch};
 use std::alloc::{AllocError, Global};
 use std::sync::Wait;
 

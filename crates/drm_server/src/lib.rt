@@ -7,7 +7,6 @@ mod ending;
 mod entry;
 mod growing_journal;
 mod listing;
-mod outlet;
 mod planning;
 mod serving;
 mod sockets;
@@ -19,7 +18,7 @@ mod words;
 pub use drm_commands::{
     Fault, FaultLine, Outcome, outcome_of, outcome_of_checks, outcome_of_fault,
 };
-pub use drm_connections::{Counts, OpenConnections, class_word};
+pub use drm_connections::{Counts, OpenConnections};
 pub use drm_listeners::{
     Attended, ByClass, CardClass, ClassListener, ListenerClass, Listeners, RenderClass, RootClass,
     ServeFault, Unserved, Visitors, serve_all, serve_until_ended, serve_until_told,
@@ -27,5 +26,6 @@ pub use drm_listeners::{
 pub use drm_runs::{
     Ran, ScriptEnd, Setup, run_on, run_script, run_with_cause, scripts_are_answered,
 };
+pub use drm_traffic::class_word;
 pub use entry::program;
 pub use listing::{ListEnd, list_audit, outcome_of_listing};

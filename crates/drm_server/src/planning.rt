@@ -3,7 +3,7 @@
 use crate::command_line::AskedRules;
 use drm_commands::Fault;
 use drm_connections::PROGRAM;
-use drm_plans::{Plan, RuleFault, RuleKind, read_rule};
+use drm_traffic::{Plan, RuleFault, RuleKind, read_rule};
 use log::{Log, error};
 use std::alloc::Global;
 use std::sync::Wait;

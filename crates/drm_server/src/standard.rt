@@ -1,7 +1,7 @@
 //! The descriptors 0 to 2.
 
-use libc::net::{POLLNVAL, poll};
-use libc::types::pollfd;
+use drm_connections::wait_for;
+use libc::net::POLLNVAL;
 use std::fs::OpenOptions;
 use std::os::fd::RawFd;
 use std::rt::Files;
@@ -18,12 +18,7 @@ pub(crate) struct Standard<F: Drop> {
 }
 
 fn is_closed(descriptor: RawFd) -> bool {
-    let mut asked = [pollfd {
-        fd: descriptor,
-        events: 0,
-        revents: 0,
-    }];
-    poll(&mut asked, 0) == 1 && asked[0].revents & POLLNVAL != 0
+    wait_for(descriptor, 0, 0) & POLLNVAL != 0
 }
 
 /// Opens `/dev/null` on a descriptor that is closed, which must be the lowest closed one.

@@ -1,10 +1,9 @@
 //! The trace of a device that is served.
 
-use crate::outlet::{Outlet, Put, count_lines};
 use drm_commands::Fault;
+use drm_connections::{Outlet, Put, count_lines};
 use drm_device::Device;
-use drm_traces::{Palette, Tracer};
-use drm_watch::{Batch, Watch};
+use drm_traffic::{Batch, Palette, Tracer, Watch};
 use libc::net::poll;
 use std::alloc::{AllocError, Global};
 use std::io::Write;

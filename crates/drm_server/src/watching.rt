@@ -5,16 +5,14 @@ ghost use Rattle.drm_table.specs.Limits.{are_in_range};
 
 use crate::command_line::Serving;
 use crate::growing_journal::{GrowingJournal, Growth};
-use crate::outlet::{Outlet, STANDARD_ERROR};
 use crate::serving::Writers;
 use crate::tracing::Trace;
 use drm_commands::{
     Fault, JournalFile, TopologyText, asked_device, complete_journal, create_trace,
 };
-use drm_connections::PROGRAM;
+use drm_connections::{Outlet, PROGRAM};
 use drm_device::{Device, Limits};
-use drm_traces::Palette;
-use drm_watch::Watch;
+use drm_traffic::{Palette, Watch};
 use log::{Log, error, warn};
 use std::alloc::Global;
 use std::env::FillError;
@@ -80,11 +78,12 @@ fn palette_for<R: Env>(rt: &R, outlet: Outlet) -> Palette {
 
 /// Returns the open file of a target.
 fn outlet_of<F: AsRawFd + Drop>(target: &TraceTarget<'_, F>) -> Outlet {
-    let descriptor = match target {
-        TraceTarget::StandardError => STANDARD_ERROR,
-        TraceTarget::File(file) => file.file().as_raw_fd(),
-    };
-    Outlet { descriptor }
+    match target {
+        TraceTarget::StandardError => Outlet::STANDARD_ERROR,
+        TraceTarget::File(file) => Outlet {
+            descriptor: file.file().as_raw_fd(),
+        },
+    }
 }
 
 /// Returns what is written while a device of this topology and these limits is served, if anything.
@@ -170,11 +169,8 @@ pub(crate) fn warn_of_left_out<R: Log, F: Drop>(
     target: Option<&TraceTarget<'_, F>>,
     left_out: Option<u64>,
 ) {
-    let log = Outlet {
-        descriptor: STANDARD_ERROR,
-    };
     match (target, left_out) {
-        (Some(target), Some(count)) if count > 0 && log.has_room() => {
+        (Some(target), Some(count)) if count > 0 && Outlet::STANDARD_ERROR.has_room() => {
             let name = target.name();
             warn!(rt; target: PROGRAM, "{name}: {count} calls have no line in the trace");
         }

@@ -1,6 +1,5 @@
 //! The examples of doc comments, made by `tools/doc_examples`.
 
-mod plans;
 mod sessions;
-mod traces;
+mod traffic;
 mod turns;

@@ -4,8 +4,7 @@ use drm_device::Device;
 use drm_sessions::Class;
 use drm_table::{Call, Event, Limits, Opening};
 use drm_test_devices::new_device;
-use drm_traces::{Palette, Tracer};
-use drm_watch::WatchedCall;
+use drm_traffic::{Palette, Tracer, WatchedCall};
 use std::test::Fail;
 use std::time::Duration;
 

@@ -11,10 +11,10 @@ use Rattle.drm_listeners.proofs.serving.serve_keeping.Goals as goal
 
 pub returns-in-Ok-served-clause-history : goal.returns-in-Ok-served-clause-history
 returns-in-Ok-served-clause-history g c =
-    let last : ParticipantView = c.serve_shared-served.new.participant in
+    let last : ParticipantView = c.serve_counted-served.new.participant in
     let closes : Closes last c.in-Ok-close.device = c.in-Ok-close.ensures.closes in
     let sat : HaveSat c.args.counts last c.in-Ok-served.sessions.items = c.in-Ok-served.ensures.participants in
-    let same = c.serve_shared-served.ensures.same in
+    let same = c.serve_counted-served.ensures.same in
     let log : List Entry = closes.0 in
     let origin : last.origin ≡ c.args.device = same.0.2 ∙ c.in-Ok.ensures.seen.0 in
     let begun : StartsWith last.seen (journaled_before c.args.device) =
@@ -40,7 +40,7 @@ returns-in-Err-clause-kept g c =
 
 pub returns-in-Err-served-clause-memory : goal.returns-in-Err-served-clause-memory
 returns-in-Err-served-clause-memory g c = λ is.
-    let last : ParticipantView = c.serve_shared-served.new.participant in
+    let last : ParticipantView = c.serve_counted-served.new.participant in
     let still = c.in-Err-served.ensures.memory is in
     let closes : Closes last c.in-Ok-close.device = c.in-Ok-close.ensures.closes in
     let log : List Entry = closes.0 in

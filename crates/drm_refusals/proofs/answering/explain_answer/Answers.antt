@@ -75,9 +75,9 @@ pub returns-in-Some-last-clause-has : goal.returns-in-Some-last-clause-has
 returns-in-Some-last-clause-has c =
     let history = c.args.ledger.now in
     let step = c.in-Some-last.step.now in
-    IfOk-weaker c.step_row.result (λ (row : AnswerRow). kinds.HasFor history step.event step.answer row.facts.items)
-    (λ (row : AnswerRow). c.args.line.apart ≡ None → kinds.Has history row.facts.items)
-    (λ row has. λ apart. kinds_of_newest c.steps.result.now history step row.facts.items c.steps.ensures (sym c.in-Some-last.ensures.value) has)
+    IfOk-weaker c.step_row.result (λ (row : AnswerRow). kinds.HasFor c.args.topology.now history step.event step.answer row.facts.items)
+    (λ (row : AnswerRow). c.args.line.apart ≡ None → kinds.Has c.args.topology.now history row.facts.items)
+    (λ row has. λ apart. kinds_of_newest c.args.topology.now c.steps.result.now history step row.facts.items c.steps.ensures (sym c.in-Some-last.ensures.value) has)
     c.step_row.ensures.has
 
 pub returns-in-None-last-clause-has : goal.returns-in-None-last-clause-has
@@ -85,6 +85,6 @@ returns-in-None-last-clause-has c =
     let history = c.args.ledger.now in
     let empty = none_newest c.steps.result.now history c.steps.ensures c.in-None-last.ensures.value in
     IfOk-weaker c.apart_row-in-None-last.result (λ (row : AnswerRow). row.asked ≡ None)
-    (λ (row : AnswerRow). c.args.line.apart ≡ None → kinds.Has history row.facts.items)
-    (λ row is. λ apart. subst (λ (h : List AnsweredEvent). kinds.Has h row.facts.items) empty tt)
+    (λ (row : AnswerRow). c.args.line.apart ≡ None → kinds.Has c.args.topology.now history row.facts.items)
+    (λ row is. λ apart. subst (λ (h : List AnsweredEvent). kinds.Has c.args.topology.now h row.facts.items) empty tt)
     c.apart_row-in-None-last.ensures.step

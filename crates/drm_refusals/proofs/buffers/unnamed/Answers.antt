@@ -6,8 +6,8 @@ use Rattle.drm_refusals.specs.Facts.{IsNamed}
 use Rattle.drm_refusals.proofs.FactLemmas.{named_of, published_by}
 use Rattle.drm_refusals.proofs.buffers.unnamed.Goals as goal
 
-pub returns : goal.returns
-returns c =
+pub returns-clause-holds : goal.returns-clause-holds
+returns-clause-holds c =
     let named = c.in-Some.named in
     let buffer = c.in-Some-object_of.buffer in
     let steps = c.steps-steps.result.now in

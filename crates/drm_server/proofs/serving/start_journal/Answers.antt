@@ -6,8 +6,8 @@ use denote.Struct.Field.{shr_ref_field}
 use denote.Param.Send.{arg_send, param_send, shr_send}
 use Rattle.std.proofs.Common.{[], ◌∷◌, codes}
 use Rattle.drm_turns.proofs.Crossing.{closure_send}
-use Rattle.drm_watch.proofs.watch.Watch.TheSendSync as crossing
-use Rattle.drm_watch.specs.contracts.watch.Watch as watch
+use Rattle.drm_traffic.proofs.watch.Watch.TheSendSync as crossing
+use Rattle.drm_traffic.specs.contracts.watch.Watch as watch
 use Rattle.drm_server.proofs.Crossing.{journal_send}
 use Rattle.drm_server.specs.contracts.growing_journal.GrowingJournal as journal
 use Rattle.drm_server.proofs.serving.start_journal.Goals as goal

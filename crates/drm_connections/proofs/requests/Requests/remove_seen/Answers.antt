@@ -7,7 +7,7 @@ use Rattle.drm_connections.proofs.requests.Requests.remove_seen.Goals as goal
 
 pub loop-preserved : goal.loop-preserved
 loop-preserved g c =
-    let part = length-take-le c.min-most.result c.loop.piece (omega (arith, c.min-most.ensures)) in
+    let part = length-take-le c.min-most.result c.loop.self.removed (omega (arith, c.min-most.ensures)) in
     let size = c.read.auto.buf in
     elim c.match-read.branch [
       | in-Ok w ↦
