@@ -3,8 +3,6 @@ use Rattle.std.specs.Prelude.{ℕ, List, ◌++◌, codes, decimal}
 use Rattle.drm_traffic.specs.Classes.{class_word}
 use Rattle.drm_commands.specs.declared.faults.Fault.{Fault}
 use Rattle.drm_commands.specs.declared.faults.Fault.TheVariants.{ScriptLine, Read, Write, Turns, Memory, Thread, Turn, CommandLine, Listen, Control, Accept}
-use Rattle.drm_listeners.specs.declared.serve_faults.ServeFault.{ServeFault}
-use Rattle.drm_listeners.specs.declared.serve_faults.ServeFault.TheVariants as serving
 
 -- 1 for a fault outside, 2 for a malformed script, 3 for a refused command line
 abbrev pub fault_status : Fault → ℕ
@@ -37,10 +35,3 @@ fault_words (Accept class) = codes "accept " ++ class_word class
 -- the line of a fault
 abbrev pub fault_line : Fault → List ℕ
 fault_line fault = codes "fault: " ++ fault_words fault
-
--- the fault of the program if not all connections were served
-abbrev pub fault_of_serving : ServeFault → Fault
-fault_of_serving (serving.Accept class) = Accept class
-fault_of_serving serving.NoThread = Thread
-fault_of_serving serving.NoMemory = Memory
-fault_of_serving serving.TurnOut = Turn

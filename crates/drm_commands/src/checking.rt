@@ -11,13 +11,13 @@ use crate::commands::explain_command;
 use crate::devices::{TopologyText, asked_setup, read_asked};
 use crate::faults::Fault;
 use crate::files::LoggedRead;
-use crate::outcomes::{Outcome, outcome_of_checks, outcome_of_fault, script_fault};
+use crate::outcomes::{Outcome, outcome_of_checks, script_fault};
 use crate::visible::Visible;
 use drm_checks::{Report, Totals, check_on, write_malformed, write_silent, write_totals};
-use drm_connections::PROGRAM;
 use drm_runs::ScriptEnd;
 use drm_script::Malformed;
 use drm_streams::{FromRead, ToWrite, Written};
+use drm_traffic::PROGRAM;
 use log::{Log, error};
 use std::alloc::Global;
 use std::rt::Files;
@@ -114,38 +114,12 @@ pub(crate) fn tell_end<R: Print + Log>(
     }
 }
 
-/// Prints the name of a file that has no expectation.
-fn tell_silent<R: Print>(rt: &R, path: &str, report: &Report) -> Result<(), Fault> {
-    if !report.expects_nothing() {
-        return Ok(());
-    }
-    let mut sink = ToWrite::new(Visible::new(io::writer(rt)));
-    let mut turns = MOST_TURNS;
-    fault_of(write_silent(path, &mut sink, &mut turns))
-}
-
-/// Checks each file, and prints the number of expectations that are met, and of those that are not met or are missing.
-fn check_files<R: Input + Files + Print + AllocGlobal + Log>(
-    rt: &R,
-    alloc: Global,
-    checking: &Checking<'_>,
-) -> Result<Totals, Fault> {
-    let mut totals = Totals::new();
-    let topology = read_asked(rt, checking.device)?;
-    for path in checking.files.as_slice() {
-        let (report, cause) = check_file(rt, alloc, checking.device, topology.as_ref(), path)?;
-        tell_end(rt, path, &report.end, cause)?;
-        tell_silent(rt, path, &report)?;
-        totals = totals.add(&report);
-    }
-    let mut sink = ToWrite::new(io::writer(rt));
-    let mut turns = MOST_TURNS;
-    fault_of(write_totals(&totals, &mut sink, &mut turns))?;
-    Ok(totals)
-}
-
 /// Checks each file on a new device, prints the differences and the totals, and returns the outcome of the program
 /// (own). Allocates the devices.
+///
+/// # Errors
+///
+/// The fault at which it ends. `Fault::CommandLine` and `Fault::Read` are logged.
 ///
 /// # Examples
 ///
@@ -155,15 +129,27 @@ fn check_files<R: Input + Files + Print + AllocGlobal + Log>(
 /// let alloc = rt.alloc();
 /// let device = AskedDevice { topology: None, limits: None };
 /// let checking = Checking { files: Vec::new(alloc), device };
-/// assert!(rt; check(&rt, alloc, &checking).status == 0);
+/// assert!(rt; check(&rt, alloc, &checking).is_ok());
 /// ```
 pub fn check<R: Input + Files + Print + AllocGlobal + Log>(
     rt: &R,
     alloc: Global,
     checking: &Checking<'_>,
-) -> Outcome {
-    match check_files(rt, alloc, checking) {
-        Ok(totals) => outcome_of_checks(&totals),
-        Err(fault) => outcome_of_fault(fault),
+) -> Result<Outcome, Fault> {
+    let mut totals = Totals::new();
+    let topology = read_asked(rt, checking.device)?;
+    for path in checking.files.as_slice() {
+        let (report, cause) = check_file(rt, alloc, checking.device, topology.as_ref(), path)?;
+        tell_end(rt, path, &report.end, cause)?;
+        if report.expects_nothing() {
+            let mut sink = ToWrite::new(Visible::new(io::writer(rt)));
+            let mut turns = MOST_TURNS;
+            fault_of(write_silent(path, &mut sink, &mut turns))?;
+        }
+        totals = totals.add(&report);
     }
+    let mut sink = ToWrite::new(io::writer(rt));
+    let mut turns = MOST_TURNS;
+    fault_of(write_totals(&totals, &mut sink, &mut turns))?;
+    Ok(outcome_of_checks(&totals))
 }

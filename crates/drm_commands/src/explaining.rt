@@ -5,18 +5,19 @@ use crate::checking::{INPUT, fault_of, open, tell_end};
 use crate::devices::{TopologyText, asked_setup, asked_topology, read_asked};
 use crate::faults::{Fault, FaultLine};
 use crate::files::LoggedRead;
-use crate::outcomes::{Outcome, outcome_by, outcome_of_fault};
+use crate::outcomes::{Outcome, outcome_by};
 use crate::recording::{Recording, record};
-use drm_connections::PROGRAM;
-use drm_explanations::{Explanation, Labels, explain, lines_of};
-use drm_refusals::{WrittenAnswer, explain_answer};
+use drm_explanations::{Labels, explain, lines_of};
+use drm_refusals::explain_answer;
 use drm_rights::Ledger;
 use drm_runs::Stop;
 use drm_script::Label;
 use drm_sentences::{lines_of_answer, write_answer};
 use drm_streams::{FromRead, ToWrite, put_all};
 use drm_table::{Call, CallKind, Event};
+use drm_traffic::PROGRAM;
 use log::{Log, error};
+use serde::Serialize;
 use std::alloc::Global;
 use std::io;
 use std::rt::Files;
@@ -41,28 +42,9 @@ fn no_client<R: Log>(rt: &R, path: &str, word: &str) -> Fault {
     Fault::CommandLine
 }
 
-/// Returns the only client to explain, if one is named.
-fn only_of<R: Log>(
-    rt: &R,
-    explaining: &Explaining<'_>,
-    labels: &Labels,
-) -> Result<Option<u64>, Fault> {
-    let Some(word) = explaining.client else {
-        return Ok(None);
-    };
-    match client_of(labels, word) {
-        Some(client) => Ok(Some(client)),
-        None => Err(no_client(rt, explaining.path, word)),
-    }
-}
-
-/// Returns the explanation as JSON, with a line end.
-fn json_of(alloc: Global, explanation: Explanation, only: Option<u64>) -> Result<String, Fault> {
-    let mut explanation = explanation;
-    if let Some(client) = only {
-        explanation.retain_client(client);
-    }
-    let Ok(mut text) = serde_json::to_string_pretty(alloc, &explanation) else {
+/// Returns a value as JSON, with a line end.
+fn json_of<T: Serialize>(alloc: Global, value: &T) -> Result<String, Fault> {
+    let Ok(mut text) = serde_json::to_string_pretty(alloc, value) else {
         return Err(Fault::Memory);
     };
     text.push('\n').map_err(|_| Fault::Memory)?;
@@ -79,8 +61,14 @@ fn text_of<R: Log>(
 ) -> Result<String, Fault> {
     let topology = asked_topology(rt, topology)?;
     let labels = &recording.labels;
-    let only = only_of(rt, explaining, labels)?;
-    let explanation = explain(alloc, &recording.ledger, &topology, labels, only).map_err(
+    let only = match explaining.client {
+        None => None,
+        Some(word) => match client_of(labels, word) {
+            Some(client) => Some(client),
+            None => return Err(no_client(rt, explaining.path, word)),
+        },
+    };
+    let mut explanation = explain(alloc, &recording.ledger, &topology, labels, only).map_err(
         |_| Fault::Memory,
     )?;
     if let (Some(client), Some(word)) = (only, explaining.client) {
@@ -89,7 +77,10 @@ fn text_of<R: Log>(
         }
     }
     if explaining.is_json {
-        return json_of(alloc, explanation, only);
+        if let Some(client) = only {
+            explanation.retain_client(client);
+        }
+        return json_of(alloc, &explanation);
     }
     lines_of(alloc, &explanation, &topology, labels, only).map_err(|_| Fault::Memory)
 }
@@ -116,21 +107,6 @@ fn may_be_another(ledger: &Ledger) -> bool {
     }
 }
 
-/// Logs that a line may be that of another request.
-fn no_request<R: Log>(rt: &R, path: &str, number: u64) -> Fault {
-    error!(rt; target: PROGRAM, "{path}: line {number} can't be explained: a journal has it for a create_lease that is too long for a line, too");
-    Fault::CommandLine
-}
-
-/// Returns the answer as JSON, with a line end.
-fn json_of_answer(alloc: Global, answer: &WrittenAnswer) -> Result<String, Fault> {
-    let Ok(mut text) = serde_json::to_string_pretty(alloc, answer) else {
-        return Err(Fault::Memory);
-    };
-    text.push('\n').map_err(|_| Fault::Memory)?;
-    Ok(text)
-}
-
 /// Returns the text that explains the answer of one line.
 fn text_of_answer<R: Log>(
     rt: &R,
@@ -151,7 +127,9 @@ fn text_of_answer<R: Log>(
         return Err(no_answer(rt, explaining.path, number, lines));
     };
     if line.apart.is_none() && may_be_another(&ledger) {
-        return Err(no_request(rt, explaining.path, number));
+        let path = explaining.path;
+        error!(rt; target: PROGRAM, "{path}: line {number} can't be explained: a journal has it for a create_lease that is too long for a line, too");
+        return Err(Fault::CommandLine);
     }
     let topology = asked_topology(rt, topology)?;
     let row = match explain_answer(alloc, &ledger, &topology, &labels, limits, line) {
@@ -163,40 +141,9 @@ fn text_of_answer<R: Log>(
         Err(_) => return Err(Fault::Memory),
     };
     if explaining.is_json {
-        return json_of_answer(alloc, &answer);
+        return json_of(alloc, &answer);
     }
     lines_of_answer(alloc, &answer, &labels).map_err(|_| Fault::Memory)
-}
-
-/// Returns the outcome of a script that was not recorded. If a line is malformed, it is printed as by a check.
-fn outcome_of_stop<R: Print + Log>(rt: &R, path: &str, stop: Stop) -> Outcome {
-    match tell_end(rt, path, &stop.end(), stop.cause()) {
-        Ok(()) => Outcome {
-            status: 2,
-            line: FaultLine::empty(),
-        },
-        Err(fault) => outcome_of_fault(fault),
-    }
-}
-
-fn write_text<R: Print>(rt: &R, text: &str) -> Result<(), Fault> {
-    let mut sink = ToWrite::new(io::writer(rt));
-    let mut turns = MOST_TURNS;
-    fault_of(put_all(&mut sink, text.as_bytes(), &mut turns))
-}
-
-/// Returns the text for a script.
-fn told_of<R: Log>(
-    rt: &R,
-    alloc: Global,
-    explaining: &Explaining<'_>,
-    topology: Option<&TopologyText<'_>>,
-    recording: Recording,
-) -> Result<String, Fault> {
-    match explaining.line {
-        Some(number) => text_of_answer(rt, alloc, explaining, topology, number, recording),
-        None => text_of(rt, alloc, explaining, topology, &recording),
-    }
 }
 
 /// Records the script of a file, or of standard input.
@@ -216,25 +163,14 @@ fn record_asked<R: Input + Files + AllocGlobal + Log>(
     Ok(record(alloc, setup, &mut source, MOST_TURNS, line))
 }
 
-/// Records a script, and prints its explanation.
-fn record_and_tell<R: Input + Files + Print + AllocGlobal + Log>(
-    rt: &R,
-    alloc: Global,
-    explaining: &Explaining<'_>,
-) -> Result<Outcome, Fault> {
-    let topology = read_asked(rt, explaining.device)?;
-    let topology = topology.as_ref();
-    let recording = match record_asked(rt, alloc, explaining, topology)? {
-        Ok(recording) => recording,
-        Err(stop) => return Ok(outcome_of_stop(rt, explaining.path, stop)),
-    };
-    let text = told_of(rt, alloc, explaining, topology, recording)?;
-    write_text(rt, text.as_str())?;
-    Ok(outcome_by(None))
-}
-
 /// Explains the rights of a script's clients, or the answer of one of its lines, on standard output (own). Returns the
 /// outcome of the program. Allocates the device and the explanation.
+///
+/// If a line is malformed, it is printed as by a check, and the status is 2.
+///
+/// # Errors
+///
+/// A fault of the script, of what is asked for, or of standard output. `Fault::CommandLine` and `Fault::Read` are logged.
 ///
 /// # Examples
 ///
@@ -250,15 +186,29 @@ fn record_and_tell<R: Input + Files + Print + AllocGlobal + Log>(
 ///     line: None,
 ///     is_json: false,
 /// };
-/// assert!(rt; explain_script(&rt, alloc, explaining).status == 0);
+/// assert!(rt; explain_script(&rt, alloc, explaining).is_ok());
 /// ```
 pub fn explain_script<R: Input + Files + Print + AllocGlobal + Log>(
     rt: &R,
     alloc: Global,
     explaining: Explaining<'_>,
-) -> Outcome {
-    match record_and_tell(rt, alloc, &explaining) {
-        Ok(outcome) => outcome,
-        Err(fault) => outcome_of_fault(fault),
-    }
+) -> Result<Outcome, Fault> {
+    let topology = read_asked(rt, explaining.device)?;
+    let topology = topology.as_ref();
+    let recording = match record_asked(rt, alloc, &explaining, topology)? {
+        Ok(recording) => recording,
+        Err(stop) => {
+            tell_end(rt, explaining.path, &stop.end(), stop.cause())?;
+            let line = FaultLine::empty();
+            return Ok(Outcome { status: 2, line });
+        }
+    };
+    let text = match explaining.line {
+        Some(number) => text_of_answer(rt, alloc, &explaining, topology, number, recording)?,
+        None => text_of(rt, alloc, &explaining, topology, &recording)?,
+    };
+    let mut sink = ToWrite::new(io::writer(rt));
+    let mut turns = MOST_TURNS;
+    fault_of(put_all(&mut sink, text.as_str().as_bytes(), &mut turns))?;
+    Ok(outcome_by(None))
 }

@@ -6,7 +6,6 @@ ghost use Rattle.drm_traffic.specs.Classes as classes;
 ghost use Rattle.drm_commands.specs.Faults as faults;
 
 use arrayvec::ArrayString;
-use drm_listeners::ServeFault;
 use drm_script::push_number;
 use drm_sessions::Class;
 use drm_traffic::class_word;
@@ -129,18 +128,5 @@ impl Fault {
         text.push_str("fault: ");
         push_words(&mut text, self);
         FaultLine { text }
-    }
-}
-
-impl From<ServeFault> for Fault {
-    ghost from_gives = { λ serving fault. fault ≡ faults.fault_of_serving serving };
-
-    fn from(fault: ServeFault) -> Fault {
-        match fault {
-            ServeFault::Accept(class) => Fault::Accept(class),
-            ServeFault::NoThread => Fault::Thread,
-            ServeFault::NoMemory => Fault::Memory,
-            ServeFault::TurnOut => Fault::Turn,
-        }
     }
 }

@@ -1,10 +1,10 @@
 //! Files that are read whole, and files whose text is replaced.
 
 use crate::faults::Fault;
-use drm_connections::PROGRAM;
+use drm_traffic::PROGRAM;
 use log::{Log, error};
 use std::alloc::Global;
-use std::fs::{OpenFile, OpenOptions, Permissions};
+use std::fs::{OpenFile, OpenOptions};
 use std::io::{ErrorKind, Read, Write};
 use std::path::AsPath;
 use std::rt::Files;
@@ -131,17 +131,6 @@ fn create_beside<'a, R: Files>(
     Err(io::Error::from(ErrorKind::AlreadyExists))
 }
 
-/// Writes a text to a new file and to the disk, with the permissions of the file that it replaces.
-fn fill<F: Write + OpenFile>(
-    file: &mut F,
-    permissions: Permissions,
-    text: &[u8],
-) -> io::Result<()> {
-    file.write_all(text)?;
-    file.set_permissions(permissions)?;
-    file.sync_all()
-}
-
 /// Replaces the text of a regular file, also through symbolic links.
 ///
 /// The file is replaced as a whole or not at all. The text is first written to the disk as a new file in the same
@@ -159,7 +148,9 @@ pub(crate) fn replace_text<R: Files + AllocGlobal>(
         return Err(io::Error::from(ErrorKind::InvalidInput));
     }
     let (mut file, mut temporary) = create_beside(rt, alloc, target.as_str())?;
-    fill(&mut file, metadata.permissions(), text)?;
+    file.write_all(text)?;
+    file.set_permissions(metadata.permissions())?;
+    file.sync_all()?;
     drop(file);
     fs::rename(rt, temporary.path.as_str(), target.as_str())?;
     temporary.is_moved = true;

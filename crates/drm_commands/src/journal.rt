@@ -6,10 +6,10 @@ ghost use Rattle.drm_table.specs.Limits.{are_in_range};
 use crate::devices::{TopologyText, asked_device};
 use crate::faults::Fault;
 use crate::files::{read_whole, write_fault};
-use drm_connections::PROGRAM;
 use drm_device::{Device, Limits};
 use drm_journals::{Journal, first_difference, journal_of};
 use drm_table::Event;
+use drm_traffic::PROGRAM;
 use log::{Log, error, warn};
 use std::alloc::Global;
 use std::fs;
@@ -84,15 +84,11 @@ fn refuse_same<R: Files + Log>(
     }
 }
 
-/// Creates the file of a journal, or empties it, before the first step. If that fails, no step is made. It is opened
-/// only here. A file that is read is refused, since the journal would empty it.
-pub(crate) fn create_journal<'a, R: Files + Log>(
+/// Creates a file or empties it.
+fn create_file<'a, R: Files + Log>(
     rt: &R,
     path: &'a str,
-    read: FilesRead<'_>,
 ) -> Result<JournalFile<'a, R::File>, Fault> {
-    refuse_same(rt, path, "journal", read.topology, "topology")?;
-    refuse_same(rt, path, "journal", read.script, "script")?;
     match fs::create(rt, path) {
         Ok(file) => Ok(JournalFile { path, file }),
         Err(reason) => Err(write_fault(rt, path, &reason)),
@@ -115,13 +111,10 @@ pub fn create_trace<'a, R: Files + Log>(
 ) -> Result<JournalFile<'a, R::File>, Fault> {
     refuse_same(rt, path, "trace", topology, "topology")?;
     refuse_same(rt, path, "trace", journal, "journal")?;
-    match fs::create(rt, path) {
-        Ok(file) => Ok(JournalFile { path, file }),
-        Err(reason) => Err(write_fault(rt, path, &reason)),
-    }
+    create_file(rt, path)
 }
 
-/// Creates the file of a journal or empties it, if there is to be one (own).
+/// Creates the file of a journal or empties it, if there is to be one (own). It is opened only here, before the first step.
 ///
 /// # Errors
 ///
@@ -134,10 +127,12 @@ pub fn create_asked<'a, R: Files + Log>(
     path: Option<&'a str>,
     read: FilesRead<'_>,
 ) -> Result<Option<JournalFile<'a, R::File>>, Fault> {
-    match path {
-        Some(path) => Ok(Some(create_journal(rt, path, read)?)),
-        None => Ok(None),
-    }
+    let Some(path) = path else {
+        return Ok(None);
+    };
+    refuse_same(rt, path, "journal", read.topology, "topology")?;
+    refuse_same(rt, path, "journal", read.script, "script")?;
+    Ok(Some(create_file(rt, path)?))
 }
 
 /// Writes the events of a journal to its file, with the answers of an empty device of the same topology and limits. The

@@ -5,13 +5,13 @@ ghost use Rattle.drm_streams.specs.Streams.{no_calls};
 
 use crate::asked::Running;
 use crate::checking::{INPUT, open};
-use crate::devices::{TopologyText, asked_setup, read_asked};
+use crate::devices::{asked_setup, read_asked};
 use crate::faults::Fault;
-use crate::journal::{FilesRead, JournalFile, create_asked, write_noted};
-use crate::outcomes::{Outcome, outcome_of, outcome_of_fault};
-use drm_connections::PROGRAM;
-use drm_runs::{Interpreter, ScriptEnd, Setup, run_on};
+use crate::journal::{FilesRead, create_asked, write_noted};
+use crate::outcomes::{Outcome, outcome_of};
+use drm_runs::{ScriptEnd, run_on};
 use drm_streams::{FromRead, Source, ToWrite};
+use drm_traffic::PROGRAM;
 use log::{Log, error};
 use std::alloc::Global;
 use std::io;
@@ -20,44 +20,8 @@ use std::rt::Files;
 /// The most reads and writes of a run.
 const MOST_TURNS: u64 = 1_000_000;
 
-/// Writes the journal of a script's device, if there is a file for it.
-fn write_asked<R: Files + AllocGlobal + Log>(
-    rt: &R,
-    alloc: Global,
-    topology: Option<&TopologyText<'_>>,
-    journal: Option<JournalFile<'_, R::File>>,
-    interpreter: &Interpreter,
-) -> Result<(), Fault> {
-    let events = match interpreter.device() {
-        Some(device) => device.journal(),
-        None => &[],
-    };
-    let limits = interpreter.limits();
-    write_noted(rt, alloc, journal, topology, limits, events)
-}
-
-/// Runs the script of a source, and writes its device's journal if requested. If a line can't be used, the cause is
-/// logged, and the steps before it are written.
-fn run_and_write<R: Print + Files + AllocGlobal + Log, S: Source>(
-    rt: &R,
-    alloc: Global,
-    setup: Setup,
-    topology: Option<&TopologyText<'_>>,
-    journal: Option<JournalFile<'_, R::File>>,
-    source: &mut S,
-) -> (ScriptEnd, Result<(), Fault>)
-    requires { (S.trace source.old).counts ≡ no_calls }
-{
-    let mut sink = ToWrite::new(io::writer(rt));
-    let ran = run_on(alloc, setup, source, &mut sink, MOST_TURNS);
-    if let (ScriptEnd::Malformed(number), Some(cause)) = (ran.end, ran.cause) {
-        error!(rt; target: PROGRAM, "line {number}: {cause}");
-    }
-    let written = write_asked(rt, alloc, topology, journal, &ran.interpreter);
-    (ran.end, written)
-}
-
-/// Runs a script on the described device, after the file of its journal was created.
+/// Runs the script of a source on the described device, after the file of its journal was created, and writes the journal. If a line
+/// can't be used, the cause is logged, and the steps before it are written.
 fn run_source<R: Print + Files + AllocGlobal + Log, S: Source>(
     rt: &R,
     alloc: Global,
@@ -74,25 +38,26 @@ fn run_source<R: Print + Files + AllocGlobal + Log, S: Source>(
         script: running.path,
     };
     let journal = create_asked(rt, running.journal, read)?;
-    let (end, written) = run_and_write(rt, alloc, setup, topology, journal, source);
-    written?;
-    Ok(outcome_of(&end))
-}
-
-/// Runs the script of a file, or of standard input.
-fn run_asked<R: Input + Print + Files + AllocGlobal + Log>(
-    rt: &R,
-    alloc: Global,
-    running: Running<'_>,
-) -> Result<Outcome, Fault> {
-    match running.path {
-        None | Some(INPUT) => { run_source(rt, alloc, running, &mut FromRead::new(rt.reader())) }
-        Some(path) => run_source(rt, alloc, running, &mut open(rt, path)?),
+    let mut sink = ToWrite::new(io::writer(rt));
+    let ran = run_on(alloc, setup, source, &mut sink, MOST_TURNS);
+    if let (ScriptEnd::Malformed(number), Some(cause)) = (ran.end, ran.cause) {
+        error!(rt; target: PROGRAM, "line {number}: {cause}");
     }
+    let events = match ran.interpreter.device() {
+        Some(device) => device.journal(),
+        None => &[],
+    };
+    let limits = ran.interpreter.limits();
+    write_noted(rt, alloc, journal, topology, limits, events)?;
+    Ok(outcome_of(&ran.end))
 }
 
 /// Runs the script of a file or of standard input, prints its answers, and returns the outcome of the program (own).
 /// Allocates the device.
+///
+/// # Errors
+///
+/// A fault before the script, or of its journal. `Fault::CommandLine`, `Fault::Read` and `Fault::Write` are logged.
 ///
 /// # Examples
 ///
@@ -102,15 +67,15 @@ fn run_asked<R: Input + Print + Files + AllocGlobal + Log>(
 /// let alloc = rt.alloc();
 /// let device = AskedDevice { topology: None, limits: None };
 /// let running = Running { path: Some("/dev/null"), device, journal: None };
-/// assert!(rt; run(&rt, alloc, running).status == 0);
+/// assert!(rt; run(&rt, alloc, running).is_ok());
 /// ```
 pub fn run<R: Input + Print + Files + AllocGlobal + Log>(
     rt: &R,
     alloc: Global,
     running: Running<'_>,
-) -> Outcome {
-    match run_asked(rt, alloc, running) {
-        Ok(outcome) => outcome,
-        Err(fault) => outcome_of_fault(fault),
+) -> Result<Outcome, Fault> {
+    match running.path {
+        None | Some(INPUT) => run_source(rt, alloc, running, &mut FromRead::new(rt.reader())),
+        Some(path) => run_source(rt, alloc, running, &mut open(rt, path)?),
     }
 }

@@ -5,11 +5,11 @@ use crate::checking::{INPUT, fault_of};
 use crate::devices::{asked_setup, read_asked};
 use crate::faults::Fault;
 use crate::files::{read_whole, read_whole_from};
-use crate::outcomes::{Outcome, outcome_by, outcome_of_fault};
+use crate::outcomes::{Outcome, outcome_by};
 use crate::visible::Visible;
-use drm_connections::PROGRAM;
 use drm_shrinking::{ShrinkFault, Shrunk, shrink_script};
 use drm_streams::{ToWrite, put_all};
+use drm_traffic::PROGRAM;
 use log::{Log, error, info, warn};
 use std::alloc::Global;
 use std::io;
@@ -56,36 +56,12 @@ fn tell_search<R: Log>(rt: &R, shrinking: Shrinking<'_>, shrunk: &Shrunk) {
     }
 }
 
-/// Returns the text of the file, or of standard input.
-fn text_of<R: Input + Files + Log>(rt: &R, alloc: Global, path: &str) -> Result<Vec<u8>, Fault> {
-    if path == INPUT {
-        return read_whole_from(rt, alloc, path, rt.reader());
-    }
-    read_whole(rt, alloc, path)
-}
-
-/// Makes a script shorter, and prints what is left.
-fn shrink_asked<R: Input + Files + Print + AllocGlobal + Log>(
-    rt: &R,
-    alloc: Global,
-    shrinking: Shrinking<'_>,
-) -> Result<(), Fault> {
-    let topology = read_asked(rt, shrinking.device)?;
-    let setup = asked_setup(rt, shrinking.device.limits, topology.as_ref())?;
-    let text = text_of(rt, alloc, shrinking.path)?;
-    let shrunk = match shrink_script(alloc, &setup, text.as_slice(), shrinking.line, MOST_LINES) {
-        Ok(shrunk) => shrunk,
-        Err(fault) => return Err(shrink_fault(rt, shrinking, fault)),
-    };
-    let mut sink = ToWrite::new(Visible::new(io::writer(rt)));
-    let mut turns = MOST_TURNS;
-    fault_of(put_all(&mut sink, shrunk.text.as_slice(), &mut turns))?;
-    tell_search(rt, shrinking, &shrunk);
-    Ok(())
-}
-
 /// Prints a shorter script in which a line is answered the same, logs the result of the search, and returns the outcome
 /// of the program (own). Allocates the texts and a device for each trial.
+///
+/// # Errors
+///
+/// A fault of the text, the line or standard output. All but `Fault::Memory` and those of standard output are logged.
 ///
 /// # Examples
 ///
@@ -95,15 +71,28 @@ fn shrink_asked<R: Input + Files + Print + AllocGlobal + Log>(
 /// let alloc = rt.alloc();
 /// let device = AskedDevice { topology: None, limits: None };
 /// let shrinking = Shrinking { path: "/dev/null", device, line: 1 };
-/// assert!(rt; shrink(&rt, alloc, shrinking).status == 3);
+/// assert!(rt; shrink(&rt, alloc, shrinking).is_err());
 /// ```
 pub fn shrink<R: Input + Files + Print + AllocGlobal + Log>(
     rt: &R,
     alloc: Global,
     shrinking: Shrinking<'_>,
-) -> Outcome {
-    match shrink_asked(rt, alloc, shrinking) {
-        Ok(()) => outcome_by(None),
-        Err(fault) => outcome_of_fault(fault),
-    }
+) -> Result<Outcome, Fault> {
+    let path = shrinking.path;
+    let topology = read_asked(rt, shrinking.device)?;
+    let setup = asked_setup(rt, shrinking.device.limits, topology.as_ref())?;
+    let text = if path == INPUT {
+        read_whole_from(rt, alloc, path, rt.reader())?
+    } else {
+        read_whole(rt, alloc, path)?
+    };
+    let shrunk = match shrink_script(alloc, &setup, text.as_slice(), shrinking.line, MOST_LINES) {
+        Ok(shrunk) => shrunk,
+        Err(fault) => return Err(shrink_fault(rt, shrinking, fault)),
+    };
+    let mut sink = ToWrite::new(Visible::new(io::writer(rt)));
+    let mut turns = MOST_TURNS;
+    fault_of(put_all(&mut sink, shrunk.text.as_slice(), &mut turns))?;
+    tell_search(rt, shrinking, &shrunk);
+    Ok(outcome_by(None))
 }

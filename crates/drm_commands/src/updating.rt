@@ -4,9 +4,9 @@ use crate::asked::{AskedDevice, Checking};
 use crate::devices::{TopologyText, asked_setup, read_asked};
 use crate::faults::Fault;
 use crate::files::{read_whole, replace_text, write_fault};
-use crate::outcomes::{Outcome, outcome_by, outcome_of_fault};
+use crate::outcomes::{Outcome, outcome_by};
 use drm_checks::{UpdateFault, update_script};
-use drm_connections::PROGRAM;
+use drm_traffic::PROGRAM;
 use log::{Log, error};
 use std::alloc::Global;
 use std::rt::Files;
@@ -38,28 +38,20 @@ fn update_file<R: Files + AllocGlobal + Log>(
     }
 }
 
-/// Updates each file, up to the first that can't be updated.
-fn update_files<R: Files + AllocGlobal + Log>(
-    rt: &R,
-    alloc: Global,
-    checking: &Checking<'_>,
-) -> Result<(), Fault> {
-    let topology = read_asked(rt, checking.device)?;
-    for path in checking.files.as_slice() {
-        update_file(rt, alloc, checking.device, topology.as_ref(), path)?;
-    }
-    Ok(())
-}
-
-/// Updates each file, up to the first that can't be updated, and returns the outcome of the program (own). That file
-/// and the later ones are unchanged. Allocates the devices and the texts.
+/// Updates each file, up to the first that can't be updated, and returns the outcome of the program (own). Allocates the devices and
+/// the texts.
+///
+/// # Errors
+///
+/// The fault of the file that can't be updated. All but `Fault::Memory` are logged. That file and the later ones are unchanged.
 pub fn update<R: Files + AllocGlobal + Log>(
     rt: &R,
     alloc: Global,
     checking: &Checking<'_>,
-) -> Outcome {
-    match update_files(rt, alloc, checking) {
-        Ok(()) => outcome_by(None),
-        Err(fault) => outcome_of_fault(fault),
+) -> Result<Outcome, Fault> {
+    let topology = read_asked(rt, checking.device)?;
+    for path in checking.files.as_slice() {
+        update_file(rt, alloc, checking.device, topology.as_ref(), path)?;
     }
+    Ok(outcome_by(None))
 }

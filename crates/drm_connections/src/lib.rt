@@ -15,7 +15,7 @@ mod requests;
 pub use accepting::{accept_next, accept_unless_asked, note_beyond};
 pub use answers::Answers;
 pub use counts::{Counts, MOST, MOST_AT_ONCE};
-pub use notes::{Note, Notes, PROGRAM};
+pub use notes::{Note, Notes};
 pub use open_connections::{Asked, Attendance, OpenConnections, Role};
 pub use outlet::{Outlet, Put, Queue, count_lines, wait_for};
 pub use peek::{Peek, Ready};

@@ -5,15 +5,12 @@
 use crate::counts::MOST_AT_ONCE;
 use crate::outlet::{Outlet, Queue};
 use drm_sessions::{Class, Session, SessionEnd};
-use drm_traffic::class_word;
+use drm_traffic::{PROGRAM, class_word};
 use log::{Log, error, warn};
 use std::alloc::{AllocError, Global};
 use std::io::ErrorKind;
 use std::sync::{Condvar, Mutex, Wait};
 use std::{io, mem};
-
-/// The name of the program in log lines.
-pub const PROGRAM: &str = "drm_server";
 
 /// The most notes that wait to be logged.
 const MOST: usize = 64;

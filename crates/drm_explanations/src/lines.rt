@@ -11,13 +11,13 @@ use std::alloc::{AllocError, Global};
 /// The values that lines are written from: the whole explanation, the clients of the labels, and the kinds of mode
 /// objects.
 #[derive(Clone, Copy)]
-struct Scene<'a> {
+struct Context<'a> {
     explanation: &'a Explanation,
     topology: &'a Topology,
     labels: &'a Labels,
 }
 
-impl Scene<'_> {
+impl Context<'_> {
     fn name(&self, client: u64) -> Name {
         Name::of(self.labels, client)
     }
@@ -58,23 +58,23 @@ pub fn lines_of(
     labels: &Labels,
     only: Option<u64>,
 ) -> Result<String, AllocError> {
-    let scene = Scene {
+    let context = Context {
         explanation,
         topology,
         labels,
     };
     let mut text = String::new(alloc);
     if only.is_none() {
-        device_line(scene, &mut text)?;
+        device_line(context, &mut text)?;
     }
     for row in &explanation.clients {
         if only.is_none() || only == Some(row.client) {
-            client_lines(alloc, scene, row, &mut text)?;
+            client_lines(alloc, context, row, &mut text)?;
         }
     }
     for row in &explanation.leases {
         if only.is_none() || only == Some(row.leased.client) || only == row.redeemed_by {
-            lease_line(alloc, scene, row, &mut text)?;
+            lease_line(alloc, context, row, &mut text)?;
         }
     }
     Ok(text)
@@ -121,35 +121,35 @@ pub fn line_about(
     subject: Subject,
     text: &mut String,
 ) -> Result<(), AllocError> {
-    let scene = Scene {
+    let context = Context {
         explanation,
         topology,
         labels,
     };
     match subject {
-        Subject::Device => device_line(scene, text),
+        Subject::Device => device_line(context, text),
         Subject::Client(client) => match explanation.client(client) {
-            Some(row) => identity_line(scene, row, text),
+            Some(row) => identity_line(context, row, text),
             None => Ok(()),
         },
         Subject::Authentication(client) => match explanation.client(client) {
-            Some(row) => authenticated_line(scene, row, text),
+            Some(row) => authenticated_line(context, row, text),
             None => Ok(()),
         },
         Subject::UniversalPlanes(client) => match explanation.client(client) {
-            Some(row) => universal_line(scene, row, text),
+            Some(row) => universal_line(context, row, text),
             None => Ok(()),
         },
         Subject::Master(client) => match explanation.client(client) {
-            Some(row) => of_standing(scene, row, false, text),
+            Some(row) => of_standing(context, row, false, text),
             None => Ok(()),
         },
         Subject::Current(client) => match explanation.client(client) {
-            Some(row) => of_standing(scene, row, true, text),
+            Some(row) => of_standing(context, row, true, text),
             None => Ok(()),
         },
         Subject::Lease(master) => match explanation.lease(master) {
-            Some(row) => lease_line(alloc, scene, row, text),
+            Some(row) => lease_line(alloc, context, row, text),
             None => Ok(()),
         },
     }
@@ -157,28 +157,28 @@ pub fn line_about(
 
 /// Writes the reason that a client is current or not, or that it is a master or not.
 fn of_standing(
-    scene: Scene<'_>,
+    context: Context<'_>,
     row: &ClientRow,
     of_current: bool,
     text: &mut String,
 ) -> Result<(), AllocError> {
     match &row.standing {
-        Some(standing) if of_current => current_line(scene, row, standing, text),
-        Some(standing) => master_line(scene, row, standing, text),
+        Some(standing) if of_current => current_line(context, row, standing, text),
+        Some(standing) => master_line(context, row, standing, text),
         None => Ok(()),
     }
 }
 
 /// Writes the device's master, and the step since which it has been that.
-fn device_line(scene: Scene<'_>, text: &mut String) -> Result<(), AllocError> {
-    match scene.explanation.device.master {
+fn device_line(context: Context<'_>, text: &mut String) -> Result<(), AllocError> {
+    match context.explanation.device.master {
         Some(master) => write!(text, "the device's master is {master}: ")?,
         None => text.push_str("the device has no master: ")?,
     }
-    let Some(since) = scene.explanation.device.since else {
+    let Some(since) = context.explanation.device.since else {
         return text.push_str("no client set one\n");
     };
-    let name = scene.name(since.client);
+    let name = context.name(since.client);
     let At { step, call, .. } = since;
     match call {
         "open" => writeln!(text, "{name} founded it as it opened at step {step}"),
@@ -191,23 +191,23 @@ fn device_line(scene: Scene<'_>, text: &mut String) -> Result<(), AllocError> {
 /// Writes the lines of one client: how it was opened, and if it is open, its state, rights and handles.
 fn client_lines(
     alloc: Global,
-    scene: Scene<'_>,
+    context: Context<'_>,
     row: &ClientRow,
     text: &mut String,
 ) -> Result<(), AllocError> {
-    identity_line(scene, row, text)?;
+    identity_line(context, row, text)?;
     if row.closed.is_some() {
         return Ok(());
     }
-    authenticated_line(scene, row, text)?;
-    universal_line(scene, row, text)?;
+    authenticated_line(context, row, text)?;
+    universal_line(context, row, text)?;
     if let Some(standing) = &row.standing {
-        master_line(scene, row, standing, text)?;
-        current_line(scene, row, standing, text)?;
-        may_set_line(alloc, scene, row, standing, text)?;
+        master_line(context, row, standing, text)?;
+        current_line(context, row, standing, text)?;
+        may_set_line(alloc, context, row, standing, text)?;
     }
     for hold in &row.holds {
-        hold_line(scene, row.client, hold, text)?;
+        hold_line(context, row.client, hold, text)?;
     }
     Ok(())
 }
@@ -221,8 +221,12 @@ fn node_word(node: Node) -> &'static str {
 }
 
 /// Writes how a client was opened, and when it was opened and closed.
-fn identity_line(scene: Scene<'_>, row: &ClientRow, text: &mut String) -> Result<(), AllocError> {
-    let name = scene.name(row.client);
+fn identity_line(
+    context: Context<'_>,
+    row: &ClientRow,
+    text: &mut String,
+) -> Result<(), AllocError> {
+    let name = context.name(row.client);
     let client = row.client;
     let node = node_word(row.node);
     let by_root = if row.root { " by root" } else { "" };
@@ -240,15 +244,15 @@ fn identity_line(scene: Scene<'_>, row: &ClientRow, text: &mut String) -> Result
 
 /// Writes the reason that a client is authenticated, or that it is not.
 fn authenticated_line(
-    scene: Scene<'_>,
+    context: Context<'_>,
     row: &ClientRow,
     text: &mut String,
 ) -> Result<(), AllocError> {
-    let name = scene.name(row.client);
+    let name = context.name(row.client);
     match &row.authenticated {
         Some(reason) => {
             write!(text, "{name} is authenticated: ")?;
-            authentication(scene, reason, text)
+            authentication(context, reason, text)
         }
         None if row.node == Node::Render => {
             writeln!(text, "{name} is not authenticated: it is a render client")
@@ -261,7 +265,7 @@ fn authenticated_line(
 }
 
 fn authentication(
-    scene: Scene<'_>,
+    context: Context<'_>,
     reason: &Authenticated,
     text: &mut String,
 ) -> Result<(), AllocError> {
@@ -270,7 +274,7 @@ fn authentication(
         (AuthenticatedBy::Root, _) => writeln!(text, "it opened by root at step {step}"),
         (AuthenticatedBy::Master, _) => writeln!(text, "it is a master"),
         (AuthenticatedBy::AuthMagic, magic) => {
-            let by = scene.name(client);
+            let by = context.name(client);
             let magic = magic.unwrap_or(0);
             writeln!(text, "{by} named its magic {magic} at step {step} ({call})")
         }
@@ -279,12 +283,12 @@ fn authentication(
 
 /// Writes the reason that a client is a master, or whose master it has.
 fn master_line(
-    scene: Scene<'_>,
+    context: Context<'_>,
     row: &ClientRow,
     standing: &StandingRow,
     text: &mut String,
 ) -> Result<(), AllocError> {
-    let name = scene.name(row.client);
+    let name = context.name(row.client);
     let At { step, call, .. } = standing.since;
     let Some(master) = standing.master else {
         return writeln!(text, "{name} is no master: it is a render client");
@@ -297,7 +301,7 @@ fn master_line(
     }
     match (row.node, call) {
         (Node::Lease, _) => {
-            let id = scene
+            let id = context
                 .explanation
                 .lease(master)
                 .map(|lease| lease.lessee_id)
@@ -319,14 +323,18 @@ fn master_line(
 }
 
 /// Writes the reason that a client has universal planes off, or nothing if it has them on.
-fn universal_line(scene: Scene<'_>, row: &ClientRow, text: &mut String) -> Result<(), AllocError> {
+fn universal_line(
+    context: Context<'_>,
+    row: &ClientRow,
+    text: &mut String,
+) -> Result<(), AllocError> {
     let Some(universal) = &row.universal_planes else {
         return Ok(());
     };
     if universal.on {
         return Ok(());
     }
-    let name = scene.name(row.client);
+    let name = context.name(row.client);
     let At { step, call, .. } = universal.since;
     match call {
         "open" => writeln!(
@@ -342,7 +350,7 @@ fn universal_line(scene: Scene<'_>, row: &ClientRow, text: &mut String) -> Resul
 
 /// Writes the reason that a client is current, or that it is not.
 fn current_line(
-    scene: Scene<'_>,
+    context: Context<'_>,
     row: &ClientRow,
     standing: &StandingRow,
     text: &mut String,
@@ -350,7 +358,7 @@ fn current_line(
     let (Some(master), Some(owner)) = (standing.master, standing.owner) else {
         return Ok(());
     };
-    let name = scene.name(row.client);
+    let name = context.name(row.client);
     if !standing.is_master {
         return writeln!(text, "{name} is not current: it is no master");
     }
@@ -365,21 +373,21 @@ fn current_line(
         ),
         (false, true) => {
             write!(text, "{name} is not current: its master is {master}")?;
-            other_master(scene, text)
+            other_master(context, text)
         }
         (false, false) => {
             write!(
                 text,
                 "{name} is not current: the owner of its master {master} is {owner}"
             )?;
-            other_master(scene, text)
+            other_master(context, text)
         }
     }
 }
 
 /// Writes the device's master, which is not that of the client.
-fn other_master(scene: Scene<'_>, text: &mut String) -> Result<(), AllocError> {
-    match scene.explanation.device.master {
+fn other_master(context: Context<'_>, text: &mut String) -> Result<(), AllocError> {
+    match context.explanation.device.master {
         Some(other) => writeln!(text, ", and the device's is {other}"),
         None => text.push_str(", and the device has none\n"),
     }
@@ -388,24 +396,24 @@ fn other_master(scene: Scene<'_>, text: &mut String) -> Result<(), AllocError> {
 /// Writes the CRTCs and planes that a client may set, and the reason.
 fn may_set_line(
     alloc: Global,
-    scene: Scene<'_>,
+    context: Context<'_>,
     row: &ClientRow,
     standing: &StandingRow,
     text: &mut String,
 ) -> Result<(), AllocError> {
-    let name = scene.name(row.client);
+    let name = context.name(row.client);
     if !standing.current {
         return writeln!(text, "{name} may set nothing: it is not current");
     }
     let lease = standing
         .master
-        .and_then(|master| scene.explanation.lease(master));
+        .and_then(|master| context.explanation.lease(master));
     write!(text, "{name} may set ")?;
-    write_objects(scene, &row.may_set, text)?;
+    write_objects(context, &row.may_set, text)?;
     text.push_str(": ")?;
     match lease {
         None => text.push_str("it is current, and its master is no lessee\n"),
-        Some(lease) => lease_chain(alloc, scene, lease, text),
+        Some(lease) => lease_chain(alloc, context, lease, text),
     }
 }
 
@@ -420,7 +428,7 @@ fn kind_word(kind: Option<Kind>) -> &'static str {
 }
 
 /// Writes mode objects by their kinds, or nothing if there are none.
-fn write_objects(scene: Scene<'_>, ids: &[u32], text: &mut String) -> Result<(), AllocError> {
+fn write_objects(context: Context<'_>, ids: &[u32], text: &mut String) -> Result<(), AllocError> {
     if ids.is_empty() {
         return text.push_str("nothing");
     }
@@ -430,7 +438,7 @@ fn write_objects(scene: Scene<'_>, ids: &[u32], text: &mut String) -> Result<(),
             _ if place + 1 == ids.len() => " and ",
             _ => ", ",
         };
-        let kind = kind_word(scene.topology.kind(*id));
+        let kind = kind_word(context.topology.kind(*id));
         write!(text, "{between}{kind} {id}")?;
     }
     Ok(())
@@ -438,42 +446,42 @@ fn write_objects(scene: Scene<'_>, ids: &[u32], text: &mut String) -> Result<(),
 
 /// Writes the earlier line that has the first links of a chain, and their last step, if they are left out.
 fn front_words(
-    scene: Scene<'_>,
+    context: Context<'_>,
     front: Option<&FrontRow>,
     text: &mut String,
 ) -> Result<(), AllocError> {
     let Some(front) = front else {
         return Ok(());
     };
-    let name = scene.name(front.client);
+    let name = context.name(front.client);
     let FrontRow { handle, step, .. } = front;
     write!(text, "as handle {handle} of {name} up to step {step}, ")
 }
 
 /// Writes a handle, and the chain by which the client obtained it.
 fn hold_line(
-    scene: Scene<'_>,
+    context: Context<'_>,
     client: u64,
     hold: &HandleRow,
     text: &mut String,
 ) -> Result<(), AllocError> {
-    let name = scene.name(client);
+    let name = context.name(client);
     let HandleRow { handle, object, .. } = hold;
     write!(text, "{name} holds buffer {object} as handle {handle}: ")?;
-    front_words(scene, hold.front.as_ref(), text)?;
+    front_words(context, hold.front.as_ref(), text)?;
     for (place, link) in hold.chain.iter().enumerate() {
         if place > 0 {
             text.push_str(", ")?;
         }
-        link_words(scene, link, text)?;
+        link_words(context, link, text)?;
     }
     text.push_str("\n")
 }
 
 /// Writes how an object was published, and the handle that was assigned for that.
-fn link_words(scene: Scene<'_>, link: &LinkRow, text: &mut String) -> Result<(), AllocError> {
+fn link_words(context: Context<'_>, link: &LinkRow, text: &mut String) -> Result<(), AllocError> {
     let At { step, client, call } = link.given;
-    let name = scene.name(client);
+    let name = context.name(client);
     let Some(published) = &link.published else {
         return write!(text, "made by {name} at step {step} ({call})");
     };
@@ -498,7 +506,7 @@ fn published_words(published: &PublishedRow, text: &mut String) -> Result<(), Al
 /// Writes a lease: what it has, the leases above it, or the step that ended it.
 fn lease_line(
     alloc: Global,
-    scene: Scene<'_>,
+    context: Context<'_>,
     row: &LeaseRow,
     text: &mut String,
 ) -> Result<(), AllocError> {
@@ -509,11 +517,11 @@ fn lease_line(
     } = row;
     write!(text, "lessee {lessee_id}, master {master}, has ")?;
     match row.ended {
-        None => write_objects(scene, &row.mode_objects, text)?,
+        None => write_objects(context, &row.mode_objects, text)?,
         Some(_) => text.push_str("nothing")?,
     }
     text.push_str(": ")?;
-    lease_chain(alloc, scene, row, text)
+    lease_chain(alloc, context, row, text)
 }
 
 /// Returns the lease of a master. Leases are in the order of their creation, so that none is older than the first.
@@ -549,20 +557,20 @@ fn lessees_above(
 /// Writes the leases above a lessee, from the one that an owner created on, and the step that ended the last.
 fn lease_chain(
     alloc: Global,
-    scene: Scene<'_>,
+    context: Context<'_>,
     row: &LeaseRow,
     text: &mut String,
 ) -> Result<(), AllocError> {
-    let above = lessees_above(alloc, scene.explanation, row.lessor)?;
+    let above = lessees_above(alloc, context.explanation, row.lessor)?;
     for master in above.iter().rev() {
-        if let Some(lease) = scene.explanation.lease(*master) {
-            lease_words(scene, lease, text)?;
+        if let Some(lease) = context.explanation.lease(*master) {
+            lease_words(context, lease, text)?;
             text.push_str(", ")?;
         }
     }
-    lease_words(scene, row, text)?;
+    lease_words(context, row, text)?;
     if let Some(ended) = row.ended {
-        let name = scene.name(ended.client);
+        let name = context.name(ended.client);
         let At { step, call, .. } = ended;
         match call {
             "close" => write!(text, ", ended at step {step} as {name} closed")?,
@@ -573,8 +581,8 @@ fn lease_chain(
 }
 
 /// Writes the client that leased, the lessee's id, and the client that redeemed its token.
-fn lease_words(scene: Scene<'_>, row: &LeaseRow, text: &mut String) -> Result<(), AllocError> {
-    let name = scene.name(row.leased.client);
+fn lease_words(context: Context<'_>, row: &LeaseRow, text: &mut String) -> Result<(), AllocError> {
+    let name = context.name(row.leased.client);
     let LeaseRow {
         lessee_id,
         token,
@@ -588,7 +596,7 @@ fn lease_words(scene: Scene<'_>, row: &LeaseRow, text: &mut String) -> Result<()
     )?;
     match row.redeemed_by {
         Some(client) => {
-            let redeemer = scene.name(client);
+            let redeemer = context.name(client);
             write!(text, ", redeemed by {redeemer} at step {client}")
         }
         None => text.push_str(", not redeemed"),

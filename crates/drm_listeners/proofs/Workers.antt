@@ -1,7 +1,8 @@
 -- A listener's participant while connections are served.
-use Rattle.std.proofs.Common.{◌≡◌, ℕ, ◌+◌, List, [], ◌∷◌, ◌++◌, All, length, refl, sym, ap, ◌∙◌, subst, append-nil, arith}
+use Rattle.std.proofs.Common.{◌≡◌, ℕ, suc, ◌+◌, List, [], ◌∷◌, ◌++◌, All, drop, length, refl, sym, take, ap, ◌∙◌, subst, append-nil, arith}
 use Rattle.std.proofs.lemmas.List.{map_push}
-use Rattle.std.proofs.lemmas.List.Elements.{All-nil, All-push, All-weaker}
+use Rattle.std.proofs.lemmas.List.Elements.{All-append, All-drop, All-nil, All-push, All-take, All-weaker}
+use Rattle.std.specs.List.{remove}
 use Rattle.std.specs.Prelude.{◌≤◌, Err, IfErr, IfOk, IsSomeAnd, None, Ok, Option, Result, Some, Vec}
 use Rattle.drm_turns.specs.History.{AllDiffer, StartsWith, calls_by}
 use Rattle.drm_turns.specs.Participants.{HasTakenIn, IsChild, ParticipantView, Same}
@@ -34,6 +35,13 @@ where_ok {D} {E} P r d is h = subst (λ (r : Result D E). IfOk r P) is h
 -- What holds of a result's error, if it has one, holds of the error that it has.
 pub where_err : {D E : Type 0} (P : E → Type 0) (r : Result D E) (e : E) → r ≡ Err e → IfErr r P → P e
 where_err {D} {E} P r e is h = subst (λ (r : Result D E). IfErr r P) is h
+
+-- ---- lists
+
+-- What holds of all elements holds of those that are left after a removal.
+pub All-removed : {A : Type 0} (P : A → Type 0) (xs : List A) (i : ℕ) → All P xs → All P (remove xs i)
+All-removed {A} P xs i h =
+    All-append P (take i xs) (drop (suc i) xs) (All-take P i xs h) (All-drop P (suc i) xs h)
 
 -- ---- sessions
 
@@ -172,7 +180,7 @@ accounted terms threads outcomes sessions old new closing h all joined closes = 
   closes-joined terms.until threads old new closing joined closes,
 )
 
--- There is room for as many sessions, however their number is told.
+-- There is room for a number of sessions if there is room for an equal one.
 pub same-room : {A : Type 0} (until : Until) (few more : ℕ) (sessions : Vec Session A) → few ≡ more
     → HasRoom until more sessions → HasRoom until few sessions
 same-room {A} until few more sessions is h = subst (λ (n : ℕ). HasRoom until n sessions) (sym is) h

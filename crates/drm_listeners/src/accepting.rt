@@ -71,57 +71,76 @@ fn keep(until: Until, sessions: &mut Vec<Session>, session: Session)
     }
 }
 
-// Waits for threads, and takes in their participants.
+// Waits for the thread at this index, and takes in its participant.
+fn join_worker<R: Wait + Threads, D: Serving>(
+    rt: &R,
+    server: &D,
+    own: &mut Seat,
+    terms: Terms,
+    index: usize,
+    pool: &mut Pool,
+)
+    requires own { own.old.table ≡ D.table server.now }
+    requires index { index < array_vec_len pool.old.workers }
+    requires served { HasServedFor terms pool.old.outcomes pool.old.sessions.items own.old }
+    requires promised { ArePromised (λ worker. worker.thread.promise) terms.class own.old pool.old.workers.items }
+    requires outstanding { array_vec_len pool.old.workers ≤ own.old.outstanding }
+    requires room { HasRoom terms.until (array_vec_len pool.old.workers) pool.old.sessions }
+    ensures same { Same own.old own.new }
+    ensures parent { own.new.parent ≡ own.old.parent }
+    ensures served { HasServedFor terms pool.new.outcomes pool.new.sessions.items own.new }
+    ensures promised { ArePromised (λ worker. worker.thread.promise) terms.class own.new pool.new.workers.items }
+    ensures less { array_vec_len pool.new.workers + 1 ≡ array_vec_len pool.old.workers }
+    ensures outstanding { own.new.outstanding + 1 ≡ own.old.outstanding }
+    ensures merged { length own.new.merged ≡ length own.old.merged + 1 }
+    ensures room { HasRoom terms.until (array_vec_len pool.new.workers) pool.new.sessions }
+    ensures outcomes { pool.new.outcomes ≡ pool.old.outcomes }
+{
+    let Some(worker) = pool.workers.remove(index) else {
+        unreachable!()
+    };
+    let Served {
+        session,
+        participant,
+    } = worker.thread.join(rt);
+    server.device().join(own, participant);
+    keep(terms.until, &mut pool.sessions, session);
+}
+
+// Waits for threads, and takes in their participants, in the order of their connections.
 fn join_workers<R: Wait + Threads, D: Serving>(
     rt: &R,
     server: &D,
     own: &mut Seat,
     terms: Terms,
     awaited: Awaited,
-    pool: Pool,
-) -> Pool
+    pool: &mut Pool,
+)
     requires own { own.old.table ≡ D.table server.now }
-    requires served { HasServedFor terms pool.outcomes pool.sessions.items own.old }
-    requires promised { ArePromised (λ worker. worker.thread.promise) terms.class own.old pool.workers.items }
-    requires outstanding { array_vec_len pool.workers ≤ own.old.outstanding }
-    requires room { HasRoom terms.until (array_vec_len pool.workers) pool.sessions }
+    requires served { HasServedFor terms pool.old.outcomes pool.old.sessions.items own.old }
+    requires promised { ArePromised (λ worker. worker.thread.promise) terms.class own.old pool.old.workers.items }
+    requires outstanding { array_vec_len pool.old.workers ≤ own.old.outstanding }
+    requires room { HasRoom terms.until (array_vec_len pool.old.workers) pool.old.sessions }
     ensures same { Same own.old own.new }
     ensures parent { own.new.parent ≡ own.old.parent }
-    ensures served { HasServedFor terms result.outcomes result.sessions.items own.new }
-    ensures promised { ArePromised (λ worker. worker.thread.promise) terms.class own.new result.workers.items }
-    ensures outstanding { own.new.outstanding + array_vec_len pool.workers ≡ own.old.outstanding + array_vec_len result.workers }
-    ensures merged { length own.new.merged + array_vec_len result.workers ≡ length own.old.merged + array_vec_len pool.workers }
-    ensures room { HasRoom terms.until (array_vec_len result.workers) result.sessions }
-    ensures outcomes { result.outcomes ≡ pool.outcomes }
-    ensures none { awaited ≡ All → array_vec_len result.workers ≡ 0 }
+    ensures served { HasServedFor terms pool.new.outcomes pool.new.sessions.items own.new }
+    ensures promised { ArePromised (λ worker. worker.thread.promise) terms.class own.new pool.new.workers.items }
+    ensures outstanding { own.new.outstanding + array_vec_len pool.old.workers ≡ own.old.outstanding + array_vec_len pool.new.workers }
+    ensures merged { length own.new.merged + array_vec_len pool.new.workers ≡ length own.old.merged + array_vec_len pool.old.workers }
+    ensures room { HasRoom terms.until (array_vec_len pool.new.workers) pool.new.sessions }
+    ensures outcomes { pool.new.outcomes ≡ pool.old.outcomes }
+    ensures none { awaited ≡ All → array_vec_len pool.new.workers ≡ 0 }
 {
-    let Pool {
-        workers,
-        outcomes,
-        sessions,
-    } = pool;
-    let mut sessions = sessions;
-    let mut left = Workers::new();
-    let _count = workers.len();
-    for started in workers {
-        let Some(worker) = started else {
+    let mut index = 0;
+    'workers: while index < pool.workers.len() {
+        let Some(worker) = &pool.workers[index] else {
             unreachable!()
         };
         if is_awaited(rt, server, awaited, worker.place) {
-            let Served {
-                session,
-                participant,
-            } = worker.thread.join(rt);
-            server.device().join(own, participant);
-            keep(terms.until, &mut sessions, session);
+            join_worker(rt, server, own, terms, index, pool);
         } else {
-            left.push(Some(worker));
+            index += 1;
         }
-    }
-    Pool {
-        workers: left,
-        outcomes,
-        sessions,
     }
 }
 
@@ -140,31 +159,25 @@ fn start_worker<'s, E: 's, R: Wait + Threads + Log + Sync, D: Serving + Sync>(
     own: &mut Seat,
     terms: Terms,
     stream: UnixStream,
-    pool: Pool,
-) -> Pool
+    pool: &mut Pool,
+)
     requires own { own.old.table ≡ D.table server.now }
-    requires served { HasServedFor terms pool.outcomes pool.sessions.items own.old }
-    requires promised { ArePromised (λ worker. worker.thread.promise) terms.class own.old pool.workers.items }
-    requires free { array_vec_len pool.workers < 255 }
-    requires few { all_of pool.outcomes + 1 < 2 ^ 64 }
-    requires counted { AreCounted pool.outcomes (array_vec_len pool.workers) own.old }
+    requires served { HasServedFor terms pool.old.outcomes pool.old.sessions.items own.old }
+    requires promised { ArePromised (λ worker. worker.thread.promise) terms.class own.old pool.old.workers.items }
+    requires free { array_vec_len pool.old.workers < 255 }
+    requires few { all_of pool.old.outcomes + 1 < 2 ^ 64 }
+    requires counted { AreCounted pool.old.outcomes (array_vec_len pool.old.workers) own.old }
     ensures same { Same own.old own.new }
     ensures parent { own.new.parent ≡ own.old.parent }
-    ensures served { HasServedFor terms result.outcomes result.sessions.items own.new }
-    ensures promised { ArePromised (λ worker. worker.thread.promise) terms.class own.new result.workers.items }
-    ensures outstanding { own.new.outstanding + array_vec_len pool.workers ≡ own.old.outstanding + array_vec_len result.workers }
-    ensures one_more { all_of result.outcomes ≡ all_of pool.outcomes + 1 }
-    ensures counted { AreCounted result.outcomes (array_vec_len result.workers) own.new }
-    ensures crowded { result.outcomes.crowded ≡ pool.outcomes.crowded }
-    ensures threads { result.outcomes.served + array_vec_len pool.workers ≡ pool.outcomes.served + array_vec_len result.workers }
-    ensures sessions { result.sessions ≡ pool.sessions }
+    ensures served { HasServedFor terms pool.new.outcomes pool.new.sessions.items own.new }
+    ensures promised { ArePromised (λ worker. worker.thread.promise) terms.class own.new pool.new.workers.items }
+    ensures outstanding { own.new.outstanding + array_vec_len pool.old.workers ≡ own.old.outstanding + array_vec_len pool.new.workers }
+    ensures one_more { all_of pool.new.outcomes ≡ all_of pool.old.outcomes + 1 }
+    ensures counted { AreCounted pool.new.outcomes (array_vec_len pool.new.workers) own.new }
+    ensures crowded { pool.new.outcomes.crowded ≡ pool.old.outcomes.crowded }
+    ensures threads { pool.new.outcomes.served + array_vec_len pool.old.workers ≡ pool.old.outcomes.served + array_vec_len pool.new.workers }
+    ensures sessions { pool.new.sessions ≡ pool.old.sessions }
 {
-    let Pool {
-        workers,
-        outcomes,
-        sessions,
-    } = pool;
-    let mut workers = workers;
     let class = terms.class;
     let open = server.open();
     let place = open.reserve(rt);
@@ -176,13 +189,8 @@ fn start_worker<'s, E: 's, R: Wait + Threads + Log + Sync, D: Serving + Sync>(
     };
     match start_connection(scope, rt, server, participant, connection) {
         Ok(thread) => {
-            workers.push(Some(Worker { thread, place }));
-            let served = outcomes.served + 1;
-            Pool {
-                workers,
-                outcomes: Outcomes { served, ..outcomes },
-                sessions,
-            }
+            pool.workers.push(Some(Worker { thread, place }));
+            pool.outcomes.served += 1;
         }
         Err(served) => {
             note_threadless(rt, open, terms);
@@ -192,15 +200,7 @@ fn start_worker<'s, E: 's, R: Wait + Threads + Log + Sync, D: Serving + Sync>(
                 participant,
             } = served;
             server.device().join(own, participant);
-            let threadless = outcomes.threadless + 1;
-            Pool {
-                workers,
-                outcomes: Outcomes {
-                    threadless,
-                    ..outcomes
-                },
-                sessions,
-            }
+            pool.outcomes.threadless += 1;
         }
     }
 }
@@ -212,30 +212,27 @@ fn make_room<R: Wait + Threads, D: Serving>(
     server: &D,
     own: &mut Seat,
     terms: Terms,
-    pool: Pool,
-) -> Pool
+    pool: &mut Pool,
+)
     requires own { own.old.table ≡ D.table server.now }
-    requires served { HasServedFor terms pool.outcomes pool.sessions.items own.old }
-    requires promised { ArePromised (λ worker. worker.thread.promise) terms.class own.old pool.workers.items }
-    requires outstanding { array_vec_len pool.workers ≤ own.old.outstanding }
-    requires room { IsRoomFor terms.until pool.sessions }
+    requires served { HasServedFor terms pool.old.outcomes pool.old.sessions.items own.old }
+    requires promised { ArePromised (λ worker. worker.thread.promise) terms.class own.old pool.old.workers.items }
+    requires outstanding { array_vec_len pool.old.workers ≤ own.old.outstanding }
+    requires room { IsRoomFor terms.until pool.old.sessions }
     ensures same { Same own.old own.new }
     ensures parent { own.new.parent ≡ own.old.parent }
-    ensures served { HasServedFor terms result.outcomes result.sessions.items own.new }
-    ensures promised { ArePromised (λ worker. worker.thread.promise) terms.class own.new result.workers.items }
-    ensures outstanding { own.new.outstanding + array_vec_len pool.workers ≡ own.old.outstanding + array_vec_len result.workers }
-    ensures merged { length own.new.merged + array_vec_len result.workers ≡ length own.old.merged + array_vec_len pool.workers }
-    ensures room { IsRoomFor terms.until result.sessions }
-    ensures outcomes { result.outcomes ≡ pool.outcomes }
+    ensures served { HasServedFor terms pool.new.outcomes pool.new.sessions.items own.new }
+    ensures promised { ArePromised (λ worker. worker.thread.promise) terms.class own.new pool.new.workers.items }
+    ensures outstanding { own.new.outstanding + array_vec_len pool.old.workers ≡ own.old.outstanding + array_vec_len pool.new.workers }
+    ensures merged { length own.new.merged + array_vec_len pool.new.workers ≡ length own.old.merged + array_vec_len pool.old.workers }
+    ensures room { IsRoomFor terms.until pool.new.sessions }
+    ensures outcomes { pool.new.outcomes ≡ pool.old.outcomes }
 {
-    match terms.until {
-        Until::Counted(_) => pool,
-        Until::Asked => {
-            if pool.workers.len() == MOST_AT_ONCE {
-                server.open().wait_for_leaving(rt);
-            }
-            join_workers(rt, server, own, terms, Awaited::Ended, pool)
+    if let Until::Asked = terms.until {
+        if pool.workers.len() == MOST_AT_ONCE {
+            server.open().wait_for_leaving(rt);
         }
+        join_workers(rt, server, own, terms, Awaited::Ended, pool);
     }
 }
 
@@ -247,49 +244,36 @@ fn admit<'s, E: 's, R: Wait + Threads + Log + Sync, D: Serving + Sync>(
     own: &mut Seat,
     terms: Terms,
     stream: UnixStream,
-    pool: Pool,
-) -> Pool
+    pool: &mut Pool,
+)
     requires own { own.old.table ≡ D.table server.now }
-    requires served { HasServedFor terms pool.outcomes pool.sessions.items own.old }
-    requires promised { ArePromised (λ worker. worker.thread.promise) terms.class own.old pool.workers.items }
-    requires outstanding { array_vec_len pool.workers ≤ own.old.outstanding }
-    requires few { all_of pool.outcomes + 1 < 2 ^ 64 }
-    requires below { IsBelow terms.until (all_of pool.outcomes) }
-    requires counted { AreCounted pool.outcomes (array_vec_len pool.workers) own.old }
-    requires plain { IsPlain terms.until pool.outcomes }
-    requires room { IsRoomFor terms.until pool.sessions }
+    requires served { HasServedFor terms pool.old.outcomes pool.old.sessions.items own.old }
+    requires promised { ArePromised (λ worker. worker.thread.promise) terms.class own.old pool.old.workers.items }
+    requires outstanding { array_vec_len pool.old.workers ≤ own.old.outstanding }
+    requires few { all_of pool.old.outcomes + 1 < 2 ^ 64 }
+    requires below { IsBelow terms.until (all_of pool.old.outcomes) }
+    requires counted { AreCounted pool.old.outcomes (array_vec_len pool.old.workers) own.old }
+    requires plain { IsPlain terms.until pool.old.outcomes }
+    requires room { IsRoomFor terms.until pool.old.sessions }
     ensures same { Same own.old own.new }
     ensures parent { own.new.parent ≡ own.old.parent }
-    ensures served { HasServedFor terms result.outcomes result.sessions.items own.new }
-    ensures promised { ArePromised (λ worker. worker.thread.promise) terms.class own.new result.workers.items }
-    ensures outstanding { own.new.outstanding + array_vec_len pool.workers ≡ own.old.outstanding + array_vec_len result.workers }
-    ensures one_more { all_of result.outcomes ≡ all_of pool.outcomes + 1 }
-    ensures counted { AreCounted result.outcomes (array_vec_len result.workers) own.new }
-    ensures plain { IsPlain terms.until result.outcomes }
-    ensures room { IsRoomFor terms.until result.sessions }
+    ensures served { HasServedFor terms pool.new.outcomes pool.new.sessions.items own.new }
+    ensures promised { ArePromised (λ worker. worker.thread.promise) terms.class own.new pool.new.workers.items }
+    ensures outstanding { own.new.outstanding + array_vec_len pool.old.workers ≡ own.old.outstanding + array_vec_len pool.new.workers }
+    ensures one_more { all_of pool.new.outcomes ≡ all_of pool.old.outcomes + 1 }
+    ensures counted { AreCounted pool.new.outcomes (array_vec_len pool.new.workers) own.new }
+    ensures plain { IsPlain terms.until pool.new.outcomes }
+    ensures room { IsRoomFor terms.until pool.new.sessions }
 {
-    let pool = make_room(rt, server, own, terms, pool);
-    let most = terms.until.most_at_once();
-    if pool.workers.len() < most {
-        return start_worker(scope, rt, server, own, terms, stream, pool);
-    }
-    server
-        .open()
-        .notes()
-        .add_once(rt, Note::Crowded(terms.class));
-    let Pool {
-        workers,
-        outcomes,
-        sessions,
-    } = pool;
-    let crowded = outcomes.crowded + 1;
-    Pool {
-        workers,
-        outcomes: Outcomes {
-            crowded,
-            ..outcomes
-        },
-        sessions,
+    make_room(rt, server, own, terms, pool);
+    if pool.workers.len() < terms.until.most_at_once() {
+        start_worker(scope, rt, server, own, terms, stream, pool);
+    } else {
+        server
+            .open()
+            .notes()
+            .add_once(rt, Note::Crowded(terms.class));
+        pool.outcomes.crowded += 1;
     }
 }
 
@@ -344,7 +328,7 @@ fn accept_connections<'s, E: 's, R: Wait + Threads + Log + Sync, D: Serving + Sy
     for _ in rt.forever() {
         let closing = match listener.accept(rt, open) {
             Ok(Arrival::Connection(stream)) => {
-                pool = admit(scope, rt, server, own, terms, stream, pool);
+                admit(scope, rt, server, own, terms, stream, &mut pool);
                 if terms.until.goes_on(pool.outcomes) {
                     continue;
                 }
@@ -404,14 +388,9 @@ fn serve_in_scope<'s, E: 's, R: Wait + Threads + Log + Sync, D: Serving + Sync>(
         listener,
         sessions,
     );
-    let Pool { sessions, .. } = join_workers(
-        rt,
-        server,
-        &mut participant,
-        terms,
-        Awaited::All,
-        pool,
-    );
+    let mut pool = pool;
+    join_workers(rt, server, &mut participant, terms, Awaited::All, &mut pool);
+    let Pool { sessions, .. } = pool;
     match closing {
         Ok(closing) => ServedListener {
             participant,

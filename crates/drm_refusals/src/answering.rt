@@ -12,11 +12,11 @@ ghost use Rattle.drm_refusals.specs.Facts as facts;
 ghost use Rattle.drm_refusals.specs.Kinds as kinds;
 ghost use Rattle.drm_refusals.specs.Reports as reports;
 
+use crate::context::Context;
 use crate::denials::reasons;
 use crate::remedies::{remedy, remedy_apart};
 use crate::room::full_journal;
 use crate::rows::AnswerRow;
-use crate::scene::Scene;
 use drm_explanations::{Labels, Name, at};
 use drm_modes::Topology;
 use drm_rights::{Ledger, Step};
@@ -47,7 +47,7 @@ fn caller_of(step: &Step) -> Option<u64> {
 /// Returns the row of a fault.
 fn apart_row(
     alloc: Global,
-    scene: Scene<'_>,
+    context: Context<'_>,
     line: Line,
     apart: Apart,
 ) -> Result<AnswerRow, AllocError>
@@ -56,10 +56,10 @@ fn apart_row(
     ensures carried_out { IfOk result (λ row. row.is_carried_out ≡ is_none row.rule) }
     ensures line { IfOk result (λ row. row.line ≡ line.number) }
     ensures answer { IfOk result (λ row. row.answer ≡ line.answer) }
-    ensures facts { IfOk result (λ row. All (facts.Holds scene.entry.topology.now scene.entry.limits scene.entry.ledger.now) row.facts.items) }
+    ensures facts { IfOk result (λ row. All (facts.Holds context.entry.topology.now context.entry.limits context.entry.ledger.now) row.facts.items) }
 {
     let found = match apart {
-        Apart::JournalFull => full_journal(alloc, scene)?,
+        Apart::JournalFull => full_journal(alloc, context)?,
         _ => Vec::new(alloc),
     };
     Ok(AnswerRow {
@@ -77,20 +77,20 @@ fn apart_row(
 /// Returns the row of the last step.
 fn step_row(
     alloc: Global,
-    scene: Scene<'_>,
+    context: Context<'_>,
     labels: &Labels,
     line: Line,
     step: &Step,
 ) -> Result<AnswerRow, AllocError>
     ensures rule { IfOk result (λ row. row.rule ≡ option_map rule_number (reports.denied_by step.now.answer)) }
-    ensures step { IfOk result (λ row. option_map (λ told. told.step) row.asked ≡ reports.last_number scene.entry.ledger.now) }
+    ensures step { IfOk result (λ row. option_map (λ told. told.step) row.asked ≡ reports.last_number context.entry.ledger.now) }
     ensures carried_out { IfOk result (λ row. row.is_carried_out ≡ is_none row.rule) }
     ensures line { IfOk result (λ row. row.line ≡ line.number) }
     ensures answer { IfOk result (λ row. row.answer ≡ line.answer) }
-    ensures has { IfOk result (λ row. kinds.HasFor scene.entry.topology.now scene.entry.ledger.now step.now.event step.now.answer row.facts.items) }
-    ensures facts { IfOk result (λ row. All (facts.Holds scene.entry.topology.now scene.entry.limits scene.entry.ledger.now) row.facts.items) }
+    ensures has { IfOk result (λ row. kinds.HasFor context.entry.topology.now context.entry.ledger.now step.now.event step.now.answer row.facts.items) }
+    ensures facts { IfOk result (λ row. All (facts.Holds context.entry.topology.now context.entry.limits context.entry.ledger.now) row.facts.items) }
 {
-    let steps = scene.ledger.steps();
+    let steps = context.ledger.steps();
     let label = caller_of(step).and_then(|client| Name::of(labels, client).label());
     let mut row = AnswerRow {
         line: line.number,
@@ -103,7 +103,7 @@ fn step_row(
         passes_if: None,
     };
     if let Answer::Denied(rule) = &step.answer {
-        row.facts = reasons(alloc, scene, &step.event, *rule)?;
+        row.facts = reasons(alloc, context, &step.event, *rule)?;
         row.is_carried_out = false;
         row.rule = Some(rule.number());
         row.passes_if = Some(remedy(*rule));
@@ -137,16 +137,16 @@ pub fn explain_answer(
     ensures has { IfOk result (λ row. line.apart ≡ None → kinds.Has topology.now ledger.now row.facts.items) }
     ensures facts { IfOk result (λ row. All (facts.Holds topology.now limits ledger.now) row.facts.items) }
 {
-    let scene = Scene {
+    let context = Context {
         ledger,
         topology,
         limits,
     };
     match line.apart {
-        Some(apart) => apart_row(alloc, scene, line, apart),
+        Some(apart) => apart_row(alloc, context, line, apart),
         None => match ledger.steps().last() {
-            Some(step) => step_row(alloc, scene, labels, line, step),
-            None => apart_row(alloc, scene, line, Apart::NoMemory),
+            Some(step) => step_row(alloc, context, labels, line, step),
+            None => apart_row(alloc, context, line, Apart::NoMemory),
         },
     }
 }

@@ -6,9 +6,9 @@ ghost use Rattle.drm_refusals.specs.Facts as facts;
 ghost use Rattle.drm_refusals.specs.Kinds as kinds;
 
 use crate::collecting::{only, with};
+use crate::context::{Context, first_steps};
 use crate::facts::{Fact, HandleFact, PublishedFact};
 use crate::publications::publication;
-use crate::scene::{Scene, first_steps};
 use crate::searching::{Search, last};
 use drm_explanations::at;
 use drm_rights::{Key, Ledger, Step, Trail, handles_of, last_publishing};
@@ -60,37 +60,37 @@ fn lacked(ledger: &Ledger, client: u64, handle: u32) -> Option<HandleFact>
 }
 
 /// Returns the reason a client does not hold the handle of a call.
-fn missing(scene: Scene<'_>, client: u64, call: &Call) -> Option<Fact>
-    ensures { IfSome result (facts.Holds scene.entry.topology.now scene.entry.limits scene.entry.ledger.now) }
+fn missing(context: Context<'_>, client: u64, call: &Call) -> Option<Fact>
+    ensures { IfSome result (facts.Holds context.entry.topology.now context.entry.limits context.entry.ledger.now) }
 {
-    match lacked(scene.ledger, client, handle_in(call)?) {
+    match lacked(context.ledger, client, handle_in(call)?) {
         Some(fact) => Some(Fact::Handle(fact)),
         None => None,
     }
 }
 
 /// Returns the handles that a client holds.
-fn held(alloc: Global, scene: Scene<'_>, client: u64) -> Result<Fact, AllocError>
+fn held(alloc: Global, context: Context<'_>, client: u64) -> Result<Fact, AllocError>
     ensures is { IfOk result (λ fact. kinds.is_held fact ≡ true) }
-    ensures holds { IfOk result (facts.Holds scene.entry.topology.now scene.entry.limits scene.entry.ledger.now) }
+    ensures holds { IfOk result (facts.Holds context.entry.topology.now context.entry.limits context.entry.ledger.now) }
 {
-    let held = handles_of(alloc, scene.ledger.steps(), client)?;
+    let held = handles_of(alloc, context.ledger.steps(), client)?;
     Ok(Fact::Handle(HandleFact::Holds { client, held }))
 }
 
 /// Returns the reason a client does not hold the handle of a call, and the handles that it holds.
 pub(crate) fn no_handle(
     alloc: Global,
-    scene: Scene<'_>,
+    context: Context<'_>,
     client: u64,
     call: &Call,
 ) -> Result<Vec<Fact>, AllocError>
     ensures has { IfOk result (λ found. kinds.Shows found.items kinds.is_held) }
-    ensures holds { IfOk result (λ found. All (facts.Holds scene.entry.topology.now scene.entry.limits scene.entry.ledger.now) found.items) }
+    ensures holds { IfOk result (λ found. All (facts.Holds context.entry.topology.now context.entry.limits context.entry.ledger.now) found.items) }
 {
-    let found = only(alloc, scene, missing(scene, client, call))?;
-    let held = held(alloc, scene, client)?;
-    with(scene, found, Some(held))
+    let found = only(alloc, context, missing(context, client, call))?;
+    let held = held(alloc, context, client)?;
+    with(context, found, Some(held))
 }
 
 /// Returns whether a step closed a handle of an object, after the first `before` steps.
@@ -158,12 +158,16 @@ fn unnamed(alloc: Global, ledger: &Ledger, name: u32) -> Result<Option<Published
 }
 
 /// Returns the reason no object has a name.
-pub(crate) fn no_name(alloc: Global, scene: Scene<'_>, name: u32) -> Result<Vec<Fact>, AllocError>
+pub(crate) fn no_name(
+    alloc: Global,
+    context: Context<'_>,
+    name: u32,
+) -> Result<Vec<Fact>, AllocError>
     ensures has { IfOk result (λ found. kinds.Shows found.items kinds.is_published) }
-    ensures holds { IfOk result (λ found. All (facts.Holds scene.entry.topology.now scene.entry.limits scene.entry.ledger.now) found.items) }
+    ensures holds { IfOk result (λ found. All (facts.Holds context.entry.topology.now context.entry.limits context.entry.ledger.now) found.items) }
 {
-    match unnamed(alloc, scene.ledger, name)? {
-        Some(fact) => only(alloc, scene, Some(Fact::Published(fact))),
+    match unnamed(alloc, context.ledger, name)? {
+        Some(fact) => only(alloc, context, Some(Fact::Published(fact))),
         None => Ok(Vec::new(alloc)),
     }
 }

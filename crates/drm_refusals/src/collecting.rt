@@ -5,21 +5,21 @@ ghost use Rattle.drm_refusals.specs.Facts as facts;
 ghost use Rattle.drm_refusals.specs.Kinds.{Shows};
 ghost use Rattle.drm_refusals.specs.declared.facts.Fact.{Fact};
 
+use crate::context::Context;
 use crate::facts::Fact;
-use crate::scene::Scene;
 use std::alloc::{AllocError, Global};
 
 /// Returns the list with one more fact, if there is one.
 pub(crate) fn with(
-    scene: Scene<'_>,
+    context: Context<'_>,
     found: Vec<Fact>,
     fact: Option<Fact>,
 ) -> Result<Vec<Fact>, AllocError>
-    requires found { All (facts.Holds scene.topology.now scene.limits scene.ledger.now) found.items }
-    requires fact { IfSome fact (facts.Holds scene.topology.now scene.limits scene.ledger.now) }
+    requires found { All (facts.Holds context.topology.now context.limits context.ledger.now) found.items }
+    requires fact { IfSome fact (facts.Holds context.topology.now context.limits context.ledger.now) }
     ensures kept { IfOk result (λ more. (kind : Fact → Bool) → Shows found.items kind → Shows more.items kind) }
     ensures has { IfOk result (λ more. IfSome fact (λ new. (kind : Fact → Bool) → kind new ≡ true → Shows more.items kind)) }
-    ensures holds { IfOk result (λ more. All (facts.Holds scene.entry.topology.now scene.entry.limits scene.entry.ledger.now) more.items) }
+    ensures holds { IfOk result (λ more. All (facts.Holds context.entry.topology.now context.entry.limits context.entry.ledger.now) more.items) }
 {
     let mut found = found;
     match fact {
@@ -34,12 +34,12 @@ pub(crate) fn with(
 /// Returns the list of one fact, if there is one.
 pub(crate) fn only(
     alloc: Global,
-    scene: Scene<'_>,
+    context: Context<'_>,
     fact: Option<Fact>,
 ) -> Result<Vec<Fact>, AllocError>
-    requires { IfSome fact (facts.Holds scene.topology.now scene.limits scene.ledger.now) }
+    requires { IfSome fact (facts.Holds context.topology.now context.limits context.ledger.now) }
     ensures has { IfOk result (λ found. IfSome fact (λ new. (kind : Fact → Bool) → kind new ≡ true → Shows found.items kind)) }
-    ensures holds { IfOk result (λ found. All (facts.Holds scene.entry.topology.now scene.entry.limits scene.entry.ledger.now) found.items) }
+    ensures holds { IfOk result (λ found. All (facts.Holds context.entry.topology.now context.entry.limits context.entry.ledger.now) found.items) }
 {
-    with(scene, Vec::new(alloc), fact)
+    with(context, Vec::new(alloc), fact)
 }

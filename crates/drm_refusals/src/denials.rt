@@ -13,13 +13,13 @@ ghost use Rattle.drm_refusals.specs.Kinds as kinds;
 
 use crate::buffers::{no_handle, no_name};
 use crate::collecting::{only, with};
+use crate::context::Context;
 use crate::facts::{ClientFact, Fact, MagicFact, RequestFact};
 use crate::leasing::{
     bad_shape, leased_out, no_lease_token, no_lessee, not_leasable, other_lessee, repeated,
 };
 use crate::publications::{no_framebuffer, no_token};
 use crate::room::{full, full_of_clients};
-use crate::scene::Scene;
 use crate::screens::{bad_route, no_mode_object};
 use crate::searching::{Search, last};
 use crate::sizes::{bad_cap, bad_size};
@@ -44,14 +44,14 @@ fn closed_or_never(ledger: &Ledger, client: u64) -> Option<ClientFact>
 }
 
 /// Returns the reason the caller is not open.
-fn absent(scene: Scene<'_>, client: u64) -> Option<Fact>
-    ensures open { MatchOption result (kinds.is_open scene.entry.ledger.now client ≡ true) (λ fact. kinds.is_absence fact ≡ true) }
-    ensures holds { IfSome result (facts.Holds scene.entry.topology.now scene.entry.limits scene.entry.ledger.now) }
+fn absent(context: Context<'_>, client: u64) -> Option<Fact>
+    ensures open { MatchOption result (kinds.is_open context.entry.ledger.now client ≡ true) (λ fact. kinds.is_absence fact ≡ true) }
+    ensures holds { IfSome result (facts.Holds context.entry.topology.now context.entry.limits context.entry.ledger.now) }
 {
     if client == 0 {
         return Some(Fact::Request(RequestFact::NoCaller));
     }
-    match closed_or_never(scene.ledger, client) {
+    match closed_or_never(context.ledger, client) {
         Some(fact) => Some(Fact::Client(fact)),
         None => None,
     }
@@ -111,33 +111,33 @@ fn no_magic(ledger: &Ledger, client: u64, magic: u32) -> MagicFact
 /// Returns the fact of a call's magic.
 fn by_magic(
     alloc: Global,
-    scene: Scene<'_>,
+    context: Context<'_>,
     client: u64,
     call: &Call,
 ) -> Result<Vec<Fact>, AllocError>
     ensures has { IfOk result (λ found. AllByRecursion (kinds.Shows found.items) (kinds.kinds rules.NoMagic call.now)) }
-    ensures holds { IfOk result (λ found. All (facts.Holds scene.entry.topology.now scene.entry.limits scene.entry.ledger.now) found.items) }
+    ensures holds { IfOk result (λ found. All (facts.Holds context.entry.topology.now context.entry.limits context.entry.ledger.now) found.items) }
 {
     match call {
         Call::AuthMagic { magic } => only(
             alloc,
-            scene,
-            Some(Fact::Magic(no_magic(scene.ledger, client, *magic))),
+            context,
+            Some(Fact::Magic(no_magic(context.ledger, client, *magic))),
         ),
         _ => Ok(Vec::new(alloc)),
     }
 }
 
 /// Returns the reason the framebuffer of a call is missing.
-fn by_framebuffer(alloc: Global, scene: Scene<'_>, call: &Call) -> Result<Vec<Fact>, AllocError>
+fn by_framebuffer(alloc: Global, context: Context<'_>, call: &Call) -> Result<Vec<Fact>, AllocError>
     ensures has { IfOk result (λ found. AllByRecursion (kinds.Shows found.items) (kinds.kinds rules.NoFb call.now)) }
-    ensures holds { IfOk result (λ found. All (facts.Holds scene.entry.topology.now scene.entry.limits scene.entry.ledger.now) found.items) }
+    ensures holds { IfOk result (λ found. All (facts.Holds context.entry.topology.now context.entry.limits context.entry.ledger.now) found.items) }
 {
     match call {
-        Call::SetCrtc { framebuffer, .. } => no_framebuffer(alloc, scene, *framebuffer),
-        Call::SetPlane { framebuffer, .. } => no_framebuffer(alloc, scene, *framebuffer),
-        Call::GetFb { framebuffer } => no_framebuffer(alloc, scene, *framebuffer),
-        Call::RmFb { framebuffer } => no_framebuffer(alloc, scene, *framebuffer),
+        Call::SetCrtc { framebuffer, .. } => no_framebuffer(alloc, context, *framebuffer),
+        Call::SetPlane { framebuffer, .. } => no_framebuffer(alloc, context, *framebuffer),
+        Call::GetFb { framebuffer } => no_framebuffer(alloc, context, *framebuffer),
+        Call::RmFb { framebuffer } => no_framebuffer(alloc, context, *framebuffer),
         _ => Ok(Vec::new(alloc)),
     }
 }
@@ -149,20 +149,20 @@ fn own_lease(ledger: &Ledger, client: u64) -> Option<Subject> {
 }
 
 /// Returns the reason the caller is not open.
-fn no_client(alloc: Global, scene: Scene<'_>, client: u64) -> Result<Vec<Fact>, AllocError>
-    ensures has { IfOk result (λ found. kinds.is_open scene.entry.ledger.now client ≡ false → kinds.Shows found.items kinds.is_absence) }
-    ensures holds { IfOk result (λ found. All (facts.Holds scene.entry.topology.now scene.entry.limits scene.entry.ledger.now) found.items) }
+fn no_client(alloc: Global, context: Context<'_>, client: u64) -> Result<Vec<Fact>, AllocError>
+    ensures has { IfOk result (λ found. kinds.is_open context.entry.ledger.now client ≡ false → kinds.Shows found.items kinds.is_absence) }
+    ensures holds { IfOk result (λ found. All (facts.Holds context.entry.topology.now context.entry.limits context.entry.ledger.now) found.items) }
 {
-    match absent(scene, client) {
-        Some(fact) => only(alloc, scene, Some(fact)),
+    match absent(context, client) {
+        Some(fact) => only(alloc, context, Some(fact)),
         None => Ok(Vec::new(alloc)),
     }
 }
 
 /// Returns the line of the explanation about a subject, if there is one.
-fn line(scene: Scene<'_>, subject: Option<Subject>) -> Option<Fact>
+fn line(context: Context<'_>, subject: Option<Subject>) -> Option<Fact>
     ensures is { result ≡ option_map variants.Told subject }
-    ensures holds { IfSome result (facts.Holds scene.entry.topology.now scene.entry.limits scene.entry.ledger.now) }
+    ensures holds { IfSome result (facts.Holds context.entry.topology.now context.entry.limits context.entry.ledger.now) }
 {
     match subject {
         Some(subject) => Some(Fact::Told(subject)),
@@ -173,7 +173,7 @@ fn line(scene: Scene<'_>, subject: Option<Subject>) -> Option<Fact>
 /// Returns the lines of the explanation about these subjects.
 fn told(
     alloc: Global,
-    scene: Scene<'_>,
+    context: Context<'_>,
     first: Subject,
     second: Option<Subject>,
     third: Option<Subject>,
@@ -181,124 +181,136 @@ fn told(
     ensures first { IfOk result (λ found. (kind : Fact → Bool) → kind (variants.Told first) ≡ true → kinds.Shows found.items kind) }
     ensures second { IfOk result (λ found. IfSome second (λ subject. (kind : Fact → Bool) → kind (variants.Told subject) ≡ true → kinds.Shows found.items kind)) }
     ensures third { IfOk result (λ found. IfSome third (λ subject. (kind : Fact → Bool) → kind (variants.Told subject) ≡ true → kinds.Shows found.items kind)) }
-    ensures holds { IfOk result (λ found. All (facts.Holds scene.entry.topology.now scene.entry.limits scene.entry.ledger.now) found.items) }
+    ensures holds { IfOk result (λ found. All (facts.Holds context.entry.topology.now context.entry.limits context.entry.ledger.now) found.items) }
 {
-    let found = only(alloc, scene, Some(Fact::Told(first)))?;
-    let found = with(scene, found, line(scene, second))?;
-    with(scene, found, line(scene, third))
+    let found = only(alloc, context, Some(Fact::Told(first)))?;
+    let found = with(context, found, line(context, second))?;
+    with(context, found, line(context, third))
 }
 
 /// Returns the reason no lessee has the id of a call.
 fn by_lessee(
     alloc: Global,
-    scene: Scene<'_>,
+    context: Context<'_>,
     client: u64,
     call: &Call,
 ) -> Result<Vec<Fact>, AllocError>
     ensures has { IfOk result (λ found. AllByRecursion (kinds.Shows found.items) (kinds.kinds rules.NoLessee call.now)) }
-    ensures holds { IfOk result (λ found. All (facts.Holds scene.entry.topology.now scene.entry.limits scene.entry.ledger.now) found.items) }
+    ensures holds { IfOk result (λ found. All (facts.Holds context.entry.topology.now context.entry.limits context.entry.ledger.now) found.items) }
 {
     match call {
-        Call::RevokeLease { lessee } => no_lessee(alloc, scene, client, *lessee),
+        Call::RevokeLease { lessee } => no_lessee(alloc, context, client, *lessee),
         _ => Ok(Vec::new(alloc)),
     }
 }
 
 /// Returns the reason no object has the name of a call.
-fn by_name(alloc: Global, scene: Scene<'_>, call: &Call) -> Result<Vec<Fact>, AllocError>
+fn by_name(alloc: Global, context: Context<'_>, call: &Call) -> Result<Vec<Fact>, AllocError>
     ensures has { IfOk result (λ found. AllByRecursion (kinds.Shows found.items) (kinds.kinds rules.NoName call.now)) }
-    ensures holds { IfOk result (λ found. All (facts.Holds scene.entry.topology.now scene.entry.limits scene.entry.ledger.now) found.items) }
+    ensures holds { IfOk result (λ found. All (facts.Holds context.entry.topology.now context.entry.limits context.entry.ledger.now) found.items) }
 {
     match call {
-        Call::GemOpen { name } => no_name(alloc, scene, *name),
+        Call::GemOpen { name } => no_name(alloc, context, *name),
         _ => Ok(Vec::new(alloc)),
     }
 }
 
 /// Returns the reason the token of a call is not open, or the client that published it.
-fn by_token(alloc: Global, scene: Scene<'_>, call: &Call) -> Result<Vec<Fact>, AllocError>
+fn by_token(alloc: Global, context: Context<'_>, call: &Call) -> Result<Vec<Fact>, AllocError>
     ensures has { IfOk result (λ found. AllByRecursion (kinds.Shows found.items) (kinds.kinds rules.NoToken call.now)) }
-    ensures holds { IfOk result (λ found. All (facts.Holds scene.entry.topology.now scene.entry.limits scene.entry.ledger.now) found.items) }
+    ensures holds { IfOk result (λ found. All (facts.Holds context.entry.topology.now context.entry.limits context.entry.ledger.now) found.items) }
 {
     match call {
-        Call::PrimeFdToHandle { token } => no_token(alloc, scene, *token),
-        Call::TokenClose { token } => no_token(alloc, scene, *token),
+        Call::PrimeFdToHandle { token } => no_token(alloc, context, *token),
+        Call::TokenClose { token } => no_token(alloc, context, *token),
         _ => Ok(Vec::new(alloc)),
     }
 }
 
 /// Returns what is wrong with the number or the fields of a call.
-fn by_number(alloc: Global, scene: Scene<'_>, call: &Call) -> Result<Vec<Fact>, AllocError>
+fn by_number(alloc: Global, context: Context<'_>, call: &Call) -> Result<Vec<Fact>, AllocError>
     ensures has { IfOk result (λ found. kinds.Shows found.items kinds.is_number) }
-    ensures holds { IfOk result (λ found. All (facts.Holds scene.entry.topology.now scene.entry.limits scene.entry.ledger.now) found.items) }
+    ensures holds { IfOk result (λ found. All (facts.Holds context.entry.topology.now context.entry.limits context.entry.ledger.now) found.items) }
 {
-    only(alloc, scene, Some(Fact::Request(unknown(call))))
+    only(alloc, context, Some(Fact::Request(unknown(call))))
 }
 
 /// Returns the facts that explain the denial of a call.
 fn by_call(
     alloc: Global,
-    scene: Scene<'_>,
+    context: Context<'_>,
     client: u64,
     call: &Call,
     rule: Rule,
 ) -> Result<Vec<Fact>, AllocError>
-    ensures has { IfOk result (λ found. kinds.HasKinds scene.entry.topology.now scene.entry.ledger.now (events.Ask client call.now) rule found.items) }
-    ensures holds { IfOk result (λ found. All (facts.Holds scene.entry.topology.now scene.entry.limits scene.entry.ledger.now) found.items) }
+    ensures has { IfOk result (λ found. kinds.HasKinds context.entry.topology.now context.entry.ledger.now (events.Ask client call.now) rule found.items) }
+    ensures holds { IfOk result (λ found. All (facts.Holds context.entry.topology.now context.entry.limits context.entry.ledger.now) found.items) }
 {
     let current = Subject::Current(client);
     let master = Subject::Master(client);
     let device = Some(Subject::Device);
     match rule {
-        Rule::Unknown => by_number(alloc, scene, call),
-        Rule::Layout => by_number(alloc, scene, call),
-        Rule::NoClient => no_client(alloc, scene, client),
-        Rule::RootOnly => told(alloc, scene, Subject::Client(client), None, None),
-        Rule::Auth => told(alloc, scene, Subject::Authentication(client), None, None),
-        Rule::Master => told(alloc, scene, current, Some(master), device),
-        Rule::RenderAllow => told(alloc, scene, Subject::Client(client), None, None),
-        Rule::NoHandle => no_handle(alloc, scene, client, call),
-        Rule::NoHandleToClose => no_handle(alloc, scene, client, call),
-        Rule::NoName => by_name(alloc, scene, call),
-        Rule::NoToken => by_token(alloc, scene, call),
-        Rule::NoMagic => by_magic(alloc, scene, client, call),
-        Rule::MasterPerm => told(alloc, scene, Subject::Client(client), Some(master), None),
-        Rule::MasterBusy => told(alloc, scene, current, device, None),
-        Rule::NotCurrent => told(alloc, scene, current, Some(master), device),
-        Rule::IsLessee => told(alloc, scene, master, own_lease(scene.ledger, client), None),
-        Rule::NoModeObject => no_mode_object(alloc, scene, client, call),
-        Rule::SubLease => told(alloc, scene, master, own_lease(scene.ledger, client), None),
-        Rule::NoLessee => by_lessee(alloc, scene, client, call),
-        Rule::NoFb => by_framebuffer(alloc, scene, call),
-        Rule::BadSize => bad_size(alloc, scene, client, call),
-        Rule::BadRoute => bad_route(alloc, scene, client, call),
-        Rule::BadCap => bad_cap(alloc, scene, call),
-        Rule::Full => full(alloc, scene, client, call),
+        Rule::Unknown => by_number(alloc, context, call),
+        Rule::Layout => by_number(alloc, context, call),
+        Rule::NoClient => no_client(alloc, context, client),
+        Rule::RootOnly => told(alloc, context, Subject::Client(client), None, None),
+        Rule::Auth => told(alloc, context, Subject::Authentication(client), None, None),
+        Rule::Master => told(alloc, context, current, Some(master), device),
+        Rule::RenderAllow => told(alloc, context, Subject::Client(client), None, None),
+        Rule::NoHandle => no_handle(alloc, context, client, call),
+        Rule::NoHandleToClose => no_handle(alloc, context, client, call),
+        Rule::NoName => by_name(alloc, context, call),
+        Rule::NoToken => by_token(alloc, context, call),
+        Rule::NoMagic => by_magic(alloc, context, client, call),
+        Rule::MasterPerm => told(alloc, context, Subject::Client(client), Some(master), None),
+        Rule::MasterBusy => told(alloc, context, current, device, None),
+        Rule::NotCurrent => told(alloc, context, current, Some(master), device),
+        Rule::IsLessee => told(
+            alloc,
+            context,
+            master,
+            own_lease(context.ledger, client),
+            None,
+        ),
+        Rule::NoModeObject => no_mode_object(alloc, context, client, call),
+        Rule::SubLease => told(
+            alloc,
+            context,
+            master,
+            own_lease(context.ledger, client),
+            None,
+        ),
+        Rule::NoLessee => by_lessee(alloc, context, client, call),
+        Rule::NoFb => by_framebuffer(alloc, context, call),
+        Rule::BadSize => bad_size(alloc, context, client, call),
+        Rule::BadRoute => bad_route(alloc, context, client, call),
+        Rule::BadCap => bad_cap(alloc, context, call),
+        Rule::Full => full(alloc, context, client, call),
         Rule::NoLeaseToken => Ok(Vec::new(alloc)),
-        Rule::NotLeasable => not_leasable(alloc, scene, client, call),
-        Rule::Repeated => repeated(alloc, scene, client, call),
-        Rule::LeaseShape => bad_shape(alloc, scene, client, call),
-        Rule::LeasedOut => leased_out(alloc, scene, client, call),
-        Rule::NotYourLessee => other_lessee(alloc, scene, client, call),
+        Rule::NotLeasable => not_leasable(alloc, context, client, call),
+        Rule::Repeated => repeated(alloc, context, client, call),
+        Rule::LeaseShape => bad_shape(alloc, context, client, call),
+        Rule::LeasedOut => leased_out(alloc, context, client, call),
+        Rule::NotYourLessee => other_lessee(alloc, context, client, call),
     }
 }
 
 /// Returns the facts that explain the denial of an opening.
 fn by_opening(
     alloc: Global,
-    scene: Scene<'_>,
+    context: Context<'_>,
     opening: &Opening,
     rule: Rule,
 ) -> Result<Vec<Fact>, AllocError>
-    ensures has { IfOk result (λ found. kinds.HasKinds scene.entry.topology.now scene.entry.ledger.now (events.Open opening.now) rule found.items) }
-    ensures holds { IfOk result (λ found. All (facts.Holds scene.entry.topology.now scene.entry.limits scene.entry.ledger.now) found.items) }
+    ensures has { IfOk result (λ found. kinds.HasKinds context.entry.topology.now context.entry.ledger.now (events.Open opening.now) rule found.items) }
+    ensures holds { IfOk result (λ found. All (facts.Holds context.entry.topology.now context.entry.limits context.entry.ledger.now) found.items) }
 {
     match rule {
         Rule::NoLeaseToken => match opening {
-            Opening::Lease { token, .. } => no_lease_token(alloc, scene, *token),
+            Opening::Lease { token, .. } => no_lease_token(alloc, context, *token),
             _ => Ok(Vec::new(alloc)),
         },
-        Rule::Full => full_of_clients(alloc, scene),
+        Rule::Full => full_of_clients(alloc, context),
         _ => Ok(Vec::new(alloc)),
     }
 }
@@ -306,16 +318,16 @@ fn by_opening(
 /// Returns the facts that explain a denial.
 pub(crate) fn reasons(
     alloc: Global,
-    scene: Scene<'_>,
+    context: Context<'_>,
     event: &Event,
     rule: Rule,
 ) -> Result<Vec<Fact>, AllocError>
-    ensures has { IfOk result (λ found. kinds.HasKinds scene.entry.topology.now scene.entry.ledger.now event.now rule found.items) }
-    ensures holds { IfOk result (λ found. All (facts.Holds scene.entry.topology.now scene.entry.limits scene.entry.ledger.now) found.items) }
+    ensures has { IfOk result (λ found. kinds.HasKinds context.entry.topology.now context.entry.ledger.now event.now rule found.items) }
+    ensures holds { IfOk result (λ found. All (facts.Holds context.entry.topology.now context.entry.limits context.entry.ledger.now) found.items) }
 {
     match event {
-        Event::Open(opening) => by_opening(alloc, scene, opening, rule),
-        Event::Ask(client, call) => by_call(alloc, scene, u64::from(*client), call, rule),
-        Event::Close(client) => no_client(alloc, scene, u64::from(*client)),
+        Event::Open(opening) => by_opening(alloc, context, opening, rule),
+        Event::Ask(client, call) => by_call(alloc, context, u64::from(*client), call, rule),
+        Event::Close(client) => no_client(alloc, context, u64::from(*client)),
     }
 }

@@ -5,6 +5,7 @@
 mod answering;
 mod buffers;
 mod collecting;
+mod context;
 mod denials;
 mod facts;
 mod leasing;
@@ -12,7 +13,6 @@ mod publications;
 mod remedies;
 mod room;
 mod rows;
-mod scene;
 mod screens;
 mod searching;
 mod sizes;

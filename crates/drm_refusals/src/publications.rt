@@ -6,8 +6,8 @@ ghost use Rattle.drm_refusals.specs.Facts as facts;
 ghost use Rattle.drm_refusals.specs.Kinds as kinds;
 
 use crate::collecting::only;
+use crate::context::Context;
 use crate::facts::{Fact, PublishedFact};
-use crate::scene::Scene;
 use crate::withdrawals::withdrawn;
 use drm_explanations::at;
 use drm_rights::{Key, Ledger, last_publishing};
@@ -36,44 +36,48 @@ pub(crate) fn publication(ledger: &Ledger, key: Key) -> Option<PublishedFact>
     })
 }
 
-fn publication_fact(scene: Scene<'_>, key: Key) -> Option<Fact>
+fn publication_fact(context: Context<'_>, key: Key) -> Option<Fact>
     ensures is { MatchOption result ⊥ (λ fact. kinds.is_published fact ≡ true) }
-    ensures holds { IfSome result (facts.Holds scene.entry.topology.now scene.entry.limits scene.entry.ledger.now) }
+    ensures holds { IfSome result (facts.Holds context.entry.topology.now context.entry.limits context.entry.ledger.now) }
 {
-    match publication(scene.ledger, key) {
+    match publication(context.ledger, key) {
         Some(fact) => Some(Fact::Published(fact)),
         None => None,
     }
 }
 
 /// Returns the reason a PRIME token is not open, or the client that published it.
-pub(crate) fn no_token(alloc: Global, scene: Scene<'_>, token: u32) -> Result<Vec<Fact>, AllocError>
+pub(crate) fn no_token(
+    alloc: Global,
+    context: Context<'_>,
+    token: u32,
+) -> Result<Vec<Fact>, AllocError>
     ensures has { IfOk result (λ found. kinds.Shows found.items kinds.is_published) }
-    ensures holds { IfOk result (λ found. All (facts.Holds scene.entry.topology.now scene.entry.limits scene.entry.ledger.now) found.items) }
+    ensures holds { IfOk result (λ found. All (facts.Holds context.entry.topology.now context.entry.limits context.entry.ledger.now) found.items) }
 {
     only(
         alloc,
-        scene,
-        publication_fact(scene, Key::Token(u64::from(token))),
+        context,
+        publication_fact(context, Key::Token(u64::from(token))),
     )
 }
 
 /// Returns the reason a framebuffer is missing, or the client that created it.
-pub(crate) fn framebuffer_fact(scene: Scene<'_>, framebuffer: u32) -> Option<Fact>
+pub(crate) fn framebuffer_fact(context: Context<'_>, framebuffer: u32) -> Option<Fact>
     ensures is { MatchOption result ⊥ (λ fact. kinds.is_published fact ≡ true) }
-    ensures holds { IfSome result (facts.Holds scene.entry.topology.now scene.entry.limits scene.entry.ledger.now) }
+    ensures holds { IfSome result (facts.Holds context.entry.topology.now context.entry.limits context.entry.ledger.now) }
 {
-    publication_fact(scene, Key::Framebuffer(u64::from(framebuffer)))
+    publication_fact(context, Key::Framebuffer(u64::from(framebuffer)))
 }
 
 /// Returns the reason a framebuffer is missing, or the client that created it.
 pub(crate) fn no_framebuffer(
     alloc: Global,
-    scene: Scene<'_>,
+    context: Context<'_>,
     framebuffer: u32,
 ) -> Result<Vec<Fact>, AllocError>
     ensures has { IfOk result (λ found. kinds.Shows found.items kinds.is_published) }
-    ensures holds { IfOk result (λ found. All (facts.Holds scene.entry.topology.now scene.entry.limits scene.entry.ledger.now) found.items) }
+    ensures holds { IfOk result (λ found. All (facts.Holds context.entry.topology.now context.entry.limits context.entry.ledger.now) found.items) }
 {
-    only(alloc, scene, framebuffer_fact(scene, framebuffer))
+    only(alloc, context, framebuffer_fact(context, framebuffer))
 }

@@ -5,8 +5,8 @@ ghost use Rattle.drm_refusals.specs.Facts as facts;
 ghost use Rattle.drm_refusals.specs.Kinds as kinds;
 
 use crate::collecting::only;
+use crate::context::Context;
 use crate::facts::{Fact, LimitFact};
-use crate::scene::Scene;
 use drm_rights::{Step, handles_of};
 use drm_table::{Answer, Call};
 use std::alloc::{AllocError, Global};
@@ -25,25 +25,29 @@ fn open_clients(steps: &[Step]) -> u64 {
 }
 
 /// Returns that the limit of open clients is reached.
-pub(crate) fn full_of_clients(alloc: Global, scene: Scene<'_>) -> Result<Vec<Fact>, AllocError>
+pub(crate) fn full_of_clients(alloc: Global, context: Context<'_>) -> Result<Vec<Fact>, AllocError>
     ensures has { IfOk result (λ found. kinds.Shows found.items kinds.is_client_limit) }
-    ensures holds { IfOk result (λ found. All (facts.Holds scene.entry.topology.now scene.entry.limits scene.entry.ledger.now) found.items) }
+    ensures holds { IfOk result (λ found. All (facts.Holds context.entry.topology.now context.entry.limits context.entry.ledger.now) found.items) }
 {
-    let count = open_clients(scene.ledger.steps());
-    let most = scene.limits.clients;
+    let count = open_clients(context.ledger.steps());
+    let most = context.limits.clients;
     only(
         alloc,
-        scene,
+        context,
         Some(Fact::Limit(LimitFact::Clients { count, most })),
     )
 }
 
 /// Returns that the limit of a client's handles is reached, or that of objects.
-fn full_of_handles(alloc: Global, scene: Scene<'_>, client: u64) -> Result<LimitFact, AllocError>
-    ensures { IfOk result (facts.LimitHolds scene.entry.limits scene.entry.ledger.now) }
+fn full_of_handles(
+    alloc: Global,
+    context: Context<'_>,
+    client: u64,
+) -> Result<LimitFact, AllocError>
+    ensures { IfOk result (facts.LimitHolds context.entry.limits context.entry.ledger.now) }
 {
-    let count = handles_of(alloc, scene.ledger.steps(), client)?.len() as u64;
-    let most = scene.limits.handles;
+    let count = handles_of(alloc, context.ledger.steps(), client)?.len() as u64;
+    let most = context.limits.handles;
     if count >= u64::from(most) {
         return Ok(LimitFact::Handles {
             client,
@@ -52,20 +56,20 @@ fn full_of_handles(alloc: Global, scene: Scene<'_>, client: u64) -> Result<Limit
         });
     }
     Ok(LimitFact::Objects {
-        most: scene.limits.objects,
+        most: context.limits.objects,
     })
 }
 
 /// Returns the limit that a call has reached.
 fn limit_of(
     alloc: Global,
-    scene: Scene<'_>,
+    context: Context<'_>,
     client: u64,
     call: &Call,
 ) -> Result<LimitFact, AllocError>
-    ensures { IfOk result (facts.LimitHolds scene.entry.limits scene.entry.ledger.now) }
+    ensures { IfOk result (facts.LimitHolds context.entry.limits context.entry.ledger.now) }
 {
-    let limits = scene.limits;
+    let limits = context.limits;
     match call {
         Call::GemFlink { .. } => Ok(LimitFact::Names { most: limits.names }),
         Call::PrimeHandleToFd { .. } => Ok(LimitFact::Tokens {
@@ -78,33 +82,33 @@ fn limit_of(
             lessees: limits.lessees,
             tokens: limits.tokens,
         }),
-        _ => full_of_handles(alloc, scene, client),
+        _ => full_of_handles(alloc, context, client),
     }
 }
 
 /// Returns the limit that a call has reached.
 pub(crate) fn full(
     alloc: Global,
-    scene: Scene<'_>,
+    context: Context<'_>,
     client: u64,
     call: &Call,
 ) -> Result<Vec<Fact>, AllocError>
     ensures has { IfOk result (λ found. kinds.Shows found.items kinds.is_limit) }
-    ensures holds { IfOk result (λ found. All (facts.Holds scene.entry.topology.now scene.entry.limits scene.entry.ledger.now) found.items) }
+    ensures holds { IfOk result (λ found. All (facts.Holds context.entry.topology.now context.entry.limits context.entry.ledger.now) found.items) }
 {
-    let limit = limit_of(alloc, scene, client, call)?;
-    only(alloc, scene, Some(Fact::Limit(limit)))
+    let limit = limit_of(alloc, context, client, call)?;
+    only(alloc, context, Some(Fact::Limit(limit)))
 }
 
 /// Returns the number of steps in the journal, and its limit.
-pub(crate) fn full_journal(alloc: Global, scene: Scene<'_>) -> Result<Vec<Fact>, AllocError>
-    ensures { IfOk result (λ found. All (facts.Holds scene.entry.topology.now scene.entry.limits scene.entry.ledger.now) found.items) }
+pub(crate) fn full_journal(alloc: Global, context: Context<'_>) -> Result<Vec<Fact>, AllocError>
+    ensures { IfOk result (λ found. All (facts.Holds context.entry.topology.now context.entry.limits context.entry.ledger.now) found.items) }
 {
-    let steps = scene.ledger.steps();
+    let steps = context.ledger.steps();
     let journal = LimitFact::Journal {
         used: steps.len() as u64,
-        most: scene.limits.journal,
+        most: context.limits.journal,
         clients: open_clients(steps),
     };
-    only(alloc, scene, Some(Fact::Limit(journal)))
+    only(alloc, context, Some(Fact::Limit(journal)))
 }

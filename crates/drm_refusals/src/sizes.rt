@@ -10,8 +10,8 @@ ghost use Rattle.std.specs.List.{AllByRecursion};
 ghost use Rattle.drm_table.specs.declared.rules.Rule.TheVariants as rules;
 
 use crate::collecting::{only, with};
+use crate::context::Context;
 use crate::facts::{Fact, Quantity, RequestFact, SizeFact};
-use crate::scene::Scene;
 use drm_rights::step_at;
 use drm_table::{Answer, Call};
 use std::alloc::{AllocError, Global};
@@ -40,10 +40,10 @@ fn out_of_range(what: Quantity, number: u64) -> Option<SizeFact>
     Some(SizeFact::OutOfRange { what, number, most })
 }
 
-fn range_fact(scene: Scene<'_>, what: Quantity, number: u64) -> Option<Fact>
+fn range_fact(context: Context<'_>, what: Quantity, number: u64) -> Option<Fact>
     ensures is { IfSome result (λ fact. kinds.is_size fact ≡ true) }
     ensures none { IfNone result ((nat_le 1 number && nat_le number (facts.most_of what)) ≡ true) }
-    ensures holds { IfSome result (facts.Holds scene.entry.topology.now scene.entry.limits scene.entry.ledger.now) }
+    ensures holds { IfSome result (facts.Holds context.entry.topology.now context.entry.limits context.entry.ledger.now) }
 {
     match out_of_range(what, number) {
         Some(fact) => Some(Fact::Size(fact)),
@@ -54,20 +54,20 @@ fn range_fact(scene: Scene<'_>, what: Quantity, number: u64) -> Option<Fact>
 /// Returns the numbers of a picture that are out of their ranges.
 fn shape(
     alloc: Global,
-    scene: Scene<'_>,
+    context: Context<'_>,
     width: u32,
     height: u32,
     bpp: u32,
 ) -> Result<Vec<Fact>, AllocError>
     ensures has { IfOk result (λ found. is_dumb_shape width height bpp ≡ false → kinds.Shows found.items kinds.is_size) }
-    ensures holds { IfOk result (λ found. All (facts.Holds scene.entry.topology.now scene.entry.limits scene.entry.ledger.now) found.items) }
+    ensures holds { IfOk result (λ found. All (facts.Holds context.entry.topology.now context.entry.limits context.entry.ledger.now) found.items) }
 {
-    let width = range_fact(scene, Quantity::Width, u64::from(width));
-    let height = range_fact(scene, Quantity::Height, u64::from(height));
-    let bits = range_fact(scene, Quantity::Bits, u64::from(bpp));
-    let found = only(alloc, scene, width)?;
-    let found = with(scene, found, height)?;
-    with(scene, found, bits)
+    let width = range_fact(context, Quantity::Width, u64::from(width));
+    let height = range_fact(context, Quantity::Height, u64::from(height));
+    let bits = range_fact(context, Quantity::Bits, u64::from(bpp));
+    let found = only(alloc, context, width)?;
+    let found = with(context, found, height)?;
+    with(context, found, bits)
 }
 
 /// Returns the bytes of the buffer that is created with this answer.
@@ -82,10 +82,10 @@ fn bytes_created(answer: &Answer) -> Option<u64>
 }
 
 /// Returns the bytes of the buffer of a client's handle.
-fn size_of(scene: Scene<'_>, client: u64, handle: u32) -> Option<u64>
-    ensures { IsOfDevice scene.entry.ledger.now → (object bytes : ℕ) → Has scene.entry.ledger.now client handle object → kinds.bytes_of scene.entry.ledger.now object ≡ Some bytes → result ≡ Some bytes }
+fn size_of(context: Context<'_>, client: u64, handle: u32) -> Option<u64>
+    ensures { IsOfDevice context.entry.ledger.now → (object bytes : ℕ) → Has context.entry.ledger.now client handle object → kinds.bytes_of context.entry.ledger.now object ≡ Some bytes → result ≡ Some bytes }
 {
-    let trail = scene.ledger.trail();
+    let trail = context.ledger.trail();
     let steps = trail.steps();
     let object = trail.object_of(steps.len(), client, u64::from(handle))?;
     let step = step_at(steps, object)?;
@@ -93,10 +93,10 @@ fn size_of(scene: Scene<'_>, client: u64, handle: u32) -> Option<u64>
 }
 
 /// Returns that the pitch is less than the bytes of a row of pixels, if it is.
-fn short_pitch(scene: Scene<'_>, width: u32, bpp: u32, pitch: u32) -> Option<Fact>
+fn short_pitch(context: Context<'_>, width: u32, bpp: u32, pitch: u32) -> Option<Fact>
     ensures is { IfSome result (λ fact. kinds.is_size fact ≡ true) }
     ensures none { IfNone result (nat_le (width * bytes_per_pixel bpp) pitch ≡ true) }
-    ensures holds { IfSome result (facts.Holds scene.entry.topology.now scene.entry.limits scene.entry.ledger.now) }
+    ensures holds { IfSome result (facts.Holds context.entry.topology.now context.entry.limits context.entry.ledger.now) }
 {
     let least = u64::from(width).saturating_mul((u64::from(bpp).saturating_add(7)) / 8);
     if u64::from(pitch) < least {
@@ -107,13 +107,19 @@ fn short_pitch(scene: Scene<'_>, width: u32, bpp: u32, pitch: u32) -> Option<Fac
 }
 
 /// Returns that the buffer of a handle is smaller than the rows of a framebuffer, if it is.
-fn short_buffer(scene: Scene<'_>, client: u64, handle: u32, height: u32, pitch: u32) -> Option<Fact>
+fn short_buffer(
+    context: Context<'_>,
+    client: u64,
+    handle: u32,
+    height: u32,
+    pitch: u32,
+) -> Option<Fact>
     ensures is { IfSome result (λ fact. kinds.is_size fact ≡ true) }
-    ensures none { IfNone result (IsOfDevice scene.entry.ledger.now → (object bytes : ℕ) → Has scene.entry.ledger.now client handle object → kinds.bytes_of scene.entry.ledger.now object ≡ Some bytes → nat_le (pitch * height) bytes ≡ true) }
-    ensures holds { IfSome result (facts.Holds scene.entry.topology.now scene.entry.limits scene.entry.ledger.now) }
+    ensures none { IfNone result (IsOfDevice context.entry.ledger.now → (object bytes : ℕ) → Has context.entry.ledger.now client handle object → kinds.bytes_of context.entry.ledger.now object ≡ Some bytes → nat_le (pitch * height) bytes ≡ true) }
+    ensures holds { IfSome result (facts.Holds context.entry.topology.now context.entry.limits context.entry.ledger.now) }
 {
     let needed = u64::from(pitch).saturating_mul(u64::from(height));
-    let size = size_of(scene, client, handle)?;
+    let size = size_of(context, client, handle)?;
     if size < needed {
         Some(Fact::Size(SizeFact::ShortBuffer {
             height,
@@ -130,16 +136,16 @@ fn short_buffer(scene: Scene<'_>, client: u64, handle: u32, height: u32, pitch: 
 /// Returns the numbers of a call that are out of their ranges.
 pub(crate) fn bad_size(
     alloc: Global,
-    scene: Scene<'_>,
+    context: Context<'_>,
     client: u64,
     call: &Call,
 ) -> Result<Vec<Fact>, AllocError>
-    ensures has { IfOk result (λ found. kinds.Reasons scene.entry.topology.now scene.entry.ledger.now client rules.BadSize call.now found.items) }
-    ensures holds { IfOk result (λ found. All (facts.Holds scene.entry.topology.now scene.entry.limits scene.entry.ledger.now) found.items) }
+    ensures has { IfOk result (λ found. kinds.Reasons context.entry.topology.now context.entry.ledger.now client rules.BadSize call.now found.items) }
+    ensures holds { IfOk result (λ found. All (facts.Holds context.entry.topology.now context.entry.limits context.entry.ledger.now) found.items) }
 {
     match *call {
-        Call::BufCreate { size } => only(alloc, scene, range_fact(scene, Quantity::Size, size)),
-        Call::CreateDumb { width, height, bpp } => shape(alloc, scene, width, height, bpp),
+        Call::BufCreate { size } => only(alloc, context, range_fact(context, Quantity::Size, size)),
+        Call::CreateDumb { width, height, bpp } => shape(alloc, context, width, height, bpp),
         Call::AddFb {
             width,
             height,
@@ -147,29 +153,33 @@ pub(crate) fn bad_size(
             bpp,
             handle,
         } => {
-            let found = shape(alloc, scene, width, height, bpp)?;
-            let found = with(scene, found, short_pitch(scene, width, bpp, pitch))?;
-            let buffer = short_buffer(scene, client, handle, height, pitch);
-            with(scene, found, buffer)
+            let found = shape(alloc, context, width, height, bpp)?;
+            let found = with(context, found, short_pitch(context, width, bpp, pitch))?;
+            let buffer = short_buffer(context, client, handle, height, pitch);
+            with(context, found, buffer)
         }
         _ => Ok(Vec::new(alloc)),
     }
 }
 
 /// Returns the capability that does not exist, or the value of one that does not.
-pub(crate) fn bad_cap(alloc: Global, scene: Scene<'_>, call: &Call) -> Result<Vec<Fact>, AllocError>
+pub(crate) fn bad_cap(
+    alloc: Global,
+    context: Context<'_>,
+    call: &Call,
+) -> Result<Vec<Fact>, AllocError>
     ensures has { IfOk result (λ found. AllByRecursion (kinds.Shows found.items) (kinds.kinds rules.BadCap call.now)) }
-    ensures holds { IfOk result (λ found. All (facts.Holds scene.entry.topology.now scene.entry.limits scene.entry.ledger.now) found.items) }
+    ensures holds { IfOk result (λ found. All (facts.Holds context.entry.topology.now context.entry.limits context.entry.ledger.now) found.items) }
 {
     match *call {
         Call::GetCap { cap } => only(
             alloc,
-            scene,
+            context,
             Some(Fact::Request(RequestFact::NoCapability { capability: cap })),
         ),
         Call::SetClientCap { cap, value } => only(
             alloc,
-            scene,
+            context,
             Some(Fact::Request(RequestFact::NoValue {
                 capability: cap,
                 value,

@@ -7,7 +7,7 @@ use crate::devices::Setup;
 use crate::interpreter::Interpreter;
 use crate::script_lines::ScriptLines;
 use crate::stops::{ScriptEnd, Stop};
-use crate::writing::{Desk, use_line};
+use crate::writing::{AnswerBuffer, use_line};
 use drm_script::Malformed;
 use drm_streams::{Sink, Source};
 use std::alloc::Global;
@@ -35,13 +35,13 @@ impl Run {
         }
     }
 
-    /// Reads a line and uses it. Its answer is built on the desk. It returns the end of the run, or `None` if the run
+    /// Reads a line and uses it. Its answer is built on the buffer. It returns the end of the run, or `None` if the run
     /// continues.
     fn use_next<S: Source, K: Sink>(
         &mut self,
         alloc: Global,
         source: &mut S,
-        desk: &mut Desk,
+        buffer: &mut AnswerBuffer,
         sink: &mut K,
     ) -> Option<Stop>
         requires countable { IsCountable self.old (S.trace source.old) (K.trace sink.old) }
@@ -54,7 +54,7 @@ impl Run {
             &mut self.interpreter,
             alloc,
             &self.lines,
-            desk,
+            buffer,
             sink,
             &mut self.turns,
         )
@@ -162,9 +162,9 @@ pub fn run_on<S: Source, K: Sink>(
     ensures told { is_some result.cause ≡ is_malformed result.end }
 {
     let mut run = Run::new(setup, turns);
-    let mut desk = Desk::new();
+    let mut buffer = AnswerBuffer::new();
     'lines: loop {
-        if let Some(stop) = run.use_next(alloc, source, &mut desk, sink) {
+        if let Some(stop) = run.use_next(alloc, source, &mut buffer, sink) {
             return Ran {
                 end: stop.end(),
                 cause: stop.cause(),

@@ -15,45 +15,45 @@ use std::alloc::Global;
 
 /// The place where the answers of a run and their lines are built, one after the other.
 #[derive(Drop)]
-pub(crate) struct Desk {
+pub(crate) struct AnswerBuffer {
     outcome: Result<Answer, Apart>,
     text: LineText,
 }
 
-impl Desk {
-    pub(crate) fn new() -> Desk {
-        Desk {
+impl AnswerBuffer {
+    pub(crate) fn new() -> AnswerBuffer {
+        AnswerBuffer {
             outcome: Ok(Answer::Done),
             text: LineText::new(),
         }
     }
 }
 
-/// Writes the line of the answer on the desk.
-fn write_line<K: Sink>(desk: &mut Desk, sink: &mut K, turns: &mut u64) -> Written
+/// Writes the line of the answer on the buffer.
+fn write_line<K: Sink>(buffer: &mut AnswerBuffer, sink: &mut K, turns: &mut u64) -> Written
     requires { (K.trace sink.old).counts.calls + turns.old < 2 ^ 48 }
-    ensures { Writes result (K.trace sink.old) (K.trace sink.new) (answer_line desk.old.outcome) turns.old turns.new }
+    ensures { Writes result (K.trace sink.old) (K.trace sink.new) (answer_line buffer.old.outcome) turns.old turns.new }
 {
-    desk.text.write(&desk.outcome);
-    put_all(sink, desk.text.as_bytes(), turns)
+    buffer.text.write(&buffer.outcome);
+    put_all(sink, buffer.text.as_bytes(), turns)
 }
 
-/// Uses the line that is held, and writes its answer, which is built on the desk. It returns the end of the run, or
+/// Uses the line that is held, and writes its answer, which is built on the buffer. It returns the end of the run, or
 /// `None` if the run continues.
 pub(crate) fn use_line<K: Sink>(
     interpreter: &mut Interpreter,
     alloc: Global,
     lines: &ScriptLines,
-    desk: &mut Desk,
+    buffer: &mut AnswerBuffer,
     sink: &mut K,
     turns: &mut u64,
 ) -> Option<Stop>
     requires { (K.trace sink.old).counts.calls + turns.old < 2 ^ 48 }
     ensures { UsesLine interpreter.old interpreter.new lines.now (K.trace sink.old) (K.trace sink.new) turns.old turns.new result }
 {
-    match interpreter.interpret(alloc, lines.line(), &mut desk.outcome) {
+    match interpreter.interpret(alloc, lines.line(), &mut buffer.outcome) {
         LineResult::Unanswered => None,
-        LineResult::Answered => Stop::of_writing(write_line(desk, sink, turns)),
+        LineResult::Answered => Stop::of_writing(write_line(buffer, sink, turns)),
         LineResult::Malformed(cause) => Some(Stop::malformed(lines.number(), cause)),
         LineResult::NoMemory => Some(Stop::of(ScriptEnd::NoMemory)),
     }

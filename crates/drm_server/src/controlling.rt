@@ -35,27 +35,18 @@ impl<'a> Lines<'a> {
         })
     }
 
-    /// Takes a byte, and answers the line that it ends. Returns whether more are taken: not after a line that is too
+    /// Takes the bytes of a piece, and answers the lines that they end. Returns whether more are taken: not after a line that is too
     /// long.
-    fn take<R: Wait>(&mut self, rt: &R, byte: u8) -> Result<bool, AllocError> {
-        if byte == b'\n' {
-            self.plan.answer(rt, &self.line, &mut self.answers)?;
-            self.line.clear();
-            return Ok(true);
-        }
-        if self.line.len() >= MOST_BYTES {
-            put_fault(&mut self.answers, &RuleFault::too_long())?;
-            return Ok(false);
-        }
-        self.line.push(byte)?;
-        Ok(true)
-    }
-
-    /// Takes the bytes of a piece. Returns whether more are taken.
     fn take_all<R: Wait>(&mut self, rt: &R, piece: &[u8]) -> Result<bool, AllocError> {
         for byte in piece {
-            if !self.take(rt, *byte)? {
+            if *byte == b'\n' {
+                self.plan.answer(rt, &self.line, &mut self.answers)?;
+                self.line.clear();
+            } else if self.line.len() >= MOST_BYTES {
+                put_fault(&mut self.answers, &RuleFault::too_long())?;
                 return Ok(false);
+            } else {
+                self.line.push(*byte)?;
             }
         }
         Ok(true)

@@ -3,21 +3,22 @@
 ghost use Rattle.std.specs.Prelude.{◌≡◌, true};
 ghost use Rattle.drm_table.specs.Limits.{are_in_range};
 
-use crate::command_line::{Asked, AskedRules, Serving, is_memory, read_words};
+use crate::command_line::{Asked, AskedRules, Serving, read_words};
 use crate::listing::{list_audit, outcome_of_listing};
 use crate::planning::plan_of;
-use crate::serving::{Ended, serve_device};
+use crate::serving::{Ended, fault_of, serve_device};
 use crate::standard::open_standard;
 use crate::watching::{TraceTarget, create_target, finish_journal, warn_of_left_out, writers_of};
 use crate::words::words_of;
 use clap::Error;
+use clap::error::ErrorKind;
 use drm_commands::{
     Fault, FilesRead, JournalFile, Outcome, TopologyText, asked_device, asked_limits, check,
     create_asked, explain_script, outcome_by, outcome_of_fault, read_asked, run, shrink, update,
 };
-use drm_connections::PROGRAM;
-use drm_device::{Device, Limits};
+use drm_device::Limits;
 use drm_streams::ToWrite;
+use drm_traffic::PROGRAM;
 use log::{Log, error};
 use std::alloc::Global;
 use std::io;
@@ -30,12 +31,6 @@ use std::thread::Threads;
 
 /// The most writes of a listing.
 const MOST_TURNS: u64 = 1_000_000;
-
-/// Lists the rows of the device on standard output.
-fn list<R: Print>(rt: &R, device: &Device) -> Outcome {
-    let mut sink = ToWrite::new(io::writer(rt));
-    outcome_of_listing(&list_audit(device, &mut sink, MOST_TURNS))
-}
 
 /// The files that are written while a device is served.
 #[derive(Drop)]
@@ -60,10 +55,11 @@ fn write_and_list<R: Print + Files + AllocGlobal + Log>(
     let growth = ended.written.journal;
     let written = finish_journal(rt, alloc, journal, topology, limits, &ended.device, growth);
     warn_of_left_out(rt, trace.as_ref(), ended.written.left_out);
-    let listed = list(rt, &ended.device);
+    let mut sink = ToWrite::new(io::writer(rt));
+    let listed = outcome_of_listing(&list_audit(&ended.device, &mut sink, MOST_TURNS));
     if let Some(fault) = ended.fault {
         error!(rt; target: PROGRAM, "{fault}");
-        return Err(Fault::from(fault));
+        return Err(fault_of(fault));
     }
     written?;
     Ok(listed)
@@ -71,7 +67,7 @@ fn write_and_list<R: Print + Files + AllocGlobal + Log>(
 
 /// Serves an empty device, with these faults on purpose. The journal and the trace are written meanwhile, if requested. At the end it lists the rows on
 /// standard output, also after a fault of a listener.
-fn serve_and_list<R: Input + Print + Files + Net + Env + AllocGlobal + Log + Wait + Threads + Sync>(
+fn serve<R: Input + Print + Files + Net + Env + AllocGlobal + Log + Wait + Threads + Sync>(
     rt: &R,
     alloc: Global,
     serving: Serving<'_>,
@@ -103,45 +99,30 @@ where
     write_and_list(rt, alloc, topology.as_ref(), files, limits, &ended)
 }
 
-/// Serves connections.
-fn serve<R: Input + Print + Files + Net + Env + AllocGlobal + Log + Wait + Threads + Sync>(
-    rt: &R,
-    alloc: Global,
-    serving: Serving<'_>,
-    rules: &AskedRules<'_>,
-) -> Outcome
-where
-    R::File: AsRawFd,
-{
-    match serve_and_list(rt, alloc, serving, rules) {
-        Ok(outcome) => outcome,
-        Err(fault) => outcome_of_fault(fault),
-    }
-}
-
 /// Prints help on standard output, or a mistake of the command line on standard error.
-fn stop_at<R: Print + Eprint>(rt: &R, error: &Error) -> Outcome {
-    if is_memory(error) {
-        return outcome_of_fault(Fault::Memory);
+fn stop_at<R: Print + Eprint>(rt: &R, error: &Error) -> Result<Outcome, Fault> {
+    if error.kind() == ErrorKind::OutOfMemory {
+        return Err(Fault::Memory);
     }
     let printed = error.print(rt);
     if error.use_stderr() {
-        return outcome_of_fault(Fault::CommandLine);
+        return Err(Fault::CommandLine);
     }
     match printed {
-        Ok(()) => outcome_by(None),
-        Err(_) => outcome_of_fault(Fault::Write),
+        Ok(()) => Ok(outcome_by(None)),
+        Err(_) => Err(Fault::Write),
     }
 }
 
 /// Executes the command.
 fn carry_out_command<
     R: Input + Print + Eprint + Files + Net + Env + AllocGlobal + Log + Wait + Threads + Sync,
->(rt: &R, alloc: Global, words: &[String]) -> Outcome
+>(rt: &R, alloc: Global) -> Result<Outcome, Fault>
 where
     R::File: AsRawFd,
 {
-    match read_words(alloc, words) {
+    let words = words_of(rt, alloc)?;
+    match read_words(alloc, words.as_slice()) {
         Ok(Some(Asked::Run(running))) => run(rt, alloc, running),
         Ok(Some(Asked::Check(checking))) => check(rt, alloc, &checking),
         Ok(Some(Asked::Update(checking))) => update(rt, alloc, &checking),
@@ -150,7 +131,7 @@ where
         Ok(Some(Asked::Serve(serving, rules))) => serve(rt, alloc, serving, &rules),
         Ok(None) => {
             error!(rt; target: PROGRAM, "a number has a sign");
-            outcome_of_fault(Fault::CommandLine)
+            Err(Fault::CommandLine)
         }
         Err(error) => stop_at(rt, &error),
     }
@@ -177,8 +158,8 @@ where
 {
     let alloc: Global = rt.alloc();
     let _standard = open_standard(rt);
-    let outcome = match words_of(rt, alloc) {
-        Ok(words) => carry_out_command(rt, alloc, words.as_slice()),
+    let outcome = match carry_out_command(rt, alloc) {
+        Ok(outcome) => outcome,
         Err(fault) => outcome_of_fault(fault),
     };
     let line = outcome.line.as_str();

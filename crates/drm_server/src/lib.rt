@@ -7,6 +7,7 @@ mod ending;
 mod entry;
 mod growing_journal;
 mod listing;
+mod options;
 mod planning;
 mod serving;
 mod sockets;

@@ -2,16 +2,10 @@
 
 use crate::command_line::AskedRules;
 use drm_commands::Fault;
-use drm_connections::PROGRAM;
-use drm_traffic::{Plan, RuleFault, RuleKind, read_rule};
+use drm_traffic::{PROGRAM, Plan, RuleKind, read_rule};
 use log::{Log, error};
 use std::alloc::Global;
 use std::sync::Wait;
-
-/// Makes the rule that a text spells.
-fn add<R: Wait>(rt: &R, plan: &Plan, kind: RuleKind, text: &str) -> Result<(), RuleFault> {
-    plan.add(rt, read_rule(kind, text.as_bytes())?)
-}
 
 /// Makes the rules of an option. One that can't be used is logged.
 fn add_all<R: Log + Wait>(
@@ -22,7 +16,11 @@ fn add_all<R: Log + Wait>(
     texts: &[&str],
 ) -> Result<(), Fault> {
     for text in texts {
-        if let Err(fault) = add(rt, plan, kind, text) {
+        let added = match read_rule(kind, text.as_bytes()) {
+            Ok(rule) => plan.add(rt, rule),
+            Err(fault) => Err(fault),
+        };
+        if let Err(fault) = added {
             error!(rt; target: PROGRAM, "--{option} {text}: {fault}");
             return Err(Fault::CommandLine);
         }

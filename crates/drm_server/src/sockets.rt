@@ -4,9 +4,9 @@ ghost use Rattle.std.specs.Prelude.{◌≡◌, IfErr};
 ghost use Rattle.drm_commands.specs.declared.faults.Fault.TheVariants.{Listen};
 
 use drm_commands::Fault;
-use drm_connections::PROGRAM;
 use drm_listeners::{CardClass, ClassListener, ListenerClass, RenderClass, RootClass};
 use drm_sessions::Class;
+use drm_traffic::PROGRAM;
 use log::{Log, error};
 use std::io::ErrorKind;
 use std::net::Net;
@@ -86,9 +86,9 @@ fn tell<R: Log>(rt: &R, path: &str, reason: &io::Error) {
 
 /// A bound socket.
 #[derive(Drop)]
-pub(crate) struct Socket<'a, R: Files> {
-    pub(crate) listener: UnixListener,
-    pub(crate) file: SocketFile<'a, R>,
+struct Socket<'a, R: Files> {
+    listener: UnixListener,
+    file: SocketFile<'a, R>,
 }
 
 impl<'a, R: Files + Net + Log> Socket<'a, R> {
@@ -108,13 +108,16 @@ impl<'a, R: Files + Net + Log> Socket<'a, R> {
     }
 }
 
-/// Binds the socket of control.
+/// Binds the socket of control, if there is to be one. Returns its listener, and its file.
 pub(crate) fn bind_control<'a, R: Files + Net + Log>(
     rt: &'a R,
-    path: &'a str,
-) -> Result<Socket<'a, R>, Fault> {
+    path: Option<&'a str>,
+) -> Result<(Option<UnixListener>, Option<SocketFile<'a, R>>), Fault> {
+    let Some(path) = path else {
+        return Ok((None, None));
+    };
     match Socket::bound(rt, path) {
-        Some(socket) => Ok(socket),
+        Some(Socket { listener, file }) => Ok((Some(listener), Some(file))),
         None => Err(Fault::Control),
     }
 }

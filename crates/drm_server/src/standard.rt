@@ -17,13 +17,9 @@ pub(crate) struct Standard<F: Drop> {
     error: Option<F>,
 }
 
-fn is_closed(descriptor: RawFd) -> bool {
-    wait_for(descriptor, 0, 0) & POLLNVAL != 0
-}
-
 /// Opens `/dev/null` on a descriptor that is closed, which must be the lowest closed one.
 fn open_if_closed<R: Files>(rt: &R, descriptor: RawFd, how: &OpenOptions) -> Option<R::File> {
-    if is_closed(descriptor) {
+    if wait_for(descriptor, 0, 0) & POLLNVAL != 0 {
         how.open(rt, NOTHING).ok()
     } else {
         None

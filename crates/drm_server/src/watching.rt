@@ -10,9 +10,9 @@ use crate::tracing::Trace;
 use drm_commands::{
     Fault, JournalFile, TopologyText, asked_device, complete_journal, create_trace,
 };
-use drm_connections::{Outlet, PROGRAM};
+use drm_connections::Outlet;
 use drm_device::{Device, Limits};
-use drm_traffic::{Palette, Watch};
+use drm_traffic::{PROGRAM, Palette, Watch};
 use log::{Log, error, warn};
 use std::alloc::Global;
 use std::env::FillError;
@@ -57,22 +57,15 @@ pub(crate) fn create_target<'a, R: Files + Log>(
     }
 }
 
-/// Returns whether the environment allows colour.
-fn allows_color<R: Env>(rt: &R) -> bool {
+/// Returns the colours for a file: none but on a terminal, and only if the environment allows them.
+fn palette_for<R: Env>(rt: &R, outlet: Outlet) -> Palette {
+    if !outlet.is_terminal() {
+        return Palette::Plain;
+    }
     let mut first = [0];
     match rt.var(NO_COLOR, &mut first) {
-        Ok(length) => length == 0,
-        Err(FillError::NotPresent) => true,
-        Err(FillError::TooLong) => false,
-    }
-}
-
-/// Returns the colours for a file.
-fn palette_for<R: Env>(rt: &R, outlet: Outlet) -> Palette {
-    if outlet.is_terminal() && allows_color(rt) {
-        Palette::Red
-    } else {
-        Palette::Plain
+        Ok(0) | Err(FillError::NotPresent) => Palette::Red,
+        _ => Palette::Plain,
     }
 }
 

@@ -1,7 +1,7 @@
 //! The words of the command line.
 
 use drm_commands::Fault;
-use drm_connections::PROGRAM;
+use drm_traffic::PROGRAM;
 use log::{Log, error};
 use std::alloc::Global;
 use std::env;

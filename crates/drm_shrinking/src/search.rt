@@ -2,7 +2,7 @@
 
 ghost use Rattle.std.specs.Prelude.{◌≡◌, ◌≤◌, ◌<◌, false, IfOk};
 
-use crate::trials::{Fate, Trials, label_in};
+use crate::trials::{LineState, Trials, label_in};
 use drm_runs::Setup;
 use drm_script::Label;
 use drm_table::{Answer, Apart};
@@ -26,10 +26,10 @@ fn try_without_labels<F: Fn(Label) -> bool>(
 ) -> Result<bool, AllocError>
     requires { F.IsAlwaysCallable is_meant }
 {
-    for (line, fate) in trials.lines.iter().zip(trials.fates.iter_mut()) {
-        if let (Some(label), Fate::Kept) = (line.label, *fate) {
+    for (line, state) in trials.lines.iter().zip(trials.states.iter_mut()) {
+        if let (Some(label), LineState::Kept) = (line.label, *state) {
             if is_meant(label) {
-                *fate = Fate::Tried;
+                *state = LineState::Tried;
             }
         }
     }
@@ -110,8 +110,8 @@ pub(crate) fn search(
     leave_out_clients(&mut trials)?;
     leave_out_lines(&mut trials)?;
     let mut kept = Vec::new(alloc);
-    for fate in trials.fates.iter() {
-        kept.push(*fate == Fate::Kept)?;
+    for state in trials.states.iter() {
+        kept.push(*state == LineState::Kept)?;
     }
     Ok(Found {
         kept,

@@ -12,7 +12,7 @@ use std::alloc::{AllocError, Global};
 
 /// Whether a line is kept.
 #[derive(Clone, Copy, PartialEq, Eq)]
-pub(crate) enum Fate {
+pub(crate) enum LineState {
     /// It is kept.
     Kept,
     /// It is left out by the trial that is being made.
@@ -46,11 +46,11 @@ pub(crate) fn label_in(script: &[u8]) -> Option<Label> {
 }
 
 /// Returns a line, and whether it is needed at all: an empty line or a comment is not.
-fn line_from(alloc: Global, script: &[u8]) -> Result<(Line, Fate), AllocError> {
-    let (label, fate) = match read_line(script) {
-        Ok(Reading::Skipped) => (None, Fate::LeftOut),
-        Ok(Reading::Says(command)) => (Some(label_of(&command)), Fate::Kept),
-        _ => (None, Fate::Kept),
+fn line_from(alloc: Global, script: &[u8]) -> Result<(Line, LineState), AllocError> {
+    let (label, state) = match read_line(script) {
+        Ok(Reading::Skipped) => (None, LineState::LeftOut),
+        Ok(Reading::Says(command)) => (Some(label_of(&command)), LineState::Kept),
+        _ => (None, LineState::Kept),
     };
     let mut copy = Vec::new(alloc);
     copy.extend_from_slice(script)?;
@@ -59,7 +59,7 @@ fn line_from(alloc: Global, script: &[u8]) -> Result<(Line, Fate), AllocError> {
             script: copy,
             label,
         },
-        fate,
+        state,
     ))
 }
 
@@ -76,7 +76,7 @@ pub(crate) struct Trials<'a> {
     alloc: Global,
     setup: &'a Setup,
     pub(crate) lines: Vec<Line>,
-    pub(crate) fates: Vec<Fate>,
+    pub(crate) states: Vec<LineState>,
     /// The line whose answer stays.
     pub(crate) last: &'a [u8],
     wanted: &'a Result<Answer, Apart>,
@@ -97,20 +97,20 @@ impl<'a> Trials<'a> {
         most: u64,
     ) -> Result<Trials<'a>, AllocError> {
         let mut lines = Vec::new(alloc);
-        let mut fates = Vec::new(alloc);
+        let mut states = Vec::new(alloc);
         let mut rest = text;
         for _ in 1..number {
             let (line, behind) = first_line(rest);
-            let (line, fate) = line_from(alloc, script_of(line))?;
+            let (line, state) = line_from(alloc, script_of(line))?;
             lines.push(line)?;
-            fates.push(fate)?;
+            states.push(state)?;
             rest = behind;
         }
         Ok(Trials {
             alloc,
             setup,
             lines,
-            fates,
+            states,
             last: script_of(first_line(rest).0),
             wanted,
             replayed: 0,
@@ -126,8 +126,8 @@ impl<'a> Trials<'a> {
     /// Returns the places of the kept lines.
     pub(crate) fn kept(&self) -> Result<Vec<usize>, AllocError> {
         let mut kept = Vec::new(self.alloc);
-        for (place, fate) in self.fates.iter().enumerate() {
-            if *fate == Fate::Kept {
+        for (place, state) in self.states.iter().enumerate() {
+            if *state == LineState::Kept {
                 kept.push(place)?;
             }
         }
@@ -139,8 +139,8 @@ impl<'a> Trials<'a> {
     fn is_answered(&mut self) -> Result<bool, AllocError> {
         let mut interpreter = Interpreter::new(self.setup.clone()?);
         let mut outcome = Ok(Answer::Done);
-        for (line, fate) in self.lines.iter().zip(self.fates.iter()) {
-            if *fate != Fate::Kept {
+        for (line, state) in self.lines.iter().zip(self.states.iter()) {
+            if *state != LineState::Kept {
                 continue;
             }
             self.replayed = self.replayed.saturating_add(1);
@@ -156,18 +156,18 @@ impl<'a> Trials<'a> {
     /// Leaves the tried lines out if the answer stays the same without them, and keeps them otherwise. Returns whether
     /// they are left out.
     pub(crate) fn settle(&mut self) -> Result<bool, AllocError> {
-        if !self.fates.contains(&Fate::Tried) {
+        if !self.states.contains(&LineState::Tried) {
             return Ok(false);
         }
         let is_shorter = !self.is_used_up() && self.is_answered()?;
-        let fate = if is_shorter {
-            Fate::LeftOut
+        let state = if is_shorter {
+            LineState::LeftOut
         } else {
-            Fate::Kept
+            LineState::Kept
         };
-        for tried in self.fates.iter_mut() {
-            if *tried == Fate::Tried {
-                *tried = fate;
+        for tried in self.states.iter_mut() {
+            if *tried == LineState::Tried {
+                *tried = state;
             }
         }
         Ok(is_shorter)
@@ -176,8 +176,8 @@ impl<'a> Trials<'a> {
     /// Tries without the lines at these places.
     pub(crate) fn try_without(&mut self, places: &[usize]) -> Result<bool, AllocError> {
         for place in places {
-            if let Some(fate) = self.fates.get_mut(*place) {
-                *fate = Fate::Tried;
+            if let Some(state) = self.states.get_mut(*place) {
+                *state = LineState::Tried;
             }
         }
         self.settle()

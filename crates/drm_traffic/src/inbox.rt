@@ -4,18 +4,18 @@ ghost use Rattle.std.specs.Prelude.{◌≡◌, ◌+◌, ◌++◌, ◌∷◌, [],
 ghost use Rattle.drm_traffic.specs.Reports.{HasMoved, IsAddedOrCounted};
 
 use crate::batch::{Batch, MOST_FAULTS, WatchedFault};
-use crate::trays::{Tray, add_tray, empty_trays};
+use crate::step_queues::{StepQueue, add_queue, empty_queues};
 use std::alloc::{AllocError, Global};
 use std::collections::VecDeque;
 use std::mem;
 
-/// The calls that no reader took yet, but for the steps in the trays of the connections.
+/// The calls that no reader took yet, but for the steps in the queues of the connections.
 #[derive(Drop)]
 pub(crate) struct Inbox {
-    /// Full trays, in any order.
-    pub(crate) full: Vec<Tray>,
-    /// Empty trays that replace full ones. There are enough for all steps of a journal.
-    pub(crate) spare: Vec<Tray>,
+    /// Full queues, in any order.
+    pub(crate) full: Vec<StepQueue>,
+    /// Empty queues that replace full ones. There are enough for all steps of a journal.
+    pub(crate) spare: Vec<StepQueue>,
     /// Faults in the order of their reports.
     faults: VecDeque<WatchedFault>,
     left_out: u64,
@@ -23,21 +23,21 @@ pub(crate) struct Inbox {
 }
 
 impl Inbox {
-    /// Creates an empty inbox, with this many trays for full ones.
+    /// Creates an empty inbox, with this many queues for full ones.
     pub(crate) fn new(alloc: Global, most_full: usize) -> Result<Inbox, AllocError> {
         Ok(Inbox {
             full: Vec::with_capacity(alloc, most_full)?,
-            spare: empty_trays(alloc, most_full)?,
+            spare: empty_queues(alloc, most_full)?,
             faults: VecDeque::with_capacity(alloc, MOST_FAULTS)?,
             left_out: 0,
             has_ended: false,
         })
     }
 
-    /// Moves a full tray here, and puts an empty one in its place.
-    pub(crate) fn take_tray(&mut self, tray: &mut Tray) {
+    /// Moves a full queue here, and puts an empty one in its place.
+    pub(crate) fn take_queue(&mut self, queue: &mut StepQueue) {
         if let Some(empty) = self.spare.pop() {
-            add_tray(&mut self.full, mem::replace(tray, empty));
+            add_queue(&mut self.full, mem::replace(queue, empty));
         }
     }
 

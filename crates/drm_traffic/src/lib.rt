@@ -14,14 +14,14 @@ mod counted;
 mod faults;
 mod inbox;
 mod plan;
+mod reorder;
 mod rules;
-mod shelf;
+mod step_queues;
 mod tracer;
-mod trays;
 mod watch;
 
 pub use batch::{Batch, WatchedCall, WatchedFault};
-pub use classes::class_word;
+pub use classes::{PROGRAM, class_word};
 pub use commands::{Control, MOST_BYTES, put_fault, read_control};
 pub use faults::{RuleCause, RuleFault, WORD, Wanted};
 pub use plan::{Due, MOST_RULES, Plan};

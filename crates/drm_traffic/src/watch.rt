@@ -2,8 +2,8 @@
 
 use crate::batch::{Batch, WatchedCall, WatchedFault, copy_of};
 use crate::inbox::Inbox;
-use crate::shelf::{Shelf, put_all};
-use crate::trays::{Placed, Stand, TRAY_ROOM, add_tray, stands};
+use crate::reorder::{Reorder, put_all};
+use crate::step_queues::{LockedQueue, Placed, QUEUE_ROOM, add_queue, locked_queues};
 use drm_table::Event;
 use libc::CLOCK_MONOTONIC;
 use libc::types::timespec;
@@ -13,8 +13,8 @@ use std::sync::atomic::{AtomicBool, AtomicU64, Ordering};
 use std::sync::{Condvar, Mutex, Wait};
 use std::time::Duration;
 
-/// The number of trays. Connections that are open at once mostly use different ones.
-const TRAYS: usize = 64;
+/// The number of queues. Connections that are open at once mostly use different ones.
+const QUEUES: usize = 64;
 
 /// Returns the time since the system was started.
 fn now() -> Duration {
@@ -37,46 +37,46 @@ struct Seen {
     has_ended: bool,
 }
 
-/// The calls of all connections. A thread that reports a step locks the tray of its connection, and the inbox of all only
-/// if the tray is full or a reader waits. There is room for each step of the journal, so that no step is left out. There is
+/// The calls of all connections. A thread that reports a step locks the queue of its connection, and the inbox of all only
+/// if the queue is full or a reader waits. There is room for each step of the journal, so that no step is left out. There is
 /// also room for some faults. Those beyond are counted.
 #[derive(Drop)]
 pub struct Watch {
     start: Duration,
-    /// The last steps of the connections. A tray is locked before the inbox.
-    stands: Vec<Stand>,
+    /// The last steps of the connections. A queue is locked before the inbox.
+    queues: Vec<LockedQueue>,
     inbox: Mutex<Inbox>,
     /// The number of faults that were reported so far.
     faults: AtomicU64,
     /// Whether some reader waits for more.
     is_awaited: AtomicBool,
     more: Condvar,
-    /// Locked before the trays, and by readers only.
-    shelf: Mutex<Shelf>,
+    /// Locked before the queues, and by readers only.
+    reorder: Mutex<Reorder>,
 }
 
 impl Watch {
     /// Creates a watch for a device whose journal has room for this number of steps. Allocates room for each of them
-    /// twice, and the trays of the connections.
+    /// twice, and the queues of the connections.
     pub fn new(alloc: Global, most_steps: usize) -> Result<Watch, AllocError> {
-        let most_full = (most_steps / TRAY_ROOM).saturating_add(1);
+        let most_full = (most_steps / QUEUE_ROOM).saturating_add(1);
         Ok(Watch {
             start: now(),
-            stands: stands(alloc, TRAYS)?,
+            queues: locked_queues(alloc, QUEUES)?,
             inbox: Mutex::new(Inbox::new(alloc, most_full)?),
             faults: AtomicU64::new(0),
             is_awaited: AtomicBool::new(false),
             more: Condvar::new(),
-            shelf: Mutex::new(Shelf::new(alloc, most_steps, most_full)?),
+            reorder: Mutex::new(Reorder::new(alloc, most_steps, most_full)?),
         })
     }
 
     /// Reports a step of a connection, with the place of its entry in the history, from 0. `connection` is a number of the
     /// connection, such as its descriptor.
     pub fn report_step<R: Wait>(&self, rt: &R, connection: usize, place: u64, call: &WatchedCall) {
-        if let Some(stand) = self.stands.get(connection % TRAYS) {
-            self.add_step(rt, stand, place, call);
-            stand.count();
+        if let Some(shared) = self.queues.get(connection % QUEUES) {
+            self.add_step(rt, shared, place, call);
+            shared.count();
             self.announce(rt);
         }
     }
@@ -91,8 +91,8 @@ impl Watch {
     /// Returns the number of reports so far.
     fn reports(&self) -> u64 {
         let mut reports = self.faults.load(Ordering::SeqCst);
-        for stand in self.stands.iter() {
-            reports = reports.wrapping_add(stand.reports());
+        for shared in self.queues.iter() {
+            reports = reports.wrapping_add(shared.reports());
         }
         reports
     }
@@ -115,13 +115,13 @@ impl Watch {
         call.event = copy_of(event);
     }
 
-    /// Adds a step to the tray of its connection. A full tray is moved to the inbox before.
-    fn add_step<R: Wait>(&self, rt: &R, stand: &Stand, place: u64, call: &WatchedCall) {
-        let mut tray = stand.tray.lock(rt);
-        if tray.is_full() {
-            self.inbox.lock(rt).take_tray(&mut tray);
+    /// Adds a step to the queue of its connection. A full queue is moved to the inbox before.
+    fn add_step<R: Wait>(&self, rt: &R, shared: &LockedQueue, place: u64, call: &WatchedCall) {
+        let mut queue = shared.queue.lock(rt);
+        if queue.is_full() {
+            self.inbox.lock(rt).take_queue(&mut queue);
         }
-        tray.add(Placed {
+        queue.add(Placed {
             place,
             call: call.copy(),
         });
@@ -144,26 +144,26 @@ impl Watch {
         self.inbox.lock(rt).has_ended
     }
 
-    /// Puts the steps of all trays on the shelf. A tray without steps keeps its memory, so that few connections use little.
-    fn unload_trays<R: Wait>(&self, rt: &R, shelf: &mut Shelf) {
-        for stand in self.stands.iter() {
-            let mut tray = stand.tray.lock(rt);
-            if tray.steps.is_empty() {
+    /// Puts the steps of all queues on the reorder. A queue without steps keeps its memory, so that few connections use little.
+    fn unload_queues<R: Wait>(&self, rt: &R, reorder: &mut Reorder) {
+        for shared in self.queues.iter() {
+            let mut queue = shared.queue.lock(rt);
+            if queue.steps.is_empty() {
                 continue;
             }
-            mem::swap(&mut *tray, &mut shelf.unloaded);
-            drop(tray);
-            put_all(&mut shelf.steps, &mut shelf.unloaded);
+            mem::swap(&mut *queue, &mut reorder.unloaded);
+            drop(queue);
+            put_all(&mut reorder.steps, &mut reorder.unloaded);
         }
     }
 
-    /// Puts the steps of the inbox on the shelf.
-    fn unload_inbox<R: Wait>(&self, rt: &R, shelf: &mut Shelf) {
-        mem::swap(&mut self.inbox.lock(rt).full, &mut shelf.taken);
-        for _ in 0..shelf.taken.len() {
-            if let Some(mut tray) = shelf.taken.pop() {
-                put_all(&mut shelf.steps, &mut tray);
-                add_tray(&mut self.inbox.lock(rt).spare, tray);
+    /// Puts the steps of the inbox on the reorder.
+    fn unload_inbox<R: Wait>(&self, rt: &R, reorder: &mut Reorder) {
+        mem::swap(&mut self.inbox.lock(rt).full, &mut reorder.taken);
+        for _ in 0..reorder.taken.len() {
+            if let Some(mut queue) = reorder.taken.pop() {
+                put_all(&mut reorder.steps, &mut queue);
+                add_queue(&mut self.inbox.lock(rt).spare, queue);
             }
         }
     }
@@ -177,18 +177,18 @@ impl Watch {
         }
     }
 
-    /// Clears a batch and fills it. If the step at this place is not on the shelf, it takes all steps that were reported. The
+    /// Clears a batch and fills it. If the step at this place is not on the reorder, it takes all steps that were reported. The
     /// reports are counted before, so that none of them is missed.
     fn fill<R: Wait>(&self, rt: &R, place: usize, takes_faults: bool, batch: &mut Batch) -> Seen {
         batch.clear();
-        let mut locked = self.shelf.lock(rt);
-        let shelf = &mut *locked;
+        let mut locked = self.reorder.lock(rt);
+        let reorder = &mut *locked;
         let seen = self.seen(rt);
-        if !shelf.has(place) {
-            self.unload_trays(rt, shelf);
-            self.unload_inbox(rt, shelf);
+        if !reorder.has(place) {
+            self.unload_queues(rt, reorder);
+            self.unload_inbox(rt, reorder);
         }
-        shelf.copy_steps(place, &mut batch.steps);
+        reorder.copy_steps(place, &mut batch.steps);
         if takes_faults {
             let steps = place.saturating_add(batch.steps.len());
             self.inbox.lock(rt).move_faults(steps as u64, batch);

@@ -8,7 +8,7 @@ pub returns-in-Ok : goal.returns-in-Ok
 returns-in-Ok g c =
     let terms = c.args.listener.terms in
     let accepted = c.accept_connections-pool.ensures in
-    let joined = c.join_workers-sessions.ensures in
+    let joined = c.join_workers.ensures in
     let none = joined.none refl in
     let back = joined.outstanding in
     let out = accepted.outstanding in
@@ -19,16 +19,16 @@ returns-in-Ok g c =
         unchanged = (joined.parent ∙ accepted.parent, omega (arith, none, back, out));
         served = joined.served.0;
       },
-      accounted terms _ _ _ c.accept_connections-pool.new.own c.join_workers-sessions.new.own _
-          (subst (λ (outcomes : Outcomes). HasServedFor terms outcomes c.join_workers-sessions.result.sessions.items c.join_workers-sessions.new.own) joined.outcomes joined.served)
+      accounted terms _ _ _ c.accept_connections-pool.new.own c.join_workers.new.own _
+          (subst (λ (outcomes : Outcomes). HasServedFor terms outcomes c.join_workers.new.pool.sessions.items c.join_workers.new.own) joined.outcomes joined.served)
           (where_ok _ _ _ c.in-Ok.is accepted.threads) (omega (arith, none, merged))
           (where_ok _ _ _ c.in-Ok.is accepted.closing),
     )
 
-pub returns-in-Err : goal.returns-in-Err
-returns-in-Err g c =
+pub returns : goal.returns
+returns g c =
     let accepted = c.accept_connections-pool.ensures in
-    let joined = c.join_workers-sessions.ensures in
+    let joined = c.join_workers.ensures in
     let none = joined.none refl in
     let back = joined.outstanding in
     let out = accepted.outstanding in

@@ -9,7 +9,7 @@ use Rattle.drm_listeners.proofs.accepting.start_worker.Goals as goal
 pub returns-in-Ok-clause-served : goal.returns-in-Ok-clause-served
 returns-in-Ok-clause-served g c =
     let same = c.split-participant.ensures.same in
-    still-for c.args.terms c.args.pool.outcomes c.args.pool.sessions.items c.args.own.now c.split-participant.new.participant (ap (λ (s : ParticipantView). s.seen) same)
+    still-for c.args.terms c.args.pool.now.outcomes c.args.pool.now.sessions.items c.args.own.now c.split-participant.new.participant (ap (λ (s : ParticipantView). s.seen) same)
     (ap (λ (s : ParticipantView). s.merged) same) (ap (λ (s : ParticipantView). s.journaled) same) c.requires.served
 
 pub returns-in-Ok-clause-promised : goal.returns-in-Ok-clause-promised
@@ -28,17 +28,17 @@ returns-in-Ok-clause-promised g c =
       };
     } in
     All-same (λ worker. IsSomeAnd worker (λ worker. IsPromised c.args.terms.class own worker.thread.promise)) _ _ c.push.ensures.items
-    (All-push (λ worker. IsSomeAnd worker (λ worker. IsPromised c.args.terms.class own worker.thread.promise)) c.args.pool.workers.items _
+    (All-push (λ worker. IsSomeAnd worker (λ worker. IsPromised c.args.terms.class own worker.thread.promise)) c.args.pool.now.workers.items _
     (promised-still (λ worker. worker.thread.promise) c.args.terms.class c.args.own.now own _ (table, number, ap (λ (s : ParticipantView). s.origin) same) c.requires.promised) promise)
 
 pub returns-in-Err-clause-served : goal.returns-in-Err-clause-served
 returns-in-Err-clause-served g c =
     let same = c.split-participant.ensures.same in
     let before =
-    still-for c.args.terms c.args.pool.outcomes c.args.pool.sessions.items c.args.own.now c.split-participant.new.participant (ap (λ (s : ParticipantView). s.seen) same)
+    still-for c.args.terms c.args.pool.now.outcomes c.args.pool.now.sessions.items c.args.own.now c.split-participant.new.participant (ap (λ (s : ParticipantView). s.seen) same)
     (ap (λ (s : ParticipantView). s.merged) same) (ap (λ (s : ParticipantView). s.journaled) same) c.requires.served in
     let ended = c.in-Err.ensures.ended in
-    threadless-for c.args.terms c.args.pool.outcomes.threadless (record c.args.pool.outcomes { threadless = c.args.pool.outcomes.threadless + 1 }) _ c.join.new.participant refl
+    threadless-for c.args.terms c.args.pool.now.outcomes.threadless (record c.args.pool.now.outcomes { threadless = c.args.pool.now.outcomes.threadless + 1 }) _ c.join.new.participant refl
     (served-more c.args.terms.class c.split-participant.new.participant c.join.new.participant c.in-Err.served.participant
     c.in-Err.served.session before.0 ended.0 c.join.ensures.extends.1 c.join.ensures.seen c.join.ensures.theirs
     c.join.ensures.merged ended.2 c.join.ensures.differ c.join.ensures.counts.1)

@@ -9,8 +9,8 @@ use Rattle.drm_refusals.proofs.leasing.lent_by.Goals as goal
 
 pub returns-clause-has : goal.returns-clause-has
 returns-clause-has c =
-    let t = c.args.scene.topology.now in
-    let history = c.args.scene.ledger.now in
+    let t = c.args.context.topology.now in
+    let history = c.args.context.ledger.now in
     let free : ℕ → Bool = λ x. not (granted t history c.args.lease.master x) in
     let along = c.ids.ensures.ids ∙ c.brought_along-along.ensures in
     IfOk-weaker c.with.result _ _

@@ -7,6 +7,6 @@ use Rattle.drm_refusals.proofs.leasing.lent_from.Given as goal
 
 abbrev pub invariant-loop-lease : goal.invariant-loop-lease
 invariant-loop-lease l =
-    (list_all (kinds.leaves l.scene.topology.now l.scene.ledger.now l.lessor (kinds.leased l.scene.topology.now l.scene.ledger.now l.client l.ids)) (take l.lease-index (leases_in l.scene.ledger.now)) ≡ false
+    (list_all (kinds.leaves l.context.topology.now l.context.ledger.now l.lessor (kinds.leased l.context.topology.now l.context.ledger.now l.client l.ids)) (take l.lease-index (leases_in l.context.ledger.now)) ≡ false
     → kinds.Shows l.more.items kinds.is_leased_out) ×
-    (All (facts.Holds l.scene.topology.now l.scene.limits l.scene.ledger.now) l.more.items)
+    (All (facts.Holds l.context.topology.now l.context.limits l.context.ledger.now) l.more.items)

@@ -9,7 +9,7 @@ use Rattle.drm_refusals.proofs.leasing.lent_of.Given as goal
 
 abbrev pub invariant-loop-id : goal.invariant-loop-id
 invariant-loop-id l =
-    (list_all (λ x. not (granted l.scene.topology.now l.scene.ledger.now l.lease.master x)) (take l.id-index l.ids) ≡ false
+    (list_all (λ x. not (granted l.context.topology.now l.context.ledger.now l.lease.master x)) (take l.id-index l.ids) ≡ false
     → kinds.Shows l.more.items kinds.is_leased_out) ×
     ((kind : Fact → Bool) → kinds.Shows l.fn.found.items kind → kinds.Shows l.more.items kind) ×
-    (All (facts.Holds l.scene.topology.now l.scene.limits l.scene.ledger.now) l.more.items)
+    (All (facts.Holds l.context.topology.now l.context.limits l.context.ledger.now) l.more.items)

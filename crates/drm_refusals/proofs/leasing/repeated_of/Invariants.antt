@@ -9,4 +9,4 @@ abbrev pub invariant-loop-place : goal.invariant-loop-place
 invariant-loop-place l =
     (list_all (stands_once (take l.place l.ids)) (take l.place l.ids) ≡ false
     → kinds.Shows l.found.items kinds.is_repetition) ×
-    (All (facts.Holds l.scene.topology.now l.scene.limits l.scene.ledger.now) l.found.items)
+    (All (facts.Holds l.context.topology.now l.context.limits l.context.ledger.now) l.found.items)

@@ -7,6 +7,6 @@ use Rattle.drm_refusals.proofs.leasing.unleasable_of.Given as goal
 
 abbrev pub invariant-loop-id : goal.invariant-loop-id
 invariant-loop-id l =
-    (list_all (λ x. kinds.is_leasable (kind_of l.scene.topology.now x)) (take l.id-index l.ids) ≡ false
+    (list_all (λ x. kinds.is_leasable (kind_of l.context.topology.now x)) (take l.id-index l.ids) ≡ false
     → kinds.Shows l.found.items kinds.is_id) ×
-    (All (facts.Holds l.scene.topology.now l.scene.limits l.scene.ledger.now) l.found.items)
+    (All (facts.Holds l.context.topology.now l.context.limits l.context.ledger.now) l.found.items)

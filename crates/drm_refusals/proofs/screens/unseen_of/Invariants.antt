@@ -7,6 +7,6 @@ use Rattle.drm_refusals.proofs.screens.unseen_of.Given as goal
 
 abbrev pub invariant-loop-id : goal.invariant-loop-id
 invariant-loop-id l =
-    (list_all (kinds.sees_in l.scene.topology.now l.scene.ledger.now l.client None) (take l.id-index l.ids) ≡ false
+    (list_all (kinds.sees_in l.context.topology.now l.context.ledger.now l.client None) (take l.id-index l.ids) ≡ false
     → kinds.Shows l.found.items kinds.is_id) ×
-    (All (facts.Holds l.scene.topology.now l.scene.limits l.scene.ledger.now) l.found.items)
+    (All (facts.Holds l.context.topology.now l.context.limits l.context.ledger.now) l.found.items)

@@ -7,7 +7,7 @@ use Rattle.drm_refusals.proofs.screens.unseen_plane.Goals as goal
 
 pub returns-clause-has : goal.returns-clause-has
 returns-clause-has c =
-    let sees = kinds.sees_in c.args.scene.topology.now c.args.scene.ledger.now c.args.client in
+    let sees = kinds.sees_in c.args.context.topology.now c.args.context.ledger.now c.args.client in
     let named : (c.args.framebuffer == 0) ≡ false = grind (arith, nat_tests) in
     both_ok c.unseen-2.result
     (λ more kept has. found_unless (sees (Some Plane) c.args.plane) (c.args.framebuffer == 0) (sees (Some Crtc) c.args.crtc)

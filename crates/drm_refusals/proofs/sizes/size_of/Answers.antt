@@ -8,7 +8,7 @@ use Rattle.drm_refusals.proofs.sizes.size_of.Goals as goal
 
 pub returns-in_err-object : goal.returns-in_err-object
 returns-in_err-object c = λ of_device object bytes has made.
-    let history = c.args.scene.ledger.now in
+    let history = c.args.context.ledger.now in
     let steps = c.steps-steps.result.now in
     let is : history_of steps ≡ history = ap history_of c.steps-steps.ensures ∙ c.trail-trail.ensures in
     let none =
@@ -20,7 +20,7 @@ returns-in_err-object c = λ of_device object bytes has made.
 
 pub returns-in_err-step : goal.returns-in_err-step
 returns-in_err-step c = λ of_device object bytes has made.
-    let history = c.args.scene.ledger.now in
+    let history = c.args.context.ledger.now in
     let steps = c.steps-steps.result.now in
     let is : history_of steps ≡ history = ap history_of c.steps-steps.ensures ∙ c.trail-trail.ensures in
     let found = c.in_ok-object.object in
@@ -33,7 +33,7 @@ returns-in_err-step c = λ of_device object bytes has made.
 
 pub returns : goal.returns
 returns c = λ of_device object bytes has made.
-    let history = c.args.scene.ledger.now in
+    let history = c.args.context.ledger.now in
     let steps = c.steps-steps.result.now in
     let is : history_of steps ≡ history = ap history_of c.steps-steps.ensures ∙ c.trail-trail.ensures in
     let found = c.in_ok-object.object in

@@ -5,18 +5,18 @@ ghost use Rattle.std.specs.List.{slice_get};
 ghost use Rattle.drm_traffic.specs.Reports.{HasCopied};
 
 use crate::batch::{BATCH, WatchedCall};
-use crate::trays::{Placed, Tray};
+use crate::step_queues::{Placed, StepQueue};
 use std::alloc::{AllocError, Global};
 
-/// The steps that some reader took from the trays and from the inbox, for all readers.
+/// The steps that some reader took from the queues and from the inbox, for all readers.
 #[derive(Drop)]
-pub(crate) struct Shelf {
+pub(crate) struct Reorder {
     /// The steps by their places in the history. Threads report them in any order.
     pub(crate) steps: Vec<Option<WatchedCall>>,
     /// Those of the inbox that have no place here yet.
-    pub(crate) taken: Vec<Tray>,
-    /// Those of a tray that have no place here yet.
-    pub(crate) unloaded: Tray,
+    pub(crate) taken: Vec<StepQueue>,
+    /// Those of a queue that have no place here yet.
+    pub(crate) unloaded: StepQueue,
 }
 
 /// Puts a step in its place.
@@ -32,10 +32,10 @@ fn put(steps: &mut Vec<Option<WatchedCall>>, step: Placed) {
     }
 }
 
-/// Puts all steps of a tray in their places.
-pub(crate) fn put_all(steps: &mut Vec<Option<WatchedCall>>, tray: &mut Tray) {
-    for _ in 0..tray.steps.len() {
-        if let Some(step) = tray.steps.pop() {
+/// Puts all steps of a queue in their places.
+pub(crate) fn put_all(steps: &mut Vec<Option<WatchedCall>>, queue: &mut StepQueue) {
+    for _ in 0..queue.steps.len() {
+        if let Some(step) = queue.steps.pop() {
             put(steps, step);
         }
     }
@@ -51,19 +51,19 @@ fn provide(steps: &mut Vec<Option<WatchedCall>>) {
     steps.clear();
 }
 
-impl Shelf {
-    /// Creates an empty shelf for this many steps, of which this many trays can be full.
+impl Reorder {
+    /// Creates an empty reorder for this many steps, of which this many queues can be full.
     pub(crate) fn new(
         alloc: Global,
         most_steps: usize,
         most_full: usize,
-    ) -> Result<Shelf, AllocError> {
+    ) -> Result<Reorder, AllocError> {
         let mut steps = Vec::with_capacity(alloc, most_steps)?;
         provide(&mut steps);
-        Ok(Shelf {
+        Ok(Reorder {
             steps,
             taken: Vec::with_capacity(alloc, most_full)?,
-            unloaded: Tray::new(alloc)?,
+            unloaded: StepQueue::new(alloc)?,
         })
     }
 

@@ -1,4 +1,4 @@
-//! Trays of steps.
+//! Queues of steps.
 
 use crate::batch::WatchedCall;
 use drm_sessions::Class;
@@ -8,8 +8,8 @@ use std::sync::Mutex;
 use std::sync::atomic::{AtomicU64, Ordering};
 use std::time::Duration;
 
-/// The most steps in a tray.
-pub(crate) const TRAY_ROOM: usize = 512;
+/// The most steps in a queue.
+pub(crate) const QUEUE_ROOM: usize = 512;
 
 /// A step, with the place of its entry in the history.
 #[derive(Drop)]
@@ -18,17 +18,17 @@ pub(crate) struct Placed {
     pub(crate) call: WatchedCall,
 }
 
-/// Steps of the connections that share a tray, in any order.
+/// Steps of the connections that share a queue, in any order.
 #[derive(Drop)]
-pub(crate) struct Tray {
+pub(crate) struct StepQueue {
     pub(crate) steps: Vec<Placed>,
 }
 
-impl Tray {
-    /// Creates an empty tray.
-    pub(crate) fn new(alloc: Global) -> Result<Tray, AllocError> {
-        Ok(Tray {
-            steps: Vec::with_capacity(alloc, TRAY_ROOM)?,
+impl StepQueue {
+    /// Creates an empty queue.
+    pub(crate) fn new(alloc: Global) -> Result<StepQueue, AllocError> {
+        Ok(StepQueue {
+            steps: Vec::with_capacity(alloc, QUEUE_ROOM)?,
         })
     }
 
@@ -59,31 +59,31 @@ impl Tray {
     }
 }
 
-/// Creates this many trays.
-pub(crate) fn empty_trays(alloc: Global, count: usize) -> Result<Vec<Tray>, AllocError> {
-    let mut trays = Vec::with_capacity(alloc, count)?;
+/// Creates this many queues.
+pub(crate) fn empty_queues(alloc: Global, count: usize) -> Result<Vec<StepQueue>, AllocError> {
+    let mut queues = Vec::with_capacity(alloc, count)?;
     for _ in 0..count {
-        let mut tray = Tray::new(alloc)?;
-        tray.provide();
-        trays.push(tray)?;
+        let mut queue = StepQueue::new(alloc)?;
+        queue.provide();
+        queues.push(queue)?;
     }
-    Ok(trays)
+    Ok(queues)
 }
 
-/// The tray of some connections.
+/// The queue of some connections.
 #[derive(Drop)]
-pub(crate) struct Stand {
-    pub(crate) tray: Mutex<Tray>,
+pub(crate) struct LockedQueue {
+    pub(crate) queue: Mutex<StepQueue>,
     /// The number of reports of these connections so far.
     reports: AtomicU64,
-    /// Keeps the trays of other connections out of the cache lines of this one.
+    /// Keeps the queues of other connections out of the cache lines of this one.
     _apart: [u64; 10],
 }
 
-impl Stand {
-    fn new(alloc: Global) -> Result<Stand, AllocError> {
-        Ok(Stand {
-            tray: Mutex::new(Tray::new(alloc)?),
+impl LockedQueue {
+    fn new(alloc: Global) -> Result<LockedQueue, AllocError> {
+        Ok(LockedQueue {
+            queue: Mutex::new(StepQueue::new(alloc)?),
             reports: AtomicU64::new(0),
             _apart: [0; 10],
         })
@@ -100,18 +100,18 @@ impl Stand {
     }
 }
 
-/// Creates this many trays, each with its lock.
-pub(crate) fn stands(alloc: Global, count: usize) -> Result<Vec<Stand>, AllocError> {
-    let mut stands = Vec::with_capacity(alloc, count)?;
+/// Creates this many queues, each with its lock.
+pub(crate) fn locked_queues(alloc: Global, count: usize) -> Result<Vec<LockedQueue>, AllocError> {
+    let mut queues = Vec::with_capacity(alloc, count)?;
     for _ in 0..count {
-        stands.push(Stand::new(alloc)?)?;
+        queues.push(LockedQueue::new(alloc)?)?;
     }
-    Ok(stands)
+    Ok(queues)
 }
 
-/// Appends a tray to a list, if there is room.
-pub(crate) fn add_tray(trays: &mut Vec<Tray>, tray: Tray) {
-    if trays.len() < trays.capacity() {
-        trays.push_reserved(tray);
+/// Appends a queue to a list, if there is room.
+pub(crate) fn add_queue(queues: &mut Vec<StepQueue>, queue: StepQueue) {
+    if queues.len() < queues.capacity() {
+        queues.push_reserved(queue);
     }
 }

@@ -6,7 +6,7 @@ use drm_table::Limits;
 
 /// The history up to an answer, with the topology and the limits of the device.
 #[derive(Clone, Copy)]
-pub(crate) struct Scene<'a> {
+pub(crate) struct Context<'a> {
     pub(crate) ledger: &'a Ledger,
     pub(crate) topology: &'a Topology,
     pub(crate) limits: Limits,

@@ -1,6 +1,6 @@
 use Rattle.std.proofs.Common.{◌≡◌, ◌+◌, length}
 use Rattle.drm_traffic.specs.Reports.{HasCopied}
-use Rattle.drm_traffic.proofs.shelf.Shelf.copy_steps.Given as goal
+use Rattle.drm_traffic.proofs.reorder.Reorder.copy_steps.Given as goal
 
 -- the steps up to here were appended
 abbrev pub invariant-loop-at : goal.invariant-loop-at

@@ -6,7 +6,7 @@ use Rattle.std.proofs.lemmas.Option.{get_or_from_slice_get, slice_get_within}
 use Rattle.std.specs.List.{slice_get}
 use Rattle.drm_traffic.specs.declared.batch.WatchedCall.{WatchedCall}
 use Rattle.drm_traffic.specs.Reports.{HasCopied}
-use Rattle.drm_traffic.proofs.shelf.Shelf.copy_steps.Goals as goal
+use Rattle.drm_traffic.proofs.reorder.Reorder.copy_steps.Goals as goal
 
 one-more : {A : Type 0} (places : List (Option A)) (place at : ℕ) (taken now : List A) (item : A)
     → HasCopied places place taken now → at + length taken ≡ place + length now → slice_get places at ≡ Some (Some item)
