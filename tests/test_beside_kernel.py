@@ -12,6 +12,7 @@ from support import (  # noqa: E402
     FolderCase,
     Skipped,
     expect,
+    expect_end,
     run,
     run_program,
     run_tests,
@@ -168,6 +169,19 @@ class BesideKernelTests(FolderCase):
         expect("without a driver", (ran.returncode, ran.stdout), (1, ""))
         ran = run(program, "--other")
         expect("another option", (ran.returncode, ran.stderr[:6]), (2, "usage:"))
+
+    def test_drm_script_without_memory(self):
+        """A file that is longer than the memory for it: the error is kept, and no block of memory is left."""
+        want_program("gcc")
+        words = [word for word in want_libdrm() if word.startswith("-I")]
+        folder = REPOSITORY / "clients/kernel"
+        sources = [path for path in sorted(folder.glob("*.c")) if path.name != "drm_script.c"]
+        program, script = self.folder / "read_whole", self.folder / "script"
+        ran = run("gcc", "-std=gnu11", "-I", folder, *words, "-o", program, REPOSITORY / "tests/read_whole.c", *sources)
+        expect("what gcc says", (ran.returncode, ran.stderr), (0, ""))
+        script.write_text("# a comment\n" * 10_000 + "the end")
+        expect_end(run(program, script, 1 << 20), 0, "", "end\n0 blocks\n")
+        expect_end(run(program, script, 1 << 16), 0, "", "Cannot allocate memory\n0 blocks\n")
 
     def test_errnos_of_the_library_are_those_of_the_file(self):
         want_libdrm()

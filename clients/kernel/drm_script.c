@@ -111,6 +111,7 @@ static int run_text(const struct device *device, const char *name, char *text)
     return failed;
 }
 
+// The text of a file, or a null pointer with errno set.
 static char *read_whole(FILE *file)
 {
     size_t size = 0, room = 1 << 16;
@@ -118,13 +119,17 @@ static char *read_whole(FILE *file)
 
     while (text) {
         size_t taken = fread(text + size, 1, room - size - 1, file);
+        char *larger = text;
 
         size += taken;
         text[size] = '\0';
         if (taken == 0)
             break;
         if (size + 1 == room)
-            text = realloc(text, room *= 2);
+            larger = realloc(text, room *= 2);
+        if (!larger)
+            free(text);
+        text = larger;
     }
     return text;
 }
@@ -133,15 +138,14 @@ static int run_file(const struct device *device, const char *path)
 {
     FILE *file = strcmp(path, "-") == 0 ? stdin : fopen(path, "r");
     char *text = file ? read_whole(file) : NULL;
-    int failed;
+    int failed = 1;
 
-    if (!text) {
+    if (text)
+        failed = run_text(device, path, text);
+    else
         fprintf(stderr, "drm_script: %s: %s\n", path, strerror(errno));
-        return 1;
-    }
-    failed = run_text(device, path, text);
     free(text);
-    if (file != stdin)
+    if (file && file != stdin)
         fclose(file);
     return failed;
 }
