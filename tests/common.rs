@@ -1,18 +1,6 @@
-//! What the programs in Rust share: how an error is printed, and how a program ends.
+//! What the programs in Rust share: how a program ends, and how its error is printed.
 use crate::drm_client::Error;
-use std::error::Error as _;
 use std::process::ExitCode;
-
-/// Returns an error with its sources, one after the other.
-pub fn chain(error: &Error) -> String {
-    let mut text = error.to_string();
-    let mut source = error.source();
-    while let Some(cause) = source {
-        text += &format!(": {cause}");
-        source = cause.source();
-    }
-    text
-}
 
 /// Runs a program over the words of the command line, and prints its error.
 pub fn run(program: impl FnOnce(&[String]) -> Result<(), Error>) -> ExitCode {
@@ -20,7 +8,7 @@ pub fn run(program: impl FnOnce(&[String]) -> Result<(), Error>) -> ExitCode {
     match program(&words) {
         Ok(()) => ExitCode::SUCCESS,
         Err(error) => {
-            println!("{}", chain(&error));
+            println!("{error}");
             ExitCode::FAILURE
         }
     }

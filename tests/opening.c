@@ -35,6 +35,7 @@ static int fail(const char *path)
     struct zirkoshe_client client;
 
     tell("no path", zirkoshe_open(&client, NULL, ZIRKOSHE_TIMEOUT));
+    tell("an empty path", zirkoshe_open(&client, "", ZIRKOSHE_TIMEOUT));
     tell("no server", zirkoshe_open(&client, path, ZIRKOSHE_TIMEOUT));
     tell("a call of it", zirkoshe_drmSetMaster(&client));
     tell("its closing", zirkoshe_close(&client));

@@ -4,15 +4,20 @@ mod drm_client;
 
 mod common;
 
-use common::chain;
 use drm_client::{Client, ClientBuilder, Error, Hello};
+use std::error::Error as _;
+use std::io;
 use std::process::ExitCode;
 use std::time::Duration;
 
 fn fail(path: &str) {
-    println!("no server: {}", chain(&Client::open(path).unwrap_err()));
+    let absent = Client::open(path).unwrap_err();
+    println!("no server: {absent}");
+    let source = absent.source().and_then(|source| source.downcast_ref());
+    println!("its source: {:?}", source.map(io::Error::kind));
     let no_time = Client::builder().timeout(Duration::ZERO);
-    println!("no time: {}", chain(&no_time.open(path).unwrap_err()));
+    println!("no time: {}", no_time.open(path).unwrap_err());
+    println!("an empty path: {}", Client::open("").unwrap_err());
     let no_lease = Client::builder().lease(1).open(path).unwrap_err();
     println!("no lease: {:?} {:?}", no_lease.io_kind(), no_lease.errno());
 }

@@ -312,6 +312,10 @@ class AuditsTests(FolderCase):
             expect_end(ran, 1, "drm-audit: denied 11 RootOnly 13 (EACCES): use the root socket\n", "")
         ran = run(AUDIT, folder / "absent")
         expect_end(ran, 1, f"drm-audit: can't open {folder / 'absent'}: No such file or directory\n", "")
+        for tool in (AUDIT, WATCH):
+            ran = run(tool, "")
+            told = f"{tool.name}: error: argument SOCKET: the socket's path is empty: is DRM_SERVER_ROOT set?"
+            expect("an empty path", (ran.returncode, ran.stderr.splitlines()[-1]), (2, told))
         with answering(folder / "silent", drips=b""):
             ran = run(AUDIT, folder / "silent", "--timeout", "0.5")
         expect_end(ran, 1, "drm-audit: the server didn't answer within 0.5 seconds\n", "")

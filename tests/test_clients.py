@@ -44,6 +44,7 @@ from zirkoshe.protocol import CALLS, words  # noqa: E402
 from hostile import MALFORMED, OPENED, answering, crowded, frame  # noqa: E402
 
 TOOL = CLIENTS / "python/drm-client"
+EMPTY_PATH = "the socket's path is empty: is DRM_SERVER_CARD set?"
 
 
 class Session(NamedTuple):
@@ -495,6 +496,7 @@ class ClientsTests(FolderCase):
             expect(
                 "a full queue", raised(lambda: asyncio.run(AsyncClient(folder / "crowded", timeout=0.5).open())), late
             )
+        expect("an empty path", raised(lambda: asyncio.run(AsyncClient("").open())), ("ValueError", EMPTY_PATH))
         absent = raised(lambda: asyncio.run(AsyncClient(folder / "absent").open()))
         expect(
             "no server", absent, ("FileNotFoundError", f"[Errno 2] No such file or directory: '{folder / 'absent'}'")
@@ -580,10 +582,10 @@ class ClientsTests(FolderCase):
             malformed,
             {
                 failed + "the server didn't answer in time",
-                f"can't open {folder / 'crowded'}: the server didn't answer in time",
+                f"can't connect to {folder / 'crowded'}: the server didn't answer in time",
             },
             {failed + text for text in gone},
-            f"can't open {folder / 'absent'}: No such file or directory (os error 2)",
+            f"can't connect to {folder / 'absent'}: No such file or directory (os error 2)",
         )
 
     def test_openings_that_fail(self):
@@ -594,7 +596,7 @@ class ClientsTests(FolderCase):
             ran,
             0,
             "",
-            "no path: Invalid argument\nno server: No such file or directory\n"
+            "no path: Invalid argument\nan empty path: Invalid argument\nno server: No such file or directory\n"
             "a call of it: Transport endpoint is not connected\nits closing: opened\n",
         )
         ran = run(compile_client("rust", "opening.rs", folder), folder / "absent")
@@ -602,8 +604,10 @@ class ClientsTests(FolderCase):
             ran,
             0,
             "",
-            f"no server: can't open {folder / 'absent'}: No such file or directory (os error 2)\n"
-            f"no time: can't open {folder / 'absent'}: the time limit is zero\nno lease: Some(NotFound) Some(2)\n",
+            f"no server: can't connect to {folder / 'absent'}: No such file or directory (os error 2)\n"
+            "its source: Some(NotFound)\n"
+            f"no time: can't connect to {folder / 'absent'}: the time limit is zero\n"
+            f"an empty path: {EMPTY_PATH}\nno lease: Some(NotFound) Some(2)\n",
         )
 
     def test_tool_asks_calls(self):
@@ -647,6 +651,7 @@ class ClientsTests(FolderCase):
         folder = self.folder
         ran = run(TOOL, folder / "absent", "version")
         expect_end(ran, 1, f"drm-client: can't open {folder / 'absent'}: No such file or directory\n", "")
+        expect_end(run(TOOL, "", "version"), 1, f"drm-client: {EMPTY_PATH}\n", "")
         with socket.socket(socket.AF_UNIX) as unheard:
             unheard.bind(str(folder / "unheard"))
             ran = run(TOOL, folder / "unheard", "version")

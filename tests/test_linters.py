@@ -22,6 +22,8 @@ from support import (  # noqa: E402
     want_program,
 )
 
+from test_clients import SESSION  # noqa: E402
+
 PYTHON = CLIENTS / "python"
 TESTS = REPOSITORY / "tests"
 # what is no module, and so isn't found by its name
@@ -101,6 +103,45 @@ with Server() as server:
 """
 
 
+# the types of answers, by their first words in a script
+ANSWER_TYPES = {
+    "done": "Done",
+    "version": "Version",
+    "number": "int",
+    "dumb": "Dumb",
+    "buffer": "Buffer",
+    "crtcs": "Resources",
+    "list": "Tuple[int, ...]",
+    "plane": "Plane",
+    "framebuffer": "Framebuffer",
+    "lease": "Lease",
+    "rows": "Rows",
+}
+# what has another type is an error, and the comment on a line without one is an error too
+TYPED = """
+from typing import Tuple
+from typing_extensions import assert_type
+from zirkoshe import AsyncClient, Client
+from zirkoshe.protocol import Buffer, Done, Dumb, Framebuffer, Lease, Plane, Resources, Rows, Version
+
+async def ask(plain: Client, later: AsyncClient) -> None:
+    plain.gem_close("1")  # type: ignore[arg-type]
+    later.gem_close()  # type: ignore[call-arg, unused-coroutine]
+    later.version().major  # type: ignore[attr-defined]
+"""
+
+
+def typed_calls():
+    """A program that makes each call of the session by both clients, and says the type of each answer."""
+    text = TYPED
+    for _, (word, *fields), answer in SESSION.steps():
+        kind = ANSWER_TYPES.get(answer.split()[0])
+        if word != "open" and kind is not None:
+            call = f"{word}({', '.join(fields)})"
+            text += f"    assert_type(plain.{call}, {kind})\n    assert_type(await later.{call}, {kind})\n"
+    return text
+
+
 # Rust
 
 
@@ -178,6 +219,20 @@ class LintersTests(FolderCase):
         folder = self.folder
         expect_clean(folder, "mypy", "--cache-dir", folder / "cache", ".")
 
+    def test_python_types_of_calls_and_their_answers(self):
+        """Those of both clients, as mypy sees them."""
+        (self.folder / "typed.py").write_text(typed_calls())
+        expect_clean(
+            self.folder,
+            "mypy",
+            "--strict",
+            "--config-file",
+            PYTHON / "pyproject.toml",
+            "--cache-dir",
+            self.folder / "cache",
+            self.folder / "typed.py",
+        )
+
     def test_python_is_clean_by_ruff(self):
         folder = self.folder
         expect_clean(folder, "ruff", "check", "--no-cache", ".")
@@ -237,7 +292,7 @@ class LintersTests(FolderCase):
 
     def test_programs_of_the_tests_without_warnings(self):
         want_program("cc")
-        for name in ("session", "opening", "closed", "threads", "fixture", "faults"):
+        for name in ("session", "opening", "closed", "threads", "forks", "starts", "fixture", "faults"):
             ran = run("cc", "-std=c99", *WARNINGS, "-fsyntax-only", "-I", CLIENTS / "c", REPOSITORY / f"tests/{name}.c")
             expect(f"what is said of {name}", (ran.returncode, ran.stderr), (0, ""))
 

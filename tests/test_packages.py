@@ -10,14 +10,17 @@ import pathlib
 import re
 import shutil
 import signal
+import subprocess
 import sys
 
 sys.dont_write_bytecode = True
 from support import (  # noqa: E402
     CLIENTS,
     REPOSITORY,
+    SECONDS,
     FolderCase,
     Skipped,
+    compile_client,
     expect,
     expect_end,
     make_root,
@@ -36,6 +39,8 @@ from blocks import blocks_of  # noqa: E402
 
 PAGE = "docs/TESTING.md"
 WITH_SERVER = REPOSITORY / "tools/with-server"
+# servers that start at the same time
+STARTED = 24
 
 
 def shown(language, place=0):
@@ -394,6 +399,32 @@ def test_buffer(drm_server):
         )
         expect("files left", list((folder / "temporary").iterdir()), [])
 
+    def test_servers_of_a_c_test_without_standard_streams(self):
+        """A server starts and ends the same if the test has no input, output or error output."""
+        program = compile_client("c", "starts.c", self.folder)
+        for closed in ([0], [1], [0, 1], [0, 1, 2]):
+
+            def close(closed=closed):
+                for descriptor in closed:
+                    os.close(descriptor)
+
+            ran = run(program, 1, preexec_fn=close)
+            expect(f"status without {closed}", ran.returncode, 0)
+
+    def test_servers_of_a_c_test_that_start_together(self):
+        """No server has the input of another one, and so keeps it from ending."""
+        program = compile_client("c", "starts.c", self.folder)
+        with subprocess.Popen(
+            [program, str(STARTED)], stdin=subprocess.PIPE, stdout=subprocess.PIPE, text=True
+        ) as started:
+            lines = [next(started.stdout).split() for _ in range(STARTED)]
+            inputs = {os.readlink(f"/proc/{started.pid}/fd/{descriptor}") for _, descriptor in lines}
+            inputs |= {os.readlink(f"/proc/{process}/fd/0") for process, _ in lines}
+            held = [len(inputs & set(descriptors_of(process))) for process, _ in lines]
+            started.communicate(timeout=4 * SECONDS)
+        expect("the inputs that each server has", held, STARTED * [1])
+        expect("status", started.returncode, 0)
+
     def test_versions(self):
         """Each package has the version of the whole."""
         version = (REPOSITORY / "VERSION").read_text().strip()
@@ -412,6 +443,11 @@ def test_buffer(drm_server):
             set(re.findall(r"zirkoshe-([0-9.]+)-x86", (REPOSITORY / PAGE).read_text())),
             {version},
         )
+
+
+def descriptors_of(process):
+    """What the descriptors of a process refer to."""
+    return [os.readlink(path) for path in pathlib.Path(f"/proc/{process}/fd").iterdir()]
 
 
 def debian_package(folder):

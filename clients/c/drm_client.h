@@ -12,11 +12,12 @@
  *   -ECONNRESET, -EPIPE  the server has closed the connection
  *   -EPROTO              the answer is malformed, is cut off, or is not of the call's kind
  *   -ENOTCONN            the connection was closed before
- *   -EINVAL              with rule 0: more ids than one frame takes, or no path
+ *   -ECHILD              this process is a child (by fork) of the one that opened the client
+ *   -EINVAL              with rule 0: more ids than one frame takes, or no path or an empty one
  *
- * After each of these except a refusal and the last the connection is closed, because a late answer
- * could be taken for another call's. (-ETIMEDOUT of zirkoshe_wait_until_closed leaves it open.) If
- * a function fails, what its pointers refer to is unchanged.
+ * After each of these except a refusal and the last two the connection is closed, because a late
+ * answer could be taken for another call's. (-ETIMEDOUT of zirkoshe_wait_until_closed leaves it
+ * open.) If a function fails, what its pointers refer to is unchanged.
  *
  * Threads may share a client. Calls run one after the other, and a call's time limit starts when
  * the calls before it have ended. `client->rule` is that of the last call of any thread. To read

@@ -34,6 +34,7 @@ struct zirkoshe_turn {
 
 struct zirkoshe_client {
     int socket;      /* -1 if the connection is closed */
+    pid_t process;   /* the process that opened the client */
     int timeout;     /* the time limit in milliseconds of an opening, a call and the closing */
     uint32_t number; /* the number that the server gave this client */
     uint32_t rule;   /* the number of the rule by which the last call was refused, or 0 */
@@ -76,6 +77,13 @@ static inline void zirkoshe_destroy_turn(struct zirkoshe_turn *turn)
     pthread_mutex_destroy(&turn->guard);
 }
 
+/* Whether this process opened the client. A child of fork has a copy of its parent's, whose turn a
+ * thread of the parent may have had. */
+static inline bool zirkoshe_is_own(const struct zirkoshe_client *client)
+{
+    return client->process == getpid();
+}
+
 /* Waits until no other thread asks, and lets none ask until zirkoshe_unlock. Calls of the same
  * thread continue. */
 static inline void zirkoshe_lock(struct zirkoshe_client *client)
@@ -83,6 +91,8 @@ static inline void zirkoshe_lock(struct zirkoshe_client *client)
     struct zirkoshe_turn *turn = &client->turn;
     int state;
 
+    if (!zirkoshe_is_own(client))
+        return;
     pthread_setcancelstate(PTHREAD_CANCEL_DISABLE, &state);
     pthread_mutex_lock(&turn->guard);
     while (turn->depth > 0 && !pthread_equal(turn->owner, pthread_self()))
@@ -97,6 +107,8 @@ static inline void zirkoshe_unlock(struct zirkoshe_client *client)
 {
     struct zirkoshe_turn *turn = &client->turn;
 
+    if (!zirkoshe_is_own(client))
+        return;
     pthread_mutex_lock(&turn->guard);
     turn->depth--;
     if (turn->depth == 0)
@@ -182,6 +194,14 @@ static inline int zirkoshe_read_frame(struct zirkoshe_client *client,
     return number == wanted ? 0 : zirkoshe_abandon(client, -EPROTO);
 }
 
+/* The error of a client that can't ask, because it is closed or is its parent's; otherwise 0. */
+static inline int zirkoshe_check(const struct zirkoshe_client *client)
+{
+    if (!client->is_ready)
+        return -ENOTCONN;
+    return zirkoshe_is_own(client) ? 0 : -ECHILD;
+}
+
 /* Asks, and returns the fields of the answer, which has this number. The client is held. */
 static inline int zirkoshe_ask_held(struct zirkoshe_client *client, struct zirkoshe_frame *frame,
                                     uint16_t wanted, struct zirkoshe_fields *fields)
@@ -196,11 +216,11 @@ static inline int zirkoshe_ask_held(struct zirkoshe_client *client, struct zirko
 static inline int zirkoshe_ask(struct zirkoshe_client *client, struct zirkoshe_frame *frame,
                                uint16_t wanted, struct zirkoshe_fields *fields)
 {
-    int failed;
+    int failed = zirkoshe_check(client);
 
-    if (!client->is_ready) {
+    if (failed) {
         client->rule = 0;
-        return -ENOTCONN;
+        return failed;
     }
     zirkoshe_lock(client);
     failed = zirkoshe_ask_held(client, frame, wanted, fields);
@@ -317,9 +337,11 @@ static inline void zirkoshe_call_together(struct zirkoshe_client *client,
     unsigned char bytes[ZIRKOSHE_MOST_PLAIN_CALLS * ZIRKOSHE_REFUSAL];
     int64_t until = zirkoshe_now() + client->timeout;
     size_t at, next = 0, taken = 0;
-    int failed =
-        client->socket < 0 ? -ENOTCONN : zirkoshe_send_plain_calls(client, calls, count, until);
+    int failed = zirkoshe_check(client);
 
+    if (!failed)
+        failed =
+            client->socket < 0 ? -ENOTCONN : zirkoshe_send_plain_calls(client, calls, count, until);
     for (at = 0; at < count; at++) {
         calls[at].failed = failed ? zirkoshe_abandon(client, failed)
                                   : zirkoshe_take_plain_answer(client, bytes, &next, &taken,
@@ -362,7 +384,7 @@ static inline int zirkoshe_connect(const char *path, int64_t until)
     size_t length;
     int fd, failed;
 
-    if (path == NULL)
+    if (path == NULL || path[0] == '\0')
         return -EINVAL;
     length = strlen(path);
     memset(&address, 0, sizeof address);
@@ -370,25 +392,24 @@ static inline int zirkoshe_connect(const char *path, int64_t until)
     if (length >= sizeof address.sun_path)
         return -ENAMETOOLONG;
     memcpy(address.sun_path, path, length);
-    fd = socket(AF_UNIX, SOCK_STREAM, 0);
+    fd = socket(AF_UNIX, SOCK_STREAM | SOCK_CLOEXEC | SOCK_NONBLOCK, 0);
     if (fd < 0)
         return -errno;
-    failed =
-        fcntl(fd, F_SETFD, FD_CLOEXEC) != 0 || fcntl(fd, F_SETFL, O_NONBLOCK) != 0 ? -errno : 0;
-    if (!failed)
-        failed = zirkoshe_try_connect(fd, &address, until);
+    failed = zirkoshe_try_connect(fd, &address, until);
     if (!failed)
         return fd;
     close(fd);
     return failed;
 }
 
-/* Frees what a client needs that isn't open, and returns the error. */
+/* Frees what a client needs that isn't open, and returns the error. A turn of the parent's stays as
+ * it is, since its destruction could wait for a thread of the parent. */
 static inline int zirkoshe_discard(struct zirkoshe_client *client, int error)
 {
     zirkoshe_abandon(client, error);
     client->is_ready = false;
-    zirkoshe_destroy_turn(&client->turn);
+    if (zirkoshe_is_own(client))
+        zirkoshe_destroy_turn(&client->turn);
     return error;
 }
 
@@ -401,6 +422,7 @@ static inline int zirkoshe_open_by(struct zirkoshe_client *client, const char *p
     int failed;
 
     client->socket = -1;
+    client->process = getpid();
     client->number = 0;
     client->rule = 0;
     client->timeout = timeout;
@@ -462,12 +484,14 @@ static inline int zirkoshe_open2_lease(struct zirkoshe_client *client, const cha
     return zirkoshe_open_lease(client, path, token, timeout);
 }
 
-/* Ends the connection, which is open and held. */
+/* Ends the connection, which is held. In a child of fork it closes the child's copy alone. */
 static inline int zirkoshe_close_held(struct zirkoshe_client *client)
 {
     unsigned char more;
     int failed;
 
+    if (client->socket < 0 || !zirkoshe_is_own(client))
+        return zirkoshe_abandon(client, 0);
     shutdown(client->socket, SHUT_WR);
     failed =
         zirkoshe_take_all(client->socket, &more, 1, zirkoshe_now() + client->timeout, -ECONNRESET);
@@ -475,7 +499,8 @@ static inline int zirkoshe_close_held(struct zirkoshe_client *client)
 }
 
 /* Ends the connection, and waits until the server has closed the client and released what it owned.
- * Later calls return -ENOTCONN. Other threads may use the client meanwhile. */
+ * Later calls return -ENOTCONN. Other threads may use the client meanwhile. In a child of fork it
+ * closes the child's copy of the socket, and the parent's connection stays open. */
 static inline int zirkoshe_disconnect(struct zirkoshe_client *client)
 {
     int failed;
@@ -484,7 +509,7 @@ static inline int zirkoshe_disconnect(struct zirkoshe_client *client)
         return 0;
     zirkoshe_lock(client);
     client->rule = 0;
-    failed = client->socket < 0 ? 0 : zirkoshe_close_held(client);
+    failed = zirkoshe_close_held(client);
     zirkoshe_unlock(client);
     return failed;
 }

@@ -27,6 +27,7 @@
 #define _POSIX_C_SOURCE 200809L
 #endif
 
+#include <fcntl.h>
 #include <signal.h>
 #include <stdio.h>
 #include <stdlib.h>
@@ -164,7 +165,7 @@ static inline void zirkoshe_server_clean(const struct zirkoshe_server *server)
 /* Whether a socket at this path listens. Its file exists a moment before. */
 static inline bool zirkoshe_is_listening(const char *path)
 {
-    FILE *table = fopen("/proc/net/unix", "r");
+    FILE *table = fopen("/proc/net/unix", "re");
     char line[512], found[256];
     bool is_listening = false;
 
@@ -179,36 +180,67 @@ static inline bool zirkoshe_is_listening(const char *path)
     return is_listening;
 }
 
-/* Starts the program with a pipe as its standard input; 0 or a negative errno. */
+/* Moves a descriptor out of the standard streams, and returns it or a negative errno. */
+static inline int zirkoshe_above_streams(int fd)
+{
+    int moved, error;
+
+    if (fd > STDERR_FILENO)
+        return fd;
+    moved = fcntl(fd, F_DUPFD_CLOEXEC, STDERR_FILENO + 1);
+    error = errno;
+    close(fd);
+    return moved < 0 ? -error : moved;
+}
+
+/* Creates the two ends of the server's standard input; 0 or a negative errno. No program that
+ * another thread starts meanwhile inherits them: sockets can be created as closed on exec. */
+static inline int zirkoshe_server_input(int ends[2])
+{
+    if (socketpair(AF_UNIX, SOCK_STREAM | SOCK_CLOEXEC, 0, ends) != 0)
+        return -errno;
+    ends[0] = zirkoshe_above_streams(ends[0]);
+    ends[1] = zirkoshe_above_streams(ends[1]);
+    if (ends[0] >= 0 && ends[1] >= 0)
+        return 0;
+    close(ends[0] < 0 ? ends[1] : ends[0]);
+    return ends[0] < 0 ? ends[0] : ends[1];
+}
+
+/* In the child: becomes the program, whose standard input is this descriptor. */
+static inline void zirkoshe_server_become(const struct zirkoshe_words *words, int input)
+{
+    char *argument[ZIRKOSHE_MOST_WORDS + 1];
+
+    memcpy(argument, words->word, sizeof words->word);
+    argument[words->length] = NULL;
+    setsid(); /* what a terminal sends reaches the test alone */
+    dup2(input, STDIN_FILENO);
+    close(STDOUT_FILENO);
+    open("/dev/null", O_WRONLY); /* the lowest descriptor that is free, which is standard output */
+    execvp(argument[0], argument);
+    _exit(127);
+}
+
+/* Starts the program with an input that it reads to its end; 0 or a negative errno. */
 static inline int zirkoshe_server_spawn(struct zirkoshe_server *server,
                                         const struct zirkoshe_words *words)
 {
     int ends[2];
+    int failed = zirkoshe_server_input(ends);
 
-    if (pipe(ends) != 0)
-        return -errno;
-    fcntl(ends[1], F_SETFD, FD_CLOEXEC);
+    if (failed)
+        return failed;
     server->process = fork();
-    if (server->process == 0) {
-        char *argument[ZIRKOSHE_MOST_WORDS + 1];
-        int quiet = open("/dev/null", O_WRONLY);
-
-        memcpy(argument, words->word, sizeof words->word);
-        argument[words->length] = NULL;
-        setsid(); /* what a terminal sends reaches the test alone */
-        dup2(ends[0], STDIN_FILENO);
-        dup2(quiet, STDOUT_FILENO);
-        close(ends[0]);
-        close(ends[1]);
-        execvp(argument[0], argument);
-        _exit(127);
-    }
+    if (server->process == 0)
+        zirkoshe_server_become(words, ends[0]);
+    failed = server->process < 0 ? -errno : 0;
     close(ends[0]);
-    server->input = ends[1];
-    if (server->process > 0)
-        return 0;
-    close(ends[1]);
-    return -EAGAIN;
+    if (failed)
+        close(ends[1]);
+    else
+        server->input = ends[1];
+    return failed;
 }
 
 /* Waits until the server has ended, and kills it if that takes too long; its status, or -ETIMEDOUT.

@@ -15,6 +15,7 @@ Errors and answers are those of `Client`.
 
 import asyncio
 import contextlib
+import functools
 import os
 import socket
 import time
@@ -22,16 +23,17 @@ from types import TracebackType
 from typing import (
     Any,
     Awaitable,
-    Iterable,
+    Callable,
+    Coroutine,
     Iterator,
     Optional,
     Tuple,
     Type,
     TypeVar,
-    Union,
 )
 
-from .client import DEFAULT_TIMEOUT, Deadline, PathLike, Search, leased_ids
+from .calls import Calls
+from .client import DEFAULT_TIMEOUT, Deadline, PathLike, Search, check_path
 from .constants import AuditKind
 from .protocol import (
     CALLS,
@@ -40,10 +42,9 @@ from .protocol import (
     Buffer,
     Done,
     Dumb,
+    ForkedError,
     Framebuffer,
-    IdList,
     Lease,
-    Number,
     Opened,
     Plane,
     ProtocolError,
@@ -62,6 +63,7 @@ from .protocol import (
 )
 
 _A = TypeVar("_A")
+_Later = Coroutine[Any, Any, _A]
 
 
 async def within(deadline: Deadline, wait: Awaitable[_A]) -> _A:
@@ -80,6 +82,7 @@ async def connect(path: str, deadline: Deadline) -> socket.socket:
     A Unix socket connects at once, or not at all. (The loop's `sock_connect` takes a
     full queue for a connection that is under way.)
     """
+    check_path(path)
     made = socket.socket(socket.AF_UNIX, socket.SOCK_STREAM)
     try:
         made.setblocking(False)
@@ -96,7 +99,21 @@ async def connect(path: str, deadline: Deadline) -> socket.socket:
         raise
 
 
-class AsyncClient:
+class AsyncClient(
+    Calls[
+        _Later[Done],
+        _Later[int],
+        _Later[Version],
+        _Later[Dumb],
+        _Later[Buffer],
+        _Later[Resources],
+        _Later[Tuple[int, ...]],
+        _Later[Plane],
+        _Later[Framebuffer],
+        _Later[Lease],
+        _Later[Rows],
+    ]
+):
     """One connection of an asyncio program, and the client that the server opened.
 
     The parameters are those of `Client`. `async with` opens and closes it; otherwise
@@ -119,6 +136,7 @@ class AsyncClient:
         self._hello = hello(lease, version)
         self._lock: Optional[asyncio.Lock] = None  # created in the loop that uses it
         self._is_waiting = False
+        self._process = os.getpid()
 
     def __repr__(self) -> str:
         state = "closed" if self.socket is None else f"open as {self.opened.client}"
@@ -133,6 +151,8 @@ class AsyncClient:
         if self.socket is not None:
             raise ValueError("the client is open")
         self._lock = asyncio.Lock()
+        self._is_waiting = False
+        self._process = os.getpid()
         held = await connect(self.path, Deadline(self.timeout))
         self.socket = held
         try:
@@ -169,7 +189,13 @@ class AsyncClient:
             data += more
         return data
 
+    def _is_forked(self) -> bool:
+        """Returns whether this is a child, in which a task's turn may never end."""
+        return self._process != os.getpid()
+
     def _turn(self) -> asyncio.Lock:
+        if self._is_forked():
+            raise ForkedError
         if self._lock is None:
             raise ConnectionError("the connection is closed")
         return self._lock
@@ -209,8 +235,9 @@ class AsyncClient:
         length = length_of(await self._take(held, 4, deadline, inside=False))
         return answer_in(await self._take(held, length, deadline, inside=True), kind)
 
-    async def _call(self, kind: Type[_A], word: str, *values: int) -> _A:
-        return await self._exchange(request(CALLS[word], values), kind)
+    async def _call(self, word: str, *values: int) -> Any:
+        call = CALLS[word]
+        return await self._exchange(request(call, values), call.answer)
 
     async def ask(self, line: str) -> str:
         """Makes a call in a script's words.
@@ -237,20 +264,26 @@ class AsyncClient:
         A call of another task that waits for its answer raises `ConnectionError`.
         """
         held, self.socket = self.socket, None
-        if held is not None:
-            with contextlib.suppress(OSError):
-                held.shutdown(socket.SHUT_RDWR)  # wakes a task that waits for it
-            if not self._is_waiting:
-                held.close()
+        if held is None:
+            return
+        if self._is_forked():
+            held.close()
+            return
+        with contextlib.suppress(OSError):
+            held.shutdown(socket.SHUT_RDWR)  # wakes a task that waits for it
+        if not self._is_waiting:
+            held.close()
 
     async def close(self) -> None:
         """Ends the connection, and waits until the server has closed the client.
 
         The server has then released what the client owned.
         """
-        if self._lock is None:
+        if self._is_forked():
+            self.abandon()
+        if self.socket is None:
             return
-        async with self._lock:
+        async with self._turn():
             held = self.socket
             if held is None:
                 return
@@ -298,146 +331,16 @@ class AsyncClient:
                 await asyncio.sleep(pause)
                 pause = min(2 * pause, 0.05)
 
-    # the calls
 
-    async def version(self) -> Version:
-        """Returns the version of the interface."""
-        return await self._call(Version, "version")
+def as_coroutine(method: Callable[..., Any]) -> Callable[..., Any]:
+    """Returns a method of `Calls` as a coroutine function, which mocks look for."""
 
-    async def get_magic(self) -> int:
-        """Returns the client's magic."""
-        return await self._call(Number, "get_magic")
+    @functools.wraps(method)
+    async def call(*values: Any, **named: Any) -> Any:
+        return await method(*values, **named)
 
-    async def gem_close(self, handle: int) -> Done:
-        """Closes a handle."""
-        return await self._call(Done, "gem_close", handle)
+    return call
 
-    async def gem_flink(self, handle: int) -> int:
-        """Returns the global name of a handle's object."""
-        return await self._call(Number, "gem_flink", handle)
 
-    async def gem_open(self, name: int) -> Buffer:
-        """Opens the object with this global name."""
-        return await self._call(Buffer, "gem_open", name)
-
-    async def get_cap(self, cap: int) -> int:
-        """Returns the value of a capability of `Cap`."""
-        return await self._call(Number, "get_cap", cap)
-
-    async def set_client_cap(self, cap: int, value: int) -> Done:
-        """Sets a capability of `ClientCap`."""
-        return await self._call(Done, "set_client_cap", cap, value)
-
-    async def auth_magic(self, magic: int) -> Done:
-        """Authenticates the client with this magic."""
-        return await self._call(Done, "auth_magic", magic)
-
-    async def set_master(self) -> Done:
-        """Makes the client's master the device's."""
-        return await self._call(Done, "set_master")
-
-    async def drop_master(self) -> Done:
-        """Leaves the device without a master."""
-        return await self._call(Done, "drop_master")
-
-    async def prime_export(self, handle: int) -> int:
-        """Returns a PRIME token of a handle's object."""
-        return await self._call(Number, "prime_export", handle)
-
-    async def prime_import(self, token: int) -> Buffer:
-        """Returns the buffer of a PRIME token."""
-        return await self._call(Buffer, "prime_import", token)
-
-    async def buf_create(self, size: int) -> Buffer:
-        """Creates a buffer of `size` bytes."""
-        return await self._call(Buffer, "buf_create", size)
-
-    async def stamp_write(self, handle: int, stamp: int) -> Done:
-        """Writes the stamp of a buffer."""
-        return await self._call(Done, "stamp_write", handle, stamp)
-
-    async def stamp_read(self, handle: int) -> int:
-        """Returns the stamp of a buffer."""
-        return await self._call(Number, "stamp_read", handle)
-
-    async def token_close(self, token: int) -> Done:
-        """Closes a PRIME token."""
-        return await self._call(Done, "token_close", token)
-
-    async def list_handles(self, least: int = 0) -> Tuple[int, ...]:
-        """Returns the first 64 handles that are not below `least`."""
-        return await self._call(IdList, "list_handles", least)
-
-    async def audit(self, kind: int, skipped: int = 0) -> Rows:
-        """Returns up to 16 rows of a kind of `AuditKind`, after the first `skipped`."""
-        return await self._call(Rows, "audit", kind, skipped)
-
-    async def getresources(self) -> Resources:
-        """Returns the ids of the mode objects that the client sees."""
-        return await self._call(Resources, "getresources")
-
-    async def getcrtc(self, crtc: int) -> int:
-        """Returns the framebuffer that a CRTC shows, or 0."""
-        return await self._call(Number, "getcrtc", crtc)
-
-    async def setcrtc(self, crtc: int, framebuffer: int, connector: int) -> Done:
-        """Shows a framebuffer on a CRTC; with 0 and 0 the CRTC becomes dark."""
-        return await self._call(Done, "setcrtc", crtc, framebuffer, connector)
-
-    async def getencoder(self, encoder: int) -> int:
-        """Returns the mask of an encoder's possible CRTCs."""
-        return await self._call(Number, "getencoder", encoder)
-
-    async def getconnector(self, connector: int) -> int:
-        """Returns the encoder of a connector."""
-        return await self._call(Number, "getconnector", connector)
-
-    async def getfb(self, framebuffer: int) -> Framebuffer:
-        """Returns a framebuffer, with a new handle of its object."""
-        return await self._call(Framebuffer, "getfb", framebuffer)
-
-    async def addfb(
-        self, width: int, height: int, pitch: int, bpp: int, handle: int
-    ) -> int:
-        """Creates a framebuffer, and returns its id."""
-        return await self._call(Number, "addfb", width, height, pitch, bpp, handle)
-
-    async def rmfb(self, framebuffer: int) -> Done:
-        """Removes a framebuffer."""
-        return await self._call(Done, "rmfb", framebuffer)
-
-    async def create_dumb(self, width: int, height: int, bpp: int) -> Dumb:
-        """Creates a dumb buffer for pixels of `bpp` bits."""
-        return await self._call(Dumb, "create_dumb", width, height, bpp)
-
-    async def destroy_dumb(self, handle: int) -> Done:
-        """Closes the handle of a dumb buffer."""
-        return await self._call(Done, "destroy_dumb", handle)
-
-    async def getplaneresources(self) -> Tuple[int, ...]:
-        """Returns the ids of the planes that the client sees."""
-        return await self._call(IdList, "getplaneresources")
-
-    async def getplane(self, plane: int) -> Plane:
-        """Returns what a plane shows, and on which CRTCs it may."""
-        return await self._call(Plane, "getplane", plane)
-
-    async def setplane(self, plane: int, crtc: int, framebuffer: int) -> Done:
-        """Shows a framebuffer on a plane; with 0 and 0 the plane becomes dark."""
-        return await self._call(Done, "setplane", plane, crtc, framebuffer)
-
-    async def create_lease(self, *ids: Union[int, Iterable[int]]) -> Lease:
-        """Leases these mode objects, or those of one list, to a new lessee."""
-        return await self._call(Lease, "create_lease", *leased_ids(ids))
-
-    async def list_lessees(self) -> Tuple[int, ...]:
-        """Returns the ids of the lessees of the client's master."""
-        return await self._call(IdList, "list_lessees")
-
-    async def get_lease(self) -> Tuple[int, ...]:
-        """Returns the ids of the mode objects in the client's lease."""
-        return await self._call(IdList, "get_lease")
-
-    async def revoke_lease(self, lessee_id: int) -> Done:
-        """Revokes the lease of a lessee."""
-        return await self._call(Done, "revoke_lease", lessee_id)
+for _word in CALLS:
+    setattr(AsyncClient, _word, as_coroutine(getattr(Calls, _word)))

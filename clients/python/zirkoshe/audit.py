@@ -249,6 +249,15 @@ Examples:
   drm-audit "$DRM_SERVER_ROOT" --svg > session.svg"""
 
 
+def root_path(word: str) -> str:
+    """Reads the path of the root socket."""
+    if not word:
+        raise argparse.ArgumentTypeError(
+            "the socket's path is empty: is DRM_SERVER_ROOT set?"
+        )
+    return word
+
+
 def seconds_of(word: str) -> float:
     """Reads a time limit of a command line."""
     try:
@@ -269,7 +278,9 @@ def parse(arguments: Optional[Sequence[str]]) -> argparse.Namespace:
         epilog=rest.partition("\n\n")[2] + EPILOG,
         formatter_class=argparse.RawDescriptionHelpFormatter,
     )
-    parser.add_argument("path", metavar="SOCKET", help="the server's root socket")
+    parser.add_argument(
+        "path", type=root_path, metavar="SOCKET", help="the server's root socket"
+    )
     forms = parser.add_mutually_exclusive_group()
     for form, what in (
         ("json", "as JSON"),

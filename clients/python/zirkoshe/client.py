@@ -13,6 +13,9 @@ fault outside the rules `Apart`, and a malformed answer `ProtocolError`. A serve
 cannot be reached, or has exited, is a `ConnectionError` or another `OSError`, and a
 wait that takes too long a `TimeoutError`. After each of these except `Denied` and
 `Apart` the connection is closed.
+
+After a fork, a client is the parent's. In the child each call raises `ForkedError`, and
+`close` and `abandon` close the child's copy of the socket alone.
 """
 
 import contextlib
@@ -21,8 +24,9 @@ import socket
 import threading
 import time
 from types import TracebackType
-from typing import Any, Iterable, Optional, Sequence, Tuple, Type, TypeVar, Union
+from typing import Any, Optional, Tuple, Type, TypeVar, Union
 
+from .calls import Calls
 from .constants import MOST_ROWS, AuditKind
 from .protocol import (
     CALLS,
@@ -31,10 +35,9 @@ from .protocol import (
     Buffer,
     Done,
     Dumb,
+    ForkedError,
     Framebuffer,
-    IdList,
     Lease,
-    Number,
     Opened,
     Plane,
     ProtocolError,
@@ -82,8 +85,15 @@ class Deadline:
         return left
 
 
+def check_path(path: str) -> None:
+    """Raises `ValueError` if the path is empty, like that of a variable without one."""
+    if not path:
+        raise ValueError("the socket's path is empty: is DRM_SERVER_CARD set?")
+
+
 def connect(path: str, deadline: Deadline) -> socket.socket:
     """Returns a connection to the socket at this path."""
+    check_path(path)
     made = socket.socket(socket.AF_UNIX, socket.SOCK_STREAM)
     try:
         while True:
@@ -98,12 +108,6 @@ def connect(path: str, deadline: Deadline) -> socket.socket:
         if isinstance(error, OSError) and error.errno is not None:
             error.filename = path
         raise
-
-
-def leased_ids(ids: Sequence[Union[int, Iterable[int]]]) -> Sequence[int]:
-    """Returns the ids of a lease, which are the arguments or those of one list."""
-    listed = ids[0] if len(ids) == 1 and not isinstance(ids[0], int) else ids
-    return tuple(listed)  # type: ignore[arg-type]  # a nested list is a ValueError
 
 
 class Search:
@@ -128,7 +132,21 @@ class Search:
         return None
 
 
-class Client:
+class Client(
+    Calls[
+        Done,
+        int,
+        Version,
+        Dumb,
+        Buffer,
+        Resources,
+        Tuple[int, ...],
+        Plane,
+        Framebuffer,
+        Lease,
+        Rows,
+    ]
+):
     """One connection, and the client that the server opened for it.
 
     `path` is the server's card, render or root socket. With `lease`, the opening
@@ -150,6 +168,7 @@ class Client:
     ) -> None:
         self.path = os.fspath(path)
         self.timeout = timeout
+        self._process = os.getpid()
         self._turn = threading.RLock()  # held from a request until its answer arrives
         first = hello(lease, version)
         self.socket: Optional[socket.socket] = connect(self.path, Deadline(timeout))
@@ -173,6 +192,10 @@ class Client:
         trace: Optional[TracebackType],
     ) -> None:
         self.close()
+
+    def _is_forked(self) -> bool:
+        """Returns whether this is a child, in which a thread's turn may never end."""
+        return self._process != os.getpid()
 
     @staticmethod
     def _receive(held: socket.socket, most: int, deadline: Deadline) -> bytes:
@@ -208,6 +231,8 @@ class Client:
 
     def _exchange(self, text: bytes, kind: Optional[Type[_A]]) -> _A:
         """Sends a frame when the calls before have ended, and returns its answer."""
+        if self._is_forked():
+            raise ForkedError
         with self._turn:
             held = self.socket
             if held is None:
@@ -223,8 +248,9 @@ class Client:
                 self.abandon()
                 raise
 
-    def _call(self, kind: Type[_A], word: str, *values: int) -> _A:
-        return self._exchange(request(CALLS[word], values), kind)
+    def _call(self, word: str, *values: int) -> Any:
+        call = CALLS[word]
+        return self._exchange(request(call, values), call.answer)
 
     def ask(self, line: str) -> str:
         """Makes a call in a script's words.
@@ -250,15 +276,22 @@ class Client:
 
         A call of another thread that waits for its answer raises `ConnectionError`.
         """
+        if self._is_forked():
+            self._drop()
+            return
         if not self._turn.acquire(blocking=False):
             self._wake()
             self._turn.acquire()
         try:
-            if self.socket is not None:
-                self.socket.close()
-                self.socket = None
+            self._drop()
         finally:
             self._turn.release()
+
+    def _drop(self) -> None:
+        """Closes this process's copy of the socket."""
+        if self.socket is not None:
+            self.socket.close()
+            self.socket = None
 
     def _wake(self) -> None:
         """Ends the wait of the thread that makes a call."""
@@ -272,6 +305,9 @@ class Client:
 
         The server has then released what the client owned.
         """
+        if self._is_forked():
+            self._drop()
+            return
         with self._turn:
             held = self.socket
             if held is None:
@@ -314,145 +350,3 @@ class Client:
                 )
             time.sleep(pause)
             pause = min(2 * pause, 0.05)
-
-    # the calls
-
-    def version(self) -> Version:
-        """Returns the version of the interface."""
-        return self._call(Version, "version")
-
-    def get_magic(self) -> int:
-        """Returns the client's magic."""
-        return self._call(Number, "get_magic")
-
-    def gem_close(self, handle: int) -> Done:
-        """Closes a handle."""
-        return self._call(Done, "gem_close", handle)
-
-    def gem_flink(self, handle: int) -> int:
-        """Returns the global name of a handle's object."""
-        return self._call(Number, "gem_flink", handle)
-
-    def gem_open(self, name: int) -> Buffer:
-        """Opens the object with this global name."""
-        return self._call(Buffer, "gem_open", name)
-
-    def get_cap(self, cap: int) -> int:
-        """Returns the value of a capability of `Cap`."""
-        return self._call(Number, "get_cap", cap)
-
-    def set_client_cap(self, cap: int, value: int) -> Done:
-        """Sets a capability of `ClientCap`."""
-        return self._call(Done, "set_client_cap", cap, value)
-
-    def auth_magic(self, magic: int) -> Done:
-        """Authenticates the client with this magic."""
-        return self._call(Done, "auth_magic", magic)
-
-    def set_master(self) -> Done:
-        """Makes the client's master the device's."""
-        return self._call(Done, "set_master")
-
-    def drop_master(self) -> Done:
-        """Leaves the device without a master."""
-        return self._call(Done, "drop_master")
-
-    def prime_export(self, handle: int) -> int:
-        """Returns a PRIME token of a handle's object."""
-        return self._call(Number, "prime_export", handle)
-
-    def prime_import(self, token: int) -> Buffer:
-        """Returns the buffer of a PRIME token."""
-        return self._call(Buffer, "prime_import", token)
-
-    def buf_create(self, size: int) -> Buffer:
-        """Creates a buffer of `size` bytes."""
-        return self._call(Buffer, "buf_create", size)
-
-    def stamp_write(self, handle: int, stamp: int) -> Done:
-        """Writes the stamp of a buffer."""
-        return self._call(Done, "stamp_write", handle, stamp)
-
-    def stamp_read(self, handle: int) -> int:
-        """Returns the stamp of a buffer."""
-        return self._call(Number, "stamp_read", handle)
-
-    def token_close(self, token: int) -> Done:
-        """Closes a PRIME token."""
-        return self._call(Done, "token_close", token)
-
-    def list_handles(self, least: int = 0) -> Tuple[int, ...]:
-        """Returns the first 64 handles that are not below `least`."""
-        return self._call(IdList, "list_handles", least)
-
-    def audit(self, kind: int, skipped: int = 0) -> Rows:
-        """Returns up to 16 rows of a kind of `AuditKind`, after the first `skipped`."""
-        return self._call(Rows, "audit", kind, skipped)
-
-    def getresources(self) -> Resources:
-        """Returns the ids of the mode objects that the client sees."""
-        return self._call(Resources, "getresources")
-
-    def getcrtc(self, crtc: int) -> int:
-        """Returns the framebuffer that a CRTC shows, or 0."""
-        return self._call(Number, "getcrtc", crtc)
-
-    def setcrtc(self, crtc: int, framebuffer: int, connector: int) -> Done:
-        """Shows a framebuffer on a CRTC; with 0 and 0 the CRTC becomes dark."""
-        return self._call(Done, "setcrtc", crtc, framebuffer, connector)
-
-    def getencoder(self, encoder: int) -> int:
-        """Returns the mask of an encoder's possible CRTCs."""
-        return self._call(Number, "getencoder", encoder)
-
-    def getconnector(self, connector: int) -> int:
-        """Returns the encoder of a connector."""
-        return self._call(Number, "getconnector", connector)
-
-    def getfb(self, framebuffer: int) -> Framebuffer:
-        """Returns a framebuffer, with a new handle of its object."""
-        return self._call(Framebuffer, "getfb", framebuffer)
-
-    def addfb(self, width: int, height: int, pitch: int, bpp: int, handle: int) -> int:
-        """Creates a framebuffer, and returns its id."""
-        return self._call(Number, "addfb", width, height, pitch, bpp, handle)
-
-    def rmfb(self, framebuffer: int) -> Done:
-        """Removes a framebuffer."""
-        return self._call(Done, "rmfb", framebuffer)
-
-    def create_dumb(self, width: int, height: int, bpp: int) -> Dumb:
-        """Creates a dumb buffer for pixels of `bpp` bits."""
-        return self._call(Dumb, "create_dumb", width, height, bpp)
-
-    def destroy_dumb(self, handle: int) -> Done:
-        """Closes the handle of a dumb buffer."""
-        return self._call(Done, "destroy_dumb", handle)
-
-    def getplaneresources(self) -> Tuple[int, ...]:
-        """Returns the ids of the planes that the client sees."""
-        return self._call(IdList, "getplaneresources")
-
-    def getplane(self, plane: int) -> Plane:
-        """Returns what a plane shows, and on which CRTCs it may."""
-        return self._call(Plane, "getplane", plane)
-
-    def setplane(self, plane: int, crtc: int, framebuffer: int) -> Done:
-        """Shows a framebuffer on a plane; with 0 and 0 the plane becomes dark."""
-        return self._call(Done, "setplane", plane, crtc, framebuffer)
-
-    def create_lease(self, *ids: Union[int, Iterable[int]]) -> Lease:
-        """Leases these mode objects, or those of one list, to a new lessee."""
-        return self._call(Lease, "create_lease", *leased_ids(ids))
-
-    def list_lessees(self) -> Tuple[int, ...]:
-        """Returns the ids of the lessees of the client's master."""
-        return self._call(IdList, "list_lessees")
-
-    def get_lease(self) -> Tuple[int, ...]:
-        """Returns the ids of the mode objects in the client's lease."""
-        return self._call(IdList, "get_lease")
-
-    def revoke_lease(self, lessee_id: int) -> Done:
-        """Revokes the lease of a lessee."""
-        return self._call(Done, "revoke_lease", lessee_id)

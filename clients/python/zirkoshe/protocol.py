@@ -48,6 +48,13 @@ class ProtocolError(ClientError):
     """The answer is malformed, is cut off, or is not of the call's kind."""
 
 
+class ForkedError(ClientError):
+    """The client is that of the parent of this process, which can only close it."""
+
+    def __init__(self) -> None:
+        super().__init__("this process is a child of the one that opened the client")
+
+
 class Refusal(ClientError):
     """The server refused the call or the opening, and nothing changed.
 

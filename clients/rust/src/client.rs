@@ -11,6 +11,7 @@ use std::io::{self, ErrorKind};
 use std::net::Shutdown;
 use std::os::unix::net::UnixStream;
 use std::path::Path;
+use std::process;
 use std::thread;
 use std::time::Duration;
 
@@ -141,9 +142,14 @@ impl ClientBuilder {
     ///
     /// # Errors
     ///
-    /// `Error::Open` if the server cannot be reached or the time limit is zero, and those of calls.
+    /// `Error::Open` if the server cannot be reached or the time limit is zero, `Error::Io` if the
+    /// path is empty, and those of calls.
     pub fn open(self, path: impl AsRef<Path>) -> Result<Client, Error> {
         let path = path.as_ref();
+        if path.as_os_str().is_empty() {
+            let text = "the socket's path is empty: is DRM_SERVER_CARD set?";
+            return Err(io::Error::new(ErrorKind::InvalidInput, text).into());
+        }
         let stream = Deadline::new(self.timeout)
             .and_then(|deadline| connect(path, &deadline))
             .map_err(|source| Error::Open {
@@ -152,6 +158,7 @@ impl ClientBuilder {
             })?;
         let mut client = Client {
             stream: Some(stream),
+            process: process::id(),
             timeout: self.timeout,
             number: 0,
         };
@@ -172,9 +179,13 @@ impl ClientBuilder {
 ///
 /// Dropping it ends the connection; [`close`](Client::close) also waits until the server has
 /// closed the client. Threads share a client only in a lock, such as `Mutex<Client>`.
+///
+/// After a fork, a client is the parent's. In the child each call fails with [`Error::Forked`], and
+/// closing or dropping it closes the child's copy of the socket alone.
 #[derive(Debug)]
 pub struct Client {
     stream: Option<UnixStream>,
+    process: u32, // which opened it
     timeout: Duration,
     number: u32,
 }
@@ -216,8 +227,8 @@ impl Client {
         let Some(mut stream) = self.stream.take() else {
             return Ok(());
         };
-        if stream.shutdown(Shutdown::Write).is_err() {
-            return Ok(()); // the server had exited before
+        if self.is_forked() || stream.shutdown(Shutdown::Write).is_err() {
+            return Ok(()); // this is only a copy, or the server had exited before
         }
         match receive(&mut stream, &mut [0], &deadline) {
             Ok(0) => Ok(()),
@@ -266,6 +277,11 @@ impl Client {
         Ok(())
     }
 
+    /// Returns whether this is a child of the process that opened the client.
+    fn is_forked(&self) -> bool {
+        self.process != process::id()
+    }
+
     /// Sends a frame, and reads the answer, which has this number, by its fields.
     fn ask<T>(
         &mut self,
@@ -273,6 +289,9 @@ impl Client {
         expected: u16,
         read: fn(&mut Fields<'_>) -> Result<T, Error>,
     ) -> Result<T, Error> {
+        if self.is_forked() {
+            return Err(Error::Forked);
+        }
         let bytes = frame.bytes()?;
         let deadline = Deadline::new(self.timeout)?;
         let Some(mut stream) = self.stream.take() else {

@@ -8,11 +8,12 @@ use std::path::PathBuf;
 
 /// The reason why a call or an opening failed.
 ///
-/// `Denied` and `Fault` leave the connection unchanged. After `Io` and `Protocol` it is closed,
-/// because a late answer could be taken for another call's. `InvalidInput`, and the time limit of
-/// [`wait_until_closed`](super::Client::wait_until_closed), leave it open.
+/// `Denied`, `Fault` and `Forked` leave the connection unchanged. After `Io` and `Protocol` it is
+/// closed, because a late answer could be taken for another call's. `InvalidInput`, and the time
+/// limit of [`wait_until_closed`](super::Client::wait_until_closed), leave it open.
 ///
-/// It is displayed without its [`source`](error::Error::source).
+/// Its text says what failed and why. That of `Open` and `Io` includes the text of the
+/// [`source`](error::Error::source), which is the `io::Error`.
 #[derive(Debug)]
 #[non_exhaustive]
 pub enum Error {
@@ -32,6 +33,8 @@ pub enum Error {
     Io(io::Error),
     /// The answer is malformed, is cut off, or is not of the call's kind.
     Protocol(String),
+    /// The client is that of the parent of this process, which can only close it.
+    Forked,
 }
 
 impl Error {
@@ -41,7 +44,7 @@ impl Error {
             Error::Denied(rule) => Some(rule.errno()),
             Error::Fault(fault) => Some(fault.errno()),
             Error::Open { source, .. } | Error::Io(source) => source.raw_os_error(),
-            Error::Protocol(_) => None,
+            Error::Protocol(_) | Error::Forked => None,
         }
     }
 
@@ -63,9 +66,21 @@ impl fmt::Display for Error {
             Error::Fault(fault) => {
                 write!(out, "apart {} {fault} {}", fault.number(), fault.errno())
             }
-            Error::Open { path, .. } => write!(out, "can't open {}", path.display()),
-            Error::Io(_) => write!(out, "the connection failed"),
+            Error::Open { path, source } => {
+                write!(out, "can't connect to {}: {source}", path.display())
+            }
+            // nothing was sent
+            Error::Io(source) if source.kind() == io::ErrorKind::InvalidInput => {
+                write!(out, "{source}")
+            }
+            Error::Io(source) => write!(out, "the connection failed: {source}"),
             Error::Protocol(text) => write!(out, "{text}"),
+            Error::Forked => {
+                write!(
+                    out,
+                    "this process is a child of the one that opened the client"
+                )
+            }
         }
     }
 }
