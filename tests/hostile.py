@@ -13,6 +13,21 @@ def frame(number, fields=b""):
     return struct.pack("<IH", 2 + len(fields), number) + fields
 
 
+# an answer of each kind, by the name of its type
+ANSWERS = {
+    "Done": frame(0x1000),
+    "Opened": frame(0x1001, bytes(4)),
+    "Version": frame(0x1002, bytes(12)),
+    "Number": frame(0x1003, bytes(8)),
+    "Dumb": frame(0x1004, bytes(16)),
+    "Buffer": frame(0x1005, bytes(12)),
+    "Resources": frame(0x1006, bytes(16)),
+    "IdList": frame(0x1007, bytes(4)),
+    "Plane": frame(0x1008, bytes(8)),
+    "Framebuffer": frame(0x1009, bytes(20)),
+    "Lease": frame(0x100A, bytes(8)),
+    "Rows": frame(0x100B, bytes(4)),
+}
 # what a server may send in place of an answer to the hello, by what is wrong with it
 MALFORMED = {
     "length 0": struct.pack("<I", 0),

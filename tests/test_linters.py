@@ -158,6 +158,8 @@ def sources_in_c():
     return sorted(found)
 
 
+# the programs of the tests in C that use the client
+PROGRAMS = ("session", "opening", "closed", "threads", "forks", "starts", "hostile", "fixture", "faults")
 # the display of clients/libdrm, and its two front ends
 LIBDRM = ("clients/libdrm", *(f"clients/libdrm/{name}" for name in ("display", "fronts", "preload", "supervisor")))
 # the runner of scripts on a kernel, and the module
@@ -292,7 +294,7 @@ class LintersTests(FolderCase):
 
     def test_programs_of_the_tests_without_warnings(self):
         want_program("cc")
-        for name in ("session", "opening", "closed", "threads", "forks", "starts", "fixture", "faults"):
+        for name in PROGRAMS:
             ran = run("cc", "-std=c99", *WARNINGS, "-fsyntax-only", "-I", CLIENTS / "c", REPOSITORY / f"tests/{name}.c")
             expect(f"what is said of {name}", (ran.returncode, ran.stderr), (0, ""))
 
