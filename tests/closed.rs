@@ -1,13 +1,13 @@
 //! A root client that waits until the client of a number is closed: closed PATH NUMBER MILLISECONDS.
 #[path = "../clients/rust/src/lib.rs"]
-mod drm_client;
+mod zirkoshe;
 
 mod common;
 
-use drm_client::{Client, Error, DEFAULT_TIMEOUT};
 use std::io::ErrorKind;
 use std::process::ExitCode;
 use std::time::Duration;
+use zirkoshe::{Client, Error, DEFAULT_TIMEOUT};
 
 fn main() -> ExitCode {
     common::run(|words| {

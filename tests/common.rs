@@ -1,5 +1,5 @@
 //! What the programs in Rust share: how a program ends, and how its error is printed.
-use crate::drm_client::Error;
+use crate::zirkoshe::Error;
 use std::process::ExitCode;
 
 /// Runs a program over the words of the command line, and prints its error.

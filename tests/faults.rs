@@ -1,8 +1,8 @@
 //! Faults on purpose, planned by a test's server in Rust, as a user of the crate has it.
-use drm_client::testing::Server;
-use drm_client::{BufferHandle, Client, Error, Fault};
 use std::io::ErrorKind;
 use std::time::{Duration, Instant};
+use zirkoshe::testing::Server;
+use zirkoshe::{BufferHandle, Client, Error, Fault};
 
 fn is_without_memory<T>(answer: Result<T, Error>) -> bool {
     matches!(answer, Err(Error::Fault(Fault::NoMemory)))

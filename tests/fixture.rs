@@ -1,7 +1,7 @@
 //! The server of a test in Rust, as a user of the crate has it.
-use drm_client::testing::Server;
-use drm_client::{Client, Error, Rule};
 use std::fs;
+use zirkoshe::testing::Server;
+use zirkoshe::{Client, Error, Rule};
 
 #[test]
 fn server_ends_when_it_is_dropped() {

@@ -1,13 +1,13 @@
 //! A process that forks while it has a client: forks PATH. Prints what the client's methods return in the child, and then in the
 //! parent.
 #[path = "../clients/rust/src/lib.rs"]
-mod drm_client;
+mod zirkoshe;
 
 mod common;
 
-use drm_client::{Client, Error};
 use std::process::{self, ExitCode};
 use std::ptr;
+use zirkoshe::{Client, Error};
 
 extern "C" {
     fn fork() -> i32;

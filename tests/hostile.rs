@@ -1,16 +1,14 @@
 //! A client of a hostile server: hostile PATH COUNT MILLISECONDS. One after the other it makes COUNT connections, each with an
 //! opening, a call and a closing within this time limit. Prints the first error of each connection, or that there was none.
 #[path = "../clients/rust/src/lib.rs"]
-mod drm_client;
+mod zirkoshe;
 
 mod common;
 
-use drm_client::{
-    AuditKind, Client, ConnectorId, CrtcId, EncoderId, Error, FramebufferId, PlaneId,
-};
 use std::io::ErrorKind;
 use std::process::ExitCode;
 use std::time::Duration;
+use zirkoshe::{AuditKind, Client, ConnectorId, CrtcId, EncoderId, Error, FramebufferId, PlaneId};
 
 /// Makes a call of each kind of answer.
 fn call(client: &mut Client, which: u32) -> Result<(), Error> {

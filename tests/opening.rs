@@ -1,14 +1,14 @@
 //! Openings: `opening PATH`, which names no socket, fails; `opening planes PATH` prints how many planes clients see at first.
 #[path = "../clients/rust/src/lib.rs"]
-mod drm_client;
+mod zirkoshe;
 
 mod common;
 
-use drm_client::{Client, ClientBuilder, Error, Hello};
 use std::error::Error as _;
 use std::io;
 use std::process::ExitCode;
 use std::time::Duration;
+use zirkoshe::{Client, ClientBuilder, Error, Hello};
 
 fn fail(path: &str) {
     let absent = Client::open(path).unwrap_err();

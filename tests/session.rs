@@ -1,18 +1,18 @@
 //! Sessions of the Rust client, each call with its answer in a script's words: over card, render, root and a lease, where each call
 //! is made once, and over the card alone by both hellos.
 #[path = "../clients/rust/src/lib.rs"]
-mod drm_client;
+mod zirkoshe;
 
 mod common;
 
-use drm_client::{
+use std::fmt::Display;
+use std::process::ExitCode;
+use std::time::Duration;
+use zirkoshe::{
     AuditKind, Buffer, BufferHandle, Client, ClientBuilder, ConnectorId, CrtcId, Dumb, EncoderId,
     Error, Framebuffer, FramebufferId, Hello, Lease, ObjectId, Plane, PlaneId, Resources, Row,
     Version,
 };
-use std::fmt::Display;
-use std::process::ExitCode;
-use std::time::Duration;
 
 /// An answer in a script's words.
 trait Words {

@@ -1,11 +1,11 @@
 //! A Rust client that asks until it is stopped or killed, or its server ends: soak PATH.
 #[path = "../clients/rust/src/lib.rs"]
-mod drm_client;
+mod zirkoshe;
 
 mod common;
 
-use drm_client::Client;
 use std::process::ExitCode;
+use zirkoshe::Client;
 
 fn main() -> ExitCode {
     common::run(|words| {

@@ -42,6 +42,7 @@ BESIDE = tuple(
         "command_line",
         "crates",
         "crate_times",
+        "needed_glibc",
     )
 )
 TOOLS = (
@@ -52,6 +53,7 @@ TOOLS = (
     "../tools/prove",
     "../tools/try-tests",
     "../tools/public_api",
+    "../tools/wheel",
     "../clients/libdrm/logind",
     *BESIDE,
 )
@@ -201,7 +203,7 @@ class LintersTests(FolderCase):
 
     def test_types_of_what_tests_share_are_clean_by_a_strict_mypy(self):
         expect_clean(self.folder, "mypy", "--cache-dir", self.folder / "cache", "support.py", cwd=TESTS)
-        tools = ("check", "kernels.py", "prove", "try-tests", "public_api")
+        tools = ("check", "kernels.py", "prove", "try-tests", "public_api", "wheel")
         for tool in (*(f"../tools/{name}" for name in tools), "../clients/libdrm/logind"):
             expect_clean(self.folder, "mypy", "--cache-dir", self.folder / "cache", tool, cwd=TESTS)
 

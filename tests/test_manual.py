@@ -52,8 +52,9 @@ class ManualTests(FolderCase):
             wanted = [line.split(None, 1) for line in listed.partition("\n\n")[0].splitlines()]
             text = (self.folder / f"man/man1/zirkoshe-{name}.1").read_text().replace("\\-", "-")
             section = text.partition(".SH EXIT STATUS\n")[2].partition(".SH ")[0]
-            found = re.findall(r"\.TP\n\\fB([N\d+]+)\\fR\n(.*)\.\n", section)
-            expect(f"the statuses of {name}", [list(status) for status in found], wanted)
+            found = re.findall(r"\.TP\n\\fB([N\d+]+)\\fR\n((?:[^.].*\n)+)", section)
+            joined = [[number, re.sub(r"\.$", "", text.strip().replace("\n", " "))] for number, text in found]
+            expect(f"the statuses of {name}", joined, wanted)
             expect("how many there are", len(wanted) >= 3, True)
 
     def test_pages_are_set_without_a_warning(self):
@@ -64,6 +65,14 @@ class ManualTests(FolderCase):
                 page = self.folder / "man" / section / name
                 ran = run("man", "--warnings", "-E", "UTF-8", "-l", page, env={**os.environ, "LC_ALL": "C.UTF-8"})
                 expect(f"what man says of {name}", (ran.returncode, ran.stderr), (0, ""))
+
+    def test_pages_by_mandoc(self):
+        want_program("mandoc")
+        make(self.folder)
+        for section, names in PAGES.items():
+            for name in names:
+                ran = run("mandoc", "-Tlint", self.folder / "man" / section / name)
+                expect(f"what mandoc says of {name}", (ran.returncode, ran.stdout), (0, ""))
 
     def test_completion_of_bash(self):
         want_program("bash")

@@ -22,13 +22,8 @@ from support import (  # noqa: E402
     Skipped,
     compile_client,
     expect,
-    expect_end,
-    make_root,
     run,
-    run_in_root,
-    run_program,
     run_tests,
-    want_libdrm,
     want_program,
 )
 
@@ -74,27 +69,15 @@ def python_with(*modules):
 
 
 def installed(folder):
-    """A folder into which pip installed the Python client from its own, and the environment that finds it there."""
-    python = python_with("setuptools", "wheel", "pip")
-    # a build leaves files beside its source
+    """A folder into which pip installed the Python client from its own, and the environment that finds it there.
+
+    Nothing is fetched, and nothing but the standard library is there to build it.
+    """
+    python = python_with("pip")
     source = shutil.copytree(CLIENTS / "python", folder / "source", ignore=shutil.ignore_patterns("__pycache__"))
     target = folder / "installed"
-    tried(
-        python,
-        "-m",
-        "pip",
-        "install",
-        "--quiet",
-        "--no-index",
-        "--no-build-isolation",
-        "--no-deps",
-        "--disable-pip-version-check",
-        "--root-user-action",
-        "ignore",
-        "--target",
-        target,
-        source,
-    )
+    options = ["--quiet", "--no-index", "--disable-pip-version-check", "--root-user-action", "ignore"]
+    tried(python, "-m", "pip", "install", *options, "--target", target, source)
     return target, {**os.environ, "PYTHONPATH": str(target), "PYTHONDONTWRITEBYTECODE": "1"}
 
 
@@ -158,11 +141,7 @@ class PackagesTests(FolderCase):
         (empty / "test_lease.py").write_text(shown("python"))
         (empty / "test_asyncio.py").write_text(shown("python", 1))
         (empty / "test_faults.py").write_text(shown("python", 3))
-        # what is found on the path alone has no entry point
-        plain = [python, "-m", "pytest", "-q", "-p", "no:cacheprovider"]
-        ran = run(*plain, cwd=empty, env=environment)
-        if "fixture 'drm_server' not found" in ran.stdout:
-            ran = run(*plain, "-p", "zirkoshe.pytest_plugin", cwd=empty, env=environment)
+        ran = run(python, "-m", "pytest", "-q", "-p", "no:cacheprovider", cwd=empty, env=environment)
         expect("what pytest says", (ran.returncode, ran.stdout.splitlines()[-1][:8]), (0, "6 passed"))
 
     def test_types_of_the_package(self):
@@ -187,6 +166,7 @@ class PackagesTests(FolderCase):
         )
 
     def test_failed_test_shows_the_journal(self):
+        """Nothing is installed: the page's command names the plugin."""
         folder = self.folder
         python = python_with("pytest")
         (folder / "test_lease.py").write_text(
@@ -199,19 +179,10 @@ def test_buffer(drm_server):
         assert client.list_handles() == (2,)
 """
         )
-        environment = {**os.environ, "PYTHONPATH": str(CLIENTS / "python"), "PYTHONDONTWRITEBYTECODE": "1"}
-        ran = run(
-            python,
-            "-m",
-            "pytest",
-            "-q",
-            "-p",
-            "no:cacheprovider",
-            "-p",
-            "zirkoshe.pytest_plugin",
-            cwd=folder,
-            env=environment,
-        )
+        variable, *command = shown("sh", 2).replace("CLIENTS", str(CLIENTS)).split()
+        path = dict([variable.split("=")])
+        words = [python, *command[1:], "-q", "-p", "no:cacheprovider"]
+        ran = run(*words, cwd=folder, env={**os.environ, **path, "PYTHONDONTWRITEBYTECODE": "1"})
         expect("status", ran.returncode, 1)
         expect(
             "that it tells a journal",
@@ -282,9 +253,7 @@ def test_buffer(drm_server):
         top = folder / "compositor"
         tried("cargo", "add", "--quiet", "--offline", "--path", CLIENTS / "rust", cwd=top, env=environment)
         program = program_of("clients/rust/README.md", "rust")
-        (top / "src/main.rs").write_text(
-            program.replace('#[path = "clients/rust/src/lib.rs"]\nmod drm_client;\n\n', "")
-        )
+        (top / "src/main.rs").write_text(program.replace('#[path = "clients/rust/src/lib.rs"]\nmod zirkoshe;\n\n', ""))
         (top / "tests").mkdir()
         (top / "tests/lease.rs").write_text(shown("rust"))
         printed = tried(WITH_SERVER, "cargo", "run", "--quiet", cwd=top, env=environment, timeout=300)
@@ -306,8 +275,14 @@ def test_buffer(drm_server):
         expect(
             "what was left beside the sources",
             sorted(it.name for it in (CLIENTS / "rust").iterdir()),
-            ["Cargo.toml", "README.md", "src"],
+            ["COPYRIGHT", "Cargo.toml", "README.md", "src"],
         )
+
+    def test_cargo_package_by_cargo(self):
+        """It has no warning of the crate's metadata."""
+        crate = copied_crate(self.folder)
+        ran = run("cargo", "package", "--no-verify", cwd=crate, env=cargo(self.folder))
+        expect("status, and whether it warns", (ran.returncode, "warning" in ran.stderr), (0, False))
 
     def test_cargo_doc_tests(self):
         """Each example in a doc comment runs, with its own server."""
@@ -335,7 +310,7 @@ def test_buffer(drm_server):
         (folder / "lease.c").write_text(program_of("clients/c/README.md", "c"))
         (folder / "lease_test.c").write_text(shown("c"))
         environment = {**os.environ, "PKG_CONFIG_PATH": str(CLIENTS / "c")}
-        flags = tried("pkg-config", "--cflags", "--libs", "zirkoshe-client", env=environment).split()
+        flags = tried("pkg-config", "--cflags", "--libs", "zirkoshe", env=environment).split()
         for name in ("lease", "lease_test"):
             tried("cc", "-std=c11", *STRICT, "-o", name, f"{name}.c", *flags, cwd=folder)
         expect("what it prints", tried(WITH_SERVER, folder / "lease").splitlines()[0], "lease 1, token 1")
@@ -348,7 +323,7 @@ def test_buffer(drm_server):
         want_program("pkg-config")
         (folder / "lease_test.cc").write_text(shown("c"))
         environment = {**os.environ, "PKG_CONFIG_PATH": str(CLIENTS / "c")}
-        flags = tried("pkg-config", "--cflags", "zirkoshe-client", env=environment).split()
+        flags = tried("pkg-config", "--cflags", "zirkoshe", env=environment).split()
         tried("c++", "-std=c++17", *STRICT, "-Wold-style-cast", *flags, "-o", "lease_test", "lease_test.cc", cwd=folder)
         tried(folder / "lease_test")
 
@@ -361,7 +336,7 @@ def test_buffer(drm_server):
         tried("cmake", "-S", ".", "-B", "build", f"-DCMAKE_PREFIX_PATH={CLIENTS / 'c'}", cwd=folder)
         tried("cmake", "--build", "build", cwd=folder)
         tried("ctest", "--output-on-failure", cwd=folder / "build")
-        (folder / "CMakeLists.txt").write_text(shown("cmake").replace("zirkoshe-client 2 ", "zirkoshe-client 3 "))
+        (folder / "CMakeLists.txt").write_text(shown("cmake").replace("zirkoshe 2 ", "zirkoshe 3 "))
         expect(
             "another version",
             run("cmake", "-S", ".", "-B", "other", f"-DCMAKE_PREFIX_PATH={CLIENTS / 'c'}", cwd=folder).returncode,
@@ -375,7 +350,7 @@ def test_buffer(drm_server):
         (folder / "meson.build").write_text(shown("meson"))
         (folder / "lease_test.c").write_text(shown("c"))
         (folder / "subprojects").mkdir()
-        shutil.copytree(CLIENTS / "c", folder / "subprojects/zirkoshe-client")
+        shutil.copytree(CLIENTS / "c", folder / "subprojects/zirkoshe")
         tried("meson", "setup", "build", cwd=folder)
         tried("meson", "test", "-C", "build", cwd=folder)
 
@@ -431,8 +406,8 @@ def test_buffer(drm_server):
         for path, form in (
             ("clients/python/pyproject.toml", r'^version = "(.*)"$'),
             ("clients/rust/Cargo.toml", r'^version = "(.*)"$'),
-            ("clients/c/zirkoshe-client.pc", r"^Version: (.*)$"),
-            ("clients/c/zirkoshe-client-config-version.cmake", r'"(.*)"'),
+            ("clients/c/zirkoshe.pc", r"^Version: (.*)$"),
+            ("clients/c/zirkoshe-config-version.cmake", r'"(.*)"'),
             ("clients/c/meson.build", r" version: '([0-9.]+)'"),
             ("clients/libdrm/meson.build", r" version: '([0-9.]+)'"),
         ):
@@ -448,100 +423,6 @@ def test_buffer(drm_server):
 def descriptors_of(process):
     """What the descriptors of a process refer to."""
     return [os.readlink(path) for path in pathlib.Path(f"/proc/{process}/fd").iterdir()]
-
-
-def debian_package(folder):
-    """A Debian package of the program, and a folder into which it is unpacked."""
-    for name in ("dpkg-deb", "strip"):
-        want_program(name)
-    want_libdrm()
-    made = run(REPOSITORY / "tools/debian-package", folder / "made", timeout=300)
-    expect("status", made.returncode, 0)
-    package = pathlib.Path(made.stdout.rstrip("\n"))
-    root = folder / "root"
-    expect_end(run("dpkg-deb", "-x", package, root), 0, "", "")
-    return package, root
-
-
-class DebianTests(FolderCase):
-    """Tests: the Debian package."""
-
-    def test_debian_package_in_an_empty_root(self):
-        """Its first lease, with nothing but the package, a shell and the C library."""
-        _, root = debian_package(self.folder)
-        make_root(root, root / "usr/lib/zirkoshe/bin/drm_server_main")
-        script = "cd /usr/share/doc/zirkoshe/examples && zirkoshe check rows/*.script > /tmp/checked && zirkoshe run < leases.script"
-        ran = run_in_root(root, script)
-        # a program that was compiled with checks misses /proc
-        told = [line for line in ran.stderr.splitlines() if "reading executable name failed" not in line]
-        wanted = run_program("run", script=(REPOSITORY / "examples/leases.script").read_text())
-        expect("error output, status and output", (told, ran.returncode, ran.stdout), ([], 0, wanted.stdout))
-
-    def test_debian_package_has_what_is_compiled(self):
-        """Neither the program nor the library, display and supervisor for libdrm programs are compiled at the first use."""
-        _, root = debian_package(self.folder)
-        lib = root / "usr/lib/zirkoshe"
-        without = {**os.environ, "DRM_SERVER_PROGRAM": "", "CC": "false"}
-        for options, name in (
-            ([], "libzirkoshe_libdrm.so"),
-            (["--display"], "zirkoshe-display"),
-            (["--supervisor"], "supervisor"),
-        ):
-            built = run(lib / "clients/libdrm/build", *options, env=without)
-            expect_end(built, 0, "", f"{lib}/clients/libdrm/out/{name}\n")
-        expect_end(run(root / "usr/bin/drm_server", "--program", env=without), 0, "", f"{lib}/bin/drm_server_main\n")
-        asked = "import zirkoshe.server as s; server = s.Server(); print(server.__enter__() is server); server.__exit__(None, None, None)"
-        packages = str(root / "usr/lib/python3/dist-packages")
-        python = {**without, "PYTHONPATH": packages, "PYTHONDONTWRITEBYTECODE": "1"}
-        expect_end(run(sys.executable, "-c", asked, env=python), 0, "", "True\n")
-
-    def test_debian_package_by_lintian(self):
-        want_program("lintian")
-        package, _ = debian_package(self.folder)
-        ran = run("lintian", package, timeout=300)
-        expect("what lintian finds", [line for line in ran.stdout.splitlines() if line[:3] in ("E: ", "W: ")], [])
-
-
-# what a project does that has nothing but the wheel: a client, and an unchanged libdrm program
-OF_THE_WHEEL = """
-import os, subprocess
-from zirkoshe import Client, Denied
-from zirkoshe.page import text_of
-from zirkoshe.server import Server, find_display, find_library, find_program
-
-with Server(cards=64) as server:
-    with Client(server.card) as owner:
-        lease = owner.create_lease(2, 4, 8)
-        with Client(server.card, lease=lease.token) as lessee:
-            owner.revoke_lease(lease.lessee_id)
-            try:
-                lessee.getcrtc(2)
-            except Denied as denial:
-                print(denial)
-    words = ["modetest", "-M", "zirkoshe", "-e"]
-    shown = subprocess.run(words, env={**os.environ, **server.libdrm_environment}, stdout=subprocess.PIPE, text=True)
-    print(shown.stdout.count("Virtual"))
-print(*(found().count("site-packages") for found in (find_program, find_library, find_display)))
-print(text_of("steps.html").splitlines()[0])
-"""
-
-
-class WheelTests(FolderCase):
-    """Tests: the Python wheel."""
-
-    def test_wheel_in_an_empty_environment(self):
-        want_libdrm()
-        want_program("modetest")
-        made = run(REPOSITORY / "tools/wheel", self.folder, timeout=300)
-        expect("status", made.returncode, 0)
-        if run(sys.executable, "-m", "venv", self.folder / "env", timeout=300).returncode != 0:
-            raise Skipped("this Python makes no virtual environments")
-        python = self.folder / "env/bin/python"
-        installed = run(python, "-m", "pip", "install", "--quiet", "--no-index", made.stdout.rstrip("\n"), timeout=300)
-        expect("what pip says", (installed.returncode, installed.stdout), (0, ""))
-        environment = {name: value for name, value in os.environ.items() if not name.startswith(("DRM_", "PYTHON"))}
-        ran = run(python, "-c", OF_THE_WHEEL, cwd=self.folder, env=environment)
-        expect_end(ran, 0, "", "denied 30 NoModeObject 2 (ENOENT)\n2\n1 1 1\n<!DOCTYPE html>\n")
 
 
 if __name__ == "__main__":

@@ -180,8 +180,9 @@ class ProgramTests(FolderCase):
                 expect(f"status of {example.strip()}", (ran.returncode, "fault" in ran.stderr), (0, False))
 
     def test_version_is_printed(self):
+        version = (REPOSITORY / "VERSION").read_text().strip()
         for word in ("--version", "-V"):
-            expect_end(run_program(word), 0, "", "drm_server 2.0.0\n")
+            expect_end(run_program(word), 0, "", f"drm_server {version}\n")
 
     def test_refused_command_lines(self):
         folder = self.folder

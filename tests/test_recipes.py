@@ -5,6 +5,7 @@ Each test has a folder of its own. The last line is `N passed, M failed`; one wh
 """
 import json
 import os
+import pathlib
 import re
 import shlex
 import shutil
@@ -43,12 +44,10 @@ def read_yaml(name):
 
 
 def make_archive(folder):
-    """An archive of the program, by the name that one with a proved program has."""
+    """An archive of the program, by the name that the tool gives it."""
     ran = run(REPOSITORY / "tools/package", folder / "made", timeout=300)
     expect("status", ran.returncode, 0)
-    made = ran.stdout.rstrip("\n")
-    path = folder / re.sub(r"-unproved(?=\.tar)", "", os.path.basename(made))
-    return shutil.move(made, path)
+    return pathlib.Path(ran.stdout.rstrip("\n"))
 
 
 def make_project(folder):
@@ -113,11 +112,18 @@ def steps_of(path):
     return [(name, rest) for name, _, rest in (line.partition(" ") for line in lines)]
 
 
-def build(steps, context, root):
-    """Takes the steps of a container file in an empty root; its environment, its folder, and its words."""
-    environment, folder, words = {}, "/", {}
+def build(steps, context, root, **arguments):
+    """Takes the steps of a container file in an empty root; its environment, its folder, its words and its labels."""
+    environment, folder, words, labels = {}, "/", {}, {}
     for name, rest in steps:
-        if name == "ADD":
+        rest = re.sub(r"\$([A-Z]+)", lambda match: arguments[match[1]], rest)
+        if name == "ARG":
+            argument, _, value = rest.partition("=")
+            arguments.setdefault(argument, value)
+        elif name == "LABEL":
+            key, _, value = rest.partition("=")
+            labels[key] = value
+        elif name == "ADD":
             source, target = rest.split()
             (path,) = context.glob(source)
             with tarfile.open(path) as archive:
@@ -134,7 +140,7 @@ def build(steps, context, root):
             words[name] = json.loads(rest)
         else:
             expect(f"the step {name}", name, "FROM")
-    return environment, folder, words
+    return environment, folder, words, labels
 
 
 class RecipesTests(FolderCase):
@@ -192,15 +198,17 @@ class RecipesTests(FolderCase):
         """Its steps, in a root that has a shell and the C library, and what the image does with scripts."""
         context, root = self.folder / "context", self.folder / "root"
         context.mkdir()
-        shutil.move(make_archive(self.folder), context)
-        run("tar", "-xzf", *context.iterdir(), "-C", self.folder)
+        archive = shutil.move(make_archive(self.folder), context)
+        run("tar", "-xzf", archive, "-C", self.folder)
         (program,) = self.folder.glob("zirkoshe-*/bin/drm_server_main")
         make_root(root, program)
-        for name in ("mv", "ln"):
-            (root / "bin" / name).symlink_to("busybox")
+        (root / "bin/ln").symlink_to("busybox")
         (root / "opt").mkdir()
         (root / "usr/local/bin").mkdir(parents=True)
-        environment, folder, words = build(steps_of(RECIPES / "Containerfile"), context, root)
+        title = os.path.basename(archive)[: -len(".tar.gz")]
+        steps = steps_of(RECIPES / "Containerfile")
+        environment, folder, words, labels = build(steps, context, root, ARCHIVE=title)
+        expect("its labels", labels, {"org.opencontainers.image.title": title})
         expect("the Python package", (root / environment["PYTHONPATH"][1:] / "zirkoshe").is_dir(), True)
         shutil.copytree(REPOSITORY / "examples/tutorial", root / folder[1:] / "checks")
         command = shlex.join(words["ENTRYPOINT"])

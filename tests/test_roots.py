@@ -9,7 +9,6 @@
 import os
 import pathlib
 import re
-import shutil
 import sys
 
 sys.dont_write_bytecode = True
@@ -102,11 +101,19 @@ class RootsTests(FolderCase):
         buildah("commit", "--quiet", base, "localhost/debian:12")
         context = self.folder / "context"
         made = run(REPOSITORY / "tools/package", context, timeout=300).stdout.strip()
-        shutil.move(made, made.replace("-unproved", ""))
-        file = REPOSITORY / "examples/ci/Containerfile"
-        buildah(
-            "build", "--isolation", "chroot", "--from", "localhost/debian:12", "-t", "zirkoshe", "-f", file, context
-        )
+        title = os.path.basename(made)[: -len(".tar.gz")]
+        words = [
+            "--isolation",
+            "chroot",
+            "--from",
+            "localhost/debian:12",
+            "-t",
+            "zirkoshe",
+            f"--build-arg=ARCHIVE={title}",
+        ]
+        buildah("build", *words, "-f", REPOSITORY / "examples/ci/Containerfile", context)
+        labels = buildah("inspect", "--type", "image", "--format", "{{.OCIv1.Config.Labels}}", "localhost/zirkoshe")
+        expect("its title", f"org.opencontainers.image.title:{title}" in labels, True)
         image = buildah("from", "localhost/zirkoshe").strip()
         mounted = ["--isolation", "chroot", "--volume", f"{REPOSITORY / 'examples/tutorial'}:/work"]
         printed = buildah("run", *mounted, image, "--", "sh", "-c", "zirkoshe check *.script")

@@ -1,14 +1,14 @@
 //! A Rust client behind a mutex that two threads share: each asks another encoder 10,000 times, and the answers that are the
 //! other's are counted. With a second word it asks once for the version, and prints what that gives.
 #[path = "../clients/rust/src/lib.rs"]
-mod drm_client;
+mod zirkoshe;
 
 mod common;
 
-use drm_client::{Client, EncoderId, Error};
 use std::process::ExitCode;
 use std::sync::Mutex;
 use std::thread;
+use zirkoshe::{Client, EncoderId, Error};
 
 const ASKED: usize = 10_000;
 

@@ -1,9 +1,9 @@
 //! What doesn't compile: two threads that share a Rust client without a lock.
 #[path = "../clients/rust/src/lib.rs"]
-mod drm_client;
+mod zirkoshe;
 
-use drm_client::{Client, EncoderId};
 use std::thread;
+use zirkoshe::{Client, EncoderId};
 
 fn main() {
     let mut client = Client::open("card").unwrap();

@@ -21,11 +21,11 @@ normally is an error of the test.
 
 import os
 import tempfile
-from typing import Any, Generator, Iterator
+from typing import Any, Generator, Iterator, Optional
 
 import pytest
 
-from .server import Server
+from .server import PACKAGE, Server
 
 FAILED = "drm_server_failed"
 
@@ -37,6 +37,13 @@ def pytest_configure(config: pytest.Config) -> None:
         "drm_server(**options): options of the server that the fixture drm_server "
         "starts, such as cards=2",
     )
+
+
+def pytest_report_header() -> Optional[str]:
+    """Says that the program of this package is not proved, if so."""
+    if os.environ.get("DRM_SERVER_PROGRAM") or not (PACKAGE / "bin/UNPROVED").exists():
+        return None
+    return "zirkoshe: the program of this package is not proved"
 
 
 @pytest.hookimpl(hookwrapper=True)

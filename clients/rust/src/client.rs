@@ -98,7 +98,7 @@ pub enum Hello {
 /// The options of an opening.
 ///
 /// ```
-/// use drm_client::{testing::Server, Client, Hello, PlaneId};
+/// use zirkoshe::{testing::Server, Client, Hello, PlaneId};
 /// use std::time::Duration;
 ///
 /// # fn main() -> Result<(), Box<dyn std::error::Error>> {

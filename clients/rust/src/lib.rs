@@ -5,7 +5,7 @@
 //! change nothing. docs/FORMATS.md has the calls, the answers and the frames.
 //!
 //! ```
-//! use drm_client::{testing::Server, Client, ConnectorId, CrtcId, Error, PlaneId, Rule};
+//! use zirkoshe::{testing::Server, Client, ConnectorId, CrtcId, Error, PlaneId, Rule};
 //!
 //! # fn main() -> Result<(), Box<dyn std::error::Error>> {
 //! let server = Server::start()?;

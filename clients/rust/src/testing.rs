@@ -1,7 +1,7 @@
 //! A server for a test, on Linux.
 //!
 //! ```
-//! use drm_client::{testing::Server, Client};
+//! use zirkoshe::{testing::Server, Client};
 //!
 //! # fn main() -> Result<(), Box<dyn std::error::Error>> {
 //! let server = Server::builder().cards(1).start()?;
@@ -17,7 +17,7 @@
 //! refused, answers that are late, and connections that break.
 //!
 //! ```
-//! use drm_client::{testing::Server, Client, Error, Fault};
+//! use zirkoshe::{testing::Server, Client, Error, Fault};
 //!
 //! # fn main() -> Result<(), Box<dyn std::error::Error>> {
 //! let server = Server::builder().control().start()?;

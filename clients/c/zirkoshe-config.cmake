@@ -1,5 +1,5 @@
-# find_package(zirkoshe-client CONFIG) finds this file with CLIENTS/c in CMAKE_PREFIX_PATH, or with
-# zirkoshe-client_DIR. It defines the target zirkoshe::client.
+# find_package(zirkoshe CONFIG) finds this file with CLIENTS/c in CMAKE_PREFIX_PATH, or with
+# zirkoshe_DIR. It defines the target zirkoshe::client.
 include(CMakeFindDependencyMacro)
 find_dependency(Threads)
 
