@@ -24,8 +24,8 @@ static int read_element(uint64_t list, uint32_t at, void *element, size_t size)
 }
 
 /* Reads a property of an object, with its value. */
-static int read_property(struct commit *commit, const struct drm_mode_atomic *asked, uint32_t id,
-                         uint32_t at)
+static int read_property(struct commit *commit, const struct drm_mode_atomic *asked,
+                         const struct part *part, uint32_t at)
 {
     uint32_t property;
     uint64_t value;
@@ -33,22 +33,23 @@ static int read_property(struct commit *commit, const struct drm_mode_atomic *as
 
     if (!failed)
         failed = read_element(asked->prop_values_ptr, at, &value, sizeof value);
-    return failed ? failed : commit_set(commit, id, property, value);
+    return failed ? failed : commit_set(commit, part, property, value);
 }
 
 /* Reads the next object with its properties, which begin at `*at`. */
 static int read_object(struct commit *commit, const struct drm_mode_atomic *asked, uint32_t object,
                        uint32_t *at)
 {
+    struct part part;
     uint32_t id, count;
     int failed = read_element(asked->objs_ptr, object, &id, sizeof id);
 
     if (!failed)
         failed = read_element(asked->count_props_ptr, object, &count, sizeof count);
     if (!failed)
-        failed = commit_add(commit, id);
+        failed = commit_add(commit, id, &part);
     for (; !failed && count > 0; count--, ++*at)
-        failed = read_property(commit, asked, id, *at);
+        failed = read_property(commit, asked, &part, *at);
     return failed;
 }
 

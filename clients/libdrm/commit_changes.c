@@ -143,9 +143,10 @@ static void note(struct commit *commit)
 
 int commit_show(struct commit *commit)
 {
-    struct changes changes = {0};
+    struct changes changes;
     int failed;
 
+    changes.count = 0;
     find_changes(commit, true, &changes);
     find_changes(commit, false, &changes);
     failed = show_changes(&commit->connection->client, &changes);

@@ -45,9 +45,9 @@ static int check_crtc(const struct commit *commit, const struct crtc_state *befo
 /* Returns whether the connectors of a CRTC change. */
 static bool connectors_change(const struct commit *commit, uint32_t crtc_id)
 {
-    size_t at;
+    uint32_t at;
 
-    for (at = 0; at < MOST_OBJECTS; at++) {
+    for (at = 0; at < commit->after.count_connectors; at++) {
         const struct connector_state *before = &commit->before.connectors[at];
         const struct connector_state *after = &commit->after.connectors[at];
 

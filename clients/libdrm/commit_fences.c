@@ -87,10 +87,10 @@ void commit_drop_fences(struct commit *commit)
 {
     uint32_t at;
 
-    for (at = 0; at < MOST_OBJECTS; at++) {
+    for (at = 0; at < commit->topology->count_planes; at++)
         fence_drop(commit->fences.before[at]);
+    for (at = 0; at < commit->topology->count_crtcs; at++)
         fence_drop(commit->fences.made[at]);
-    }
 }
 
 /* The last of the fences to be signalled, or NULL. */

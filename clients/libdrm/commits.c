@@ -46,14 +46,16 @@ int commit_begin(struct commit *commit, struct connection *connection)
 {
     int failed;
 
-    memset(commit, 0, sizeof *commit);
     commit->connection = connection;
+    commit->planes = commit->crtcs = commit->connectors = 0;
+    memset(&commit->fences, 0, sizeof commit->fences);
+    commit->may_set_modes = commit->has_event = commit->is_late = false;
     failed = topology_find(connection, &commit->topology);
     if (!failed)
         failed = look_at_crtcs(connection, commit->topology);
-    commit->before = *state_now();
+    state_copy(&commit->before, state_now());
     place_objects(&commit->before, commit->topology);
-    commit->after = commit->before;
+    state_copy(&commit->after, &commit->before);
     return failed;
 }
 
@@ -171,26 +173,19 @@ static int set_of_connector(struct commit *commit, uint32_t connector_id, enum p
     return 0;
 }
 
-/* The kind of an object that the caller sees, and that has properties, or 0. */
-static uint32_t kind_of(const struct topology *topology, uint32_t object_id)
-{
-    if (topology_plane(topology, object_id) != NULL)
-        return DRM_MODE_OBJECT_PLANE;
-    if (topology_connector(topology, object_id) != NULL)
-        return DRM_MODE_OBJECT_CONNECTOR;
-    return topology_has_crtc(topology, object_id) ? DRM_MODE_OBJECT_CRTC : 0;
-}
-
-int commit_add(struct commit *commit, uint32_t object_id)
+int commit_add(struct commit *commit, uint32_t object_id, struct part *added)
 {
     const struct topology *topology = commit->topology;
     const struct seen_plane *plane = topology_plane(topology, object_id);
     const struct seen_connector *connector = topology_connector(topology, object_id);
 
+    *added = (struct part){object_id, DRM_MODE_OBJECT_CRTC, plane};
     if (plane != NULL) {
+        added->kind = DRM_MODE_OBJECT_PLANE;
         commit->planes |= (uint64_t)1 << (plane - topology->planes);
         add_crtc(commit, state_of_plane(&commit->after, plane)->crtc_id);
     } else if (connector != NULL) {
+        added->kind = DRM_MODE_OBJECT_CONNECTOR;
         commit->connectors |= (uint64_t)1 << (connector - topology->connectors);
         add_crtc(commit, state_of_connector(&commit->after, object_id)->crtc_id);
     } else if (topology_has_crtc(topology, object_id)) {
@@ -201,22 +196,20 @@ int commit_add(struct commit *commit, uint32_t object_id)
     return 0;
 }
 
-int commit_set(struct commit *commit, uint32_t object_id, uint32_t property_id, uint64_t value)
+int commit_set(struct commit *commit, const struct part *part, uint32_t property_id, uint64_t value)
 {
-    const struct topology *topology = commit->topology;
     const struct property *property = property_find(property_id);
-    uint32_t kind = kind_of(topology, object_id);
 
-    if (property == NULL || !property_is_of(property_id, kind))
+    if (property == NULL || !property_is_of(property_id, part->kind))
         return -ENOENT;
     if (!property_accepts(property, value))
         return -EINVAL;
-    switch (kind) {
+    switch (part->kind) {
     case DRM_MODE_OBJECT_PLANE:
-        return set_of_plane(commit, topology_plane(topology, object_id), property->id, value);
+        return set_of_plane(commit, part->plane, property->id, value);
     case DRM_MODE_OBJECT_CRTC:
-        return set_of_crtc(commit, object_id, property->id, value);
+        return set_of_crtc(commit, part->id, property->id, value);
     default:
-        return set_of_connector(commit, object_id, property->id, value);
+        return set_of_connector(commit, part->id, property->id, value);
     }
 }

@@ -20,11 +20,18 @@ struct commit {
 /* Begins a commit of what the caller sees; 0, or a negative errno. */
 int commit_begin(struct commit *commit, struct connection *connection);
 
-/* Sets a property of an object, as drm_atomic_set_property does. */
-int commit_set(struct commit *commit, uint32_t object_id, uint32_t property_id, uint64_t value);
+/* An object of a commit: one that the caller sees, and that has properties. */
+struct part {
+    uint32_t id, kind;
+    const struct seen_plane *plane; /* NULL for other kinds */
+};
 
 /* Adds an object without a property. -ENOENT if the caller does not see it. */
-int commit_add(struct commit *commit, uint32_t object_id);
+int commit_add(struct commit *commit, uint32_t object_id, struct part *added);
+
+/* Sets a property of an object that was added, as drm_atomic_set_property does. */
+int commit_set(struct commit *commit, const struct part *part, uint32_t property_id,
+               uint64_t value);
 
 /* Checks the state after the commit, as drm_atomic_check_only does, and the rules of the server. */
 int commit_check(struct commit *commit);

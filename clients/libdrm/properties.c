@@ -14,27 +14,19 @@ static const struct drm_mode_property_enum powers[] = {
 static const struct drm_mode_property_enum links[] = {{DRM_MODE_LINK_STATUS_GOOD, "Good"},
                                                       {DRM_MODE_LINK_STATUS_BAD, "Bad"}};
 
+/* A property in the place of its id */
+#define PROPERTY(id, flags, name, least, most, values, count)                                      \
+    [id - TYPE] = {id, flags, name, least, most, values, count}
 #define ENUM(id, flags, name, values)                                                              \
-    {                                                                                              \
-        id, DRM_MODE_PROP_ENUM | (flags), name, 0, 0, values, COUNT(values)                        \
-    }
+    PROPERTY(id, DRM_MODE_PROP_ENUM | (flags), name, 0, 0, values, COUNT(values))
 #define RANGE(id, flags, name, most)                                                               \
-    {                                                                                              \
-        id, DRM_MODE_PROP_RANGE | (flags), name, 0, most, NULL, 0                                  \
-    }
+    PROPERTY(id, DRM_MODE_PROP_RANGE | (flags), name, 0, most, NULL, 0)
 #define SIGNED_RANGE(id, name, least)                                                              \
-    {                                                                                              \
-        id, DRM_MODE_PROP_SIGNED_RANGE | DRM_MODE_PROP_ATOMIC, name, SIGNED(least), INT32_MAX,     \
-            NULL, 0                                                                                \
-    }
+    PROPERTY(id, DRM_MODE_PROP_SIGNED_RANGE | DRM_MODE_PROP_ATOMIC, name, SIGNED(least),           \
+             INT32_MAX, NULL, 0)
 #define OBJECT(id, name, kind)                                                                     \
-    {                                                                                              \
-        id, DRM_MODE_PROP_OBJECT | DRM_MODE_PROP_ATOMIC, name, kind, 0, NULL, 0                    \
-    }
-#define BLOB(id, flags, name)                                                                      \
-    {                                                                                              \
-        id, DRM_MODE_PROP_BLOB | (flags), name, 0, 0, NULL, 0                                      \
-    }
+    PROPERTY(id, DRM_MODE_PROP_OBJECT | DRM_MODE_PROP_ATOMIC, name, kind, 0, NULL, 0)
+#define BLOB(id, flags, name) PROPERTY(id, DRM_MODE_PROP_BLOB | (flags), name, 0, 0, NULL, 0)
 
 static const struct property properties[] = {
     ENUM(TYPE, DRM_MODE_PROP_IMMUTABLE, "type", types),
@@ -93,13 +85,7 @@ uint32_t *plane_field(struct plane_state *plane, enum property_id id)
 
 const struct property *property_find(uint32_t id)
 {
-    size_t at;
-
-    for (at = 0; at < COUNT(properties); at++) {
-        if (properties[at].id == id)
-            return &properties[at];
-    }
-    return NULL;
+    return id >= TYPE && id - TYPE < COUNT(properties) ? &properties[id - TYPE] : NULL;
 }
 
 const enum property_id *properties_of(uint32_t kind, bool is_atomic, uint32_t *count)

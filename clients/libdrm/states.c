@@ -9,28 +9,29 @@
 
 static struct state now;
 
-/* Finds the place of a key, with which each place begins. A device has no more objects than places.
- * If it had, the last place would be shared. */
-static void *find_place(void *places, size_t size, uint32_t key)
+/* Finds the place of a key, with which each place begins, or takes the next one. A device has no
+ * more objects than places. If it had, the last place would be shared. */
+static void *find_place(void *places, uint32_t *count, size_t size, uint32_t key)
 {
     uint8_t *place = places;
     uint32_t found, at;
 
-    for (at = 0;; at++, place += size) {
+    for (at = 0; at < *count; at++, place += size) {
         memcpy(&found, place, sizeof found);
-        if (found == key || found == 0 || at == MOST_OBJECTS - 1)
-            break;
+        if (found == key)
+            return place;
     }
-    if (found != key) {
-        memset(place, 0, size);
-        memcpy(place, &key, sizeof key);
-    }
-    return place;
+    if (*count == MOST_OBJECTS)
+        place -= size;
+    else
+        ++*count;
+    memset(place, 0, size);
+    return memcpy(place, &key, sizeof key);
 }
 
 static struct plane_state *find_plane(struct state *state, uint32_t key)
 {
-    return find_place(state->planes, sizeof state->planes[0], key);
+    return find_place(state->planes, &state->count_planes, sizeof state->planes[0], key);
 }
 
 struct plane_state *state_of_plane(struct state *state, const struct seen_plane *plane)
@@ -45,12 +46,13 @@ struct plane_state *state_of_primary(struct state *state, uint32_t crtc_id)
 
 struct crtc_state *state_of_crtc(struct state *state, uint32_t crtc_id)
 {
-    return find_place(state->crtcs, sizeof state->crtcs[0], crtc_id);
+    return find_place(state->crtcs, &state->count_crtcs, sizeof state->crtcs[0], crtc_id);
 }
 
 struct connector_state *state_of_connector(struct state *state, uint32_t connector_id)
 {
-    return find_place(state->connectors, sizeof state->connectors[0], connector_id);
+    return find_place(state->connectors, &state->count_connectors, sizeof state->connectors[0],
+                      connector_id);
 }
 
 static bool overflows(int32_t position, uint32_t length)
@@ -66,16 +68,12 @@ bool plane_overflows(const struct plane_state *plane)
 
 uint32_t state_connector(const struct state *state, uint32_t crtc_id, unsigned *count)
 {
-    uint32_t found = 0;
-    size_t at;
+    uint32_t found = 0, at;
 
     *count = 0;
-    for (at = 0; at < MOST_OBJECTS; at++) {
-        if (state->connectors[at].id == 0 || state->connectors[at].crtc_id != crtc_id)
-            continue;
-        if (*count == 0)
+    for (at = 0; at < state->count_connectors; at++) {
+        if (state->connectors[at].crtc_id == crtc_id && ++*count == 1)
             found = state->connectors[at].id;
-        ++*count;
     }
     return found;
 }
@@ -85,23 +83,32 @@ struct state *state_now(void)
     return &now;
 }
 
+void state_copy(struct state *to, const struct state *from)
+{
+    to->count_planes = from->count_planes;
+    to->count_crtcs = from->count_crtcs;
+    to->count_connectors = from->count_connectors;
+    memcpy(to->planes, from->planes, from->count_planes * sizeof from->planes[0]);
+    memcpy(to->crtcs, from->crtcs, from->count_crtcs * sizeof from->crtcs[0]);
+    memcpy(to->connectors, from->connectors, from->count_connectors * sizeof from->connectors[0]);
+}
+
 /* A state that was made of another one has its objects in the same places. */
 void state_change(const struct state *before, const struct state *after)
 {
-    size_t at;
+    uint32_t at;
 
-    for (at = 0; at < MOST_OBJECTS; at++) {
-        const struct plane_state *plane = &after->planes[at];
-        const struct crtc_state *crtc = &after->crtcs[at];
-        const struct connector_state *connector = &after->connectors[at];
-
-        if (plane->key != 0 && memcmp(plane, &before->planes[at], sizeof *plane) != 0)
-            *find_plane(&now, plane->key) = *plane;
-        if (crtc->id != 0 && memcmp(crtc, &before->crtcs[at], sizeof *crtc) != 0)
-            *state_of_crtc(&now, crtc->id) = *crtc;
-        if (connector->id != 0
-            && memcmp(connector, &before->connectors[at], sizeof *connector) != 0)
-            *state_of_connector(&now, connector->id) = *connector;
+    for (at = 0; at < after->count_planes; at++) {
+        if (memcmp(&after->planes[at], &before->planes[at], sizeof after->planes[at]) != 0)
+            *find_plane(&now, after->planes[at].key) = after->planes[at];
+    }
+    for (at = 0; at < after->count_crtcs; at++) {
+        if (memcmp(&after->crtcs[at], &before->crtcs[at], sizeof after->crtcs[at]) != 0)
+            *state_of_crtc(&now, after->crtcs[at].id) = after->crtcs[at];
+    }
+    for (at = 0; at < after->count_connectors; at++) {
+        if (after->connectors[at].crtc_id != before->connectors[at].crtc_id)
+            *state_of_connector(&now, after->connectors[at].id) = after->connectors[at];
     }
 }
 
@@ -130,9 +137,9 @@ void state_gamma_is_set(uint32_t crtc_id, uint32_t blob_id)
 /* Takes all connectors from a CRTC. */
 static void unplug(struct state *state, uint32_t crtc_id)
 {
-    size_t at;
+    uint32_t at;
 
-    for (at = 0; at < MOST_OBJECTS; at++) {
+    for (at = 0; at < state->count_connectors; at++) {
         if (state->connectors[at].crtc_id == crtc_id)
             state->connectors[at].crtc_id = 0;
     }
@@ -192,9 +199,9 @@ void state_crtc_is_seen(uint32_t crtc_id, uint32_t fb_id)
 
 void state_fb_is_removed(uint32_t fb_id)
 {
-    size_t at;
+    uint32_t at;
 
-    for (at = 0; at < MOST_OBJECTS; at++) {
+    for (at = 0; at < now.count_planes; at++) {
         if (now.planes[at].fb_id == fb_id)
             now.planes[at].fb_id = now.planes[at].crtc_id = 0;
     }

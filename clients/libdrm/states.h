@@ -13,14 +13,14 @@
 
 /* Sources are in 16.16 fixed point, and positions on the CRTC are signed. */
 struct plane_state {
-    uint32_t key; /* 0 if the place is free */
+    uint32_t key;
     uint32_t crtc_id, fb_id;
     uint32_t crtc_x, crtc_y, crtc_w, crtc_h;
     uint32_t src_x, src_y, src_w, src_h;
 };
 
 struct crtc_state {
-    uint32_t id; /* 0 if the place is free */
+    uint32_t id;
     bool is_active;
     uint32_t mode_id;  /* a blob, or 0 for no mode */
     uint32_t gamma_id; /* likewise, of entries of gamma */
@@ -28,11 +28,12 @@ struct crtc_state {
 };
 
 struct connector_state {
-    uint32_t id; /* 0 if the place is free */
+    uint32_t id;
     uint32_t crtc_id;
 };
 
 struct state {
+    uint32_t count_planes, count_crtcs, count_connectors;
     struct plane_state planes[MOST_OBJECTS];
     struct crtc_state crtcs[MOST_OBJECTS];
     struct connector_state connectors[MOST_OBJECTS];
@@ -50,13 +51,13 @@ bool plane_overflows(const struct plane_state *plane);
 /* Returns the connector of a CRTC, or 0, and how many it has in `count`. */
 uint32_t state_connector(const struct state *state, uint32_t crtc_id, unsigned *count);
 
-/* Returns the state now, and changes what differs between two states. */
+/* Returns the state now. Copies one, but not its free places. Changes what differs between two. */
 struct state *state_now(void);
+void state_copy(struct state *to, const struct state *from);
 void state_change(const struct state *before, const struct state *after);
 
 /* Notes what the older calls changed: a MODE_SETCRTC or a flip, a gamma table, a MODE_SETPLANE,
- * the framebuffer
- * that the server reports for a CRTC, and that a framebuffer is removed. */
+ * the framebuffer that the server reports for a CRTC, and that a framebuffer is removed. */
 void state_crtc_is_set(uint32_t crtc_id, uint32_t connector_id, const struct plane_state *primary,
                        const struct drm_mode_modeinfo *mode);
 void state_crtc_flips(uint32_t crtc_id, uint32_t fb_id);
