@@ -9,7 +9,8 @@
 /* How long a thread waits for the server before its client looks at the time, in milliseconds */
 #define A_WHILE 1000
 
-static pthread_mutex_t lock = PTHREAD_MUTEX_INITIALIZER;
+/* It is held for so short that a thread which waits for it first tries again for a while. */
+static pthread_mutex_t lock = PTHREAD_ADAPTIVE_MUTEX_INITIALIZER_NP;
 static _Thread_local bool has_lock;
 static struct turn *begun;                      /* all that have begun */
 static struct turn *waiting, **last = &waiting; /* those that wait to begin */

@@ -23,7 +23,7 @@
 /* Entries of a table */
 #define MOST_GAMMA 256
 /* Handles of a wait */
-#define MOST_HANDLES 16384u
+#define MOST_HANDLES 16384
 /* Bytes of an answer that comes later */
 #define MOST_LATE 64
 /* Objects of a commit; each may be in it several times */
@@ -214,6 +214,7 @@ static void close_other(struct sent *sent)
  * answer. Returns 0, or a negative errno if there is none. */
 static int exchange(struct sent *sent, int fd, bool is_callers, struct answer *answer)
 {
+    const struct caller *caller = caller_now();
     struct channel *channel = sent->channel;
     int failed;
 
@@ -221,9 +222,9 @@ static int exchange(struct sent *sent, int fd, bool is_callers, struct answer *a
     sent->ask.channel = channel->number;
     sent->ask.tag = ++channel->tag;
     sent->ask.flags |= sent->other >= 0 ? HAS_CHANNEL : 0;
-    if (caller_now() != NULL) {
-        sent->ask.process = caller_now()->process;
-        sent->ask.user = caller_now()->user;
+    if (caller != NULL) {
+        sent->ask.process = caller->process;
+        sent->ask.user = caller->user;
     }
     memcpy(channel->bytes, &sent->ask, sizeof sent->ask);
     failed = send_at_last(sent, fd, is_callers);
@@ -313,40 +314,6 @@ int ask_for_memory(int fd, uint64_t offset, uint64_t length, uint64_t *place)
     return ask_for_descriptor(&ask, fd, true, place);
 }
 
-/* Copies between this process and the caller. If that is this process, a wrong address is found out
- * by the kernel; where a filter of system calls forbids that, it is a fault. */
-static int copy(const struct iovec *here, const struct iovec *there, size_t count, bool is_to_there)
-{
-    const struct caller *caller = caller_now();
-    pid_t task = caller == NULL ? getpid() : caller->task;
-    ssize_t copied = is_to_there ? process_vm_writev(task, here, count, there, count, 0)
-                                 : process_vm_readv(task, here, count, there, count, 0);
-    size_t at, length = 0;
-
-    for (at = 0; at < count; at++)
-        length += here[at].iov_len;
-    if (copied == (ssize_t)length)
-        return 0;
-    if (copied >= 0 || caller != NULL || (errno != EPERM && errno != ENOSYS))
-        return -EFAULT;
-    for (at = 0; at < count; at++)
-        memcpy(is_to_there ? there[at].iov_base : here[at].iov_base,
-               is_to_there ? here[at].iov_base : there[at].iov_base, here[at].iov_len);
-    return 0;
-}
-
-int caller_reads(void *to, uint64_t address, size_t size)
-{
-    struct iovec here = {to, size}, there = {(void *)(uintptr_t)address, size};
-
-    return size == 0 ? 0 : copy(&here, &there, 1, false);
-}
-
-int caller_takes(const struct iovec *here, const struct iovec *there, size_t count)
-{
-    return count == 0 ? 0 : copy(here, there, count, true);
-}
-
 static uint32_t least(uint32_t one, uint32_t other)
 {
     return one < other ? one : other;
@@ -375,82 +342,73 @@ static int find_lists_of_commit(struct ask *ask, const struct drm_mode_atomic *c
     return 0;
 }
 
-/* A table of another size is refused. */
-static struct list list_of_gamma(const struct drm_mode_crtc_lut *gamma, uint64_t address)
-{
-    return list_of(address, gamma->gamma_size <= MOST_GAMMA ? gamma->gamma_size : 0,
-                   sizeof(uint16_t));
-}
+/* Where a struct has the address of a list that a request reads, and how many elements it has. A
+ * list of more than the most is refused, and not read. */
+struct place_of_list {
+    size_t address, count, size;
+    uint32_t most;
+};
 
-/* More handles than the display takes are refused. */
-static struct list list_of_handles(uint64_t address, uint32_t count)
-{
-    return list_of(address, count <= MOST_HANDLES ? count : 0, sizeof(uint32_t));
-}
+#define LIST(type, address, count, size, most)                                                     \
+    {                                                                                              \
+        offsetof(struct type, address), offsetof(struct type, count), size, most                   \
+    }
+#define GAMMA(color) LIST(drm_mode_crtc_lut, color, gamma_size, sizeof(uint16_t), MOST_GAMMA)
+#define HANDLES(type) LIST(type, handles, count_handles, sizeof(uint32_t), MOST_HANDLES)
+#define POINTS(type) LIST(type, points, count_handles, sizeof(uint64_t), MOST_HANDLES)
 
-static int find_lists_of_points(struct list *lists, uint64_t handles, uint64_t points,
-                                uint32_t count)
+static const struct {
+    uint32_t request;
+    struct place_of_list lists[3];
+} readers[] = {
+    {DRM_IOCTL_MODE_SETCRTC,
+     {LIST(drm_mode_crtc, set_connectors_ptr, count_connectors, sizeof(uint32_t), 1)}},
+    {DRM_IOCTL_MODE_CREATEPROPBLOB, {LIST(drm_mode_create_blob, data, length, 1, UINT32_MAX)}},
+    {DRM_IOCTL_MODE_CREATE_LEASE,
+     {LIST(drm_mode_create_lease, object_ids, object_count, sizeof(uint32_t), UINT32_MAX)}},
+    {DRM_IOCTL_MODE_DIRTYFB,
+     {LIST(drm_mode_fb_dirty_cmd, clips_ptr, num_clips, sizeof(struct drm_clip_rect),
+           DRM_MODE_FB_DIRTY_MAX_CLIPS)}},
+    {DRM_IOCTL_MODE_SETGAMMA, {GAMMA(red), GAMMA(green), GAMMA(blue)}},
+    {DRM_IOCTL_SYNCOBJ_WAIT, {HANDLES(drm_syncobj_wait)}},
+    {DRM_IOCTL_SYNCOBJ_TIMELINE_WAIT,
+     {HANDLES(drm_syncobj_timeline_wait), POINTS(drm_syncobj_timeline_wait)}},
+    {DRM_IOCTL_SYNCOBJ_RESET, {HANDLES(drm_syncobj_array)}},
+    {DRM_IOCTL_SYNCOBJ_SIGNAL, {HANDLES(drm_syncobj_array)}},
+    {DRM_IOCTL_SYNCOBJ_QUERY, {HANDLES(drm_syncobj_timeline_array)}},
+    {DRM_IOCTL_SYNCOBJ_TIMELINE_SIGNAL,
+     {HANDLES(drm_syncobj_timeline_array), POINTS(drm_syncobj_timeline_array)}},
+};
+
+/* A struct that is shorter has no list. */
+static struct list find_list(const uint8_t *argument, size_t size,
+                             const struct place_of_list *place)
 {
-    lists[0] = list_of_handles(handles, count);
-    lists[1] = list_of(points, count <= MOST_HANDLES ? count : 0, sizeof(uint64_t));
-    return 0;
+    uint64_t address = 0;
+    uint32_t count = 0;
+
+    if (place->address + sizeof address <= size)
+        memcpy(&address, argument + place->address, sizeof address);
+    if (place->count + sizeof count <= size)
+        memcpy(&count, argument + place->count, sizeof count);
+    return list_of(address, count <= place->most ? count : 0, place->size);
 }
 
 /* The lists that a request reads. What it writes is in the answer. */
-static int find_lists(struct sent *sent, const void *argument)
+static int find_lists(struct ask *ask, const uint8_t *argument)
 {
-    const struct drm_mode_crtc *crtc = argument;
-    const struct drm_mode_create_blob *blob = argument;
-    const struct drm_mode_create_lease *lease = argument;
-    const struct drm_mode_fb_dirty_cmd *dirty = argument;
-    const struct drm_mode_crtc_lut *gamma = argument;
-    const struct drm_syncobj_wait *wait = argument;
-    const struct drm_syncobj_timeline_wait *timeline_wait = argument;
-    const struct drm_syncobj_array *array = argument;
-    const struct drm_syncobj_timeline_array *points = argument;
-    struct list *list = &sent->ask.lists[0];
+    size_t at, list;
 
-    /* newer headers have longer structs of these */
-    if (_IOC_NR(sent->ask.request) == _IOC_NR(DRM_IOCTL_SYNCOBJ_WAIT))
-        *list = list_of_handles(wait->handles, wait->count_handles);
-    if (_IOC_NR(sent->ask.request) == _IOC_NR(DRM_IOCTL_SYNCOBJ_TIMELINE_WAIT))
-        return find_lists_of_points(list, timeline_wait->handles, timeline_wait->points,
-                                    timeline_wait->count_handles);
-    switch (sent->ask.request) {
-    case DRM_IOCTL_MODE_ATOMIC:
-        return find_lists_of_commit(&sent->ask, argument);
-    case DRM_IOCTL_MODE_SETCRTC:
-        /* more than one connector is refused */
-        *list = list_of(crtc->set_connectors_ptr, crtc->count_connectors == 1, sizeof(uint32_t));
-        return 0;
-    case DRM_IOCTL_MODE_CREATEPROPBLOB:
-        *list = list_of(blob->data, blob->length, 1);
-        return 0;
-    case DRM_IOCTL_MODE_CREATE_LEASE:
-        *list = list_of(lease->object_ids, least(lease->object_count, MOST_COMMITTED),
-                        sizeof(uint32_t));
-        return 0;
-    case DRM_IOCTL_MODE_DIRTYFB:
-        if (dirty->num_clips <= DRM_MODE_FB_DIRTY_MAX_CLIPS)
-            *list = list_of(dirty->clips_ptr, dirty->num_clips, sizeof(struct drm_clip_rect));
-        return 0;
-    case DRM_IOCTL_MODE_SETGAMMA:
-        list[0] = list_of_gamma(gamma, gamma->red);
-        list[1] = list_of_gamma(gamma, gamma->green);
-        list[2] = list_of_gamma(gamma, gamma->blue);
-        return 0;
-    case DRM_IOCTL_SYNCOBJ_RESET:
-    case DRM_IOCTL_SYNCOBJ_SIGNAL:
-        *list = list_of_handles(array->handles, array->count_handles);
-        return 0;
-    case DRM_IOCTL_SYNCOBJ_QUERY:
-        *list = list_of_handles(points->handles, points->count_handles);
-        return 0;
-    case DRM_IOCTL_SYNCOBJ_TIMELINE_SIGNAL:
-        return find_lists_of_points(list, points->handles, points->points, points->count_handles);
-    default:
-        return 0;
+    if (ask->request == DRM_IOCTL_MODE_ATOMIC)
+        return find_lists_of_commit(ask, (const void *)argument);
+    for (at = 0; at < sizeof readers / sizeof readers[0]; at++) {
+        if (!is_same(ask->request, readers[at].request))
+            continue;
+        for (list = 0; list < 3 && readers[at].lists[list].size > 0; list++)
+            ask->lists[list] =
+                find_list(argument, _IOC_SIZE(ask->request), &readers[at].lists[list]);
     }
+    return 0;
 }
 
 /* Maps a new file for long lists. Returns NULL if there is no memory. */
@@ -486,7 +444,7 @@ static int add_lists(struct sent *sent)
         here[at] = (struct iovec){next, lists[at].size};
         there[at] = (struct iovec){(void *)(uintptr_t)lists[at].address, lists[at].size};
     }
-    failed = length == 0 ? 0 : copy(here, there, MOST_LISTS, false);
+    failed = length == 0 ? 0 : caller_reads_all(here, there, MOST_LISTS);
     if (!failed && sent->ask.request == DRM_IOCTL_MODE_ATOMIC)
         attach_fences(sent, here[2].iov_base, here[3].iov_base);
     if (length > MOST_INLINE)
@@ -503,7 +461,7 @@ static int gather(struct sent *sent, uint64_t address)
 
     sent->length += size;
     if (!failed)
-        failed = find_lists(sent, argument);
+        failed = find_lists(&sent->ask, argument);
     if (!failed)
         attach_descriptors(sent, argument);
     return failed ? failed : add_lists(sent);
@@ -544,8 +502,7 @@ static int take_writes(const struct answer *answer, uint64_t address, size_t siz
     }
     if (answer->reply.traced > 0 && answer->reply.traced <= (size_t)(end - next))
         trace(next, answer->reply.traced);
-    return size > 0 ? caller_takes(here, there, count + 1)
-                    : caller_takes(here + 1, there + 1, count);
+    return caller_takes_all(here, there, count + 1);
 }
 
 /* Maps a long answer. */
@@ -679,14 +636,12 @@ static int take_late(int fd, uint32_t request, uint64_t address)
         uint8_t bytes[MOST_LATE];
     } late;
     ssize_t length = recv(fd, &late, sizeof late, MSG_DONTWAIT);
-    struct iovec here = {late.bytes, 0}, there = {(void *)(uintptr_t)address, 0};
     int failed;
 
     if (length < (ssize_t)sizeof late.reply
         || late.reply.size != (size_t)length - sizeof late.reply)
         return -ENODEV;
-    here.iov_len = there.iov_len = least(late.reply.size, _IOC_SIZE(request));
-    failed = caller_takes(&here, &there, 1);
+    failed = caller_takes(address, late.bytes, least(late.reply.size, _IOC_SIZE(request)));
     return failed ? failed : late.reply.result;
 }
 

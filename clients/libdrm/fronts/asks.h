@@ -44,9 +44,12 @@ int channel_note(struct channel *channel, int other, int way);
 bool channel_is_there(const struct channel *channel);
 void channel_end(struct channel *channel);
 
-/* Copies from the memory of the caller, or to it. Returns 0 or -EFAULT. */
+/* memory.c: copies from the memory of the caller, or to it, also several parts. Returns 0 or
+ * -EFAULT. */
 int caller_reads(void *to, uint64_t address, size_t size);
-int caller_takes(const struct iovec *here, const struct iovec *there, size_t count);
+int caller_reads_all(const struct iovec *here, const struct iovec *there, size_t count);
+int caller_takes(uint64_t address, const void *from, size_t size);
+int caller_takes_all(const struct iovec *here, const struct iovec *there, size_t count);
 
 /* What each front end defines: */
 

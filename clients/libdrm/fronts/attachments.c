@@ -40,8 +40,7 @@ static bool attach(struct sent *sent, int fd, enum taken taken)
     return true;
 }
 
-/* Newer headers have longer structs of some requests. */
-static bool is_same(uint32_t request, uint32_t known)
+bool is_same(uint32_t request, uint32_t known)
 {
     return _IOC_TYPE(request) == _IOC_TYPE(known) && _IOC_NR(request) == _IOC_NR(known);
 }
@@ -77,11 +76,10 @@ static int64_t position_of_fence(struct sent *sent, int64_t value)
 /* The value of OUT_FENCE_PTR for the display. As the core does, it writes -1 there first. */
 static uint64_t tried_address(uint64_t address)
 {
-    static const int32_t none = -1;
-    struct iovec here = {(void *)(uintptr_t)&none, sizeof none};
-    struct iovec there = {(void *)(uintptr_t)address, sizeof none};
+    const int32_t none = -1;
 
-    return address == 0 || caller_takes(&here, &there, 1) == 0 ? address : ADDRESS_IS_WRONG;
+    return address == 0 || caller_takes(address, &none, sizeof none) == 0 ? address
+                                                                          : ADDRESS_IS_WRONG;
 }
 
 void attach_fences(struct sent *sent, const uint8_t *properties, uint8_t *values)

@@ -27,7 +27,11 @@ struct answer {
     unsigned count;
 };
 
-/* attachments.c: attaches descriptors that a request names, as far as they are what it takes. */
+/* attachments.c: returns whether a request is one that is known. Newer headers have longer structs
+ * of some. */
+bool is_same(uint32_t request, uint32_t known);
+
+/* Attaches descriptors that a request names, as far as they are what it takes. */
 void attach_descriptors(struct sent *sent, const void *argument);
 
 /* Attaches the fences of a commit, whose properties and values are these bytes. Says there at which

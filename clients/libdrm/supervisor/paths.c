@@ -59,13 +59,6 @@ static bool is_of_link(const struct seccomp_notif *notice, const struct form *fo
     return form->more != NONE && (word_of(notice, form->more) & AT_SYMLINK_NOFOLLOW) != 0;
 }
 
-static int give(uint64_t address, const void *from, size_t size)
-{
-    struct iovec here = {(void *)(uintptr_t)from, size}, there = {(void *)(uintptr_t)address, size};
-
-    return size == 0 ? 0 : caller_takes(&here, &there, 1);
-}
-
 static int write_status(const struct seccomp_notif *notice, const struct form *form,
                         const struct stat *status)
 {
@@ -73,9 +66,9 @@ static int write_status(const struct seccomp_notif *notice, const struct form *f
     struct statx wide;
 
     if (form->asked == STATUS)
-        return give(address, status, sizeof *status);
+        return caller_takes(address, status, sizeof *status);
     widen_status(status, &wide);
-    return give(address, &wide, sizeof wide);
+    return caller_takes(address, &wide, sizeof wide);
 }
 
 /* The result is cut off as the kernel does. */
@@ -88,7 +81,7 @@ static int write_link(const struct seccomp_notif *notice, const struct form *for
     if (entry->kind != KIND_LINK || (int)room <= 0)
         return -EINVAL;
     length = length < room ? length : room;
-    failed = give(word_of(notice, form->result), entry->text, length);
+    failed = caller_takes(word_of(notice, form->result), entry->text, length);
     return failed ? failed : (int)length;
 }
 
