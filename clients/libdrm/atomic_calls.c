@@ -82,7 +82,7 @@ static int64_t flips_due(const struct commit *commit)
     uint32_t at;
 
     for (at = 0; at < commit->topology->count_crtcs; at++) {
-        due = commit->crtcs >> at & 1 ? crtc_flip_due(commit->topology->crtcs[at]) : 0;
+        due = commit->crtcs >> at & 1 ? crtc_of(commit->topology->crtcs[at])->flip_due : 0;
         latest = due > latest ? due : latest;
     }
     return latest;
@@ -192,7 +192,7 @@ void carry_out_late(struct connection *connection, const struct late_commit *lat
     if (!failed)
         show(&commit);
     for (at = 0; at < late->count; at++) {
-        crtc_flips_until(late->crtcs[at].id, 0);
+        crtc_of(late->crtcs[at].id)->flip_due = 0;
         complete_crtc(connection, &late->asked, late->crtcs[at].id, late->crtcs[at].fence);
     }
 }

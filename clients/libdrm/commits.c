@@ -16,7 +16,7 @@ static int look_at_crtcs(struct connection *connection, const struct topology *t
     for (at = 0; !failed && at < topology->count_crtcs; at++) {
         uint32_t id = topology->crtcs[at];
 
-        if (crtc_is_sure(id))
+        if (crtc_of(id)->is_sure)
             continue;
         failed = zirkoshe_drmModeGetCrtc(&connection->client, id, &fb_id);
         if (failed)

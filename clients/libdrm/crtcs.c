@@ -9,17 +9,6 @@
 /* a number at most this much smaller has passed, as in the core */
 #define PASSED ((uint64_t)1 << 23)
 
-struct crtc {
-    uint32_t id; /* 0 if the place is free */
-    uint32_t connector_id;
-    bool is_lit;
-    bool is_sure; /* no request since can have darkened it */
-    bool is_set;  /* the mode is what a program set, and not a guess */
-    int64_t flip_due;
-    struct blanking blanking;
-    struct drm_mode_modeinfo mode;
-};
-
 static struct crtc crtcs[MOST_CRTCS];
 
 struct vblank last_vblank(const struct blanking *blanking, int64_t now)
@@ -45,8 +34,8 @@ bool has_passed(uint64_t sequence, uint64_t wanted)
     return sequence - wanted <= PASSED;
 }
 
-/* Finds a CRTC. If a device had more than it can have, they would share the last place. */
-static struct crtc *find(uint32_t id)
+/* If a device had more than it can have, they would share the last place. */
+struct crtc *crtc_of(uint32_t id)
 {
     size_t at = 0;
 
@@ -103,7 +92,7 @@ static void end(struct crtc *crtc)
 
 void crtc_is_seen(uint32_t crtc_id, bool is_lit)
 {
-    struct crtc *crtc = find(crtc_id);
+    struct crtc *crtc = crtc_of(crtc_id);
     uint32_t count;
 
     if (!is_lit)
@@ -115,7 +104,7 @@ void crtc_is_seen(uint32_t crtc_id, bool is_lit)
 
 void crtc_is_lit(uint32_t crtc_id, const struct drm_mode_modeinfo *mode, uint32_t connector_id)
 {
-    struct crtc *crtc = find(crtc_id);
+    struct crtc *crtc = crtc_of(crtc_id);
 
     crtc->connector_id = connector_id;
     if (crtc->is_lit && memcmp(&crtc->mode, mode, sizeof *mode) != 0)
@@ -126,21 +115,11 @@ void crtc_is_lit(uint32_t crtc_id, const struct drm_mode_modeinfo *mode, uint32_
     crtc->is_sure = true;
 }
 
-bool crtc_is_set(uint32_t crtc_id)
-{
-    return find(crtc_id)->is_set;
-}
-
 bool crtc_is_surely_lit(uint32_t crtc_id)
 {
-    const struct crtc *crtc = find(crtc_id);
+    const struct crtc *crtc = crtc_of(crtc_id);
 
     return crtc->is_lit && crtc->is_sure;
-}
-
-bool crtc_is_sure(uint32_t crtc_id)
-{
-    return find(crtc_id)->is_sure;
 }
 
 void crtcs_are_unsure(void)
@@ -151,37 +130,7 @@ void crtcs_are_unsure(void)
         crtcs[at].is_sure = false;
 }
 
-struct drm_mode_modeinfo crtc_mode(uint32_t crtc_id)
-{
-    return find(crtc_id)->mode;
-}
-
-struct blanking crtc_blanking(uint32_t crtc_id)
-{
-    return find(crtc_id)->blanking;
-}
-
-uint32_t crtc_connector(uint32_t crtc_id)
-{
-    return find(crtc_id)->connector_id;
-}
-
-void crtc_has_connector(uint32_t crtc_id, uint32_t connector_id)
-{
-    find(crtc_id)->connector_id = connector_id;
-}
-
-int64_t crtc_flip_due(uint32_t crtc_id)
-{
-    return find(crtc_id)->flip_due;
-}
-
 bool crtc_flips(uint32_t crtc_id)
 {
-    return time_now() < crtc_flip_due(crtc_id);
-}
-
-void crtc_flips_until(uint32_t crtc_id, int64_t due)
-{
-    find(crtc_id)->flip_due = due;
+    return time_now() < crtc_of(crtc_id)->flip_due;
 }

@@ -24,6 +24,20 @@ struct vblank {
     int64_t time;
 };
 
+struct crtc {
+    uint32_t id;           /* 0 if the place is free */
+    uint32_t connector_id; /* the one that last lit it, as far as is known, or 0 */
+    bool is_lit;
+    bool is_sure;     /* no request can have changed what it shows since the server last said so */
+    bool is_set;      /* the mode is what a program set, and not a guess */
+    int64_t flip_due; /* when the flip that is now begun completes, or 0 */
+    struct blanking blanking;      /* while it is lit, */
+    struct drm_mode_modeinfo mode; /* by this mode */
+};
+
+/* Returns what is known of a CRTC, which is nothing at first. */
+struct crtc *crtc_of(uint32_t id);
+
 /* The last vertical blanking at a time, and the one of a number; times that no clock reaches are
  * the last one that it has. */
 struct vblank last_vblank(const struct blanking *blanking, int64_t now);
@@ -36,31 +50,17 @@ bool has_passed(uint64_t sequence, uint64_t wanted);
  * waiting events are due at once. */
 void crtc_is_seen(uint32_t crtc_id, bool is_lit);
 
-/* Notes that a program lit it in this mode, with this connector; returns whether one did. */
+/* Notes that a program lit it in this mode, with this connector. */
 void crtc_is_lit(uint32_t crtc_id, const struct drm_mode_modeinfo *mode, uint32_t connector_id);
-bool crtc_is_set(uint32_t crtc_id);
 
 /* Whether it shows something, as the server last said, and no request since can have darkened it.
  * A client of the server can. */
 bool crtc_is_surely_lit(uint32_t crtc_id);
 
-/* Whether no request can have changed what it shows since the server last said so. */
-bool crtc_is_sure(uint32_t crtc_id);
-
 /* Notes that a request can have darkened any CRTC, or that the server refused to flip one. */
 void crtcs_are_unsure(void);
 
-/* The mode of a CRTC that shows something, and when it blanks. */
-struct drm_mode_modeinfo crtc_mode(uint32_t crtc_id);
-struct blanking crtc_blanking(uint32_t crtc_id);
-
-/* The connector that last lit it, as far as is known, or 0. */
-uint32_t crtc_connector(uint32_t crtc_id);
-void crtc_has_connector(uint32_t crtc_id, uint32_t connector_id);
-
-/* Whether a flip of it is still to complete, and when the one that is now begun does so. */
+/* Whether a flip of it is still to complete. */
 bool crtc_flips(uint32_t crtc_id);
-int64_t crtc_flip_due(uint32_t crtc_id);
-void crtc_flips_until(uint32_t crtc_id, int64_t due);
 
 #endif

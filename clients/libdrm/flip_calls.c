@@ -12,7 +12,7 @@ static int refuse_framebuffer(uint32_t crtc_id, const struct framebuffer *frameb
     const struct plane_state *primary = state_of_primary(state_now(), crtc_id);
     struct framebuffer shown = {0, 0, 0};
 
-    if (!crtc_is_set(crtc_id))
+    if (!crtc_of(crtc_id)->is_set)
         return 0;
     if (!framebuffer_contains_source(framebuffer, primary->src_x, primary->src_y, primary->src_w,
                                      primary->src_h))
@@ -72,7 +72,7 @@ static int find_connector(struct connection *connection, uint32_t crtc_id, uint3
     uint32_t at;
     int failed = 0;
 
-    *connector_id = crtc_connector(crtc_id);
+    *connector_id = crtc_of(crtc_id)->connector_id;
     if (*connector_id == 0)
         failed = topology_find(connection, &topology);
     for (at = 0; !failed && *connector_id == 0 && at < topology->count_connectors; at++) {
@@ -80,19 +80,19 @@ static int find_connector(struct connection *connection, uint32_t crtc_id, uint3
             *connector_id = topology->connectors[at].id;
     }
     if (*connector_id != 0)
-        crtc_has_connector(crtc_id, *connector_id);
+        crtc_of(crtc_id)->connector_id = *connector_id;
     return failed;
 }
 
 int64_t complete_flip(struct connection *connection, uint32_t crtc_id, bool has_event,
                       uint64_t user_data)
 {
-    struct blanking blanking = crtc_blanking(crtc_id);
+    struct blanking blanking = crtc_of(crtc_id)->blanking;
     struct vblank vblank = {blanking.count, time_now()};
 
     if (crtc_is_surely_lit(crtc_id)) {
         vblank = vblank_of(&blanking, last_vblank(&blanking, vblank.time).sequence + 1);
-        crtc_flips_until(crtc_id, vblank.time);
+        crtc_of(crtc_id)->flip_due = vblank.time;
     }
     if (has_event)
         events_add(&connection->events, crtc_id, DRM_EVENT_FLIP_COMPLETE, user_data,
@@ -117,7 +117,7 @@ static bool is_expected_to_flip(struct connection *connection,
     return (flip->flags & ~(uint32_t)DRM_MODE_PAGE_FLIP_EVENT) == 0 && flip->sequence == 0
            && framebuffer_is_known(flip->fb_id, &framebuffer)
            && refuse_framebuffer(flip->crtc_id, &framebuffer) == 0
-           && crtc_is_surely_lit(flip->crtc_id) && crtc_connector(flip->crtc_id) != 0
+           && crtc_is_surely_lit(flip->crtc_id) && crtc_of(flip->crtc_id)->connector_id != 0
            && !crtc_flips(flip->crtc_id)
            && (!(flip->flags & DRM_MODE_PAGE_FLIP_EVENT)
                || events_have_room(&connection->events, 1));
@@ -132,7 +132,7 @@ int answer_page_flip(struct connection *connection, void *argument)
 
     if (is_expected_to_flip(connection, flip)) {
         if (zirkoshe_drmModeSetCrtc(client, flip->crtc_id, flip->fb_id,
-                                    crtc_connector(flip->crtc_id))
+                                    crtc_of(flip->crtc_id)->connector_id)
             == 0) {
             complete(connection, flip);
             return 0;

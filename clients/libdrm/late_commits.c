@@ -37,7 +37,7 @@ static void set_crtcs(struct late_commit *late, const struct commit *commit)
         if (commit->crtcs >> at & 1) {
             late->crtcs[late->count].id = commit->topology->crtcs[at];
             late->crtcs[late->count++].fence = fence_use(commit->fences.made[at]);
-            crtc_flips_until(commit->topology->crtcs[at], INT64_MAX);
+            crtc_of(commit->topology->crtcs[at])->flip_due = INT64_MAX;
         }
     }
 }
@@ -162,7 +162,7 @@ static void drop(struct late_commit *late)
     uint32_t at;
 
     for (at = 0; at < late->count; at++) {
-        crtc_flips_until(late->crtcs[at].id, 0);
+        crtc_of(late->crtcs[at].id)->flip_due = 0;
         if (late->crtcs[at].fence != NULL)
             fence_signal(late->crtcs[at].fence);
     }

@@ -71,7 +71,7 @@ int answer_get_crtc(struct connection *connection, void *argument)
     crtc->mode_valid = fb_id != 0;
     memset(&crtc->mode, 0, sizeof crtc->mode);
     if (crtc->mode_valid)
-        crtc->mode = crtc_mode(crtc->crtc_id);
+        crtc->mode = crtc_of(crtc->crtc_id)->mode;
     if (!connection->has_aspect_ratios)
         crtc->mode.flags &= ~(uint32_t)DRM_MODE_FLAG_PIC_AR_MASK;
     return 0;

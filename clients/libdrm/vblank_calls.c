@@ -28,7 +28,7 @@ static int find_blanking(struct connection *connection, struct goal *goal)
     crtc_is_seen(goal->crtc_id, fb_id != 0);
     if (fb_id == 0)
         return -EINVAL;
-    goal->blanking = crtc_blanking(goal->crtc_id);
+    goal->blanking = crtc_of(goal->crtc_id)->blanking;
     goal->last = last_vblank(&goal->blanking, time_now());
     return 0;
 }

@@ -81,7 +81,12 @@ struct peer {
     struct turn last;              /* of the end, and of what is left then */
 };
 
-/* peers.c: adds the display's end of a pair, or NULL if there is no memory; or that of an opener,
+/* peers.c: makes a pair of sockets, of which the display has the first one. That has a name, by
+ * which the other one is recognized. Returns 0 or a negative errno. Closes both. */
+int pair_make(int ends[2], const char *kind, unsigned long number);
+void pair_close(const int ends[2]);
+
+/* Adds the display's end of a pair, or NULL if there is no memory; or that of an opener,
  * which is closed then. Begins to end a peer. */
 struct peer *peer_add(int fd);
 void opener_add(int fd);

@@ -63,25 +63,27 @@ static unsigned *count_of(uid_t user)
     return &users[free_at].count;
 }
 
-/* Names the display's end, so that the other one is recognized. */
-static bool name_end(int fd, enum node node)
+int pair_make(int ends[2], const char *kind, unsigned long number)
 {
-    static unsigned long last;
     struct sockaddr_un address = {.sun_family = AF_UNIX};
-    int length = snprintf(address.sun_path + 1, sizeof address.sun_path - 1, NODE_NAME "%d-%d-%lu",
-                          (int)node, (int)getpid(), ++last);
+    int length = snprintf(address.sun_path + 1, sizeof address.sun_path - 1, "%s%lu", kind, number);
+    size_t size = offsetof(struct sockaddr_un, sun_path) + 1 + (size_t)length;
+    int on = 1, failed;
 
-    return bind(fd, (struct sockaddr *)&address,
-                (socklen_t)(offsetof(struct sockaddr_un, sun_path) + 1 + (size_t)length))
-           == 0;
+    if (socketpair(AF_UNIX, SOCK_SEQPACKET | SOCK_CLOEXEC, 0, ends) != 0)
+        return -errno;
+    if (bind(ends[0], (struct sockaddr *)&address, (socklen_t)size) == 0
+        && setsockopt(ends[0], SOL_SOCKET, SO_PASSCRED, &on, sizeof on) == 0)
+        return 0;
+    failed = -errno;
+    pair_close(ends);
+    return failed;
 }
 
-static bool prepare(int fd, int other, enum node node, uint64_t flags)
+void pair_close(const int ends[2])
 {
-    int on = 1;
-
-    return name_end(fd, node) && setsockopt(fd, SOL_SOCKET, SO_PASSCRED, &on, sizeof on) == 0
-           && fcntl(other, F_SETFL, flags & O_NONBLOCK) == 0;
+    close(ends[0]);
+    close(ends[1]);
 }
 
 static void answer(struct task *task)
@@ -206,17 +208,20 @@ void opener_add(int fd)
 /* Makes the pair of sockets. Returns the program's end, or a negative errno. */
 static int make_pair(struct connection *connection, uint64_t flags, struct peer **made)
 {
-    int ends[2];
+    static unsigned long last;
+    char kind[64];
+    int ends[2], failed;
 
     *made = NULL;
-    if (socketpair(AF_UNIX, SOCK_SEQPACKET | SOCK_CLOEXEC, 0, ends) != 0)
-        return -errno;
-    if (prepare(ends[0], ends[1], connection->node, flags))
+    snprintf(kind, sizeof kind, NODE_NAME "%d-%d-", (int)connection->node, (int)getpid());
+    failed = pair_make(ends, kind, ++last);
+    if (failed)
+        return failed;
+    if (fcntl(ends[1], F_SETFL, flags & O_NONBLOCK) == 0)
         *made = peer_add(ends[0]);
     if (*made != NULL)
         return ends[1];
-    close(ends[0]);
-    close(ends[1]);
+    pair_close(ends);
     return -ENOMEM;
 }
 

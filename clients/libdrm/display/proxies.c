@@ -8,7 +8,6 @@
 #include <stdlib.h>
 #include <sys/epoll.h>
 #include <sys/random.h>
-#include <sys/un.h>
 
 #define MOST_NAME 32
 /* No descriptor is recognized by this name. */
@@ -31,33 +30,18 @@ struct proxy {
 static struct proxy *proxies;
 static unsigned long last_number;
 
-/* Names the display's end, so that the other one is recognized. */
-static bool name_end(int fd, const char *kind, unsigned long number)
-{
-    struct sockaddr_un address = {.sun_family = AF_UNIX};
-    int length = snprintf(address.sun_path + 1, sizeof address.sun_path - 1, "%s%lu", kind, number);
-
-    return bind(fd, (struct sockaddr *)&address,
-                (socklen_t)(offsetof(struct sockaddr_un, sun_path) + 1 + (size_t)length))
-           == 0;
-}
-
 /* Makes a pair of sockets. Returns the caller's end, or a negative errno. */
 static int make_pair(struct proxy *proxy, const char *kind)
 {
-    int ends[2], on = 1, failed = 0;
+    int ends[2], failed = pair_make(ends, kind, proxy->number);
 
-    if (socketpair(AF_UNIX, SOCK_SEQPACKET | SOCK_CLOEXEC, 0, ends) != 0)
-        return -errno;
+    if (failed)
+        return failed;
     proxy->source = (struct source){SOURCE_PROXY, ends[0]};
-    if (!name_end(ends[0], kind, proxy->number)
-        || setsockopt(ends[0], SOL_SOCKET, SO_PASSCRED, &on, sizeof on) != 0
-        || fcntl(ends[0], F_SETFL, O_NONBLOCK) != 0 || !source_add(&proxy->source, EPOLLIN))
-        failed = -errno;
-    if (!failed)
+    if (fcntl(ends[0], F_SETFL, O_NONBLOCK) == 0 && source_add(&proxy->source, EPOLLIN))
         return ends[1];
-    close(ends[0]);
-    close(ends[1]);
+    failed = -errno;
+    pair_close(ends);
     return failed;
 }
 
