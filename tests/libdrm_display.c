@@ -181,18 +181,6 @@ static void look_leased(void)
     look_at(9);
 }
 
-/* Opens as many files as it may, and waits for a line. */
-static void many(void)
-{
-    int count = 0;
-
-    while (open("/dev/dri/card0", O_RDWR | O_CLOEXEC) >= 0)
-        count++;
-    printf("opened %d, then %s\n", count, said(-1));
-    fflush(stdout);
-    getchar();
-}
-
 /* Sets a CRTC, and waits for a line. */
 static void shows(void)
 {
@@ -852,7 +840,6 @@ int main(int count, char **words)
                  {"traced", traced},
                  {"look", look},
                  {"look-leased", look_leased},
-                 {"many", many},
                  {"sequence", sequence},
                  {"held-flip", held_flip}};
     size_t at;

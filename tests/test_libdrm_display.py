@@ -9,6 +9,7 @@ import contextlib
 import errno
 import functools
 import os
+import resource
 import shutil
 import signal
 import subprocess
@@ -47,6 +48,7 @@ from libdrm_support import (  # noqa: E402
 WITH_SERVER = REPOSITORY / "tools/with-server"
 CASES = "tests/libdrm_display.c"
 GARBAGE = "tests/libdrm_garbage.c"
+LIMITS = "tests/libdrm_limits.c"
 # how many requests each of four processes makes at random
 REQUESTS = 25000
 # how long something takes at most that isn't delayed by a server that stalls, and that is delayed by it
@@ -124,12 +126,12 @@ def expect_within(what, seconds, most):
 class LibdrmDisplayTests(FolderCase):
     """Tests of the display of clients/libdrm."""
 
-    def for_nobody(self):
-        """The program of the cases and the library, where another user finds them."""
+    def for_nobody(self, source=CASES):
+        """A program and the library, where another user finds them."""
         want_program("setpriv")
         if os.geteuid() != 0:
             raise Skipped("the tests don't run as root")
-        program = shutil.copy(compiled(CASES), self.folder / "program")
+        program = shutil.copy(compiled(source), self.folder / "program")
         loaded = shutil.copy(library(), self.folder / "library.so")
         for path in (self.folder, program, loaded):
             os.chmod(path, 0o755)
@@ -176,16 +178,37 @@ drop by the opener: done
 
     def test_user_leaves_files_for_others(self):
         """The card of this server accepts 64 connections in total."""
-        program, loaded = self.for_nobody()
+        program, loaded = self.for_nobody(LIMITS)
         with served(self.folder):
             given = environment(self.folder)
-            words = [*NOBODY, program, "many"]
+            words = [*NOBODY, program, "files"]
             with subprocess.Popen(words, **PIPES, env={**given, "LD_PRELOAD": loaded}) as opens, ended_in_time(opens):
                 expect("what a user may open", opens.stdout.readline(), "opened 56, then EMFILE\n")
                 expect_end(
-                    run(program, "many", env=given, input="\n", stdin=None), 0, "", f"opened 8, then {errno.ENODEV}\n"
+                    run(program, "files", env=given, input="\n", stdin=None), 0, "", "opened 8, then ENODEV\n"
                 )
                 opens.communicate("\n", timeout=SECONDS)
+
+    def test_user_leaves_threads_for_others(self):
+        """Of 16,383, and root may have the rest. Each takes a descriptor."""
+        most = resource.getrlimit(resource.RLIMIT_NOFILE)[1]
+        if most < 17000:
+            raise Skipped(f"a process may have {most} descriptors")
+        program = self.for_nobody(LIMITS)[0]
+        with served(self.folder):
+            given = {**environment(self.folder), "LD_PRELOAD": ""}
+            for before, count in ((NOBODY, 12288), ([], 16383)):
+                ran = run(*before, program, "sockets", env=given, timeout=SECONDS * 4)
+                expect_end(ran, 0, "", f"taken {count}, then EMFILE\n")
+
+    def test_user_leaves_synchronisation_objects_for_others(self):
+        """A file has 16,384 of them, and a user 65,536. Root has as many of its own."""
+        program, loaded = self.for_nobody(LIMITS)
+        with served(self.folder):
+            given = {**environment(self.folder), "LD_PRELOAD": str(loaded)}
+            for before in (NOBODY, []):
+                ran = run(*before, program, "objects", env=given, timeout=SECONDS * 4)
+                expect_end(ran, 0, "", "objects 65536\n")
 
     def test_blanking_is_one_clock(self):
         finds("sequences", "sequence above 20 1\n")
