@@ -18,8 +18,9 @@
 static bool is_readable(uintptr_t address)
 {
     int error = errno;
-    bool is_one =
-        syscall(SYS_rt_sigprocmask, -1, address / MASK * MASK, NULL, MASK) == 0 || errno != EFAULT;
+    bool is_one = address >= MASK /* no mask is read at 0 */
+                  && (syscall(SYS_rt_sigprocmask, -1, address / MASK * MASK, NULL, MASK) == 0
+                      || errno != EFAULT);
 
     errno = error;
     return is_one;
