@@ -117,12 +117,11 @@ fn stop_at<R: Print + Eprint>(rt: &R, error: &Error) -> Result<Outcome, Fault> {
 /// Executes the command.
 fn carry_out_command<
     R: Input + Print + Eprint + Files + Net + Env + AllocGlobal + Log + Wait + Threads + Sync,
->(rt: &R, alloc: Global) -> Result<Outcome, Fault>
+>(rt: &R, alloc: Global, words: &[String]) -> Result<Outcome, Fault>
 where
     R::File: AsRawFd,
 {
-    let words = words_of(rt, alloc)?;
-    match read_words(alloc, words.as_slice()) {
+    match read_words(alloc, words) {
         Ok(Some(Asked::Run(running))) => run(rt, alloc, running),
         Ok(Some(Asked::Check(checking))) => check(rt, alloc, &checking),
         Ok(Some(Asked::Update(checking))) => update(rt, alloc, &checking),
@@ -158,7 +157,11 @@ where
 {
     let alloc: Global = rt.alloc();
     let _standard = open_standard(rt);
-    let outcome = match carry_out_command(rt, alloc) {
+    let carried_out = match words_of(rt, alloc) {
+        Ok(words) => carry_out_command(rt, alloc, words.as_slice()),
+        Err(fault) => Err(fault),
+    };
+    let outcome = match carried_out {
         Ok(outcome) => outcome,
         Err(fault) => outcome_of_fault(fault),
     };

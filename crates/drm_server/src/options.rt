@@ -385,7 +385,7 @@ pub(crate) fn command<'a>(alloc: Global) -> Result<Command<'a>, Error> {
         .after_help(SERVE_STATUS);
     let command = Command::new(alloc, "drm_server")
         .bin_name("drm_server")?
-        .version("2.0.0")
+        .version("2.1.0")
         .about("A display and buffer server with the access rules of the Linux DRM interface")
         .after_help(STATUS)
         .subcommand_required(true)

@@ -67,6 +67,14 @@ struct Task {
     accepts: Accepts,
 }
 
+/// Returns the reason a task was not begun, with its device.
+fn unbegun(fault: ServeFault, task: Task) -> Unserved {
+    Unserved {
+        fault,
+        device: task.device,
+    }
+}
+
 /// Serves the connections until all have ended, or until they are asked to end.
 fn serve_all_of<R: Log + Wait + Threads + Sync>(
     rt: &R,
@@ -329,9 +337,7 @@ fn serve_next_to_jobs<'s, E: 's, R: Input + Log + Wait + Threads + Sync>(
     let served = if threads.are_all {
         serve_open(scope, rt, alloc, task, open, ends)
     } else {
-        let fault = ServeFault::NoThread;
-        let device = task.device;
-        Err(Unserved { fault, device })
+        Err(unbegun(ServeFault::NoThread, task))
     };
     if let Some(watch) = open.watch() {
         watch.end(rt);
@@ -366,12 +372,11 @@ fn serve_listeners<R: Input + Net + Log + Wait + Threads + Sync>(
     let (open, ends) = match make_room(rt, alloc, task.accepts, ends_with_input) {
         Ok(room) => room,
         Err(fault) => {
-            let device = task.device;
             let written = WrittenLines {
                 journal: None,
                 left_out: None,
             };
-            return Ended::new(Err(Unserved { fault, device }), written);
+            return Ended::new(Err(unbegun(fault, task)), written);
         }
     };
     let Planned { plan, control } = rules;
