@@ -239,6 +239,18 @@ class FailureTests(FolderCase):
         self.expect_nothing("wheel", CC="false")
 
 
+class VersionTests(FolderCase):
+    """The number of the tree is semantic, and none that is out while an entry of the changelog breaks something."""
+
+    def test_no_breaking_change_is_under_a_version_that_is_out(self):
+        expect("the form of the version", re.fullmatch(r"(0|[1-9]\d*)(\.(0|[1-9]\d*)){2}", VERSION) is not None, True)
+        changes = (REPOSITORY / "CHANGELOG.md").read_text()
+        sections = re.split(r"(?m)^## ", changes)
+        unreleased = next(text for text in sections if text.startswith("[Unreleased]"))
+        is_out = f"\n## [{VERSION}]" in changes
+        expect("whether it breaks what is out", is_out and "**Breaking:**" in unreleased, False)
+
+
 class GlibcTests(FolderCase):
     """The newest glibc that files need is that of their symbols, by the versions that glibc gave them."""
 
