@@ -30,6 +30,7 @@ from support import (  # noqa: E402
     expect_no_sockets,
     expect_refused,
     expect_told,
+    is_compiled_with_checks,
     next_told,
     opened_by,
     path_words,
@@ -180,7 +181,8 @@ class ProgramTests(FolderCase):
                 expect(f"status of {example.strip()}", (ran.returncode, "fault" in ran.stderr), (0, False))
 
     def test_version_is_printed(self):
-        version = (REPOSITORY / "VERSION").read_text().strip()
+        """An unproved program says what it is."""
+        version = (REPOSITORY / "VERSION").read_text().strip() + (" (not proved)" if is_compiled_with_checks() else "")
         for word in ("--version", "-V"):
             expect_end(run_program(word), 0, "", f"drm_server {version}\n")
 
