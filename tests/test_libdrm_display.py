@@ -184,9 +184,7 @@ drop by the opener: done
             words = [*NOBODY, program, "files"]
             with subprocess.Popen(words, **PIPES, env={**given, "LD_PRELOAD": loaded}) as opens, ended_in_time(opens):
                 expect("what a user may open", opens.stdout.readline(), "opened 56, then EMFILE\n")
-                expect_end(
-                    run(program, "files", env=given, input="\n", stdin=None), 0, "", "opened 8, then ENODEV\n"
-                )
+                expect_end(run(program, "files", env=given, input="\n", stdin=None), 0, "", "opened 8, then ENODEV\n")
                 opens.communicate("\n", timeout=SECONDS)
 
     def test_user_leaves_threads_for_others(self):
