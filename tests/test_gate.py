@@ -102,9 +102,9 @@ def gate(folder, *, tries=0, proves=0, tests=0):
     (folder / "crates/drm_server_main/out").mkdir(parents=True)
 
 
-def ended(folder, *words):
+def ended(folder, *words, ci=""):
     """The status of the gate, its first and its last line, and what it ran."""
-    ran = run(folder / "test", *words, env={**os.environ, "DRM_SERVER_PROGRAM": "/of/the/caller"})
+    ran = run(folder / "test", *words, env={**os.environ, "CI": ci, "DRM_SERVER_PROGRAM": "/of/the/caller"})
     lines = ran.stdout.splitlines()
     commands = (folder / "ran").read_text().splitlines()
     # the two of the quick part run at the same time
@@ -135,6 +135,13 @@ class GateTests(FolderCase):
         after = ["tools/prove", "tests/all --at-once drm_server_main"]
         expect("the gate", ended(self.folder), (0, NOTHING, "5 passed, 0 failed", [*QUICK, *after]))
 
+    def test_gate_in_ci_leaves_the_quick_part_out(self):
+        gate(self.folder)
+        after = ["tests/all --at-once drm_server_main", "tools/prove"]
+        expect("the gate", ended(self.folder, ci="true"), (0, "7 passed, 0 failed", "5 passed, 0 failed", after))
+        (self.folder / "ran").unlink()
+        expect("the quick part", ended(self.folder, "--quick", ci="true")[3], QUICK)
+
     def test_gate_continues_after_a_quick_part_that_fails(self):
         gate(self.folder, tries=1)
         after = ["tools/prove", "tests/all --at-once drm_server_main"]
@@ -145,7 +152,7 @@ class GateTests(FolderCase):
         gate(self.folder)
         write_script(self.folder / "bin/timeout", '"$2"; exit 124')
         path = f"{self.folder / 'bin'}{os.pathsep}{os.environ['PATH']}"
-        ran = run(self.folder / "test", env={**os.environ, "PATH": path})
+        ran = run(self.folder / "test", env={**os.environ, "CI": "", "PATH": path})
         expect("the gate", (ran.returncode, ran.stdout.splitlines()[-1]), (0, "5 passed, 0 failed"))
         expect("the quick part", "quick: eight minutes are over; nothing is proved" in ran.stdout.splitlines(), True)
 
