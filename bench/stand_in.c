@@ -1,6 +1,6 @@
-/* A server in C that stands in for the real one, so that its time does not hide that of the library
- * for libdrm programs. It knows one CRTC with three planes, checks no more than ids, and has a
- * thread for each connection.
+/* A server in C for measurements. It answers at once, so that they show what the library and the
+ * display for libdrm programs cost. It has one CRTC with three planes, and a thread for each
+ * connection. It checks only ids.
  */
 #define _GNU_SOURCE
 #include <stdio.h>

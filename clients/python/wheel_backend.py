@@ -18,8 +18,8 @@ from typing import Any, Dict, NamedTuple, Optional
 HERE = pathlib.Path(__file__).resolve().parent
 NAME = "zirkoshe"
 ANYWHERE = "py3-none-any"
-#: The first moment that a zip can tell. All files have it, so equal files make equal
-#: wheels.
+#: The earliest time that a zip file can store. All files in a wheel have it, so equal
+#: files make equal wheels.
 MOMENT = (1980, 1, 1, 0, 0, 0)
 
 Settings = Optional[Dict[str, Any]]

@@ -26,7 +26,8 @@ static bool is_readable(uintptr_t address)
     return is_one;
 }
 
-/* Reads what this process has itself, which costs less than to read it as another one's. */
+/* Reads the memory of this process itself, which costs less than to read it as another one's. If
+ * another thread unmaps it after the look, the process gets SIGSEGV. */
 static int read_own(const struct iovec *here, const struct iovec *there)
 {
     uintptr_t next = (uintptr_t)there->iov_base, end = next + there->iov_len;
